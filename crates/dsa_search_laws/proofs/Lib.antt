@@ -1,0 +1,11 @@
+pub mod Placing
+pub mod Claims
+pub mod Complete
+pub mod Weights
+pub mod First
+pub mod Packing
+pub mod Logs
+pub mod Search
+pub mod Parts
+pub mod Totals
+pub mod Plans

@@ -1,0 +1,62 @@
+-- Buffers, and the moments at which they are live.
+use Rattle.std.specs.Prelude.{◌≡◌, ℕ, ◌≤◌, ◌<◌, Bool, true, false, not, ◌&&◌, ◌||◌, nat_lt, nat_le, List, slice_index_or, zero, suc, max, []}
+use Rattle.std.specs.Bool.{beq}
+use Rattle.std.specs.List.{All, list_any}
+
+-- a buffer by its numbers; a gap a, b is the moments from a up to and not including b
+pub record Buffer : Type 0 where
+  pub lower : ℕ
+  pub upper : ℕ
+  pub size : ℕ
+  pub alignment : ℕ
+  pub gaps : List (ℕ × ℕ)
+
+-- an instance is a list of buffers, and a buffer's number is its place
+abbrev pub Instance : Type 0
+Instance = List Buffer
+
+-- moment t lies in a gap
+abbrev pub is_within : ℕ → ℕ × ℕ → Bool
+is_within t gap = nat_le gap.0 t && nat_lt t gap.1
+
+-- b is live at t: its lifetime holds t, and none of its gaps does
+unfoldable pub is_live : Buffer → ℕ → Bool
+is_live b t = nat_le b.lower t && nat_lt t b.upper && not (list_any (is_within t) b.gaps)
+
+abbrev pub IsLive : Buffer → ℕ → Type 0
+IsLive b t = is_live b t ≡ true
+
+-- b and c are both live at some moment
+abbrev pub Share : Buffer → Buffer → Type 0
+Share b c = (t : ℕ) × IsLive b t × IsLive c t
+
+-- some moment before n passes the test
+unfoldable pub some_before : ℕ → (ℕ → Bool) → Bool
+some_before zero test = false
+some_before (suc n) test = test n || some_before n test
+
+-- whether b and c share a moment, which is then before b's upper
+unfoldable pub do_share : Buffer → Buffer → Bool
+do_share b c = some_before b.upper (λ t. is_live b t && is_live c t)
+
+-- b and c are live at the same moments
+abbrev pub HaveSameMoments : Buffer → Buffer → Type 0
+HaveSameMoments b c = (t : ℕ) → is_live b t ≡ is_live c t
+
+-- whether they are: no moment tells them apart, and one that does is before the upper of one of them
+unfoldable pub have_same_moments : Buffer → Buffer → Bool
+have_same_moments b c = not (some_before (max b.upper c.upper) (λ t. not (beq (is_live b t) (is_live c t))))
+
+-- what stands at a number that is no buffer's: live at no moment
+abbrev pub no_buffer : Buffer
+no_buffer = record { lower = 0; upper = 0; size = 1; alignment = 1; gaps = [] }
+
+unfoldable pub buffer : Instance → ℕ → Buffer
+buffer I b = slice_index_or I b no_buffer
+
+-- a buffer has a size, an alignment and a lifetime
+abbrev pub IsSound : Buffer → Type 0
+IsSound b = (1 ≤ b.size) × (1 ≤ b.alignment) × (b.lower < b.upper)
+
+abbrev pub IsInstance : Instance → Type 0
+IsInstance I = All IsSound I

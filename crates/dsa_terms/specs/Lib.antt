@@ -1,0 +1,11 @@
+pub mod Buffers
+pub mod Layouts
+pub mod Claims
+pub mod Logs
+pub mod Search
+pub mod Parts
+pub mod Plans
+pub mod Lean
+pub mod Starts
+pub mod Bounds
+pub mod Trims
