@@ -1,11 +1,18 @@
 pub mod Placing
 pub mod Claims
 pub mod Complete
+pub mod Moves
 pub mod Weights
 pub mod First
 pub mod Packing
 pub mod Logs
 pub mod Search
+pub mod Cuts
+pub mod Members
 pub mod Parts
+pub mod PartLists
 pub mod Totals
 pub mod Plans
+mod LineTests
+mod ExampleLogFacts
+mod ExampleLeanFacts

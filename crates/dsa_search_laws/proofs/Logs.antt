@@ -16,26 +16,40 @@ use Rattle.dsa_search_laws.proofs.First.{HasSettled, has_settled}
 
 -- ---- capacities
 pub places_higher : (I : Instance) (C D : ℕ) (l : Claim) (o : ℕ → ℕ) → C ≤ D → Places I C l o → Places I D l o
-places_higher I C D l o le p = record { aligned = p.aligned; above = p.above; within = λ e i. (let k = p.within e i in omega arith); apart = p.apart }
+places_higher I C D l o le p = record {
+  aligned = p.aligned;
+  above = p.above;
+  within = λ e i. (let k = p.within e i in omega arith);
+  apart = p.apart;
+}
 
 pub layout_higher : (I : Instance) (C D : ℕ) (o : List ℕ) → C ≤ D → IsLayout I C o → IsLayout I D o
-layout_higher I C D o le p = record { count = p.count; aligned = p.aligned; within = λ b i. (let k = p.within b i in omega arith); apart = p.apart }
+layout_higher I C D o le p = record {
+  count = p.count;
+  aligned = p.aligned;
+  within = λ b i. (let k = p.within b i in omega arith);
+  apart = p.apart;
+}
 
 pub feasible_higher : (I : Instance) (C D : ℕ) → C ≤ D → IsFeasible I C → IsFeasible I D
 feasible_higher I C D le h = (h.0, layout_higher I C D h.0 le h.1)
 
 -- ---- covering
-pub covered_places : (I : Instance) (C : ℕ) (k l : Claim) (o : ℕ → ℕ) → IsInstance I → Covers I k l → Places I C l o → Places I C k o
+pub covered_places : (I : Instance) (C : ℕ) (k l : Claim) (o : ℕ → ℕ) → IsInstance I → Covers I k l → Places I C l o →
+    Places I C k o
 covered_places I C k l o s h p = record {
   aligned = λ e i. let r = h e i in rw (← r.2) (p.aligned r.0 r.1);
-  above = λ e i. let r = h e i in let a = above_up I C l o r.0 s p r.1 in let b = r.3 in let q : o e.0 ≡ o r.0.0 = ap o (sym r.2) in omega arith;
+  above = λ e i. let r = h e i in let a = above_up I C l o r.0 s p r.1 in let b = r.3 in
+      let q : o e.0 ≡ o r.0.0 = ap o (sym r.2) in omega arith;
   within = λ e i. let r = h e i in rw (← r.2) (p.within r.0 r.1);
   apart = λ e f t i j ne a b. let r = h e i in let q = h f j in
       rw (← r.2, ← q.2) (p.apart r.0 q.0 t r.1 q.1 (λ n. ne (sym r.2 ∙ n ∙ q.2)) (rw (← r.2) at a) (rw (← q.2) at b));
 }
 
-pub covered_is_refuted : (I : Instance) (C : ℕ) (k l : Claim) → IsInstance I → Covers I k l → IsRefuted I C k → IsRefuted I C l
-covered_is_refuted I C k l s h r seats p = not_placed I C k (number_of seats) r (covered_places I C k l (number_of seats) s h p.places)
+pub covered_is_refuted : (I : Instance) (C : ℕ) (k l : Claim) → IsInstance I → Covers I k l → IsRefuted I C k →
+    IsRefuted I C l
+covered_is_refuted I C k l s h r seats p =
+    not_placed I C k (number_of seats) r (covered_places I C k l (number_of seats) s h p.places)
 
 pub covers_along : (I : Instance) (k m l : Claim) → IsInstance I → Covers I k m → Covers I m l → Covers I k l
 covers_along I k m l s h j e i =
@@ -75,11 +89,13 @@ some_item : {X : Type 0} (xs : List X) → xs ≢ [] → (x : X) × IsIn x xs
 some_item [] h = absurd (h refl)
 some_item (x ∷ xs) h = (x, inl refl)
 
-over_disjoint : (I : Instance) (C T H G : ℕ) (l : Claim) (o : ℕ → ℕ) (s : List Entry) → 1 ≤ G → Rises (buffers_of s) → Places I C l o →
+over_disjoint : (I : Instance) (C T H G : ℕ) (l : Claim) (o : ℕ → ℕ) (s : List Entry) → 1 ≤ G → Rises (buffers_of s) →
+    Places I C l o →
     ((e : Entry) → IsIn e s → IsIn e l × IsStacked I T H G e) → Disjoint (λ (e : Entry). o e.0) (rounded I G) s
 unfolding rounded
 over_disjoint I C T H G l o [] pos r p h = tt
-over_disjoint I C T H G l o (x ∷ xs) pos r p h = ((λ y i. apart y i), over_disjoint I C T H G l o xs pos r.1 p (λ e i. h e (inr i)))
+over_disjoint I C T H G l o (x ∷ xs) pos r p h =
+    ((λ y i. apart y i), over_disjoint I C T H G l o xs pos r.1 p (λ e i. h e (inr i)))
   where
     starts : (e : Entry) → IsIn e (x ∷ xs) → o e.0 % G ≡ 0
     starts e i = let q = h e i in multiple_along (o e.0) (buffer I e.0).alignment G (p.aligned e q.0) q.1.multiple
@@ -90,11 +106,14 @@ over_disjoint I C T H G l o (x ∷ xs) pos r p h = ((λ y i. apart y i), over_di
         let lies : IsApart (buffer I x.0) (o x.0) (buffer I y.0) (o y.0) =
         p.apart x y T a.0 b.0 (let k : x.0 < y.0 = r.0 y.0 (in_buffers xs y i) in omega arith) a.1.live b.1.live in
         elim lies [
-          | inl q ↦ inl (room_for_rounded (o x.0) (buffer I x.0).size (o y.0) G pos (starts x (inl refl)) (starts y (inr i)) q)
-          | inr q ↦ inr (room_for_rounded (o y.0) (buffer I y.0).size (o x.0) G pos (starts y (inr i)) (starts x (inl refl)) q)
+          | inl q ↦ inl (room_for_rounded (o x.0) (buffer I x.0).size (o y.0) G pos (starts x (inl refl))
+              (starts y (inr i)) q)
+          | inr q ↦ inr (room_for_rounded (o y.0) (buffer I y.0).size (o x.0) G pos (starts y (inr i))
+              (starts x (inl refl)) q)
         ]
 
-top_of : (I : Instance) (C G : ℕ) (l : Claim) (o : ℕ → ℕ) (s : List Entry) (e : Entry) → Places I C l o → IsIn e s → IsIn e l → o e.0 + rounded I G e ≤ C + greatest (map (rounding I G) s)
+top_of : (I : Instance) (C G : ℕ) (l : Claim) (o : ℕ → ℕ) (s : List Entry) (e : Entry) → Places I C l o → IsIn e s →
+    IsIn e l → o e.0 + rounded I G e ≤ C + greatest (map (rounding I G) s)
 unfolding rounding
 top_of I C G l o s e p i j =
     let a = in_greatest (rounding I G) s e i in let b = p.within e j in
@@ -103,15 +122,22 @@ top_of I C G l o s e p i j =
     grown : (x s r c g : ℕ) → r - s ≤ g → x + s ≤ c → x + r ≤ c + g
     grown x s r c g a b = omega arith
 
-pub over_is_refuted : (I : Instance) (C T H G : ℕ) (l : Claim) → IsInstance I → IsClaim I l → IsOver I C T H G l → (o : ℕ → ℕ) → Places I C l o → ⊥
+pub over_is_refuted : (I : Instance) (C T H G : ℕ) (l : Claim) → IsInstance I → IsClaim I l → IsOver I C T H G l →
+    (o : ℕ → ℕ) → Places I C l o → ⊥
 over_is_refuted I C T H G l s c h o p =
     let e = some_item (filter (is_stacked I T H G) l) h.some_stacked in
     let k = inside e.0 e.1 in
     let w = p.within e.0 k.0 in let u = above_up I C l o e.0 s p k.0 in let z = k.1.high in
-    let room = pack (λ (e : Entry). o e.0) (rounded I G) (length (filter (is_stacked I T H G) l)) (filter (is_stacked I T H G) l)
+    let room = pack (λ (e : Entry). o e.0) (rounded I G) (length (filter (is_stacked I T H G) l))
+    (filter (is_stacked I T H G) l)
     H (C + greatest (map (rounding I G) (filter (is_stacked I T H G) l))) (omega arith) (omega arith)
-    (over_disjoint I C T H G l o (filter (is_stacked I T H G) l) h.modulus (rises-filter (is_stacked I T H G) l c.rises) p inside)
-    (λ f i. (let q = inside f i in let a = above_up I C l o f s p q.0 in let b = q.1.high in omega arith, top_of I C G l o (filter (is_stacked I T H G) l) f p i (inside f i).0)) in
+    (over_disjoint I C T H G l o (filter (is_stacked I T H G) l) h.modulus
+    (rises-filter (is_stacked I T H G) l c.rises) p inside)
+    (λ f i. (
+      let q = inside f i in let a = above_up I C l o f s p q.0 in let b = q.1.high in
+          omega arith,
+      top_of I C G l o (filter (is_stacked I T H G) l) f p i (inside f i).0,
+    )) in
     let high = h.too_high in
     omega arith
   where
@@ -119,15 +145,18 @@ over_is_refuted I C T H G l s c h o p =
     inside e i = let r = from_filter (is_stacked I T H G) l e i in (r.0, stacked_is I T H G e r.1)
 
 -- ---- a Cases line
-cite_of : (I : Instance) (earlier : List Line) (l m : Claim) (cites : List Cite) (e : Entry) → AllZip (IsLegalCite I earlier l) m cites → IsIn e m → (c : Cite) × IsLegalCite I earlier l e c
+cite_of : (I : Instance) (earlier : List Line) (l m : Claim) (cites : List Cite) (e : Entry) →
+    AllZip (IsLegalCite I earlier l) m cites → IsIn e m → (c : Cite) × IsLegalCite I earlier l e c
 cite_of I earlier l [] cites e h i = absurd i
 cite_of I earlier l (x ∷ xs) [] e h i = absurd h
 cite_of I earlier l (x ∷ xs) (c ∷ cs) e h (inl q) = (c, rw q h.0)
 cite_of I earlier l (x ∷ xs) (c ∷ cs) e h (inr q) = cite_of I earlier l xs cs e h.1 q
 
-cite_holds : (I : Instance) (C : ℕ) (earlier : List Line) (l : Claim) → IsInstance I → AreRefuted I C earlier → (h : HasSettled I C l) → (c : Cite) → IsLegalCite I earlier l h.entry c → ⊥
+cite_holds : (I : Instance) (C : ℕ) (earlier : List Line) (l : Claim) → IsInstance I → AreRefuted I C earlier →
+    (h : HasSettled I C l) → (c : Cite) → IsLegalCite I earlier l h.entry c → ⊥
 cite_holds I C earlier l s r h (ByLine k) q =
-    not_placed I C (child I l h.entry) h.offset (covered_is_refuted I C (claim_of q.0) (child I l h.entry) s q.2 (r k q.0 q.1))
+    not_placed I C (child I l h.entry) h.offset
+    (covered_is_refuted I C (claim_of q.0) (child I l h.entry) s q.2 (r k q.0 q.1))
     (push_down I C l h.offset h.entry s h.places h.is_first)
 cite_holds I C earlier l s r h (Below c) q =
     let k : ends_below I q.0 h.entry ≡ false = none_passes (λ f. ends_below I f h.entry) l q.0 h.settled.no_below q.1 in
@@ -137,7 +166,8 @@ cite_holds I C earlier l s r h (Twin c) q =
     let m = q.3 in absurd cc
 
 -- ---- a legal line after lines whose claims are refuted
-line_is_refuted : (I : Instance) (C : ℕ) (earlier : List Line) (line : Line) → IsInstance I → AreRefuted I C earlier → IsClaim I (claim_of line) → claim_of line ≢ [] → IsLegalReason I C earlier line →
+line_is_refuted : (I : Instance) (C : ℕ) (earlier : List Line) (line : Line) → IsInstance I → AreRefuted I C earlier →
+    IsClaim I (claim_of line) → claim_of line ≢ [] → IsLegalReason I C earlier line →
     (o : ℕ → ℕ) → Places I C (claim_of line) o → ⊥
 line_is_refuted I C earlier (Over l T H G) s r c ne h o p = over_is_refuted I C T H G l s c h o p
 line_is_refuted I C earlier (Cases l cites) s r c ne h o p =
@@ -146,26 +176,33 @@ line_is_refuted I C earlier (Cases l cites) s r c ne h o p =
     let cite = cite_of I earlier l l cites settled.entry h settled.is_first.is_in in
     cite_holds I C earlier l s r settled cite.0 cite.1
 
-pub legal_is_refuted : (I : Instance) (C : ℕ) (earlier : List Line) (line : Line) → IsInstance I → AreRefuted I C earlier → IsLegal I C earlier line → IsRefuted I C (claim_of line)
-legal_is_refuted I C earlier line s r h seats p = line_is_refuted I C earlier line s r h.claim h.not_empty h.reason (number_of seats) p.places
+pub legal_is_refuted : (I : Instance) (C : ℕ) (earlier : List Line) (line : Line) → IsInstance I →
+    AreRefuted I C earlier → IsLegal I C earlier line → IsRefuted I C (claim_of line)
+legal_is_refuted I C earlier line s r h seats p =
+    line_is_refuted I C earlier line s r h.claim h.not_empty h.reason (number_of seats) p.places
 
 -- ---- an accepted log
-pub from_take : {X : Type 0} (xs : List X) (k j : ℕ) (x : X) → slice_get (take k xs) j ≡ Some x → (slice_get xs j ≡ Some x) × (j < k)
+pub from_take : {X : Type 0} (xs : List X) (k j : ℕ) (x : X) → slice_get (take k xs) j ≡ Some x →
+    (slice_get xs j ≡ Some x) × (j < k)
 from_take [] zero j x h = absurd cc
 from_take [] (suc k) j x h = absurd cc
 from_take (y ∷ ys) zero j x h = absurd cc
 from_take (y ∷ ys) (suc k) zero x h = (h, omega arith)
 from_take (y ∷ ys) (suc k) (suc j) x h = let r = from_take ys k j x h in (r.0, (let q = r.1 in omega arith))
 
-lines_refuted : (I : Instance) (log : Log) → IsInstance I → IsAccepted I log → (n k : ℕ) (line : Line) → k < n → slice_get log.lines k ≡ Some line → IsRefuted I log.capacity (claim_of line)
+lines_refuted : (I : Instance) (log : Log) → IsInstance I → IsAccepted I log → (n k : ℕ) (line : Line) → k < n →
+    slice_get log.lines k ≡ Some line → IsRefuted I log.capacity (claim_of line)
 lines_refuted I log s a zero k line lt h = absurd (omega arith)
 lines_refuted I log s a (suc n) k line lt h = go (lines_refuted I log s a n)
   where
-    go : ((j : ℕ) (line : Line) → j < n → slice_get log.lines j ≡ Some line → IsRefuted I log.capacity (claim_of line)) → IsRefuted I log.capacity (claim_of line)
-    go ih = legal_is_refuted I log.capacity (take k log.lines) line s (λ j m q. (let r = from_take log.lines k j m q in ih j m (let z = r.1 in omega arith) r.0)) (a.legal k line h)
+    go : ((j : ℕ) (line : Line) → j < n → slice_get log.lines j ≡ Some line →
+        IsRefuted I log.capacity (claim_of line)) → IsRefuted I log.capacity (claim_of line)
+    go ih = legal_is_refuted I log.capacity (take k log.lines) line s
+        (λ j m q. (let r = from_take log.lines k j m q in ih j m (let z = r.1 in omega arith) r.0)) (a.legal k line h)
 
 -- a layout places each claim whose bounds are 0
-pub layout_places : (I : Instance) (C : ℕ) (l : Claim) (offsets : List ℕ) → IsClaim I l → IsWhole l → IsLayout I C offsets → Places I C l (slice_index offsets)
+pub layout_places : (I : Instance) (C : ℕ) (l : Claim) (offsets : List ℕ) → IsClaim I l → IsWhole l →
+    IsLayout I C offsets → Places I C l (slice_index offsets)
 layout_places I C l offsets c w h = record {
   aligned = λ e i. h.aligned e.0 (c.in_range e i);
   above = λ e i. let k = w e i in omega arith;

@@ -11,7 +11,7 @@ use Rattle.dsa_terms.specs.Logs.{greatest}
 use Rattle.dsa_terms.specs.Search.{most_work, work}
 use Rattle.dsa_terms.specs.Parts.{part_of, numbers, members, is_empty, parts, whole, whole_work}
 use Rattle.dsa_search_laws.proofs.Search.{work_bounds, most_work_pos}
-use Rattle.dsa_search_laws.proofs.Parts.{claim_of_part, rises-range}
+use Rattle.dsa_search_laws.proofs.Members.{claim_of_part, rises-range}
 
 two_factors : (a b u v w : ℕ) → u + v ≤ w → 1 + u + suc b * v ≤ 1 + suc (a + b) * w
 two_factors a b u v w h =
@@ -28,27 +28,36 @@ most_work_more (suc a) le = let k = most_work_pos (suc a) in doubled a (most_wor
 -- two searches are no more work than one through all their buffers
 most_work_both : (a b : ℕ) → 1 ≤ a → 1 ≤ b → most_work a + most_work b ≤ most_work (a + b)
 most_work_both a zero la lb = absurd (omega arith)
-most_work_both a (suc zero) la lb = let e : a + 1 ≡ suc a = omega arith in rw e (let k = most_work_more a la in omega arith)
+most_work_both a (suc zero) la lb = let e : a + 1 ≡ suc a = omega arith in
+    rw e (let k = most_work_more a la in omega arith)
 most_work_both a (suc (suc b)) la lb =
     let ih = most_work_both a (suc b) la (omega arith) in
     let e : a + suc (suc b) ≡ suc (a + suc b) = omega arith in
     rw e (let k = two_factors a (suc b) (most_work a) (most_work (suc b)) (most_work (a + suc b)) ih in omega arith)
 
-works_le : (I : Instance) (C : ℕ) (ps : List (List ℕ)) → ((p : List ℕ) → IsIn p ps → (1 ≤ length p) × (work I C (whole p) ≤ most_work (length p))) →
-    ((ps ≡ []) × (sum_by (λ p. work I C (whole p)) ps ≡ 0)) ⊎ ((1 ≤ sum_by length ps) × (sum_by (λ p. work I C (whole p)) ps ≤ most_work (sum_by length ps)))
+works_le : (I : Instance) (C : ℕ) (ps : List (List ℕ)) →
+    ((p : List ℕ) → IsIn p ps → (1 ≤ length p) × (work I C (whole p) ≤ most_work (length p))) →
+    ((ps ≡ []) × (sum_by (λ p. work I C (whole p)) ps ≡ 0))
+    ⊎ ((1 ≤ sum_by length ps) × (sum_by (λ p. work I C (whole p)) ps ≤ most_work (sum_by length ps)))
 works_le I C [] h = inl (refl, refl)
 works_le I C (p ∷ ps) h = go (works_le I C ps (λ q i. h q (inr i))) (h p (inl refl))
   where
-    go : ((ps ≡ []) × (sum_by (λ p. work I C (whole p)) ps ≡ 0)) ⊎ ((1 ≤ sum_by length ps) × (sum_by (λ p. work I C (whole p)) ps ≤ most_work (sum_by length ps))) →
+    go : ((ps ≡ []) × (sum_by (λ p. work I C (whole p)) ps ≡ 0))
+        ⊎ ((1 ≤ sum_by length ps) × (sum_by (λ p. work I C (whole p)) ps ≤ most_work (sum_by length ps))) →
         (1 ≤ length p) × (work I C (whole p) ≤ most_work (length p)) →
-        ((p ∷ ps ≡ []) × (sum_by (λ p. work I C (whole p)) (p ∷ ps) ≡ 0)) ⊎ ((1 ≤ sum_by length (p ∷ ps)) × (sum_by (λ p. work I C (whole p)) (p ∷ ps) ≤ most_work (sum_by length (p ∷ ps))))
+        ((p ∷ ps ≡ []) × (sum_by (λ p. work I C (whole p)) (p ∷ ps) ≡ 0))
+        ⊎ ((1 ≤ sum_by length (p ∷ ps)) × (sum_by (λ p. work I C (whole p)) (p ∷ ps) ≤ most_work
+        (sum_by length (p ∷ ps))))
     go (inl e) k = inr (
       rw (sum_by-cons length p ps) (let a = k.0 in omega arith),
-      rw (sum_by-cons (λ p. work I C (whole p)) p ps, sum_by-cons length p ps, e.1, e.0) (let e : length p + 0 ≡ length p = omega arith in rw e (let a = k.1 in omega arith)),
+      rw (sum_by-cons (λ p. work I C (whole p)) p ps, sum_by-cons length p ps, e.1, e.0)
+          (let e : length p + 0 ≡ length p = omega arith in rw e (let a = k.1 in omega arith)),
     )
     go (inr e) k = inr (
       rw (sum_by-cons length p ps) (let a = k.0 in omega arith),
-      rw (sum_by-cons (λ p. work I C (whole p)) p ps, sum_by-cons length p ps) (let both = most_work_both (length p) (sum_by length ps) k.0 e.0 in let a = k.1 in let b = e.1 in omega arith),
+      rw (sum_by-cons (λ p. work I C (whole p)) p ps, sum_by-cons length p ps)
+          (let both = most_work_both (length p) (sum_by length ps) k.0 e.0 in let a = k.1 in let b = e.1 in
+          omega arith),
     )
 
 -- ---- the parts have no more buffers than the instance
@@ -56,7 +65,8 @@ no_hit : (x : ℕ) (ts : List ℕ) → ((t : ℕ) → IsIn t ts → x < t) → s
 no_hit x [] h = refl
 no_hit x (t ∷ ts) h = go (no_hit x ts (λ u i. h u (inr i))) (x == t) refl (h t (inl refl))
   where
-    go : sum_by (λ t. cond (x == t) 1 0) ts ≡ 0 → (b : Bool) → (x == t) ≡ b → x < t → sum_by (λ t. cond (x == t) 1 0) (t ∷ ts) ≡ 0
+    go : sum_by (λ t. cond (x == t) 1 0) ts ≡ 0 → (b : Bool) → (x == t) ≡ b → x < t →
+        sum_by (λ t. cond (x == t) 1 0) (t ∷ ts) ≡ 0
     go ih true e lt = absurd (let k : x ≡ t = grind (arith, nat_tests) in omega arith)
     go ih false e lt = rw (sum_by-cons (λ t. cond (x == t) 1 0) t ts, e) (omega (arith, ih))
 
@@ -64,7 +74,8 @@ one_hit : (x : ℕ) (ts : List ℕ) → Rises ts → sum_by (λ t. cond (x == t)
 one_hit x [] r = omega arith
 one_hit x (t ∷ ts) r = go (one_hit x ts r.1) (x == t) refl
   where
-    go : sum_by (λ t. cond (x == t) 1 0) ts ≤ 1 → (b : Bool) → (x == t) ≡ b → sum_by (λ t. cond (x == t) 1 0) (t ∷ ts) ≤ 1
+    go : sum_by (λ t. cond (x == t) 1 0) ts ≤ 1 → (b : Bool) → (x == t) ≡ b →
+        sum_by (λ t. cond (x == t) 1 0) (t ∷ ts) ≤ 1
     go ih true e =
         let same : x ≡ t = grind (arith, nat_tests) in
         let none : sum_by (λ t. cond (x == t) 1 0) ts ≡ 0 = no_hit x ts (λ u i. rw same (r.0 u i)) in
@@ -73,34 +84,46 @@ one_hit x (t ∷ ts) r = go (one_hit x ts r.1) (x == t) refl
 
 -- one item more is in one class more
 class_more : (f : ℕ → ℕ) (x : ℕ) (xs ts : List ℕ) →
-    sum_by (λ t. length (filter (λ b. f b == t) (x ∷ xs))) ts ≡ sum_by (λ t. cond (f x == t) 1 0) ts + sum_by (λ t. length (filter (λ b. f b == t) xs)) ts
+    sum_by (λ t. length (filter (λ b. f b == t) (x ∷ xs))) ts ≡ sum_by (λ t. cond (f x == t) 1 0) ts + sum_by
+    (λ t. length (filter (λ b. f b == t) xs)) ts
 class_more f x xs [] = refl
 class_more f x xs (t ∷ ts) =
-    rw (sum_by-cons (λ t. length (filter (λ b. f b == t) (x ∷ xs))) t ts, sum_by-cons (λ t. cond (f x == t) 1 0) t ts, sum_by-cons (λ t. length (filter (λ b. f b == t) xs)) t ts)
+    rw (
+      sum_by-cons (λ t. length (filter (λ b. f b == t) (x ∷ xs))) t ts,
+      sum_by-cons (λ t. cond (f x == t) 1 0) t ts,
+      sum_by-cons (λ t. length (filter (λ b. f b == t) xs)) t ts,
+    )
     (go (class_more f x xs ts) (f x == t))
   where
-    go : sum_by (λ t. length (filter (λ b. f b == t) (x ∷ xs))) ts ≡ sum_by (λ t. cond (f x == t) 1 0) ts + sum_by (λ t. length (filter (λ b. f b == t) xs)) ts →
-        (b : Bool) → length (cond b (x ∷ filter (λ b. f b == t) xs) (filter (λ b. f b == t) xs)) + sum_by (λ t. length (filter (λ b. f b == t) (x ∷ xs))) ts
-        ≡ (cond b 1 0 + sum_by (λ t. cond (f x == t) 1 0) ts) + (length (filter (λ b. f b == t) xs) + sum_by (λ t. length (filter (λ b. f b == t) xs)) ts)
+    go : sum_by (λ t. length (filter (λ b. f b == t) (x ∷ xs))) ts ≡ sum_by (λ t. cond (f x == t) 1 0) ts + sum_by
+        (λ t. length (filter (λ b. f b == t) xs)) ts →
+        (b : Bool) → length (cond b (x ∷ filter (λ b. f b == t) xs) (filter (λ b. f b == t) xs)) + sum_by
+        (λ t. length (filter (λ b. f b == t) (x ∷ xs))) ts
+        ≡ (cond b 1 0 + sum_by (λ t. cond (f x == t) 1 0) ts) + (length (filter (λ b. f b == t) xs) + sum_by
+        (λ t. length (filter (λ b. f b == t) xs)) ts)
     go ih true = omega (arith, ih)
     go ih false = omega (arith, ih)
 
 no_items : (f : ℕ → ℕ) (ts : List ℕ) → sum_by (λ t. length (filter (λ b. f b == t) [])) ts ≡ 0
 no_items f [] = refl
-no_items f (t ∷ ts) = rw (sum_by-cons (λ t. length (filter (λ b. f b == t) [])) t ts) (let k = no_items f ts in omega (arith, k))
+no_items f (t ∷ ts) = rw (sum_by-cons (λ t. length (filter (λ b. f b == t) [])) t ts) (let k = no_items f ts in
+    omega (arith, k))
 
 classes_le : (f : ℕ → ℕ) (xs ts : List ℕ) → Rises ts → sum_by (λ t. length (filter (λ b. f b == t) xs)) ts ≤ length xs
 classes_le f [] ts r = let k = no_items f ts in omega (arith, k)
 classes_le f (x ∷ xs) ts r =
-    let ih = classes_le f xs ts r in let one = one_hit (f x) ts r in let more = class_more f x xs ts in omega (arith, ih, one, more)
+    let ih = classes_le f xs ts r in let one = one_hit (f x) ts r in let more = class_more f x xs ts in
+    omega (arith, ih, one, more)
 
 -- leaving out empty lists leaves the sum of the lengths, and so does summing before the map
-lengths_kept : (g : ℕ → List ℕ) (ts : List ℕ) → sum_by length (filter (λ p. not (is_empty p)) (map g ts)) ≡ sum_by (λ t. length (g t)) ts
+lengths_kept : (g : ℕ → List ℕ) (ts : List ℕ) →
+    sum_by length (filter (λ p. not (is_empty p)) (map g ts)) ≡ sum_by (λ t. length (g t)) ts
 lengths_kept g [] = refl
 lengths_kept g (t ∷ ts) = rw (sum_by-cons (λ t. length (g t)) t ts) (go (lengths_kept g ts) (g t))
   where
     go : sum_by length (filter (λ p. not (is_empty p)) (map g ts)) ≡ sum_by (λ t. length (g t)) ts → (p : List ℕ) →
-        sum_by length (cond (not (is_empty p)) (p ∷ filter (λ p. not (is_empty p)) (map g ts)) (filter (λ p. not (is_empty p)) (map g ts))) ≡ length p + sum_by (λ t. length (g t)) ts
+        sum_by length (cond (not (is_empty p)) (p ∷ filter (λ p. not (is_empty p)) (map g ts))
+        (filter (λ p. not (is_empty p)) (map g ts))) ≡ length p + sum_by (λ t. length (g t)) ts
     go ih [] = omega (arith, ih)
     go ih (x ∷ xs) = rw (sum_by-cons length (x ∷ xs) (filter (λ p. not (is_empty p)) (map g ts))) (omega (arith, ih))
 
@@ -109,7 +132,8 @@ unfolding parts
 parts_count I =
     let T = suc (greatest (map (λ (b : Buffer). b.lower) I)) in
     let kept = lengths_kept (members I) (numbers (suc (greatest (map (λ (b : Buffer). b.lower) I)))) in
-    let all = classes_le (part_of I) (numbers (length I)) (numbers (suc (greatest (map (λ (b : Buffer). b.lower) I)))) (rises-range (suc (greatest (map (λ (b : Buffer). b.lower) I))) 0) in
+    let all = classes_le (part_of I) (numbers (length I)) (numbers (suc (greatest (map (λ (b : Buffer). b.lower) I))))
+    (rises-range (suc (greatest (map (λ (b : Buffer). b.lower) I))) 0) in
     let n : length (numbers (length I)) ≡ length I = length-range (length I) 0 in
     omega (arith, kept, all, n)
   where
@@ -119,7 +143,8 @@ parts_count I =
 
 not_empty : (I : Instance) (p : List ℕ) → IsIn p (parts I) → 1 ≤ length p
 unfolding parts
-not_empty I p i = go p (from_filter (λ p. not (is_empty p)) (map (members I) (numbers (suc (greatest (map (λ (b : Buffer). b.lower) I))))) p i).1
+not_empty I p i = go p (from_filter (λ p. not (is_empty p))
+    (map (members I) (numbers (suc (greatest (map (λ (b : Buffer). b.lower) I))))) p i).1
   where
     go : (p : List ℕ) → not (is_empty p) ≡ true → 1 ≤ length p
     go [] h = absurd cc
@@ -128,7 +153,8 @@ not_empty I p i = go p (from_filter (λ p. not (is_empty p)) (map (members I) (n
 most_work_grows : (a b : ℕ) → a ≤ b → most_work a ≤ most_work b
 most_work_grows zero b le = most_work_pos b
 most_work_grows (suc a) zero le = absurd (omega arith)
-most_work_grows (suc a) (suc b) le = let ih = most_work_grows a b (omega arith) in let k : suc a * most_work a ≤ suc b * most_work b = mul-le-mul (omega arith) ih in omega (arith, k)
+most_work_grows (suc a) (suc b) le = let ih = most_work_grows a b (omega arith) in
+    let k : suc a * most_work a ≤ suc b * most_work b = mul-le-mul (omega arith) ih in omega (arith, k)
 
 pub whole_work_bound : (I : Instance) (C : ℕ) → whole_work I C ≤ most_work (length I)
 unfolding whole_work
@@ -140,7 +166,10 @@ whole_work_bound I C = go (works_le I C (parts I) each)
         let n : length (whole p) ≡ length p = length-map p (λ b. let e : Entry = (b, 0) in e) in
         (not_empty I p i, rw n at b)
 
-    go : ((parts I ≡ []) × (sum_by (λ p. work I C (whole p)) (parts I) ≡ 0)) ⊎ ((1 ≤ sum_by length (parts I)) × (sum_by (λ p. work I C (whole p)) (parts I) ≤ most_work (sum_by length (parts I)))) →
+    go : ((parts I ≡ []) × (sum_by (λ p. work I C (whole p)) (parts I) ≡ 0))
+        ⊎ ((1 ≤ sum_by length (parts I)) × (sum_by (λ p. work I C (whole p)) (parts I) ≤ most_work
+        (sum_by length (parts I)))) →
         sum_by (λ p. work I C (whole p)) (parts I) ≤ most_work (length I)
     go (inl e) = let k = e.1 in omega arith
-    go (inr e) = let k = e.1 in let m = most_work_grows (sum_by length (parts I)) (length I) (parts_count I) in omega (arith, k, m)
+    go (inr e) = let k = e.1 in let m = most_work_grows (sum_by length (parts I)) (length I) (parts_count I) in
+        omega (arith, k, m)

@@ -4,8 +4,8 @@ use Rattle.std.proofs.lemmas.Bool.Decides.{nat_tests}
 use Rattle.dsa_terms.specs.Buffers.{Buffer, Instance, buffer}
 use Rattle.dsa_terms.specs.Claims.{IsIn, Rises}
 use Rattle.dsa_terms.specs.Parts.{numbers}
-use Rattle.dsa_terms.specs.Starts.{put_by, ordered_by, IsOrdered, IsOrder, falls_by, rises_by}
-use Rattle.dsa_search_laws.proofs.Parts.{rises-range}
+use Rattle.dsa_terms.specs.Orders.{put_by, ordered_by, IsOrdered, IsOrder, falls_by, rises_by}
+use Rattle.dsa_search_laws.proofs.Members.{rises-range}
 use Rattle.dsa_start_laws.proofs.Fits.{into_ordered_by}
 
 -- ---- by a measure, ties to the smaller number
@@ -28,13 +28,19 @@ apart b c h = grind arith
 falls_is_order : (measure : Buffer → ℕ) (I : Instance) → IsOrder (falls_by measure I)
 unfolding falls_by
 falls_is_order measure I = record {
-  total = λ b c ne. total (measure (buffer I b)) (measure (buffer I c)) b c (three (measure (buffer I b)) (measure (buffer I c))) (apart b c ne);
-  one_way = λ b c p q. one_way (measure (buffer I b)) (measure (buffer I c)) b c (test_is (measure (buffer I b)) (measure (buffer I c)) b c p) (test_is (measure (buffer I c)) (measure (buffer I b)) c b q);
-  along = λ b c d p q. is_test (measure (buffer I b)) (measure (buffer I d)) b d (along (measure (buffer I b)) (measure (buffer I c)) (measure (buffer I d)) b c d
-      (test_is (measure (buffer I b)) (measure (buffer I c)) b c p) (test_is (measure (buffer I c)) (measure (buffer I d)) c d q));
+  total = λ b c ne. total (measure (buffer I b)) (measure (buffer I c)) b c
+      (three (measure (buffer I b)) (measure (buffer I c))) (apart b c ne);
+  one_way = λ b c p q. one_way (measure (buffer I b)) (measure (buffer I c)) b c
+      (test_is (measure (buffer I b)) (measure (buffer I c)) b c p)
+      (test_is (measure (buffer I c)) (measure (buffer I b)) c b q);
+  along = λ b c d p q. is_test (measure (buffer I b)) (measure (buffer I d)) b d
+      (along (measure (buffer I b)) (measure (buffer I c)) (measure (buffer I d)) b c d
+      (test_is (measure (buffer I b)) (measure (buffer I c)) b c p)
+      (test_is (measure (buffer I c)) (measure (buffer I d)) c d q));
 }
   where
-    total : (m n b c : ℕ) → (m < n) ⊎ ((n < m) ⊎ (m ≡ n)) → (b < c) ⊎ (c < b) → (later_test m n b c ≡ true) ⊎ (later_test n m c b ≡ true)
+    total : (m n b c : ℕ) → (m < n) ⊎ ((n < m) ⊎ (m ≡ n)) → (b < c) ⊎ (c < b) →
+        (later_test m n b c ≡ true) ⊎ (later_test n m c b ≡ true)
     total m n b c (inl q) e = inr (is_test n m c b (inl q))
     total m n b c (inr (inl q)) e = inl (is_test m n b c (inl q))
     total m n b c (inr (inr q)) (inl l) = inl (is_test m n b c (inr (q, l)))
@@ -46,7 +52,8 @@ falls_is_order measure I = record {
     one_way m n b c (inr p) (inl q) = omega arith
     one_way m n b c (inr p) (inr q) = omega arith
 
-    along : (l m n b c d : ℕ) → (m < l) ⊎ ((l ≡ m) × (b < c)) → (n < m) ⊎ ((m ≡ n) × (c < d)) → (n < l) ⊎ ((l ≡ n) × (b < d))
+    along : (l m n b c d : ℕ) → (m < l) ⊎ ((l ≡ m) × (b < c)) → (n < m) ⊎ ((m ≡ n) × (c < d)) →
+        (n < l) ⊎ ((l ≡ n) × (b < d))
     along l m n b c d (inl p) (inl q) = inl (omega arith)
     along l m n b c d (inl p) (inr q) = inl (omega arith)
     along l m n b c d (inr p) (inl q) = inl (omega arith)
@@ -56,10 +63,15 @@ falls_is_order measure I = record {
 rises_is_order : (measure : Buffer → ℕ) (I : Instance) → IsOrder (rises_by measure I)
 unfolding rises_by
 rises_is_order measure I = record {
-  total = λ b c ne. total (measure (buffer I b)) (measure (buffer I c)) b c (three (measure (buffer I b)) (measure (buffer I c))) (apart b c ne);
-  one_way = λ b c p q. one_way (measure (buffer I b)) (measure (buffer I c)) b c (low_is (measure (buffer I b)) (measure (buffer I c)) b c p) (low_is (measure (buffer I c)) (measure (buffer I b)) c b q);
-  along = λ b c d p q. is_low (measure (buffer I b)) (measure (buffer I d)) b d (along (measure (buffer I b)) (measure (buffer I c)) (measure (buffer I d)) b c d
-      (low_is (measure (buffer I b)) (measure (buffer I c)) b c p) (low_is (measure (buffer I c)) (measure (buffer I d)) c d q));
+  total = λ b c ne. total (measure (buffer I b)) (measure (buffer I c)) b c
+      (three (measure (buffer I b)) (measure (buffer I c))) (apart b c ne);
+  one_way = λ b c p q. one_way (measure (buffer I b)) (measure (buffer I c)) b c
+      (low_is (measure (buffer I b)) (measure (buffer I c)) b c p)
+      (low_is (measure (buffer I c)) (measure (buffer I b)) c b q);
+  along = λ b c d p q. is_low (measure (buffer I b)) (measure (buffer I d)) b d
+      (along (measure (buffer I b)) (measure (buffer I c)) (measure (buffer I d)) b c d
+      (low_is (measure (buffer I b)) (measure (buffer I c)) b c p)
+      (low_is (measure (buffer I c)) (measure (buffer I d)) c d q));
 }
   where
     low_is : (m n b c : ℕ) → (nat_lt m n || ((m == n) && nat_lt b c)) ≡ true → (m < n) ⊎ ((m ≡ n) × (b < c))
@@ -69,7 +81,8 @@ rises_is_order measure I = record {
     is_low m n b c (inl q) = grind (arith, nat_tests)
     is_low m n b c (inr q) = let x = q.0 in let y = q.1 in grind (arith, nat_tests)
 
-    total : (m n b c : ℕ) → (m < n) ⊎ ((n < m) ⊎ (m ≡ n)) → (b < c) ⊎ (c < b) → ((nat_lt m n || ((m == n) && nat_lt b c)) ≡ true) ⊎ ((nat_lt n m || ((n == m) && nat_lt c b)) ≡ true)
+    total : (m n b c : ℕ) → (m < n) ⊎ ((n < m) ⊎ (m ≡ n)) → (b < c) ⊎ (c < b) →
+        ((nat_lt m n || ((m == n) && nat_lt b c)) ≡ true) ⊎ ((nat_lt n m || ((n == m) && nat_lt c b)) ≡ true)
     total m n b c (inl q) e = inl (is_low m n b c (inl q))
     total m n b c (inr (inl q)) e = inr (is_low n m c b (inl q))
     total m n b c (inr (inr q)) (inl l) = inl (is_low m n b c (inr (q, l)))
@@ -81,13 +94,15 @@ rises_is_order measure I = record {
     one_way m n b c (inr p) (inl q) = omega arith
     one_way m n b c (inr p) (inr q) = omega arith
 
-    along : (l m n b c d : ℕ) → (l < m) ⊎ ((l ≡ m) × (b < c)) → (m < n) ⊎ ((m ≡ n) × (c < d)) → (l < n) ⊎ ((l ≡ n) × (b < d))
+    along : (l m n b c d : ℕ) → (l < m) ⊎ ((l ≡ m) × (b < c)) → (m < n) ⊎ ((m ≡ n) × (c < d)) →
+        (l < n) ⊎ ((l ≡ n) × (b < d))
     along l m n b c d (inl p) (inl q) = inl (omega arith)
     along l m n b c d (inl p) (inr q) = inl (omega arith)
     along l m n b c d (inr p) (inl q) = inl (omega arith)
     along l m n b c d (inr p) (inr q) = inr (omega arith, omega arith)
 
-pub measures_are_orders : (measure : Buffer → ℕ) (I : Instance) → IsOrder (falls_by measure I) × IsOrder (rises_by measure I)
+pub measures_are_orders : (measure : Buffer → ℕ) (I : Instance) →
+    IsOrder (falls_by measure I) × IsOrder (rises_by measure I)
 measures_are_orders measure I = (falls_is_order measure I, rises_is_order measure I)
 
 -- ---- a list brought into order
@@ -99,7 +114,8 @@ from_put_by before b (c ∷ cs) x h = go (from_put_by before b cs x) (before b c
     swap (inl q) = inl q
     swap (inr q) = inr (inr q)
 
-    go : (IsIn x (put_by before b cs) → IsIn x (b ∷ cs)) → (t : Bool) → IsIn x (cond t (b ∷ c ∷ cs) (c ∷ put_by before b cs)) → IsIn x (b ∷ c ∷ cs)
+    go : (IsIn x (put_by before b cs) → IsIn x (b ∷ cs)) → (t : Bool) →
+        IsIn x (cond t (b ∷ c ∷ cs) (c ∷ put_by before b cs)) → IsIn x (b ∷ c ∷ cs)
     go ih true q = q
     go ih false (inl q) = inr (inl q)
     go ih false (inr q) = swap (ih q)
@@ -112,11 +128,13 @@ from_ordered_by before (b ∷ bs) x h = go (from_put_by before b (ordered_by bef
     go (inl q) ih = inl q
     go (inr q) ih = inr (ih q)
 
-put_is_ordered : (before : ℕ → ℕ → Bool) (b : ℕ) (cs : List ℕ) → IsOrder before → ((c : ℕ) → IsIn c cs → b ≢ c) → IsOrdered before cs → IsOrdered before (put_by before b cs)
+put_is_ordered : (before : ℕ → ℕ → Bool) (b : ℕ) (cs : List ℕ) → IsOrder before → ((c : ℕ) → IsIn c cs → b ≢ c) →
+    IsOrdered before cs → IsOrdered before (put_by before b cs)
 put_is_ordered before b [] o ne h = ((λ c i. absurd i), tt)
 put_is_ordered before b (c ∷ cs) o ne h = go (put_is_ordered before b cs o (λ d i. ne d (inr i)) h.1) (before b c) refl
   where
-    go : IsOrdered before (put_by before b cs) → (t : Bool) → before b c ≡ t → IsOrdered before (cond t (b ∷ c ∷ cs) (c ∷ put_by before b cs))
+    go : IsOrdered before (put_by before b cs) → (t : Bool) → before b c ≡ t →
+        IsOrdered before (cond t (b ∷ c ∷ cs) (c ∷ put_by before b cs))
     go ih true e = ((λ d i. elim i [ inl q ↦ rw q e | inr j ↦ o.along b c d e (h.0 d j) ]), h)
     go ih false e = ((λ d i. elim (from_put_by before b cs d i) [ inl q ↦ rw q other | inr j ↦ h.0 d j ]), ih)
       where
@@ -126,12 +144,15 @@ put_is_ordered before b (c ∷ cs) o ne h = go (put_is_ordered before b cs o (λ
             clash : before b c ≡ true → before b c ≡ false → ⊥
             clash p q = cc
 
-ordered_is_ordered : (before : ℕ → ℕ → Bool) (bs : List ℕ) → IsOrder before → Rises bs → IsOrdered before (ordered_by before bs)
+ordered_is_ordered : (before : ℕ → ℕ → Bool) (bs : List ℕ) → IsOrder before → Rises bs →
+    IsOrdered before (ordered_by before bs)
 ordered_is_ordered before [] o r = tt
 ordered_is_ordered before (b ∷ bs) o r =
-    put_is_ordered before b (ordered_by before bs) o (λ c i q. (let k = r.0 c (from_ordered_by before bs c i) in omega arith)) (ordered_is_ordered before bs o r.1)
+    put_is_ordered before b (ordered_by before bs) o (λ c i q. (let k = r.0 c (from_ordered_by before bs c i) in
+    omega arith)) (ordered_is_ordered before bs o r.1)
 
-pub numbers_are_ordered : (before : ℕ → ℕ → Bool) (n : ℕ) → IsOrder before → IsOrdered before (ordered_by before (numbers n))
+pub numbers_are_ordered : (before : ℕ → ℕ → Bool) (n : ℕ) → IsOrder before →
+    IsOrdered before (ordered_by before (numbers n))
 numbers_are_ordered before n o = ordered_is_ordered before (numbers n) o (rises-range n 0)
 
 pub ordered_members : (before : ℕ → ℕ → Bool) (bs : List ℕ) (x : ℕ) → IsIn x (ordered_by before bs) ↔ IsIn x bs
@@ -141,7 +162,8 @@ ordered_members before bs x = (from_ordered_by before bs x, into_ordered_by befo
 not_after : (before : ℕ → ℕ → Bool) (b : ℕ) → IsOrder before → before b b ≡ true → ⊥
 not_after before b o h = o.one_way b b h h
 
-pub one_order : (before : ℕ → ℕ → Bool) (xs ys : List ℕ) → IsOrder before → IsOrdered before xs → IsOrdered before ys → ((x : ℕ) → IsIn x xs ↔ IsIn x ys) → xs ≡ ys
+pub one_order : (before : ℕ → ℕ → Bool) (xs ys : List ℕ) → IsOrder before → IsOrdered before xs → IsOrdered before ys →
+    ((x : ℕ) → IsIn x xs ↔ IsIn x ys) → xs ≡ ys
 one_order before [] [] o p q h = refl
 one_order before [] (y ∷ ys) o p q h = absurd ((h y).1 (inl refl))
 one_order before (x ∷ xs) [] o p q h = absurd ((h x).0 (inl refl))

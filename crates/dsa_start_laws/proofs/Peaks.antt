@@ -11,8 +11,10 @@ use Rattle.dsa_terms.specs.Bounds.{counted, stack, moments, stack_log}
 use Rattle.dsa_terms.specs.Lean.{IsLeanLine, IsLean}
 use Rattle.dsa_terms.proofs.Lists.{from_map, true_or_false}
 use Rattle.dsa_search_laws.proofs.Logs.{feasible_higher}
-use Rattle.dsa_search_laws.proofs.Parts.{in_whole, whole_is_whole, sharing_is_one_part}
-use Rattle.dsa_start_laws.proofs.Bounds.{greatest_is, in_counted, stack_under_highest, load_is_stack}
+use Rattle.dsa_search_laws.proofs.Cuts.{sharing_is_one_part}
+use Rattle.dsa_search_laws.proofs.Members.{in_whole, whole_is_whole}
+use Rattle.dsa_start_laws.proofs.Stacks.{greatest_is, in_counted, stack_under_highest}
+use Rattle.dsa_start_laws.proofs.Bounds.{load_is_stack}
 
 -- ---- the least number that passes
 record IsLeastPassing (p : ℕ → Bool) (t : ℕ) : Type 0 where
@@ -26,13 +28,17 @@ search_below p (suc n) = go (search_below p n) (true_or_false (p n))
     cases : (s n : ℕ) → s < suc n → (s < n) ⊎ (s ≡ n)
     cases s n h = grind arith
 
-    go : ((s : ℕ) → s < n → p s ≡ false) ⊎ ((t : ℕ) × IsLeastPassing p t) → (p n ≡ true) ⊎ (p n ≡ false) → ((s : ℕ) → s < suc n → p s ≡ false) ⊎ ((t : ℕ) × IsLeastPassing p t)
+    go : ((s : ℕ) → s < n → p s ≡ false) ⊎ ((t : ℕ) × IsLeastPassing p t) → (p n ≡ true) ⊎ (p n ≡ false) →
+        ((s : ℕ) → s < suc n → p s ≡ false) ⊎ ((t : ℕ) × IsLeastPassing p t)
     go (inr r) e = inr r
     go (inl f) (inl e) = inr (n, record { passes = e; least = f })
     go (inl f) (inr e) = inl (λ s lt. elim (cases s n lt) [ inl l ↦ f s l | inr q ↦ ap p q ∙ e ])
 
 least_passing : (p : ℕ → Bool) (n : ℕ) → p n ≡ true → (t : ℕ) × IsLeastPassing p t
-least_passing p n e = elim (search_below p (suc n)) [ inl f ↦ absurd (let k : p n ≡ false = f n (omega arith) in cc) | inr r ↦ r ]
+least_passing p n e = elim (search_below p (suc n)) [
+  | inl f ↦ absurd (let k : p n ≡ false = f n (omega arith) in cc)
+  | inr r ↦ r
+]
 
 -- ---- the peak
 same_test : (m n : ℕ) → m ≡ n → (m == n) ≡ true
@@ -44,25 +50,29 @@ test_same m n h = grind (arith, nat_tests)
 not_same : (m n : ℕ) → (m == n) ≡ false → m ≢ n
 not_same m n h q = grind (arith, nat_tests)
 
-load_under : (I : Instance) (t : ℕ) → load I t ≤ greatest (map (λ t. stack I t 1) (moments I))
+pub load_under : (I : Instance) (t : ℕ) → load I t ≤ greatest (map (λ t. stack I t 1) (moments I))
 load_under I t = let a = stack_under_highest I t 1 in let e = load_is_stack I t in omega arith
 
 reached : (I : Instance) → (t : ℕ) × (load I t ≡ greatest (map (λ t. stack I t 1) (moments I)))
 reached I = elim (greatest_is (map (λ t. stack I t 1) (moments I))) [
   | inl z ↦ (0, (let a = load_under I 0 in omega arith))
-  | inr i ↦ (let r = from_map (λ t. stack I t 1) (moments I) (greatest (map (λ t. stack I t 1) (moments I))) i in (r.0, sym (load_is_stack I r.0) ∙ sym r.2))
+  | inr i ↦ (let r = from_map (λ t. stack I t 1) (moments I) (greatest (map (λ t. stack I t 1) (moments I))) i in
+      (r.0, sym (load_is_stack I r.0) ∙ sym r.2))
 ]
 
 pub has_peak : (I : Instance) → I ≢ [] → (t : ℕ) × IsPeak I t
 has_peak I some =
     let r = reached I in
-    let t = least_passing (λ t. load I t == greatest (map (λ t. stack I t 1) (moments I))) r.0 (same_test (load I r.0) (greatest (map (λ t. stack I t 1) (moments I))) r.1) in
-    let top : load I t.0 ≡ greatest (map (λ t. stack I t 1) (moments I)) = test_same (load I t.0) (greatest (map (λ t. stack I t 1) (moments I))) t.1.passes in (
+    let t = least_passing (λ t. load I t == greatest (map (λ t. stack I t 1) (moments I))) r.0
+    (same_test (load I r.0) (greatest (map (λ t. stack I t 1) (moments I))) r.1) in
+    let top : load I t.0 ≡ greatest (map (λ t. stack I t 1) (moments I)) = test_same (load I t.0)
+    (greatest (map (λ t. stack I t 1) (moments I))) t.1.passes in (
       t.0,
       record {
         not_empty = some;
         most = λ s. let a = load_under I s in omega arith;
-        earliest = λ s lt. let a = load_under I s in let n = not_same (load I s) (greatest (map (λ t. stack I t 1) (moments I))) (t.1.least s lt) in omega arith;
+        earliest = λ s lt. let a = load_under I s in
+            let n = not_same (load I s) (greatest (map (λ t. stack I t 1) (moments I))) (t.1.least s lt) in omega arith;
       },
     )
 
@@ -78,7 +88,8 @@ one_peak I s t p q = go (cases s t)
     go (inr (inr e)) = e
 
 -- ---- the bound's log is lean
-stack_line_is_lean : (I : Instance) (C t G : ℕ) (earlier : List Line) → IsLeanLine I C earlier (Over (whole (counted I t G)) t 0 G)
+stack_line_is_lean : (I : Instance) (C t G : ℕ) (earlier : List Line) →
+    IsLeanLine I C earlier (Over (whole (counted I t G)) t 0 G)
 stack_line_is_lean I C t G earlier = record {
   live = λ e i. (in_counted I t G e.0 (in_whole (counted I t G) e i).0).1;
   bounds = λ e i. whole_is_whole (counted I t G) e i;
@@ -93,20 +104,27 @@ stack_is_lean I t G C = record {
   one_part = λ j k other line e f p q i m. together e f (among j other e p i) (among k line f q m);
 }
   where
-    two_lines : (j k : ℕ) (earlier line : Line) → j < k → slice_get (Over (whole (counted I t G)) t 0 G ∷ []) j ≡ Some earlier → slice_get (Over (whole (counted I t G)) t 0 G ∷ []) k ≡ Some line → ⊥
+    two_lines : (j k : ℕ) (earlier line : Line) → j < k →
+        slice_get (Over (whole (counted I t G)) t 0 G ∷ []) j ≡ Some earlier →
+        slice_get (Over (whole (counted I t G)) t 0 G ∷ []) k ≡ Some line → ⊥
     two_lines j zero earlier line lt p q = omega arith
     two_lines j (suc k) earlier line lt p q = cc
 
-    lean : (k : ℕ) (line : Line) → slice_get (Over (whole (counted I t G)) t 0 G ∷ []) k ≡ Some line → IsLeanLine I C (take k (Over (whole (counted I t G)) t 0 G ∷ [])) line
-    lean zero line h = let e : Over (whole (counted I t G)) t 0 G ≡ line = cc in rw (← e) (stack_line_is_lean I C t G [])
+    lean : (k : ℕ) (line : Line) → slice_get (Over (whole (counted I t G)) t 0 G ∷ []) k ≡ Some line →
+        IsLeanLine I C (take k (Over (whole (counted I t G)) t 0 G ∷ [])) line
+    lean zero line h = let e : Over (whole (counted I t G)) t 0 G ≡ line = cc in
+        rw (← e) (stack_line_is_lean I C t G [])
     lean (suc k) line h = absurd cc
 
-    among : (k : ℕ) (line : Line) (e : Entry) → slice_get (Over (whole (counted I t G)) t 0 G ∷ []) k ≡ Some line → IsIn e (claim_of line) → IsIn e.0 (counted I t G)
-    among zero line e h i = let q : Over (whole (counted I t G)) t 0 G ≡ line = cc in (in_whole (counted I t G) e (subst (λ (line : Line). IsIn e (claim_of line)) (sym q) i)).0
+    among : (k : ℕ) (line : Line) (e : Entry) → slice_get (Over (whole (counted I t G)) t 0 G ∷ []) k ≡ Some line →
+        IsIn e (claim_of line) → IsIn e.0 (counted I t G)
+    among zero line e h i = let q : Over (whole (counted I t G)) t 0 G ≡ line = cc in
+        (in_whole (counted I t G) e (subst (λ (line : Line). IsIn e (claim_of line)) (sym q) i)).0
     among (suc k) line e h i = absurd cc
 
     together : (e f : Entry) → IsIn e.0 (counted I t G) → IsIn f.0 (counted I t G) → part_of I e.0 ≡ part_of I f.0
-    together e f i j = let a = in_counted I t G e.0 i in let b = in_counted I t G f.0 j in sharing_is_one_part I e.0 f.0 t a.0 b.0 a.1 b.1
+    together e f i j = let a = in_counted I t G e.0 i in let b = in_counted I t G f.0 j in
+        sharing_is_one_part I e.0 f.0 t a.0 b.0 a.1 b.1
 
 -- ---- no capacity below the least one has a layout
 pub none_below : (I : Instance) (C D : ℕ) → IsLeast I C → D < C → IsInfeasible I D

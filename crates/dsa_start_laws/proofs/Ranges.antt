@@ -1,33 +1,36 @@
--- Best-fit's free ranges are the greatest that meet no placed buffer, and it takes the shortest and lowest that holds the buffer.
-use Rattle.std.proofs.Common.{◌≡◌, ℕ, ◌+◌, ◌-◌, ◌<◌, ◌≤◌, ◌≢◌, ◌⊎◌, ◌↔◌, inl, inr, Bool, true, false, cond, ◌&&◌, ◌||◌, ◌==◌, List, [], ◌∷◌, map, nat_lt, Option, Some, None, sym, refl, ap, ap₂, ◌∙◌, subst, arith}
+-- Best-fit's free ranges are the greatest that meet no placed buffer.
+use Rattle.std.proofs.Common.{◌≡◌, ℕ, ◌+◌, ◌-◌, ◌<◌, ◌≤◌, ◌≢◌, ◌⊎◌, ◌↔◌, inl, inr, true, false, ◌&&◌, ◌==◌, List, [], ◌∷◌, map, nat_lt, sym, refl, ap, ap₂, ◌∙◌, subst, arith}
 use Rattle.std.specs.List.{list_any, flat_map}
 use Rattle.std.proofs.lemmas.Bool.Decides.{nat_tests}
 use Rattle.dsa_terms.specs.Buffers.{Instance, IsInstance}
 use Rattle.dsa_terms.specs.Claims.{Entry, IsIn}
 use Rattle.dsa_terms.specs.Logs.{greatest}
-use Rattle.dsa_terms.specs.Starts.{top, highest, is_free, Range, IsOpen, IsFreeRange, stretches, free_ranges, is_tighter, tighter_of, tightest}
+use Rattle.dsa_terms.specs.Fits.{top, highest, is_free, Range, IsOpen, IsFreeRange, stretches, free_ranges}
 use Rattle.dsa_terms.proofs.Lists.{into_map, from_map, into_filter, from_filter, any_gives, none_passes, true_or_false}
 use Rattle.dsa_terms.proofs.Moments.{and_true, both_true, sound}
-use Rattle.dsa_start_laws.proofs.Bounds.{greatest_is}
+use Rattle.dsa_start_laws.proofs.Stacks.{greatest_is}
 use Rattle.dsa_terms.proofs.Lists.{from_append, left_append, right_append}
-use Rattle.dsa_start_laws.proofs.Fits.{free_at, free_from, under_highest}
+use Rattle.dsa_start_laws.proofs.Places.{free_at, free_from, under_highest}
 
 -- ---- flat_map
-into_flat_map : {X Y : Type 0} (f : X → List Y) (xs : List X) (x : X) (y : Y) → IsIn x xs → IsIn y (f x) → IsIn y (flat_map f xs)
+into_flat_map : {X Y : Type 0} (f : X → List Y) (xs : List X) (x : X) (y : Y) → IsIn x xs → IsIn y (f x) →
+    IsIn y (flat_map f xs)
 into_flat_map f [] x y i j = absurd i
 into_flat_map f (z ∷ zs) x y (inl q) j = left_append (f z) (flat_map f zs) y (rw (← q) j)
 into_flat_map f (z ∷ zs) x y (inr i) j = right_append (f z) (flat_map f zs) y (into_flat_map f zs x y i j)
 
-from_flat_map : {X Y : Type 0} (f : X → List Y) (xs : List X) (y : Y) → IsIn y (flat_map f xs) → (x : X) × IsIn x xs × IsIn y (f x)
+from_flat_map : {X Y : Type 0} (f : X → List Y) (xs : List X) (y : Y) → IsIn y (flat_map f xs) →
+    (x : X) × IsIn x xs × IsIn y (f x)
 from_flat_map f [] y i = absurd i
 from_flat_map {X} f (z ∷ zs) y i = go (from_flat_map f zs y) (from_append (f z) (flat_map f zs) y i)
   where
-    go : (IsIn y (flat_map f zs) → (x : X) × IsIn x zs × IsIn y (f x)) → IsIn y (f z) ⊎ IsIn y (flat_map f zs) → (x : X) × IsIn x (z ∷ zs) × IsIn y (f x)
+    go : (IsIn y (flat_map f zs) → (x : X) × IsIn x zs × IsIn y (f x)) → IsIn y (f z) ⊎ IsIn y (flat_map f zs) →
+        (x : X) × IsIn x (z ∷ zs) × IsIn y (f x)
     go ih (inl j) = (z, inl refl, j)
     go ih (inr j) = let r = ih j in (r.0, inr r.1, r.2)
 
 -- ---- ranges
-range : ℕ → ℕ → Range
+pub range : ℕ → ℕ → Range
 range x y = record { start = x; stop = y }
 
 same_range : (r s : Range) → r.start ≡ s.start → r.stop ≡ s.stop → r ≡ s
@@ -57,30 +60,39 @@ record IsBetween (I : Instance) (placed : List Entry) (r : Range) : Type 0 where
 of_stretches : (I : Instance) (placed : List Entry) (r : Range) → IsIn r (stretches I placed) → IsBetween I placed r
 unfolding stretches
 of_stretches I placed r i =
-    let x = from_flat_map (λ x. map (λ (e : Entry). let r : Range = record { start = x; stop = e.1 } in r) placed) (0 ∷ map (top I) placed) r i in
+    let x = from_flat_map (λ x. map (λ (e : Entry). let r : Range = record { start = x; stop = e.1 } in r) placed)
+    (0 ∷ map (top I) placed) r i in
     let e = from_map (λ (e : Entry). let r : Range = record { start = x.0; stop = e.1 } in r) placed r x.2 in
-    record { begins = begins x.0 x.1 (ap (λ (r : Range). r.start) e.2); ends = (e.0, e.1, sym (ap (λ (r : Range). r.stop) e.2)) }
+    record {
+      begins = begins x.0 x.1 (ap (λ (r : Range). r.start) e.2);
+      ends = (e.0, e.1, sym (ap (λ (r : Range). r.stop) e.2));
+    }
   where
-    begins : (x : ℕ) → IsIn x (0 ∷ map (top I) placed) → r.start ≡ x → (r.start ≡ 0) ⊎ ((e : Entry) × IsIn e placed × (top I e ≡ r.start))
+    begins : (x : ℕ) → IsIn x (0 ∷ map (top I) placed) → r.start ≡ x →
+        (r.start ≡ 0) ⊎ ((e : Entry) × IsIn e placed × (top I e ≡ r.start))
     begins x (inl q) h = inl (h ∙ q)
     begins x (inr j) h = let f = from_map (top I) placed x j in inr (f.0, f.1, sym (h ∙ f.2))
 
 into_stretches : (I : Instance) (placed : List Entry) (r : Range) → IsBetween I placed r → IsIn r (stretches I placed)
 unfolding stretches range
 into_stretches I placed r b =
-    into_flat_map (λ x. map (λ (e : Entry). let r : Range = record { start = x; stop = e.1 } in r) placed) (0 ∷ map (top I) placed) r.start r (begins b.begins)
-    (subst (λ (s : Range). IsIn s (map (λ (e : Entry). let s : Range = record { start = r.start; stop = e.1 } in s) placed)) (same_range (range r.start b.ends.0.1) r refl b.ends.2)
+    into_flat_map (λ x. map (λ (e : Entry). let r : Range = record { start = x; stop = e.1 } in r) placed)
+    (0 ∷ map (top I) placed) r.start r (begins b.begins)
+    (subst (λ (s : Range). IsIn s (map (λ (e : Entry). let s : Range = record { start = r.start; stop = e.1 } in
+    s) placed)) (same_range (range r.start b.ends.0.1) r refl b.ends.2)
     (into_map (λ (e : Entry). let s : Range = record { start = r.start; stop = e.1 } in s) placed b.ends.0 b.ends.1))
   where
     begins : (r.start ≡ 0) ⊎ ((e : Entry) × IsIn e placed × (top I e ≡ r.start)) → IsIn r.start (0 ∷ map (top I) placed)
     begins (inl q) = inl q
     begins (inr e) = inr (subst (λ (x : ℕ). IsIn x (map (top I) placed)) e.2 (into_map (top I) placed e.0 e.1))
 
-free_to : (I : Instance) (placed : List Entry) (r : Range) → is_free I placed r.start r.stop ≡ true → (e : Entry) → IsIn e placed → (r.stop ≤ e.1) ⊎ (top I e ≤ r.start)
+free_to : (I : Instance) (placed : List Entry) (r : Range) → is_free I placed r.start r.stop ≡ true → (e : Entry) →
+    IsIn e placed → (r.stop ≤ e.1) ⊎ (top I e ≤ r.start)
 unfolding top
 free_to I placed r h e i = free_at I placed r.start r.stop e h i
 
-to_free : (I : Instance) (placed : List Entry) (r : Range) → ((e : Entry) → IsIn e placed → (r.stop ≤ e.1) ⊎ (top I e ≤ r.start)) → is_free I placed r.start r.stop ≡ true
+to_free : (I : Instance) (placed : List Entry) (r : Range) →
+    ((e : Entry) → IsIn e placed → (r.stop ≤ e.1) ⊎ (top I e ≤ r.start)) → is_free I placed r.start r.stop ≡ true
 unfolding top
 to_free I placed r h = free_from I placed r.start r.stop h
 
@@ -89,17 +101,20 @@ unfolding top
 top_under I placed e i = under_highest I placed e i
 
 -- ---- a listed range is a greatest open one
-listed_is_free : (I : Instance) (placed : List Entry) (r : Range) → IsInstance I → r.start < r.stop → is_free I placed r.start r.stop ≡ true → IsBetween I placed r → IsFreeRange I placed r
+listed_is_free : (I : Instance) (placed : List Entry) (r : Range) → IsInstance I → r.start < r.stop →
+    is_free I placed r.start r.stop ≡ true → IsBetween I placed r → IsFreeRange I placed r
 listed_is_free I placed r s lt free b = record {
   is_open = record {
     not_empty = lt;
-    under = (let e = b.ends in let k = top_under I placed e.0 e.1 in let z = top_past I e.0 s in let q = e.2 in omega arith);
+    under = (let e = b.ends in let k = top_under I placed e.0 e.1 in let z = top_past I e.0 s in let q = e.2 in
+        omega arith);
     free = free_to I placed r free;
   };
   greatest = λ o clear low high. same_range o r (start_stays o clear low high b.begins) (stop_stays o clear low high);
 }
   where
-    start_stays : (o : Range) → IsOpen I placed o → o.start ≤ r.start → r.stop ≤ o.stop → (r.start ≡ 0) ⊎ ((e : Entry) × IsIn e placed × (top I e ≡ r.start)) → o.start ≡ r.start
+    start_stays : (o : Range) → IsOpen I placed o → o.start ≤ r.start → r.stop ≤ o.stop →
+        (r.start ≡ 0) ⊎ ((e : Entry) × IsIn e placed × (top I e ≡ r.start)) → o.start ≡ r.start
     start_stays o clear low high (inl q) = omega arith
     start_stays o clear low high (inr e) = go (clear.free e.0 e.1)
       where
@@ -115,7 +130,8 @@ listed_is_free I placed r s lt free b = record {
         go (inr q) = absurd (let z = top_past I b.ends.0 s in let k = b.ends.2 in omega arith)
 
 -- ---- a greatest open range is listed
-longer_down : (I : Instance) (placed : List Entry) (r : Range) → 1 ≤ r.start → IsOpen I placed r → list_any (λ e. top I e == r.start) placed ≡ false → IsOpen I placed (range (r.start - 1) r.stop)
+longer_down : (I : Instance) (placed : List Entry) (r : Range) → 1 ≤ r.start → IsOpen I placed r →
+    list_any (λ e. top I e == r.start) placed ≡ false → IsOpen I placed (range (r.start - 1) r.stop)
 unfolding range
 longer_down I placed r pos o t = record {
   not_empty = (let k = o.not_empty in omega arith);
@@ -126,7 +142,8 @@ longer_down I placed r pos o t = record {
   ];
 }
 
-room_above : (I : Instance) (placed : List Entry) (r : Range) → IsInstance I → IsOpen I placed r → r.stop < highest I placed
+room_above : (I : Instance) (placed : List Entry) (r : Range) → IsInstance I → IsOpen I placed r →
+    r.stop < highest I placed
 unfolding highest
 room_above I placed r s o = go (greatest_is (map (top I) placed)) (cases r.stop (greatest (map (top I) placed)) under)
   where
@@ -136,7 +153,9 @@ room_above I placed r s o = go (greatest_is (map (top I) placed)) (cases r.stop 
     cases : (m n : ℕ) → m ≤ n → (m < n) ⊎ (m ≡ n)
     cases m n h = grind arith
 
-    go : (greatest (map (top I) placed) ≡ 0) ⊎ IsIn (greatest (map (top I) placed)) (map (top I) placed) → (r.stop < greatest (map (top I) placed)) ⊎ (r.stop ≡ greatest (map (top I) placed)) → r.stop < greatest (map (top I) placed)
+    go : (greatest (map (top I) placed) ≡ 0) ⊎ IsIn (greatest (map (top I) placed)) (map (top I) placed) →
+        (r.stop < greatest (map (top I) placed)) ⊎ (r.stop ≡ greatest (map (top I) placed)) →
+        r.stop < greatest (map (top I) placed)
     go x (inl lt) = lt
     go (inl z) (inr e) = absurd (let k = o.not_empty in omega arith)
     go (inr i) (inr e) = let f = from_map (top I) placed (greatest (map (top I) placed)) i in absurd (clash f.0 f.1 f.2)
@@ -147,7 +166,8 @@ room_above I placed r s o = go (greatest_is (map (top I) placed)) (cases r.stop 
           | inr h ↦ (let k = o.not_empty in omega arith)
         ]
 
-longer_up : (I : Instance) (placed : List Entry) (r : Range) → IsInstance I → IsOpen I placed r → list_any (λ (e : Entry). e.1 == r.stop) placed ≡ false → IsOpen I placed (range r.start (r.stop + 1))
+longer_up : (I : Instance) (placed : List Entry) (r : Range) → IsInstance I → IsOpen I placed r →
+    list_any (λ (e : Entry). e.1 == r.stop) placed ≡ false → IsOpen I placed (range r.start (r.stop + 1))
 unfolding range
 longer_up I placed r s o t = record {
   not_empty = (let k = o.not_empty in omega arith);
@@ -158,17 +178,20 @@ longer_up I placed r s o t = record {
   ];
 }
 
-begins_well : (I : Instance) (placed : List Entry) (r : Range) → IsFreeRange I placed r → (r.start ≡ 0) ⊎ ((e : Entry) × IsIn e placed × (top I e ≡ r.start))
+begins_well : (I : Instance) (placed : List Entry) (r : Range) → IsFreeRange I placed r →
+    (r.start ≡ 0) ⊎ ((e : Entry) × IsIn e placed × (top I e ≡ r.start))
 unfolding range
 begins_well I placed r f = go (zero_or_more r.start) (true_or_false (list_any (λ e. top I e == r.start) placed))
   where
     zero_or_more : (n : ℕ) → (n ≡ 0) ⊎ (1 ≤ n)
     zero_or_more n = grind arith
 
-    go : (r.start ≡ 0) ⊎ (1 ≤ r.start) → (list_any (λ e. top I e == r.start) placed ≡ true) ⊎ (list_any (λ e. top I e == r.start) placed ≡ false) →
+    go : (r.start ≡ 0) ⊎ (1 ≤ r.start) → (list_any (λ e. top I e == r.start) placed ≡ true)
+        ⊎ (list_any (λ e. top I e == r.start) placed ≡ false) →
         (r.start ≡ 0) ⊎ ((e : Entry) × IsIn e placed × (top I e ≡ r.start))
     go (inl z) t = inl z
-    go (inr pos) (inl t) = let e = any_gives (λ e. top I e == r.start) placed t in inr (e.0, e.1, eq_of (top I e.0) r.start e.2)
+    go (inr pos) (inl t) = let e = any_gives (λ e. top I e == r.start) placed t in
+        inr (e.0, e.1, eq_of (top I e.0) r.start e.2)
     go (inr pos) (inr t) = absurd (
         let o = f.is_open in
         let longer : IsOpen I placed (range (r.start - 1) r.stop) = longer_down I placed r pos o t in
@@ -184,11 +207,13 @@ begins_well I placed r f = go (zero_or_more r.start) (true_or_false (list_any (�
         fewer : (n m : ℕ) → m ≡ n → 1 ≤ n → m ≡ n - 1 → ⊥
         fewer n m p q z = omega arith
 
-ends_well : (I : Instance) (placed : List Entry) (r : Range) → IsInstance I → IsFreeRange I placed r → (e : Entry) × IsIn e placed × (e.1 ≡ r.stop)
+ends_well : (I : Instance) (placed : List Entry) (r : Range) → IsInstance I → IsFreeRange I placed r →
+    (e : Entry) × IsIn e placed × (e.1 ≡ r.stop)
 unfolding range
 ends_well I placed r s f = go (true_or_false (list_any (λ (e : Entry). e.1 == r.stop) placed))
   where
-    go : (list_any (λ (e : Entry). e.1 == r.stop) placed ≡ true) ⊎ (list_any (λ (e : Entry). e.1 == r.stop) placed ≡ false) → (e : Entry) × IsIn e placed × (e.1 ≡ r.stop)
+    go : (list_any (λ (e : Entry). e.1 == r.stop) placed ≡ true)
+        ⊎ (list_any (λ (e : Entry). e.1 == r.stop) placed ≡ false) → (e : Entry) × IsIn e placed × (e.1 ≡ r.stop)
     go (inl t) = let e = any_gives (λ (e : Entry). e.1 == r.stop) placed t in (e.0, e.1, eq_of e.0.1 r.stop e.2)
     go (inr t) = absurd (
         let o = f.is_open in
@@ -205,74 +230,16 @@ ends_well I placed r s f = go (true_or_false (list_any (λ (e : Entry). e.1 == r
         less : (n m : ℕ) → m ≡ n → m ≡ n + 1 → ⊥
         less n m p z = omega arith
 
-pub free_ranges_exactly : (I : Instance) (placed : List Entry) (r : Range) → IsInstance I → IsIn r (free_ranges I placed) ↔ IsFreeRange I placed r
+pub free_ranges_exactly : (I : Instance) (placed : List Entry) (r : Range) → IsInstance I →
+    IsIn r (free_ranges I placed) ↔ IsFreeRange I placed r
 unfolding free_ranges
 free_ranges_exactly I placed r s = (
-  λ i. let x = from_filter (λ (r : Range). nat_lt r.start r.stop && is_free I placed r.start r.stop) (stretches I placed) r i in
+  λ i. let x = from_filter (λ (r : Range). nat_lt r.start r.stop && is_free I placed r.start r.stop)
+      (stretches I placed) r i in
       let q = and_true (nat_lt r.start r.stop) (is_free I placed r.start r.stop) x.1 in
       listed_is_free I placed r s (test_lt r.start r.stop q.0) q.1 (of_stretches I placed r x.0),
   λ f. into_filter (λ (r : Range). nat_lt r.start r.stop && is_free I placed r.start r.stop) (stretches I placed) r
       (into_stretches I placed r (record { begins = begins_well I placed r f; ends = ends_well I placed r s f }))
-      (both_true (nat_lt r.start r.stop) (is_free I placed r.start r.stop) (lt_test r.start r.stop f.is_open.not_empty) (to_free I placed r f.is_open.free)),
+      (both_true (nat_lt r.start r.stop) (is_free I placed r.start r.stop) (lt_test r.start r.stop f.is_open.not_empty)
+      (to_free I placed r f.is_open.free)),
 )
-
--- ---- the tightest
-abbrev tighter_test : ℕ → ℕ → ℕ → ℕ → Bool
-tighter_test l m a b = nat_lt l m || ((l == m) && nat_lt a b)
-
-not_tighter : (l m a b : ℕ) → tighter_test l m a b ≡ false → (m ≤ l) × (l ≡ m → b ≤ a)
-not_tighter l m a b h = (grind (arith, nat_tests), λ q. grind (arith, nat_tests))
-
-tighter_is : (l m a b : ℕ) → tighter_test l m a b ≡ true → (l < m) ⊎ ((l ≡ m) × (a < b))
-tighter_is l m a b h = grind (arith, nat_tests)
-
-no_tighter_from : (l m a b : ℕ) → m ≤ l → (l ≡ m → b ≤ a) → tighter_test l m a b ≡ false
-no_tighter_from l m a b h k = grind (arith, nat_tests)
-
--- no range is tighter than itself, nor than one that it is not tighter than
-not_itself : (r : Range) → is_tighter r r ≡ false
-unfolding is_tighter
-not_itself r = no_tighter_from (r.stop - r.start) (r.stop - r.start) r.start r.start (omega arith) (λ q. omega arith)
-
-not_back : (r s : Range) → is_tighter s r ≡ true → is_tighter r s ≡ false
-unfolding is_tighter
-not_back r s h = go (s.stop - s.start) (r.stop - r.start) s.start r.start (tighter_is (s.stop - s.start) (r.stop - r.start) s.start r.start h)
-  where
-    go : (l m a b : ℕ) → (l < m) ⊎ ((l ≡ m) × (a < b)) → tighter_test m l b a ≡ false
-    go l m a b (inl q) = no_tighter_from m l b a (omega arith) (λ z. omega arith)
-    go l m a b (inr q) = no_tighter_from m l b a (omega arith) (λ z. omega arith)
-
-not_along : (r s u : Range) → is_tighter u s ≡ false → is_tighter s r ≡ false → is_tighter u r ≡ false
-unfolding is_tighter
-not_along r s u h k = go (u.stop - u.start) (s.stop - s.start) (r.stop - r.start) u.start s.start r.start
-    (not_tighter (u.stop - u.start) (s.stop - s.start) u.start s.start h) (not_tighter (s.stop - s.start) (r.stop - r.start) s.start r.start k)
-  where
-    go : (l m n a b c : ℕ) → (m ≤ l) × (l ≡ m → b ≤ a) → (n ≤ m) × (m ≡ n → c ≤ b) → tighter_test l n a c ≡ false
-    go l m n a b c p q = no_tighter_from l n a c (omega arith) (λ z. let x : b ≤ a = p.1 (omega arith) in let y : c ≤ b = q.1 (omega arith) in omega arith)
-
-none_in : (xs : List Range) (s : Range) → tightest xs ≡ None → IsIn s xs → ⊥
-none_in [] s h i = i
-none_in (x ∷ xs) s h i = go (tightest xs) h
-  where
-    pick : (b : Bool) (y : Range) → cond b (Some y) (Some x) ≡ None → ⊥
-    pick true y q = cc
-    pick false y q = cc
-
-    go : (o : Option Range) → tighter_of x o ≡ None → ⊥
-    go None q = cc
-    go (Some y) q = pick (is_tighter y x) y q
-
-pub none_tighter : (rs : List Range) (r s : Range) → tightest rs ≡ Some r → IsIn s rs → is_tighter s r ≡ false
-none_tighter [] r s h i = absurd i
-none_tighter (x ∷ xs) r s h i = go (tightest xs) refl (none_tighter xs) h i
-  where
-    go : (o : Option Range) → tightest xs ≡ o → ((r s : Range) → tightest xs ≡ Some r → IsIn s xs → is_tighter s r ≡ false) → tighter_of x o ≡ Some r → IsIn s (x ∷ xs) → is_tighter s r ≡ false
-    go None e ih q (inl j) = let z : x ≡ r = cc in rw (j, z) (not_itself r)
-    go None e ih q (inr j) = absurd (none_in xs s e j)
-    go (Some y) e ih q j = pick (is_tighter y x) refl q j
-      where
-        pick : (b : Bool) → is_tighter y x ≡ b → cond b (Some y) (Some x) ≡ Some r → IsIn s (x ∷ xs) → is_tighter s r ≡ false
-        pick true t q (inl j) = let z : y ≡ r = cc in rw (j, ← z) (not_back x y t)
-        pick true t q (inr j) = let z : y ≡ r = cc in rw (← z) (ih y s e j)
-        pick false t q (inl j) = let z : x ≡ r = cc in rw (j, z) (not_itself r)
-        pick false t q (inr j) = let z : x ≡ r = cc in rw (← z) (not_along x y s (ih y s e j) t)

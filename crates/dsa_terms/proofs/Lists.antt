@@ -1,9 +1,11 @@
 -- Membership in a list, and the lists that are made of others.
 use Rattle.std.proofs.Common.{◌≡◌, ◌<◌, ◌≤◌, ◌⊎◌, inl, inr, Bool, true, false, cond, ◌||◌, List, [], ◌∷◌, ◌++◌, map, length, filter, Option, Some, None, refl, ap, ◌∙◌, arith}
-use Rattle.std.specs.List.{list_any}
+use Rattle.std.specs.List.{list_any, list_all}
+use Rattle.std.specs.Option.{option_or}
 use Rattle.dsa_terms.specs.Claims.{IsIn, Entry}
 use Rattle.dsa_terms.specs.Buffers.{Instance}
-use Rattle.dsa_terms.specs.Search.{comes_before, put_in, in_order, or_else, first_some}
+use Rattle.dsa_terms.specs.Search.{comes_before, put_in, in_order, first_some}
+use Rattle.dsa_terms.proofs.Moments.{and_true}
 
 pub true_or_false : (b : Bool) → (b ≡ true) ⊎ (b ≡ false)
 true_or_false true = inl refl
@@ -33,7 +35,8 @@ pub into_filter : {X : Type 0} (p : X → Bool) (xs : List X) (x : X) → IsIn x
 into_filter p [] x h t = h
 into_filter {X} p (y ∷ ys) x h t = go (λ q. into_filter p ys x q t) (p y) refl h
   where
-    go : (IsIn x ys → IsIn x (filter p ys)) → (b : Bool) → p y ≡ b → IsIn x (y ∷ ys) → IsIn x (cond b (y ∷ filter p ys) (filter p ys))
+    go : (IsIn x ys → IsIn x (filter p ys)) → (b : Bool) → p y ≡ b → IsIn x (y ∷ ys) →
+        IsIn x (cond b (y ∷ filter p ys) (filter p ys))
     go ih true e (inl q) = inl q
     go ih true e (inr q) = inr (ih q)
     go ih false e (inl q) = absurd (let k : p x ≡ p y = ap p q in cc)
@@ -43,7 +46,8 @@ pub from_filter : {X : Type 0} (p : X → Bool) (xs : List X) (x : X) → IsIn x
 from_filter p [] x h = absurd h
 from_filter {X} p (y ∷ ys) x h = go (from_filter p ys x) (p y) refl h
   where
-    go : (IsIn x (filter p ys) → IsIn x ys × (p x ≡ true)) → (b : Bool) → p y ≡ b → IsIn x (cond b (y ∷ filter p ys) (filter p ys)) → IsIn x (y ∷ ys) × (p x ≡ true)
+    go : (IsIn x (filter p ys) → IsIn x ys × (p x ≡ true)) → (b : Bool) → p y ≡ b →
+        IsIn x (cond b (y ∷ filter p ys) (filter p ys)) → IsIn x (y ∷ ys) × (p x ≡ true)
     go ih true e (inl q) = (inl q, ap p q ∙ e)
     go ih true e (inr q) = let r = ih q in (inr r.0, r.1)
     go ih false e q = let r = ih q in (inr r.0, r.1)
@@ -52,16 +56,19 @@ pub length-filter_le : {X : Type 0} (p : X → Bool) (xs : List X) → length (f
 length-filter_le p [] = omega arith
 length-filter_le {X} p (y ∷ ys) = go (length-filter_le p ys) (p y)
   where
-    go : (length (filter p ys) ≤ length ys) → (b : Bool) → length (cond b (y ∷ filter p ys) (filter p ys)) ≤ length (y ∷ ys)
+    go : (length (filter p ys) ≤ length ys) → (b : Bool) →
+        length (cond b (y ∷ filter p ys) (filter p ys)) ≤ length (y ∷ ys)
     go ih true = omega arith
     go ih false = omega arith
 
 -- a filter that drops an item is shorter
-pub length-filter_lt : {X : Type 0} (p : X → Bool) (xs : List X) (x : X) → IsIn x xs → p x ≡ false → length (filter p xs) < length xs
+pub length-filter_lt : {X : Type 0} (p : X → Bool) (xs : List X) (x : X) → IsIn x xs → p x ≡ false →
+    length (filter p xs) < length xs
 length-filter_lt p [] x h f = absurd h
 length-filter_lt {X} p (y ∷ ys) x h f = go (λ q. length-filter_lt p ys x q f) (p y) refl h
   where
-    go : (IsIn x ys → length (filter p ys) < length ys) → (b : Bool) → p y ≡ b → IsIn x (y ∷ ys) → length (cond b (y ∷ filter p ys) (filter p ys)) < length (y ∷ ys)
+    go : (IsIn x ys → length (filter p ys) < length ys) → (b : Bool) → p y ≡ b → IsIn x (y ∷ ys) →
+        length (cond b (y ∷ filter p ys) (filter p ys)) < length (y ∷ ys)
     go ih true e (inl q) = absurd (let k : p x ≡ p y = ap p q in cc)
     go ih true e (inr q) = omega (arith, ih q)
     go ih false e q = omega (arith, length-filter_le p ys)
@@ -71,7 +78,8 @@ pub any_gives : {X : Type 0} (p : X → Bool) (xs : List X) → list_any p xs �
 any_gives p [] h = absurd cc
 any_gives {X} p (y ∷ ys) h = go (any_gives p ys) (p y) refl h
   where
-    go : (list_any p ys ≡ true → (x : X) × IsIn x ys × (p x ≡ true)) → (b : Bool) → p y ≡ b → (b || list_any p ys) ≡ true → (x : X) × IsIn x (y ∷ ys) × (p x ≡ true)
+    go : (list_any p ys ≡ true → (x : X) × IsIn x ys × (p x ≡ true)) → (b : Bool) → p y ≡ b →
+        (b || list_any p ys) ≡ true → (x : X) × IsIn x (y ∷ ys) × (p x ≡ true)
     go ih true e q = (y, inl refl, e)
     go ih false e q = let r = ih q in (r.0, inr r.1, r.2)
 
@@ -79,20 +87,25 @@ pub none_passes : {X : Type 0} (p : X → Bool) (xs : List X) (x : X) → list_a
 none_passes p [] x h i = absurd i
 none_passes {X} p (y ∷ ys) x h i = go (none_passes p ys x) (p y) refl h i
   where
-    go : (list_any p ys ≡ false → IsIn x ys → p x ≡ false) → (b : Bool) → p y ≡ b → (b || list_any p ys) ≡ false → IsIn x (y ∷ ys) → p x ≡ false
+    go : (list_any p ys ≡ false → IsIn x ys → p x ≡ false) → (b : Bool) → p y ≡ b → (b || list_any p ys) ≡ false →
+        IsIn x (y ∷ ys) → p x ≡ false
     go ih true e q j = absurd cc
     go ih false e q (inl j) = ap p j ∙ e
     go ih false e q (inr j) = ih q j
 
 pub any_from : {X : Type 0} (p : X → Bool) (xs : List X) (x : X) → IsIn x xs → p x ≡ true → list_any p xs ≡ true
-any_from p xs x i t = elim (true_or_false (list_any p xs)) [ inl h ↦ h | inr h ↦ absurd (let k : p x ≡ false = none_passes p xs x h i in cc) ]
+any_from p xs x i t = elim (true_or_false (list_any p xs)) [
+  | inl h ↦ h
+  | inr h ↦ absurd (let k : p x ≡ false = none_passes p xs x h i in cc)
+]
 
 -- ---- the list in order has the same items
 pub into_put_in : (I : Instance) (e : Entry) (es : List Entry) (x : Entry) → IsIn x (e ∷ es) → IsIn x (put_in I e es)
 into_put_in I e [] x h = h
 into_put_in I e (f ∷ fs) x h = go (into_put_in I e fs x) (comes_before I e f) h
   where
-    go : (IsIn x (e ∷ fs) → IsIn x (put_in I e fs)) → (b : Bool) → IsIn x (e ∷ f ∷ fs) → IsIn x (cond b (e ∷ f ∷ fs) (f ∷ put_in I e fs))
+    go : (IsIn x (e ∷ fs) → IsIn x (put_in I e fs)) → (b : Bool) → IsIn x (e ∷ f ∷ fs) →
+        IsIn x (cond b (e ∷ f ∷ fs) (f ∷ put_in I e fs))
     go ih true q = q
     go ih false (inl q) = inr (ih (inl q))
     go ih false (inr (inl q)) = inl q
@@ -106,7 +119,8 @@ from_put_in I e (f ∷ fs) x h = go (from_put_in I e fs x) (comes_before I e f) 
     swap (inl q) = inl q
     swap (inr q) = inr (inr q)
 
-    go : (IsIn x (put_in I e fs) → IsIn x (e ∷ fs)) → (b : Bool) → IsIn x (cond b (e ∷ f ∷ fs) (f ∷ put_in I e fs)) → IsIn x (e ∷ f ∷ fs)
+    go : (IsIn x (put_in I e fs) → IsIn x (e ∷ fs)) → (b : Bool) → IsIn x (cond b (e ∷ f ∷ fs) (f ∷ put_in I e fs)) →
+        IsIn x (e ∷ f ∷ fs)
     go ih true q = q
     go ih false (inl q) = inr (inl q)
     go ih false (inr q) = swap (ih q)
@@ -129,16 +143,19 @@ pub all_none : {X Y : Type 0} (f : X → Option Y) (xs : List X) (x : X) → fir
 all_none f [] x h i = absurd i
 all_none {X} {Y} f (y ∷ ys) x h i = go (all_none f ys x) (f y) refl h i
   where
-    go : (first_some f ys ≡ None → IsIn x ys → f x ≡ None) → (o : Option Y) → f y ≡ o → or_else o (first_some f ys) ≡ None → IsIn x (y ∷ ys) → f x ≡ None
+    go : (first_some f ys ≡ None → IsIn x ys → f x ≡ None) → (o : Option Y) → f y ≡ o →
+        option_or o (first_some f ys) ≡ None → IsIn x (y ∷ ys) → f x ≡ None
     go ih None e q (inl j) = ap f j ∙ e
     go ih None e q (inr j) = ih q j
     go ih (Some v) e q j = absurd cc
 
-pub some_answer : {X Y : Type 0} (f : X → Option Y) (xs : List X) (y : Y) → first_some f xs ≡ Some y → (x : X) × IsIn x xs × (f x ≡ Some y)
+pub some_answer : {X Y : Type 0} (f : X → Option Y) (xs : List X) (y : Y) → first_some f xs ≡ Some y →
+    (x : X) × IsIn x xs × (f x ≡ Some y)
 some_answer f [] y h = absurd cc
 some_answer {X} {Y} f (z ∷ zs) y h = go (some_answer f zs y) (f z) refl h
   where
-    go : (first_some f zs ≡ Some y → (x : X) × IsIn x zs × (f x ≡ Some y)) → (o : Option Y) → f z ≡ o → or_else o (first_some f zs) ≡ Some y → (x : X) × IsIn x (z ∷ zs) × (f x ≡ Some y)
+    go : (first_some f zs ≡ Some y → (x : X) × IsIn x zs × (f x ≡ Some y)) → (o : Option Y) → f z ≡ o →
+        option_or o (first_some f zs) ≡ Some y → (x : X) × IsIn x (z ∷ zs) × (f x ≡ Some y)
     go ih None e q = let r = ih q in (r.0, inr r.1, r.2)
     go ih (Some v) e q = (z, inl refl, e ∙ q)
 
@@ -155,3 +172,13 @@ left_append (z ∷ zs) ys x (inr i) = inr (left_append zs ys x i)
 pub right_append : {X : Type 0} (xs ys : List X) (x : X) → IsIn x ys → IsIn x (xs ++ ys)
 right_append [] ys x i = i
 right_append (z ∷ zs) ys x i = inr (right_append zs ys x i)
+
+-- ---- all items pass
+pub all_at : {X : Type 0} (p : X → Bool) (xs : List X) (x : X) → list_all p xs ≡ true → IsIn x xs → p x ≡ true
+all_at p [] x h i = absurd i
+all_at p (y ∷ ys) x h (inl q) = ap p q ∙ (and_true (p y) (list_all p ys) h).0
+all_at p (y ∷ ys) x h (inr i) = all_at p ys x (and_true (p y) (list_all p ys) h).1 i
+
+pub all_from : {X : Type 0} (p : X → Bool) (xs : List X) → ((x : X) → IsIn x xs → p x ≡ true) → list_all p xs ≡ true
+all_from p [] h = refl
+all_from p (y ∷ ys) h = rw (h y (inl refl)) (all_from p ys (λ x i. h x (inr i)))

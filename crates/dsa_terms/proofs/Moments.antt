@@ -28,7 +28,8 @@ unfolding some_before
 before_gives zero test h = absurd cc
 before_gives (suc n) test h = go (before_gives n test) (test n) refl h
   where
-    go : (some_before n test ≡ true → (t : ℕ) × (test t ≡ true)) → (b : Bool) → test n ≡ b → (b || some_before n test) ≡ true → (t : ℕ) × (test t ≡ true)
+    go : (some_before n test ≡ true → (t : ℕ) × (test t ≡ true)) → (b : Bool) → test n ≡ b →
+        (b || some_before n test) ≡ true → (t : ℕ) × (test t ≡ true)
     go ih true e q = (n, e)
     go ih false e q = ih q
 
@@ -40,21 +41,26 @@ none_before (suc n) test t h lt = go (none_before n test t) (or_false (test n) (
     cases : (t n : ℕ) → t < suc n → (t ≡ n) ⊎ (t < n)
     cases t n lt = grind arith
 
-    go : (some_before n test ≡ false → t < n → test t ≡ false) → (test n ≡ false) × (some_before n test ≡ false) → (t ≡ n) ⊎ (t < n) → test t ≡ false
+    go : (some_before n test ≡ false → t < n → test t ≡ false) → (test n ≡ false) × (some_before n test ≡ false) →
+        (t ≡ n) ⊎ (t < n) → test t ≡ false
     go ih q (inl e) = ap test e ∙ q.0
     go ih q (inr l) = ih q.1 l
 
 -- ---- live
 pub live_before : (b : Buffer) (t : ℕ) → IsLive b t → t < b.upper
 unfolding is_live
-live_before b t h = close ((and_true (nat_le b.lower t) (nat_lt t b.upper) ((and_true (nat_le b.lower t && nat_lt t b.upper) (not (list_any (is_within t) b.gaps)) h).0)).1)
+live_before b t h =
+    close ((and_true (nat_le b.lower t) (nat_lt t b.upper)
+    ((and_true (nat_le b.lower t && nat_lt t b.upper) (not (list_any (is_within t) b.gaps)) h).0)).1)
   where
     close : nat_lt t b.upper ≡ true → t < b.upper
     close q = grind (arith, nat_tests)
 
 pub live_at_or_after : (b : Buffer) (t : ℕ) → IsLive b t → b.lower ≤ t
 unfolding is_live
-live_at_or_after b t h = close ((and_true (nat_le b.lower t) (nat_lt t b.upper) ((and_true (nat_le b.lower t && nat_lt t b.upper) (not (list_any (is_within t) b.gaps)) h).0)).0)
+live_at_or_after b t h =
+    close ((and_true (nat_le b.lower t) (nat_lt t b.upper)
+    ((and_true (nat_le b.lower t && nat_lt t b.upper) (not (list_any (is_within t) b.gaps)) h).0)).0)
   where
     close : nat_le b.lower t ≡ true → b.lower ≤ t
     close q = grind (arith, nat_tests)
@@ -69,7 +75,8 @@ do_share-gives b c h =
 pub do_share-false : (b c : Buffer) (t : ℕ) → do_share b c ≡ false → IsLive b t → IsLive c t → ⊥
 unfolding do_share
 do_share-false b c t h p q =
-    let e : (is_live b t && is_live c t) ≡ false = none_before b.upper (λ t. is_live b t && is_live c t) t h (live_before b t p) in
+    let e : (is_live b t && is_live c t) ≡ false = none_before b.upper (λ t. is_live b t && is_live c t) t h
+    (live_before b t p) in
     let f : (is_live b t && is_live c t) ≡ true = both_true (is_live b t) (is_live c t) p q in
     absurd (cc (e, f))
 
@@ -85,7 +92,9 @@ unfolding have_same_moments
 same_moments b c h t = go (is_live b t) (is_live c t) refl refl
   where
     at : t < max b.upper c.upper → is_live b t ≡ is_live c t
-    at lt = unequal_false (is_live b t) (is_live c t) (none_before (max b.upper c.upper) (λ t. not (beq (is_live b t) (is_live c t))) t (not_true (some_before (max b.upper c.upper) (λ t. not (beq (is_live b t) (is_live c t)))) h) lt)
+    at lt = unequal_false (is_live b t) (is_live c t)
+        (none_before (max b.upper c.upper) (λ t. not (beq (is_live b t) (is_live c t))) t
+        (not_true (some_before (max b.upper c.upper) (λ t. not (beq (is_live b t) (is_live c t)))) h) lt)
 
     go : (x y : Bool) → is_live b t ≡ x → is_live c t ≡ y → is_live b t ≡ is_live c t
     go true y p q = at (let l : t < b.upper = live_before b t p in omega arith)
@@ -100,7 +109,8 @@ sound I b h = go (cases b (length I))
     cases : (b n : ℕ) → (b < n) ⊎ (n ≤ b)
     cases b n = grind arith
 
-    go : (b < length I) ⊎ (length I ≤ b) → (1 ≤ (slice_index_or I b no_buffer).size) × (1 ≤ (slice_index_or I b no_buffer).alignment)
+    go : (b < length I) ⊎ (length I ≤ b) → (1 ≤ (slice_index_or I b no_buffer).size)
+        × (1 ≤ (slice_index_or I b no_buffer).alignment)
     go (inl lt) = let q = h b no_buffer lt in (q.0, q.1)
     go (inr le) = rw (get_or_past I b no_buffer le) (omega arith, omega arith)
 

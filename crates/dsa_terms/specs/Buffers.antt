@@ -3,7 +3,7 @@ use Rattle.std.specs.Prelude.{◌≡◌, ℕ, ◌≤◌, ◌<◌, Bool, true, fa
 use Rattle.std.specs.Bool.{beq}
 use Rattle.std.specs.List.{All, list_any}
 
--- a buffer by its numbers; a gap a, b is the moments from a up to and not including b
+-- a buffer by its numbers; its lifetime and each gap (a, b) go from a up to and not including b
 pub record Buffer : Type 0 where
   pub lower : ℕ
   pub upper : ℕ
@@ -15,7 +15,7 @@ pub record Buffer : Type 0 where
 abbrev pub Instance : Type 0
 Instance = List Buffer
 
--- moment t lies in a gap
+-- moment t lies in the gap
 abbrev pub is_within : ℕ → ℕ × ℕ → Bool
 is_within t gap = nat_le gap.0 t && nat_lt t gap.1
 
@@ -23,6 +23,7 @@ is_within t gap = nat_le gap.0 t && nat_lt t gap.1
 unfoldable pub is_live : Buffer → ℕ → Bool
 is_live b t = nat_le b.lower t && nat_lt t b.upper && not (list_any (is_within t) b.gaps)
 
+-- is_live, as a fact
 abbrev pub IsLive : Buffer → ℕ → Type 0
 IsLive b t = is_live b t ≡ true
 
@@ -35,7 +36,7 @@ unfoldable pub some_before : ℕ → (ℕ → Bool) → Bool
 some_before zero test = false
 some_before (suc n) test = test n || some_before n test
 
--- whether b and c share a moment, which is then before b's upper
+-- whether b and c share a moment; one that they share is before b's upper
 unfoldable pub do_share : Buffer → Buffer → Bool
 do_share b c = some_before b.upper (λ t. is_live b t && is_live c t)
 
@@ -43,7 +44,7 @@ do_share b c = some_before b.upper (λ t. is_live b t && is_live c t)
 abbrev pub HaveSameMoments : Buffer → Buffer → Type 0
 HaveSameMoments b c = (t : ℕ) → is_live b t ≡ is_live c t
 
--- whether they are: no moment tells them apart, and one that does is before the upper of one of them
+-- whether they are; a moment that tells them apart is before the upper of one of them
 unfoldable pub have_same_moments : Buffer → Buffer → Bool
 have_same_moments b c = not (some_before (max b.upper c.upper) (λ t. not (beq (is_live b t) (is_live c t))))
 
@@ -51,12 +52,14 @@ have_same_moments b c = not (some_before (max b.upper c.upper) (λ t. not (beq (
 abbrev pub no_buffer : Buffer
 no_buffer = record { lower = 0; upper = 0; size = 1; alignment = 1; gaps = [] }
 
+-- the buffer of a number
 unfoldable pub buffer : Instance → ℕ → Buffer
 buffer I b = slice_index_or I b no_buffer
 
--- a buffer has a size, an alignment and a lifetime
+-- a buffer has a size, an alignment and a lifetime, each of at least 1
 abbrev pub IsSound : Buffer → Type 0
 IsSound b = (1 ≤ b.size) × (1 ≤ b.alignment) × (b.lower < b.upper)
 
+-- each buffer of the instance is sound
 abbrev pub IsInstance : Instance → Type 0
 IsInstance I = All IsSound I

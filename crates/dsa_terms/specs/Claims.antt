@@ -23,6 +23,7 @@ abbrev pub Rises : List ℕ → Type 0
 Rises [] = Unit {0}
 Rises (x ∷ xs) = ((y : ℕ) → IsIn y xs → x < y) × Rises xs
 
+-- the buffers of the list, without their bounds
 abbrev pub buffers_of : List Entry → List ℕ
 buffers_of l = map (λ e. e.0) l
 
@@ -40,12 +41,13 @@ abbrev pub number_of : List Entry → ℕ → ℕ
 number_of [] b = 0
 number_of (e ∷ es) b = cond (e.0 == b) e.1 (number_of es b)
 
--- offsets, given as a function, place each buffer of the claim: aligned, at or above its bound, within the capacity, and apart from each other one with which it shares a moment
+-- the offsets place the buffers of the claim: aligned, above their bounds, within C, apart where two share a moment
 pub record Places (I : Instance) (C : ℕ) (l : Claim) (offset : ℕ → ℕ) : Type 0 where
   pub aligned : (e : Entry) → IsIn e l → IsMultiple (offset e.0) (buffer I e.0).alignment
   pub above : (e : Entry) → IsIn e l → e.1 ≤ offset e.0
   pub within : (e : Entry) → IsIn e l → offset e.0 + (buffer I e.0).size ≤ C
-  pub apart : (e f : Entry) (t : ℕ) → IsIn e l → IsIn f l → e.0 ≢ f.0 → IsLive (buffer I e.0) t → IsLive (buffer I f.0) t →
+  pub apart : (e f : Entry) (t : ℕ) → IsIn e l → IsIn f l → e.0 ≢ f.0 →
+      IsLive (buffer I e.0) t → IsLive (buffer I f.0) t →
       IsApart (buffer I e.0) (offset e.0) (buffer I f.0) (offset f.0)
 
 -- a placement: one offset for each buffer of the claim and for no other
@@ -53,14 +55,15 @@ pub record IsPlacement (I : Instance) (C : ℕ) (l : Claim) (seats : List Entry)
   pub same_buffers : buffers_of seats ≡ buffers_of l
   pub places : Places I C l (number_of seats)
 
+-- the claim has no placement at C
 abbrev pub IsRefuted : Instance → ℕ → Claim → Type 0
 IsRefuted I C l = (seats : List Entry) → IsPlacement I C l seats → ⊥
 
--- how far above b, which comes first, c has to start: past b where they share a moment, and else past b's offset where c has the smaller number
+-- how far above the offset of b, which comes first, c starts: past b where they share a moment, else 1 where c < b
 unfoldable pub step : Instance → ℕ → ℕ → ℕ
 step I b c = cond (do_share (buffer I b) (buffer I c)) (buffer I b).size (cond (nat_lt c b) 1 0)
 
--- the claim that is left where the buffer of e stands at its up and no other one before it
+-- the claim that is left where the buffer of e stands at its up and comes first
 unfoldable pub child : Instance → Claim → Entry → Claim
 child I l e = map (λ f. (f.0, max (up I f) (up I e + step I e.0 f.0))) (filter (λ f. not (f.0 == e.0)) l)
 
@@ -72,7 +75,7 @@ Covers I k l = (e : Entry) → IsIn e k → (f : Entry) × IsIn f l × (f.0 ≡ 
 abbrev pub IsWhole : Claim → Type 0
 IsWhole l = (e : Entry) → IsIn e l → e.1 ≡ 0
 
--- the weight of offsets: each counts once for each number of a buffer that is not below its own
+-- the weight of offsets: that of buffer b counts n - b times, n being the number of buffers
 abbrev pub weight : Instance → (ℕ → ℕ) → Claim → ℕ
 weight I offset [] = 0
 weight I offset (e ∷ es) = (length I - e.0) * offset e.0 + weight I offset es

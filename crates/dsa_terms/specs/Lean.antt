@@ -17,20 +17,24 @@ IsOwnCite (Twin c) = Unit {0}
 abbrev pub CitesOwn : Instance → Claim → Entry → Cite → Type 0
 CitesOwn I l e cite = (list_any (λ f. ends_below I f e) l || list_any (λ f. is_twin I f e) l) ≡ true → IsOwnCite cite
 
--- the Over line's buffers are live at its moment, with its height for a bound, and one modulus lower it would not be legal
+-- an Over line's buffers are live at T with the bound H, and one modulus lower it would not be legal
 pub record IsLeanOver (I : Instance) (C : ℕ) (earlier : List Line) (l : Claim) (T H G : ℕ) : Type 0 where
   pub live : (e : Entry) → IsIn e l → IsLive (buffer I e.0) T
   pub bounds : (e : Entry) → IsIn e l → e.1 ≡ H
   pub lowest : (H ≡ 0) ⊎ (IsLegal I C earlier (Over (map (λ e. (e.0, H - G)) l) T (H - G) G) → ⊥)
 
+-- an Over line as low as it can be, or a Cases line that cites below and twin wherever it can
 abbrev pub IsLeanLine : Instance → ℕ → List Line → Line → Type 0
 IsLeanLine I C earlier (Over l T H G) = IsLeanOver I C earlier l T H G
 IsLeanLine I C earlier (Cases l cites) = AllZip (CitesOwn I l) l cites
 
 -- no line is covered by an earlier one, each line is lean, and all buffers of all claims are of one part
 pub record IsLean (I : Instance) (log : Log) : Type 0 where
-  pub uncovered : (j k : ℕ) (earlier line : Line) → j < k → slice_get log.lines j ≡ Some earlier → slice_get log.lines k ≡ Some line →
+  pub uncovered : (j k : ℕ) (earlier line : Line) → j < k →
+      slice_get log.lines j ≡ Some earlier → slice_get log.lines k ≡ Some line →
       Covers I (claim_of earlier) (claim_of line) → ⊥
-  pub lean : (k : ℕ) (line : Line) → slice_get log.lines k ≡ Some line → IsLeanLine I log.capacity (take k log.lines) line
-  pub one_part : (j k : ℕ) (other line : Line) (e f : Entry) → slice_get log.lines j ≡ Some other → slice_get log.lines k ≡ Some line →
+  pub lean : (k : ℕ) (line : Line) → slice_get log.lines k ≡ Some line →
+      IsLeanLine I log.capacity (take k log.lines) line
+  pub one_part : (j k : ℕ) (other line : Line) (e f : Entry) →
+      slice_get log.lines j ≡ Some other → slice_get log.lines k ≡ Some line →
       IsIn e (claim_of other) → IsIn f (claim_of line) → part_of I e.0 ≡ part_of I f.0

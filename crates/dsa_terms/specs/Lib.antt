@@ -1,3 +1,4 @@
+pub mod Firsts
 pub mod Buffers
 pub mod Layouts
 pub mod Claims
@@ -6,6 +7,8 @@ pub mod Search
 pub mod Parts
 pub mod Plans
 pub mod Lean
+pub mod Fits
+pub mod Orders
 pub mod Starts
 pub mod Bounds
 pub mod Trims

@@ -11,10 +11,11 @@ use Rattle.dsa_terms.specs.Claims.{Claim, Entry, IsIn, IsClaim, up, child, Cover
 unfoldable pub is_stacked : Instance → ℕ → ℕ → ℕ → Entry → Bool
 is_stacked I T H G e = is_live (buffer I e.0) T && nat_le H (up I e) && ((buffer I e.0).alignment % G == 0)
 
--- the size of its buffer, rounded up to a multiple of G, and what the rounding adds
+-- the size of its buffer, rounded up to a multiple of G
 unfoldable pub rounded : Instance → ℕ → Entry → ℕ
 rounded I G e = next_multiple_of (buffer I e.0).size G
 
+-- what that rounding adds to the size
 unfoldable pub rounding : Instance → ℕ → Entry → ℕ
 rounding I G e = rounded I G e - (buffer I e.0).size
 
@@ -23,12 +24,14 @@ abbrev pub greatest : List ℕ → ℕ
 greatest [] = 0
 greatest (x ∷ xs) = max x (greatest xs)
 
--- the buffers S of the claim that are stacked at T from H on by multiples of G are too many: H, with the sum of their sizes rounded up to G, less the greatest single rounding, is above C
+-- H with the stacked sizes rounded up to G, less the greatest single rounding, is above C
 pub record IsOver (I : Instance) (C T H G : ℕ) (l : Claim) : Type 0 where
   pub modulus : 1 ≤ G
   pub from_multiple : IsMultiple H G
   pub some_stacked : filter (is_stacked I T H G) l ≢ []
-  pub too_high : C < H + sum_by (rounded I G) (filter (is_stacked I T H G) l) - greatest (map (rounding I G) (filter (is_stacked I T H G) l))
+  pub too_high :
+      C < H + sum_by (rounded I G) (filter (is_stacked I T H G) l)
+      - greatest (map (rounding I G) (filter (is_stacked I T H G) l))
 
 -- the buffer of f, put at its up, ends at or below the up of e
 unfoldable pub ends_below : Instance → Entry → Entry → Bool
@@ -46,20 +49,24 @@ pub data Cite : Type 0 where
   Below : (other : ℕ) → Cite
   Twin : (other : ℕ) → Cite
 
+-- a line: its claim with how it is refuted, by one stack or by a cite for each buffer that may come first
 pub data Line : Type 0 where
   Over : (claim : Claim) (moment height modulus : ℕ) → Line
   Cases : (claim : Claim) (cites : List Cite) → Line
 
+-- the claim of a line
 abbrev pub claim_of : Line → Claim
 claim_of (Over l T H G) = l
 claim_of (Cases l cites) = l
 
--- a cite of the entry e of the claim l
+-- a cite is legal for entry e of claim l: that line covers the child, that buffer ends below e, or that one is a twin
 abbrev pub IsLegalCite : Instance → List Line → Claim → Entry → Cite → Type 0
-IsLegalCite I earlier l e (ByLine k) = (line : Line) × (slice_get earlier k ≡ Some line) × Covers I (claim_of line) (child I l e)
+IsLegalCite I earlier l e (ByLine k) =
+    (line : Line) × (slice_get earlier k ≡ Some line) × Covers I (claim_of line) (child I l e)
 IsLegalCite I earlier l e (Below c) = (f : Entry) × IsIn f l × (f.0 ≡ c) × (ends_below I f e ≡ true)
 IsLegalCite I earlier l e (Twin c) = (f : Entry) × IsIn f l × (f.0 ≡ c) × (is_twin I f e ≡ true)
 
+-- what a line says of its claim: the stack is over, or each entry has one legal cite
 abbrev pub IsLegalReason : Instance → ℕ → List Line → Line → Type 0
 IsLegalReason I C earlier (Over l T H G) = IsOver I C T H G l
 IsLegalReason I C earlier (Cases l cites) = AllZip (IsLegalCite I earlier l) l cites
@@ -74,12 +81,14 @@ pub record IsLegal (I : Instance) (C : ℕ) (earlier : List Line) (line : Line) 
 abbrev pub AreRefuted : Instance → ℕ → List Line → Type 0
 AreRefuted I C lines = (k : ℕ) (line : Line) → slice_get lines k ≡ Some line → IsRefuted I C (claim_of line)
 
+-- a log: how many buffers, the capacity, the lines, and the number of the line that is its end
 pub record Log : Type 0 where
   pub count : ℕ
   pub capacity : ℕ
   pub lines : List Line
   pub final : ℕ
 
+-- a log is accepted for an instance: its count is right, each line is legal, and its end's claim is whole
 pub record IsAccepted (I : Instance) (log : Log) : Type 0 where
   pub same_count : log.count ≡ length I
   pub legal : (k : ℕ) (line : Line) → slice_get log.lines k ≡ Some line → IsLegal I log.capacity (take k log.lines) line

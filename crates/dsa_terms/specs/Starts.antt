@@ -1,153 +1,12 @@
--- The six starts: first-fit and best-fit, each over three orders.
-use Rattle.std.specs.Prelude.{◌≡◌, ◌≢◌, true, ◌<◌, ◌≤◌, ◌⊎◌, ℕ, zero, suc, ◌+◌, ◌-◌, ◌*◌, cond, ◌==◌, ◌||◌, ◌&&◌, nat_le, nat_lt, Bool, List, [], ◌∷◌, ◌++◌, map, length, slice_index_or, Option}
-use Rattle.std.specs.declared.option.Option.TheVariants.{Some, None}
-use Rattle.std.specs.List.{filter, flat_map, list_all, position_or_len}
-use Rattle.std.specs.Int.{next_multiple_of}
-use Rattle.dsa_terms.specs.Buffers.{Buffer, Instance, buffer, do_share}
-use Rattle.dsa_terms.specs.Layouts.{IsMultiple, IsApart}
-use Rattle.dsa_terms.specs.Claims.{Entry, IsIn}
-use Rattle.dsa_terms.specs.Logs.{greatest}
-use Rattle.dsa_terms.specs.Parts.{numbers, offsets_of}
+-- The six starts, the best of them, and the plan and the hunt that stand on them.
+use Rattle.std.specs.Prelude.{ℕ, nat_le, List, [], ◌++◌, map, slice_index_or, Option}
+use Rattle.std.specs.List.{list_all, position_or_len}
+use Rattle.dsa_terms.specs.Buffers.{Instance}
 use Rattle.dsa_terms.specs.Plans.{layout_height, plan, hunt}
+use Rattle.dsa_terms.specs.Fits.{first_fit, best_fit}
+use Rattle.dsa_terms.specs.Orders.{orders}
 
--- where the buffer of a placed entry ends
-unfoldable pub top : Instance → Entry → ℕ
-top I e = e.1 + (buffer I e.0).size
-
--- the greatest top of the placed, and 0 for none
-unfoldable pub highest : Instance → List Entry → ℕ
-highest I placed = greatest (map (top I) placed)
-
--- the placed ones that share a moment with b
-unfoldable pub neighbours : Instance → ℕ → List Entry → List Entry
-neighbours I b placed = filter (λ e. do_share (buffer I b) (buffer I e.0)) placed
-
--- the addresses from x up to and not including y meet no placed one
-unfoldable pub is_free : Instance → List Entry → ℕ → ℕ → Bool
-is_free I placed x y = list_all (λ e. nat_le y e.1 || nat_le (top I e) x) placed
-
--- b at x is aligned, and apart from each placed one
-pub record IsClear (I : Instance) (b : ℕ) (placed : List Entry) (x : ℕ) : Type 0 where
-  pub aligned : IsMultiple x (buffer I b).alignment
-  pub apart : (e : Entry) → IsIn e placed → IsApart (buffer I b) x (buffer I e.0) e.1
-
--- of x, x + a, x + a + a and so on, the first that passes the test, or the one after n that fail
-unfoldable pub first_passing : (ℕ → Bool) → ℕ → ℕ → ℕ → ℕ
-first_passing test a zero x = x
-first_passing test a (suc n) x = cond (test x) x (first_passing test a n (x + a))
-
--- a rule gives a buffer its offset beside the placed ones that share a moment with it
-abbrev pub FitRule : Type 0
-FitRule = Instance → ℕ → List Entry → ℕ
-
--- first-fit: the least multiple of b's alignment at which b is apart from each of them; from their greatest top on each one is
-unfoldable pub first_place : FitRule
-first_place I b placed =
-    first_passing (λ x. is_free I placed x (x + (buffer I b).size)) (buffer I b).alignment (highest I placed) 0
-
--- addresses from one up to and not including another
-pub record Range : Type 0 where
-  pub start : ℕ
-  pub stop : ℕ
-
--- no placed one meets the range, and it ends at or below the greatest top
-pub record IsOpen (I : Instance) (placed : List Entry) (r : Range) : Type 0 where
-  pub not_empty : r.start < r.stop
-  pub under : r.stop ≤ highest I placed
-  pub free : (e : Entry) → IsIn e placed → (r.stop ≤ e.1) ⊎ (top I e ≤ r.start)
-
--- a free range: no greater one is open
-pub record IsFreeRange (I : Instance) (placed : List Entry) (r : Range) : Type 0 where
-  pub is_open : IsOpen I placed r
-  pub greatest : (s : Range) → IsOpen I placed s → s.start ≤ r.start → r.stop ≤ s.stop → s ≡ r
-
--- from 0 or a top on, up to the start of a placed one
-unfoldable pub stretches : Instance → List Entry → List Range
-stretches I placed = flat_map (λ x. map (λ (e : Entry). record { start = x; stop = e.1 }) placed) (0 ∷ map (top I) placed)
-
--- the free ranges: those stretches that are not empty and meet no placed one; no free range goes on past its ends, since there a placed one begins or ends, or there is 0
-unfoldable pub free_ranges : Instance → List Entry → List Range
-free_ranges I placed = filter (λ (r : Range). nat_lt r.start r.stop && is_free I placed r.start r.stop) (stretches I placed)
-
--- the range has room for b at its least multiple of b's alignment
-unfoldable pub holds : Instance → ℕ → Range → Bool
-holds I b r = nat_le (next_multiple_of r.start (buffer I b).alignment + (buffer I b).size) r.stop
-
--- r is shorter than s, or as long and lower
-unfoldable pub is_tighter : Range → Range → Bool
-is_tighter r s = nat_lt (r.stop - r.start) (s.stop - s.start) || ((r.stop - r.start == s.stop - s.start) && nat_lt r.start s.start)
-
--- the tightest of the ranges
-abbrev pub tighter_of : Range → Option Range → Option Range
-tighter_of r None = Some r
-tighter_of r (Some s) = cond (is_tighter s r) (Some s) (Some r)
-
-abbrev pub tightest : List Range → Option Range
-tightest [] = None
-tightest (r ∷ rs) = tighter_of r (tightest rs)
-
--- where b begins in the range, and without one past all the placed
-abbrev pub start_in : Instance → ℕ → List Entry → Option Range → ℕ
-start_in I b placed (Some r) = next_multiple_of r.start (buffer I b).alignment
-start_in I b placed None = next_multiple_of (highest I placed) (buffer I b).alignment
-
--- best-fit: in the shortest free range that holds b, the lowest of them, and where none does past all the placed
-unfoldable pub best_place : FitRule
-best_place I b placed = start_in I b placed (tightest (filter (holds I b) (free_ranges I placed)))
-
--- the buffers of the order placed one after another, beside those that are placed already
-abbrev pub fitted : FitRule → Instance → List ℕ → List Entry → List Entry
-fitted rule I [] placed = placed
-fitted rule I (b ∷ bs) placed = fitted rule I bs ((b, rule I b (neighbours I b placed)) ∷ placed)
-
-unfoldable pub first_fit : Instance → List ℕ → List ℕ
-first_fit I order = offsets_of I (fitted first_place I order [])
-
-unfoldable pub best_fit : Instance → List ℕ → List ℕ
-best_fit I order = offsets_of I (fitted best_place I order [])
-
--- each buffer is in the order
-abbrev pub HasEach : Instance → List ℕ → Type 0
-HasEach I order = (b : ℕ) → b < length I → IsIn b order
-
--- b put before the first of the list that it comes before, and a list brought into order so
-abbrev pub put_by : (ℕ → ℕ → Bool) → ℕ → List ℕ → List ℕ
-put_by before b [] = b ∷ []
-put_by before b (c ∷ cs) = cond (before b c) (b ∷ c ∷ cs) (c ∷ put_by before b cs)
-
-abbrev pub ordered_by : (ℕ → ℕ → Bool) → List ℕ → List ℕ
-ordered_by before [] = []
-ordered_by before (b ∷ bs) = put_by before b (ordered_by before bs)
-
--- each one comes before all later ones
-abbrev pub IsOrdered : (ℕ → ℕ → Bool) → List ℕ → Type 0
-IsOrdered before [] = Unit {0}
-IsOrdered before (b ∷ bs) = ((c : ℕ) → IsIn c bs → before b c ≡ true) × IsOrdered before bs
-
--- of two numbers one comes before the other, and what comes before it comes before the other too
-pub record IsOrder (before : ℕ → ℕ → Bool) : Type 0 where
-  pub total : (b c : ℕ) → b ≢ c → (before b c ≡ true) ⊎ (before c b ≡ true)
-  pub one_way : (b c : ℕ) → before b c ≡ true → before c b ≡ true → ⊥
-  pub along : (b c d : ℕ) → before b c ≡ true → before c d ≡ true → before b d ≡ true
-
--- the greater measure comes first, or the smaller, and of equal ones the smaller number
-unfoldable pub falls_by : (Buffer → ℕ) → Instance → ℕ → ℕ → Bool
-falls_by measure I b c = nat_lt (measure (buffer I c)) (measure (buffer I b)) || ((measure (buffer I b) == measure (buffer I c)) && nat_lt b c)
-
-unfoldable pub rises_by : (Buffer → ℕ) → Instance → ℕ → ℕ → Bool
-rises_by measure I b c = nat_lt (measure (buffer I b)) (measure (buffer I c)) || ((measure (buffer I b) == measure (buffer I c)) && nat_lt b c)
-
-abbrev pub area : Buffer → ℕ
-area b = b.size * (b.upper - b.lower)
-
--- size falling, lower rising, size times lifetime falling
-unfoldable pub orders : Instance → List (List ℕ)
-orders I =
-    ordered_by (falls_by (λ (b : Buffer). b.size) I) (numbers (length I))
-    ∷ ordered_by (rises_by (λ (b : Buffer). b.lower) I) (numbers (length I))
-    ∷ ordered_by (falls_by area I) (numbers (length I))
-    ∷ []
-
+-- first-fit over each of the three orders, then best-fit over each
 unfoldable pub starts : Instance → List (List ℕ)
 starts I = map (first_fit I) (orders I) ++ map (best_fit I) (orders I)
 
@@ -159,9 +18,10 @@ lowest_place heights = position_or_len (λ h. list_all (nat_le h) heights) heigh
 unfoldable pub best_start : Instance → List ℕ
 best_start I = slice_index_or (starts I) (lowest_place (map (layout_height I) (starts I))) []
 
--- the plan and the hunt over the six starts
+-- the plan over the six starts
 unfoldable pub planned : Instance → ℕ → Option (List ℕ)
 planned I C = plan (starts I) I C
 
+-- the hunt over the six starts
 unfoldable pub hunted : Instance → ℕ → ℕ → ℕ
 hunted I a b = hunt (starts I) I a b

@@ -1,1 +1,4 @@
+pub mod Picked
+pub mod Needed
 pub mod Trims
+mod ExampleFacts

@@ -1,0 +1,101 @@
+-- The members of the parts, and their whole claims.
+use Rattle.std.proofs.Common.{◌≡◌, ℕ, zero, suc, ◌+◌, ◌<◌, ◌≤◌, ◌⊎◌, inl, inr, Bool, true, false, cond, not, ◌==◌, List, [], ◌∷◌, map, length, filter, sym, refl, ap, subst, arith}
+use Rattle.std.specs.List.{range_with_len}
+use Rattle.std.proofs.lemmas.Bool.Decides.{nat_tests}
+use Rattle.dsa_terms.specs.Buffers.{Buffer, Instance, buffer}
+use Rattle.dsa_terms.specs.Claims.{Entry, IsIn, Rises, buffers_of, IsClaim, IsWhole}
+use Rattle.dsa_terms.specs.Logs.{greatest}
+use Rattle.dsa_terms.specs.Parts.{part_of, numbers, members, is_empty, parts, whole}
+use Rattle.dsa_terms.proofs.Lists.{into_map, from_map, into_filter, from_filter}
+use Rattle.dsa_search_laws.proofs.Logs.{in_greatest}
+use Rattle.dsa_search_laws.proofs.Cuts.{item, last_cut_le}
+
+-- ---- numbers
+pub from_range : (n a x : ℕ) → IsIn x (range_with_len a n) → (a ≤ x) × (x < a + n)
+from_range zero a x i = absurd i
+from_range (suc n) a x (inl q) = (omega arith, omega arith)
+from_range (suc n) a x (inr q) = let r = from_range n (a + 1) x q in
+    (let k = r.0 in omega arith, let k = r.1 in omega arith)
+
+pub into_range : (n a x : ℕ) → a ≤ x → x < a + n → IsIn x (range_with_len a n)
+into_range zero a x le lt = absurd (omega arith)
+into_range (suc n) a x le lt = go (into_range n (a + 1) x) (cases a x le)
+  where
+    cases : (a x : ℕ) → a ≤ x → (x ≡ a) ⊎ (a + 1 ≤ x)
+    cases a x h = grind arith
+
+    go : (a + 1 ≤ x → x < a + 1 + n → IsIn x (range_with_len (a + 1) n)) → (x ≡ a) ⊎ (a + 1 ≤ x) →
+        IsIn x (range_with_len a (suc n))
+    go ih (inl q) = inl q
+    go ih (inr q) = inr (ih q (omega arith))
+
+pub rises-range : (n a : ℕ) → Rises (range_with_len a n)
+rises-range zero a = tt
+rises-range (suc n) a = ((λ y i. (let k = (from_range n (a + 1) y i).0 in omega arith)), rises-range n (a + 1))
+
+pub rises-filter_numbers : (p : ℕ → Bool) (xs : List ℕ) → Rises xs → Rises (filter p xs)
+rises-filter_numbers p [] r = tt
+rises-filter_numbers p (x ∷ xs) r = go (rises-filter_numbers p xs r.1) (p x)
+  where
+    go : Rises (filter p xs) → (b : Bool) → Rises (cond b (x ∷ filter p xs) (filter p xs))
+    go ih true = ((λ y i. r.0 y (from_filter p xs y i).0), ih)
+    go ih false = ih
+
+-- ---- the members of parts
+pub in_members : (I : Instance) (t b : ℕ) → IsIn b (members I t) → (b < length I) × (part_of I b ≡ t)
+in_members I t b i =
+    let r = from_filter (λ b. part_of I b == t) (numbers (length I)) b i in
+    let k = from_range (length I) 0 b r.0 in (let z = k.1 in omega arith, eq (part_of I b) t r.1)
+  where
+    eq : (m n : ℕ) → (m == n) ≡ true → m ≡ n
+    eq m n q = grind (arith, nat_tests)
+
+pub member_of : (I : Instance) (b : ℕ) → b < length I → IsIn b (members I (part_of I b))
+member_of I b lt = into_filter (λ c. part_of I c == part_of I b) (numbers (length I)) b
+    (into_range (length I) 0 b (omega arith) (omega arith)) (same (part_of I b))
+  where
+    same : (m : ℕ) → (m == m) ≡ true
+    same m = grind (arith, nat_tests)
+
+empty_false : (p : List ℕ) (b : ℕ) → IsIn b p → not (is_empty p) ≡ true
+empty_false [] b i = absurd i
+empty_false (x ∷ xs) b i = refl
+
+pub part_is_in : (I : Instance) (b : ℕ) → b < length I → IsIn (members I (part_of I b)) (parts I)
+unfolding parts part_of
+part_is_in I b lt =
+    into_filter (λ p. not (is_empty p)) (map (members I) (numbers (suc (greatest (map (λ (b : Buffer). b.lower) I)))))
+    (members I (part_of I b))
+    (into_map (members I) (numbers (suc (greatest (map (λ (b : Buffer). b.lower) I)))) (part_of I b)
+    (into_range (suc (greatest (map (λ (b : Buffer). b.lower) I))) 0 (part_of I b) (omega arith)
+    (let k = in_greatest (λ (b : Buffer). b.lower) I (buffer I b) (item I b lt) in
+    let z = last_cut_le I (buffer I b).lower in omega arith)))
+    (empty_false (members I (part_of I b)) b (member_of I b lt))
+
+pub part_is_members : (I : Instance) (p : List ℕ) → IsIn p (parts I) → (t : ℕ) × (p ≡ members I t)
+unfolding parts
+part_is_members I p i =
+    let r = from_filter (λ p. not (is_empty p))
+    (map (members I) (numbers (suc (greatest (map (λ (b : Buffer). b.lower) I))))) p i in
+    let q = from_map (members I) (numbers (suc (greatest (map (λ (b : Buffer). b.lower) I)))) p r.0 in (q.0, q.2)
+
+pub buffers_of-whole : (p : List ℕ) → buffers_of (whole p) ≡ p
+buffers_of-whole [] = refl
+buffers_of-whole (x ∷ xs) = ap (λ ys. x ∷ ys) (buffers_of-whole xs)
+
+pub in_whole : (p : List ℕ) (e : Entry) → IsIn e (whole p) → IsIn e.0 p × (e.1 ≡ 0)
+in_whole p e i = let r = from_map (λ (b : ℕ). let f : Entry = (b, 0) in f) p e i in
+    (subst (λ (c : ℕ). IsIn c p) (sym (ap (λ (e : Entry). e.0) r.2)) r.1, ap (λ (e : Entry). e.1) r.2)
+
+whole_claim : (I : Instance) (t : ℕ) → IsClaim I (whole (members I t))
+whole_claim I t = record {
+  rises = rw (buffers_of-whole (members I t))
+      (rises-filter_numbers (λ b. part_of I b == t) (numbers (length I)) (rises-range (length I) 0));
+  in_range = λ e i. (in_members I t e.0 (in_whole (members I t) e i).0).0;
+}
+
+pub claim_of_part : (I : Instance) (p : List ℕ) → IsIn p (parts I) → IsClaim I (whole p)
+claim_of_part I p i = let r = part_is_members I p i in rw r.1 (whole_claim I r.0)
+
+pub whole_is_whole : (p : List ℕ) → IsWhole (whole p)
+whole_is_whole p e i = (in_whole p e i).1

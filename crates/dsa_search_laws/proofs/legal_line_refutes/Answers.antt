@@ -1,5 +1,0 @@
-use Rattle.dsa_search_laws.proofs.Logs.{legal_is_refuted}
-use Rattle.dsa_search_laws.proofs.legal_line_refutes.Goals as goal
-
-pub returns : goal.returns
-returns c = legal_is_refuted

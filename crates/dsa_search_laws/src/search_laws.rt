@@ -1,0 +1,62 @@
+//! Laws of the search of one claim and of its work.
+
+ghost use Rattle.std.specs.Prelude.{◌≡◌, ℕ, ◌+◌, ◌/◌, ◌<◌, ◌≤◌, ◌≢◌, ◌↔◌, List, [], cond, length, is_some, None, Some};
+ghost use Rattle.dsa_terms.specs.Buffers.{Instance, IsInstance};
+ghost use Rattle.dsa_terms.specs.Claims.{Claim, Entry, IsClaim, IsPlacement, IsRefuted, child};
+ghost use Rattle.dsa_terms.specs.Parts.{whole, whole_work};
+ghost use Rattle.dsa_terms.specs.Plans.{after_plan, hunt, plan};
+ghost use Rattle.dsa_terms.specs.Search.{choices, first, first_some, height, is_tall, most_work, not_excluded, plain_first, seated, work, work_through};
+ghost use Rattle.std.specs.List.{list_any};
+
+/// The first placement of the plain search, which takes every buffer.
+pub fn plain_first_is_complete()
+    ensures none { (I : Instance) (C : ℕ) (l : Claim) → IsInstance I → IsClaim I l →
+        (plain_first I C l ≡ None) ↔ IsRefuted I C l }
+    ensures some { (I : Instance) (C : ℕ) (l : Claim) (seats : List Entry) →
+        IsInstance I → IsClaim I l → plain_first I C l ≡ Some seats → IsPlacement I C l seats }
+{}
+
+/// The search answers none exactly where the claim is refuted, and else a placement.
+pub fn first_is_complete()
+    ensures none { (I : Instance) (C : ℕ) (l : Claim) → IsInstance I → IsClaim I l →
+        (first I C l ≡ None) ↔ IsRefuted I C l }
+    ensures some { (I : Instance) (C : ℕ) (l : Claim) (seats : List Entry) →
+        IsInstance I → IsClaim I l → first I C l ≡ Some seats → IsPlacement I C l seats }
+{}
+
+/// The search has the same answer at each smaller capacity that its answer is within.
+pub fn first_stays()
+    ensures { (I : Instance) (C D : ℕ) (l : Claim) (seats : List Entry) →
+        IsInstance I → IsClaim I l →
+        first I C l ≡ Some seats → height I seats ≤ D → D ≤ C → first I D l ≡ Some seats }
+{}
+
+/// The work of a claim of so many buffers, and of an instance.
+pub fn work_is_bounded()
+    ensures whole { (I : Instance) (C : ℕ) → whole_work I C ≤ most_work (length I) }
+    ensures claim { (I : Instance) (C : ℕ) (l : Claim) → IsClaim I l →
+        (1 ≤ work I C l) × (work I C l ≤ most_work (length l)) }
+{}
+
+/// The search, its work and the hunt, as equations.
+pub fn search_equations()
+    ensures first { (I : Instance) (C : ℕ) (l : Claim) → IsClaim I l → l ≢ [] →
+        first I C l ≡ cond (list_any (is_tall I C) l) None
+        (first_some (λ e. seated I l e (first I C (child I l e))) (choices I (not_excluded I) l)) }
+    ensures work { (I : Instance) (C : ℕ) (l : Claim) → IsClaim I l → l ≢ [] →
+        work I C l ≡ cond (list_any (is_tall I C) l) 1
+        (1 + work_through (λ e. work I C (child I l e)) (λ e. is_some (first I C (child I l e)))
+        (choices I (not_excluded I) l)) }
+    ensures hunt { (starts : List (List ℕ)) (I : Instance) (a b : ℕ) → IsInstance I → a < b →
+        hunt starts I a b ≡ whole_work I ((a + b) / 2)
+        + after_plan (hunt starts I) I a b ((a + b) / 2) (plan starts I ((a + b) / 2)) }
+{}
+
+/// A claim without buffers, and a bracket without capacities, end the search, its work and the
+/// hunt.
+pub fn ends_of_search()
+    ensures first { (I : Instance) (C : ℕ) → first I C [] ≡ Some [] }
+    ensures work { (I : Instance) (C : ℕ) → work I C [] ≡ 1 }
+    ensures hunt { (starts : List (List ℕ)) (I : Instance) (a b : ℕ) → b ≤ a →
+        hunt starts I a b ≡ 0 }
+{}

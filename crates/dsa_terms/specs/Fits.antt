@@ -1,0 +1,117 @@
+-- First-fit and best-fit: where a buffer goes beside those that are placed, and an order of buffers placed so.
+use Rattle.std.specs.Prelude.{◌<◌, ◌≤◌, ◌⊎◌, ℕ, zero, suc, ◌+◌, ◌-◌, cond, ◌==◌, ◌||◌, ◌&&◌, nat_le, nat_lt, Bool, List, [], ◌∷◌, map, length, ◌≡◌, Option}
+use Rattle.std.specs.declared.option.Option.TheVariants.{Some, None}
+use Rattle.std.specs.List.{filter, flat_map, list_all}
+use Rattle.std.specs.Int.{next_multiple_of}
+use Rattle.dsa_terms.specs.Buffers.{Instance, buffer, do_share}
+use Rattle.dsa_terms.specs.Layouts.{IsMultiple, IsApart}
+use Rattle.dsa_terms.specs.Claims.{Entry, IsIn}
+use Rattle.dsa_terms.specs.Logs.{greatest}
+use Rattle.dsa_terms.specs.Parts.{offsets_of}
+
+-- where the buffer of a placed entry ends
+unfoldable pub top : Instance → Entry → ℕ
+top I e = e.1 + (buffer I e.0).size
+
+-- the greatest top of the placed, and 0 for none
+unfoldable pub highest : Instance → List Entry → ℕ
+highest I placed = greatest (map (top I) placed)
+
+-- the placed ones that share a moment with b
+unfoldable pub neighbours : Instance → ℕ → List Entry → List Entry
+neighbours I b placed = filter (λ e. do_share (buffer I b) (buffer I e.0)) placed
+
+-- the addresses from x up to and not including y meet no placed one
+unfoldable pub is_free : Instance → List Entry → ℕ → ℕ → Bool
+is_free I placed x y = list_all (λ e. nat_le y e.1 || nat_le (top I e) x) placed
+
+-- b at x is aligned, and apart from each placed one
+pub record IsClear (I : Instance) (b : ℕ) (placed : List Entry) (x : ℕ) : Type 0 where
+  pub aligned : IsMultiple x (buffer I b).alignment
+  pub apart : (e : Entry) → IsIn e placed → IsApart (buffer I b) x (buffer I e.0) e.1
+
+-- of x, x + a, x + a + a and so on, the first that passes the test, or the one after n that fail
+unfoldable pub first_passing : (ℕ → Bool) → ℕ → ℕ → ℕ → ℕ
+first_passing test a zero x = x
+first_passing test a (suc n) x = cond (test x) x (first_passing test a n (x + a))
+
+-- a rule gives a buffer its offset beside the placed ones that share a moment with it
+abbrev pub FitRule : Type 0
+FitRule = Instance → ℕ → List Entry → ℕ
+
+-- first-fit: the least multiple of b's alignment at which b is apart from each of them
+unfoldable pub first_place : FitRule
+first_place I b placed =
+    first_passing (λ x. is_free I placed x (x + (buffer I b).size)) (buffer I b).alignment (highest I placed) 0
+
+-- addresses from one up to and not including another
+pub record Range : Type 0 where
+  pub start : ℕ
+  pub stop : ℕ
+
+-- no placed one meets the range, and it ends at or below the greatest top
+pub record IsOpen (I : Instance) (placed : List Entry) (r : Range) : Type 0 where
+  pub not_empty : r.start < r.stop
+  pub under : r.stop ≤ highest I placed
+  pub free : (e : Entry) → IsIn e placed → (r.stop ≤ e.1) ⊎ (top I e ≤ r.start)
+
+-- a free range: no greater one is open
+pub record IsFreeRange (I : Instance) (placed : List Entry) (r : Range) : Type 0 where
+  pub is_open : IsOpen I placed r
+  pub greatest : (s : Range) → IsOpen I placed s → s.start ≤ r.start → r.stop ≤ s.stop → s ≡ r
+
+-- from 0 or a top on, up to the start of a placed one
+unfoldable pub stretches : Instance → List Entry → List Range
+stretches I placed =
+    flat_map (λ x. map (λ (e : Entry). record { start = x; stop = e.1 }) placed) (0 ∷ map (top I) placed)
+
+-- the free ranges, which are those stretches that are not empty and meet no placed one
+unfoldable pub free_ranges : Instance → List Entry → List Range
+free_ranges I placed =
+    filter (λ (r : Range). nat_lt r.start r.stop && is_free I placed r.start r.stop) (stretches I placed)
+
+-- the range has room for b at its least multiple of b's alignment
+unfoldable pub holds : Instance → ℕ → Range → Bool
+holds I b r = nat_le (next_multiple_of r.start (buffer I b).alignment + (buffer I b).size) r.stop
+
+-- r is shorter than s, or as long and lower
+unfoldable pub is_tighter : Range → Range → Bool
+is_tighter r s =
+    nat_lt (r.stop - r.start) (s.stop - s.start)
+    || ((r.stop - r.start == s.stop - s.start) && nat_lt r.start s.start)
+
+-- of a range and maybe another the tighter one
+abbrev pub tighter_of : Range → Option Range → Option Range
+tighter_of r None = Some r
+tighter_of r (Some s) = cond (is_tighter s r) (Some s) (Some r)
+
+-- the tightest of the ranges
+abbrev pub tightest : List Range → Option Range
+tightest [] = None
+tightest (r ∷ rs) = tighter_of r (tightest rs)
+
+-- where b begins in the range, and without one past all the placed
+abbrev pub start_in : Instance → ℕ → List Entry → Option Range → ℕ
+start_in I b placed (Some r) = next_multiple_of r.start (buffer I b).alignment
+start_in I b placed None = next_multiple_of (highest I placed) (buffer I b).alignment
+
+-- best-fit: in the shortest free range that holds b, the lowest of them, and where none does past all the placed
+unfoldable pub best_place : FitRule
+best_place I b placed = start_in I b placed (tightest (filter (holds I b) (free_ranges I placed)))
+
+-- the buffers of the order placed one after another, beside those that are placed already
+abbrev pub fitted : FitRule → Instance → List ℕ → List Entry → List Entry
+fitted rule I [] placed = placed
+fitted rule I (b ∷ bs) placed = fitted rule I bs ((b, rule I b (neighbours I b placed)) ∷ placed)
+
+-- the offsets of first-fit over the order
+unfoldable pub first_fit : Instance → List ℕ → List ℕ
+first_fit I order = offsets_of I (fitted first_place I order [])
+
+-- the offsets of best-fit over the order
+unfoldable pub best_fit : Instance → List ℕ → List ℕ
+best_fit I order = offsets_of I (fitted best_place I order [])
+
+-- each buffer is in the order
+abbrev pub HasEach : Instance → List ℕ → Type 0
+HasEach I order = (b : ℕ) → b < length I → IsIn b order
