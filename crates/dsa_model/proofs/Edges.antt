@@ -31,7 +31,8 @@ or_false : (a b : Bool) → (a || b) ≡ false → (a ≡ false) × (b ≡ false
 or_false true b h = absurd cc
 or_false false b h = (refl, h)
 
-within_stays : (a b t : ℕ) → ((a == suc t) || (b == suc t)) ≡ false → (nat_le a (suc t) && nat_lt (suc t) b) ≡ (nat_le a t && nat_lt t b)
+within_stays : (a b t : ℕ) → ((a == suc t) || (b == suc t)) ≡ false →
+    (nat_le a (suc t) && nat_lt (suc t) b) ≡ (nat_le a t && nat_lt t b)
 within_stays a b t h = let q = or_false (a == suc t) (b == suc t) h in both (low a t q.0) (high b t q.1)
   where
     low : (a t : ℕ) → (a == suc t) ≡ false → nat_le a (suc t) ≡ nat_le a t
@@ -43,7 +44,8 @@ within_stays a b t h = let q = or_false (a == suc t) (b == suc t) h in both (low
     both : {p q r s : Bool} → p ≡ q → r ≡ s → (p && r) ≡ (q && s)
     both h k = cc
 
-gaps_stay : (gaps : List (ℕ × ℕ)) (t : ℕ) → is_gap_edge gaps (suc t) ≡ false → list_any (is_within (suc t)) gaps ≡ list_any (is_within t) gaps
+gaps_stay : (gaps : List (ℕ × ℕ)) (t : ℕ) → is_gap_edge gaps (suc t) ≡ false →
+    list_any (is_within (suc t)) gaps ≡ list_any (is_within t) gaps
 unfolding is_gap_edge
 gaps_stay [] t h = refl
 gaps_stay (g ∷ gs) t h =
@@ -57,7 +59,8 @@ unfolding is_edge is_live
 live_stays b t h =
     let q = or_false (b.lower == suc t) ((b.upper == suc t) || is_gap_edge b.gaps (suc t)) h in
     let r = or_false (b.upper == suc t) (is_gap_edge b.gaps (suc t)) q.1 in
-    let e : (nat_le b.lower (suc t) && nat_lt (suc t) b.upper) ≡ (nat_le b.lower t && nat_lt t b.upper) = within_stays b.lower b.upper t (joined q.0 r.0) in
+    let e : (nat_le b.lower (suc t) && nat_lt (suc t) b.upper) ≡ (nat_le b.lower t && nat_lt t b.upper) =
+    within_stays b.lower b.upper t (joined q.0 r.0) in
     let f = gaps_stay b.gaps t r.1 in cc
   where
     joined : {p q : Bool} → p ≡ false → q ≡ false → (p || q) ≡ false
@@ -78,7 +81,8 @@ at_eq b c s t h e = let k : s ≡ t = equal s t e in let m : is_live b s ≡ is_
     equal : (s t : ℕ) → (s == t) ≡ true → s ≡ t
     equal s t h = grind (arith, nat_tests)
 
-at_gaps : (b c : Buffer) (gaps : List (ℕ × ℕ)) (t : ℕ) → list_all (λ (gap : ℕ × ℕ). agree_at b c gap.0 && agree_at b c gap.1) gaps ≡ true →
+at_gaps : (b c : Buffer) (gaps : List (ℕ × ℕ)) (t : ℕ) →
+    list_all (λ (gap : ℕ × ℕ). agree_at b c gap.0 && agree_at b c gap.1) gaps ≡ true →
     is_gap_edge gaps t ≡ true → is_live b t ≡ is_live c t
 unfolding is_gap_edge
 at_gaps b c [] t h e = absurd cc
@@ -90,7 +94,8 @@ at_gaps b c (g ∷ gs) t h e =
     ]
 
 -- at each edge of that buffer they agree
-at_edge : (b c edges : Buffer) (t : ℕ) → agree_at_edges b c edges ≡ true → is_edge edges t ≡ true → is_live b t ≡ is_live c t
+at_edge : (b c edges : Buffer) (t : ℕ) → agree_at_edges b c edges ≡ true → is_edge edges t ≡ true →
+    is_live b t ≡ is_live c t
 unfolding is_edge
 at_edge b c edges t h e =
     let q = and_true _ _ h in let r = and_true _ _ q.1 in
@@ -109,7 +114,11 @@ above b h = positive b.lower (or_false _ _ h).0
 pub same_from_edges : (b c : Buffer) → agree_at_edges b c b ≡ true → agree_at_edges b c c ≡ true → HaveSameMoments b c
 same_from_edges b c h k zero = elim (true_or_false (is_edge b 0)) [
   | inl e ↦ at_edge b c b 0 h e
-  | inr e ↦ elim (true_or_false (is_edge c 0)) [ inl f ↦ at_edge b c c 0 k f | inr f ↦ not_live_before b 0 (above b e) ∙ sym (not_live_before c 0 (above c f)) ]
+  | inr e ↦ elim (true_or_false (is_edge c 0)) [
+    | inl f ↦ at_edge b c c 0 k f
+    | inr f ↦ not_live_before b 0 (above b e) ∙
+        sym (not_live_before c 0 (above c f))
+  ]
 ]
 same_from_edges b c h k (suc t) = elim (true_or_false (is_edge b (suc t))) [
   | inl e ↦ at_edge b c b (suc t) h e
@@ -119,7 +128,8 @@ same_from_edges b c h k (suc t) = elim (true_or_false (is_edge b (suc t))) [
   ]
 ]
 
-all_gaps_agree : (b c : Buffer) (gaps : List (ℕ × ℕ)) → HaveSameMoments b c → list_all (λ (gap : ℕ × ℕ). agree_at b c gap.0 && agree_at b c gap.1) gaps ≡ true
+all_gaps_agree : (b c : Buffer) (gaps : List (ℕ × ℕ)) → HaveSameMoments b c →
+    list_all (λ (gap : ℕ × ℕ). agree_at b c gap.0 && agree_at b c gap.1) gaps ≡ true
 unfolding agree_at
 all_gaps_agree b c [] h = refl
 all_gaps_agree b c (g ∷ gs) h = rw (beq_same _ _ (h g.0), beq_same _ _ (h g.1)) (all_gaps_agree b c gs h)
@@ -133,7 +143,9 @@ edges_from_same b c edges h = rw (agree b c h edges.lower, agree b c h edges.upp
 
 pub have_from_same : (b c : Buffer) → HaveSameMoments b c → have_same_moments b c ≡ true
 unfolding have_same_moments
-have_from_same b c h = ap not (none_from (max b.upper c.upper) (λ t. not (beq (is_live b t) (is_live c t))) (λ t. ap not (beq_same _ _ (h t))))
+have_from_same b c h =
+    ap not (none_from (max b.upper c.upper) (λ t. not (beq (is_live b t) (is_live c t)))
+    (λ t. ap not (beq_same _ _ (h t))))
 
 -- the test by edges is the one by moments
 pub by_edges : (b c : Buffer) → (agree_at_edges b c b && agree_at_edges b c c) ≡ have_same_moments b c

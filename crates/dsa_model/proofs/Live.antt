@@ -8,22 +8,27 @@ use Rattle.dsa_model.specs.Moments.{IsLeastFrom}
 use Rattle.dsa_terms.proofs.Moments.{live_before, and_true}
 
 -- no gap holds t where none is found
-pub none_found : (t : ℕ) (gaps : List (ℕ × ℕ)) → option_map (λ (gap : ℕ × ℕ). gap.1) (find (is_within t) gaps) ≡ None → list_any (is_within t) gaps ≡ false
+pub none_found : (t : ℕ) (gaps : List (ℕ × ℕ)) → option_map (λ (gap : ℕ × ℕ). gap.1) (find (is_within t) gaps) ≡ None →
+    list_any (is_within t) gaps ≡ false
 none_found t [] h = refl
 none_found t (g ∷ gs) h = go (is_within t g) (none_found t gs) h
   where
-    go : (b : Bool) → (option_map (λ (gap : ℕ × ℕ). gap.1) (find (is_within t) gs) ≡ None → list_any (is_within t) gs ≡ false) →
-        option_map (λ (gap : ℕ × ℕ). gap.1) (cond b (Some g) (find (is_within t) gs)) ≡ None → (b || list_any (is_within t) gs) ≡ false
+    go : (b : Bool) →
+        (option_map (λ (gap : ℕ × ℕ). gap.1) (find (is_within t) gs) ≡ None → list_any (is_within t) gs ≡ false) →
+        option_map (λ (gap : ℕ × ℕ). gap.1) (cond b (Some g) (find (is_within t) gs)) ≡ None →
+        (b || list_any (is_within t) gs) ≡ false
     go true ih h = absurd cc
     go false ih h = ih h
 
 -- from t up to the end of a gap that holds it, all is in a gap
-pub found : (t end : ℕ) (gaps : List (ℕ × ℕ)) → option_map (λ (gap : ℕ × ℕ). gap.1) (find (is_within t) gaps) ≡ Some end →
+pub found : (t end : ℕ) (gaps : List (ℕ × ℕ)) →
+    option_map (λ (gap : ℕ × ℕ). gap.1) (find (is_within t) gaps) ≡ Some end →
     (t < end) × ((s : ℕ) → t ≤ s → s < end → list_any (is_within s) gaps ≡ true)
 found t end [] h = absurd cc
 found t end (g ∷ gs) h = go (is_within t g) refl (found t end gs) h
   where
-    within : (t end a b : ℕ) → (nat_le a t && nat_lt t b) ≡ true → b ≡ end → (t < end) × ((s : ℕ) → t ≤ s → s < end → (nat_le a s && nat_lt s b) ≡ true)
+    within : (t end a b : ℕ) → (nat_le a t && nat_lt t b) ≡ true → b ≡ end →
+        (t < end) × ((s : ℕ) → t ≤ s → s < end → (nat_le a s && nat_lt s b) ≡ true)
     within t end a b q e = (grind (arith, nat_tests), λ s l m. grind (arith, nat_tests))
 
     or_true : (b c : Bool) → (b ≡ true) ⊎ (c ≡ true) → (b || c) ≡ true
@@ -32,14 +37,17 @@ found t end (g ∷ gs) h = go (is_within t g) refl (found t end gs) h
     or_true false c (inr h) = h
 
     go : (b : Bool) → is_within t g ≡ b →
-        (option_map (λ (gap : ℕ × ℕ). gap.1) (find (is_within t) gs) ≡ Some end → (t < end) × ((s : ℕ) → t ≤ s → s < end → list_any (is_within s) gs ≡ true)) →
+        (option_map (λ (gap : ℕ × ℕ). gap.1) (find (is_within t) gs) ≡ Some end → (t < end) ×
+        ((s : ℕ) → t ≤ s → s < end → list_any (is_within s) gs ≡ true)) →
         option_map (λ (gap : ℕ × ℕ). gap.1) (cond b (Some g) (find (is_within t) gs)) ≡ Some end →
         (t < end) × ((s : ℕ) → t ≤ s → s < end → (is_within s g || list_any (is_within s) gs) ≡ true)
-    go true e ih h = let q : g.1 ≡ end = cc in let r = within t end g.0 g.1 e q in (r.0, λ s l m. or_true _ _ (inl (r.1 s l m)))
+    go true e ih h =
+        let q : g.1 ≡ end = cc in let r = within t end g.0 g.1 e q in (r.0, λ s l m. or_true _ _ (inl (r.1 s l m)))
     go false e ih h = let r = ih h in (r.0, λ s l m. or_true _ _ (inr (r.1 s l m)))
 
 -- live from the three tests, and not live from one that fails
-pub live_from : (b : Buffer) (t : ℕ) → b.lower ≤ t → t < b.upper → list_any (is_within t) b.gaps ≡ false → is_live b t ≡ true
+pub live_from : (b : Buffer) (t : ℕ) → b.lower ≤ t → t < b.upper → list_any (is_within t) b.gaps ≡ false →
+    is_live b t ≡ true
 unfolding is_live
 live_from b t le lt h = go (list_any (is_within t) b.gaps) h
   where
@@ -89,7 +97,8 @@ both_live false q h k = absurd cc
 
 -- no common moment at s: below t, from t on below the first one's least, or from there on below the other's
 pub none_both : (b c : Buffer) (t mine : ℕ) → ((s : ℕ) → s < t → (is_live b s && is_live c s) ≡ false) →
-    ((s : ℕ) → t ≤ s → s < mine → is_live b s ≡ false) → (s : ℕ) → (mine ≤ s → is_live c s ≡ false) → (is_live b s && is_live c s) ≡ false
+    ((s : ℕ) → t ≤ s → s < mine → is_live b s ≡ false) → (s : ℕ) → (mine ≤ s → is_live c s ≡ false) →
+    (is_live b s && is_live c s) ≡ false
 none_both b c t mine h k s m = elim (below_or_from s t) [
   | inl q ↦ h s q
   | inr q ↦ elim (below_or_from s mine) [ inl r ↦ not_both _ _ (k s q r) | inr r ↦ nor_both _ _ (m r) ]
@@ -126,12 +135,14 @@ is_never b h = none_from b.upper (is_live b) (λ t. h t (omega arith))
 pub never_common : (b c : Buffer) → ((t : ℕ) → (is_live b t && is_live c t) ≡ false) →
     record { moment : (t : ℕ) → 0 ≤ t → (is_live b t && is_live c t) ≡ false; shared : false ≡ do_share b c }
 unfolding do_share
-never_common b c h = record { moment = λ t k. h t; shared = sym (none_from b.upper (λ t. is_live b t && is_live c t) h) }
+never_common b c h =
+    record { moment = λ t k. h t; shared = sym (none_from b.upper (λ t. is_live b t && is_live c t) h) }
 
 pub common_at : (b c : Buffer) (t : ℕ) → IsLeastFrom (λ t. is_live b t && is_live c t) 0 t →
     record { moment : IsLeastFrom (λ t. is_live b t && is_live c t) 0 t; shared : true ≡ do_share b c }
 unfolding do_share
 common_at b c t h = record {
   moment = h;
-  shared = sym (some_from b.upper t (λ t. is_live b t && is_live c t) (live_before b t (and_true _ _ h.holds).0) h.holds);
+  shared =
+      sym (some_from b.upper t (λ t. is_live b t && is_live c t) (live_before b t (and_true _ _ h.holds).0) h.holds);
 }

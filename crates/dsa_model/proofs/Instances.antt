@@ -1,0 +1,8 @@
+-- What the limits of an instance give to laws about instances.
+use Rattle.std.specs.Prelude.{All}
+use Rattle.dsa_terms.specs.Buffers.{Instance, IsInstance}
+use Rattle.dsa_model.specs.Buffer.{IsBuffer}
+
+-- each buffer of an instance has a size, an alignment and a lifetime
+pub sound_instance : (I : Instance) → All IsBuffer I → IsInstance I
+sound_instance I h k d lt = (h k d lt).sound

@@ -1,0 +1,12 @@
+use Rattle.std.proofs.Common.{◌≡◌, ◌-◌, length, find, slice_index}
+use Rattle.std.specs.List.{range_with_len}
+use Rattle.dsa_terms.specs.Buffers.{buffer}
+use Rattle.dsa_model.specs.LayoutFaults.{is_unaligned, first_unaligned}
+use Rattle.dsa_model.proofs.layout.first_unaligned.Given as goal
+
+-- what is left to look at has the answer
+abbrev pub invariant-loop-b : goal.invariant-loop-b
+invariant-loop-b l =
+    first_unaligned l.instance l.offsets
+    ≡ find (λ b. is_unaligned (buffer l.instance b) (slice_index l.offsets b))
+    (range_with_len l.b (length l.instance - l.b))
