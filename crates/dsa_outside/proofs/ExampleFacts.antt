@@ -1,0 +1,69 @@
+-- Worked rows: what the definitions say of small files and sinks.
+use Rattle.std.proofs.Common.{◌≡◌, ◌-◌, ◌^◌, ℕ, true, false, [], ◌∷◌, None, Some, take, refl, ap, arith, rules}
+use Rattle.std.specs.Option.{option_map}
+use Rattle.std.specs.FinMap.{empty, gets, insert}
+use Rattle.dsa_outside.specs.Held.{FileMap, file_at, with_file, without_file, with_text, IsMissing, IsReadOf}
+use Rattle.dsa_outside.specs.Faults.{one_more, Rose}
+use Rattle.dsa_outside.specs.Calls.{CallState, after_call, is_due}
+
+-- the name 'i' holds three bytes
+abbrev one_file : FileMap
+one_file = insert empty (105 ∷ []) (1 ∷ 2 ∷ 3 ∷ [])
+
+three_bytes_are_held : file_at (Some one_file) (105 ∷ []) ≡ Some (1 ∷ 2 ∷ 3 ∷ [])
+three_bytes_are_held = grind (gets, rules)
+
+-- a longer name is another name
+longer_name_is_missing : IsMissing (Some one_file) (105 ∷ 105 ∷ [])
+longer_name_is_missing = grind (gets, rules)
+
+nothing_is_told : file_at None (105 ∷ []) ≡ None
+nothing_is_told = refl
+
+first_two_are_read : IsReadOf (Some one_file) (105 ∷ []) 2 (1 ∷ 2 ∷ [])
+first_two_are_read = λ told. ap (option_map (take 2)) three_bytes_are_held
+
+-- a write to the name 'o' leaves 'i'
+written_beside : file_at (with_file (Some one_file) (111 ∷ []) (9 ∷ [])) (105 ∷ []) ≡ Some (1 ∷ 2 ∷ 3 ∷ [])
+written_beside = grind (gets, rules)
+
+-- a write to 'i' takes the place of what it held
+written_over : file_at (with_file (Some one_file) (105 ∷ []) (9 ∷ [])) (105 ∷ []) ≡ Some (9 ∷ [])
+written_over = grind (gets, rules)
+
+-- of all other names than 'i', 'i' is none
+others_leave_it_out : file_at (without_file (Some one_file) (105 ∷ [])) (105 ∷ []) ≡ None
+others_leave_it_out = grind (gets, rules)
+
+text_is_put_last : with_text (Some (1 ∷ [])) (2 ∷ []) ≡ Some (1 ∷ 2 ∷ [])
+text_is_put_last = refl
+
+-- calls 0 and 2 are to fail
+listed : ℕ → ℕ → CallState
+listed next faults = record { failing = 2 ∷ 0 ∷ []; next = next; faults = faults }
+
+first_is_due : is_due (listed 0 0) ≡ true
+unfolding listed
+first_is_due = refl
+
+second_is_not : is_due (listed 1 1) ≡ false
+unfolding listed
+second_is_not = refl
+
+first_call_fails : after_call (listed 0 0) ≡ listed 1 1
+unfolding listed
+first_call_fails = refl
+
+second_call_passes : after_call (listed 1 1) ≡ listed 2 1
+unfolding listed
+second_call_passes = refl
+
+-- counts stop at the end of their type, where a rise can't be seen
+last_number_stays : one_more (2 ^ 64 - 1) ≡ 2 ^ 64 - 1
+last_number_stays = refl
+
+one_is_a_rise : Rose 0 1
+one_is_a_rise = omega arith
+
+none_is_no_rise : Rose 0 0 → ⊥
+none_is_no_rise rose = omega (arith, rose)

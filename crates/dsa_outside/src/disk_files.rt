@@ -1,0 +1,61 @@
+// The files of the system.
+ghost use Rattle.std.specs.Prelude.{◌≡◌, ◌≤◌, None, IfOk, OnOk, IsErrOf, length};
+ghost use Rattle.dsa_outside.specs.Faults.{one_more};
+
+use crate::transfer::{counted, read_up_to, write_whole};
+use crate::{FileFault, Files};
+use std::alloc::Global;
+use std::fs;
+
+/// The files of the system, by path, with a count of the calls of the system that failed. The count
+/// is every name's number of faults. It stays at 2^64 - 1 once it is there. Nothing is told of what
+/// the files hold.
+#[derive(Drop)]
+pub struct DiskFiles<'a, R: std::rt::Files> {
+    rt: &'a R,
+    alloc: Global,
+    faults: u64,
+}
+
+impl<'a, R: std::rt::Files> DiskFiles<'a, R> {
+    /// The files that the runtime gives. No call has failed. It takes no memory; later calls take
+    /// it from `alloc`.
+    pub fn new(rt: &'a R, alloc: Global) -> DiskFiles<'a, R>
+        ensures { result.faults ≡ 0 }
+    {
+        DiskFiles {
+            rt,
+            alloc,
+            faults: 0,
+        }
+    }
+}
+
+impl<'a, R: std::rt::Files> Files for DiskFiles<'a, R> {
+    ghost held = { λ _. None };
+
+    ghost faults = { λ files _. files.faults };
+
+    fn read(&mut self, name: &str, most: u64) -> Result<Vec<u8>, FileFault>
+        ensures length { IfOk result (λ bytes. length bytes.items ≤ most) }
+        ensures failed { IsErrOf result FileFault.Failed →
+            self.new.faults ≡ one_more self.old.faults }
+        ensures no_memory { IsErrOf result FileFault.NoMemory → self.new.faults ≡ self.old.faults }
+        ensures unchanged { OnOk result (self.new.faults ≡ self.old.faults) }
+        ensures counts { self.old.faults ≤ self.new.faults }
+    {
+        let mut file = counted(&mut self.faults, fs::open(self.rt, name))?;
+        read_up_to(self.alloc, &mut file, most, &mut self.faults)
+    }
+
+    fn write(&mut self, name: &str, bytes: &[u8]) -> Result<(), FileFault>
+        ensures failed { IsErrOf result FileFault.Failed →
+            self.new.faults ≡ one_more self.old.faults }
+        ensures cause { ¬ IsErrOf result FileFault.NoMemory }
+        ensures unchanged { OnOk result (self.new.faults ≡ self.old.faults) }
+        ensures counts { self.old.faults ≤ self.new.faults }
+    {
+        let mut file = counted(&mut self.faults, fs::create(self.rt, name))?;
+        Ok(write_whole(&mut file, bytes, &mut self.faults)?)
+    }
+}
