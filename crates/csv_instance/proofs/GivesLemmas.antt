@@ -1,0 +1,71 @@
+-- What an iterator over the records of a slice is to give.
+use Rattle.std.proofs.Common.{◌≡◌, ◌<◌, ◌∷◌, ◌++◌, ◌∙◌, ℕ, List, true, false, Some, None, [], refl, sym, ap, inl, inr, append_assoc, Bor}
+use Rattle.csv.specs.Reading.{Reached, ReadRecord, default_config, source_of, strip_bom}
+use Rattle.csv.specs.declared.iter.ByteRecordsIntoIter.{ByteRecordsIntoIter}
+use Rattle.csv.specs.declared.reader.Reader.{Reader}
+use Rattle.csv.specs.declared.reader.Trim.TheVariants as trim
+use Rattle.csv.specs.declared.parser.State.TheVariants as st
+use Rattle.csv.proofs.ReadFacts.{rows-end, rows-more}
+use Rattle.csv_instance.specs.Records.{Record, table_of}
+use Rattle.csv_instance.specs.Gives.{Gives, records_left}
+use Rattle.csv_instance.proofs.Left.{left-first, left-none}
+
+-- a step that gives a record gives the first of them
+pub gives-some : (a b : ByteRecordsIntoIter (Bor (List ℕ))) (left : List Record) (fields : Record) → Gives a left
+    → ReadRecord (λ (s : Bor (List ℕ)). Some s.now) a.rdr b.rdr true fields → b.rdr.first ≡ true → 0 < b.left
+    → (more : List Record) × (left ≡ fields ∷ more) × Gives b more
+unfolding Reached
+gives-some a b left fields g read first turns =
+    let (z, at_z, reached) =
+    rows-more (λ (s : Bor
+    (List ℕ)). Some s.now) a.rdr b.rdr fields default_config a.rdr.state g.rest g.rest [] g.config g.source
+    (refl, refl) read in
+    let (p, next, same, end) = reached in
+    let first_is : left ≡ fields ∷ records_left default_config b.rdr.state z =
+    g.gives ∙ left-first default_config a.rdr.state b.rdr.state g.rest z fields p next same end.0 end.1 in (
+      records_left default_config b.rdr.state z,
+      first_is,
+      record {
+        plain = read.3 ∙ g.plain;
+        ready = inl first;
+        turns = turns;
+        config = read.2 ∙ g.config;
+        rest = z;
+        source = at_z;
+        gives = refl;
+      },
+    )
+
+-- and one that gives none comes where there are none
+pub gives-none : (a b : ByteRecordsIntoIter (Bor (List ℕ))) (left : List Record) → Gives a left
+    → ReadRecord (λ (s : Bor (List ℕ)). Some s.now) a.rdr b.rdr false [] → left ≡ []
+gives-none a b left g read =
+    g.gives ∙ left-none default_config a.rdr.state g.rest
+    (rows-end (λ (s : Bor (List ℕ)). Some s.now) a.rdr b.rdr [] default_config g.rest g.config g.source read)
+
+-- an iterator over a fresh reader of a slice gives the records of the slice
+pub gives-all : (it : ByteRecordsIntoIter (Bor (List ℕ))) (r : Reader (Bor (List ℕ))) (bytes : List ℕ) → it.rdr ≡ r
+    → 0 < it.left
+    → r.trim ≡ trim.None → r.has_headers ≡ false → r.headers ≡ None → r.config ≡ default_config
+    → source_of (λ (s : Bor (List ℕ)). Some s.now) r ≡ Some (strip_bom bytes) → r.state ≡ st.StartRecord
+    → Gives it (table_of bytes)
+gives-all it r bytes is turns plain named headers config source start = record {
+  plain = rw is plain;
+  ready = rw is (inr (inr (named, headers)));
+  turns = turns;
+  config = rw is config;
+  rest = strip_bom bytes;
+  source = rw is source;
+  gives = rw (is, start) refl;
+}
+
+-- one more of the records is seen
+pub seen-more : (all seen left more : List Record) (fields : Record) → all ≡ seen ++ left → left ≡ fields ∷ more
+    → all ≡ (seen ++ (fields ∷ [])) ++ more
+seen-more all seen left more fields is first = is ∙ ap (λ t. seen ++ t) first
+    ∙ sym (append_assoc seen (fields ∷ []) more)
+
+-- the records that are left, with the first of them named
+pub put-first : (all seen left more : List Record) (fields : Record) → all ≡ seen ++ left → left ≡ fields ∷ more
+    → all ≡ seen ++ (fields ∷ more)
+put-first all seen left more fields is first = is ∙ ap (λ t. seen ++ t) first

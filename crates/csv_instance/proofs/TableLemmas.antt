@@ -1,0 +1,92 @@
+-- A table row by row.
+use Rattle.std.proofs.Common.{zero, suc, get_or, ◌≡◌, ◌≢◌, ◌≤◌, ◌<◌, ◌++◌, ◌∷◌, ◌∙◌, ℕ, List, [], Option, Some, None, Ok, Err, length, map, refl, sym, ap, append_assoc, arith, false}
+use Rattle.std.proofs.lemmas.List.{append-nil}
+use Rattle.std.specs.Option.{option_or}
+use Rattle.csv_instance.specs.Records.{Record}
+use Rattle.csv_instance.specs.Parse.{buffer_of, content_fault, header_fault, id_fault, row_fault, rows_fault, parse}
+use Rattle.std.specs.Prelude.{nat_lt, ◌==◌}
+use Rattle.std.proofs.lemmas.Bool.Decides.{nat_tests}
+use Rattle.csv_instance.specs.Columns.{field_of}
+use Rattle.csv_instance.specs.Parse.{id_faults}
+use Rattle.csv_instance.specs.declared.columns.Column.TheVariants.{Id}
+use Rattle.csv_instance.specs.declared.fault.InstanceFault.{InstanceFault}
+use Rattle.csv_instance.specs.declared.fault.InstanceFault.TheVariants as fault
+use Rattle.csv_instance.proofs.IdLemmas.{all_none, or_none, when_none}
+
+pub option_or-assoc : {A : Type 0} (a b c : Option A) → option_or a (option_or b c) ≡ option_or (option_or a b) c
+option_or-assoc None b c = refl
+option_or-assoc (Some x) b c = refl
+
+option_or-none : {A : Type 0} (a : Option A) → option_or a None ≡ a
+option_or-none None = refl
+option_or-none (Some x) = refl
+
+-- the first fault of rows is that of the first rows, or else that of the others
+pub rows-append : (header : Record) (before xs ys : List Record)
+    → rows_fault header before (xs ++ ys) ≡ option_or (rows_fault header before xs)
+    (rows_fault header (before ++ xs) ys)
+rows-append header before [] ys = ap (λ (t : List Record). rows_fault header t ys) (sym (append-nil before))
+rows-append header before (x ∷ xs) ys =
+    ap (λ (t : Option InstanceFault). option_or (row_fault header before x) t)
+    (rows-append header (before ++ x ∷ []) xs ys
+    ∙ ap (λ (t : List Record). option_or (rows_fault header (before ++ x ∷ []) xs) (rows_fault header t ys))
+    (append_assoc before (x ∷ []) xs))
+    ∙ option_or-assoc (row_fault header before x) (rows_fault header (before ++ x ∷ []) xs)
+    (rows_fault header (before ++ (x ∷ xs)) ys)
+
+-- a table without a fault
+pub parse-good : (header : Record) (rows : List Record) → header_fault header ≡ None → rows_fault header [] rows ≡ None
+    → parse (header ∷ rows) ≡ Ok (map (buffer_of header) rows)
+parse-good header rows h r = rw (h, r) refl
+
+-- one more row without a fault
+pub rows-more : (header : Record) (rows : List Record) (row : Record) → rows_fault header [] rows ≡ None
+    → row_fault header rows row ≡ None → rows_fault header [] (rows ++ row ∷ []) ≡ None
+rows-more header rows row r e = rows-append header [] rows (row ∷ []) ∙ rw (r, e) refl
+
+-- the first row with a fault
+pub parse-fault : (header : Record) (rows : List Record) (row : Record) (rest : List Record) (f : InstanceFault)
+    → header_fault header ≡ None → rows_fault header [] rows ≡ None
+    → row_fault header rows row ≡ Some f → parse ((header ∷ rows) ++ row ∷ rest) ≡ Err f
+parse-fault header rows row rest f h r e =
+    let whole : rows_fault header [] (rows ++ row ∷ rest) ≡ Some f = rows-append header [] rows (row ∷ rest)
+    ∙ rw (r, e) refl in
+    rw (h, whole) refl
+
+pub row-id : (header : Record) (rows : List Record) (row : Record) (f : InstanceFault)
+    → id_fault header rows row ≡ Some f → row_fault header rows row ≡ Some f
+row-id header rows row f e = rw e refl
+
+pub row-content : (header : Record) (rows : List Record) (row : Record) (o : Option InstanceFault)
+    → id_fault header rows row ≡ None → content_fault header (length rows) row ≡ o → row_fault header rows row ≡ o
+row-content header rows row o e g = rw (e, g) refl
+
+-- there is room for a row that is not one too many
+pub room : (header : Record) (rows : List Record) (row : Record) → id_fault header rows row ≡ None → length rows ≢ 512
+room header rows row e full = cc (rw full at e)
+
+pub none_left : {A : Type 0} (o : Option A) → ((x : A) → o ≡ Some x → ⊥) → o ≡ None
+none_left None n = refl
+none_left (Some x) n = absurd (n x refl)
+
+-- the id of a row without a fault
+pub id-limits : (header : Record) (before rows : List Record) (b : ℕ) → rows_fault header before rows ≡ None
+    → b < length rows
+    → (1 ≤ length (field_of header (get_or rows b []) Id)) × (length (field_of header (get_or rows b []) Id) ≤ 255)
+id-limits header before [] b e h = absurd (omega arith)
+id-limits header before (row ∷ rows) zero e h =
+    let here = (or_none (row_fault header before row) (rows_fault header (before ++ row ∷ []) rows) e).0 in
+    let none = all_none (id_faults header before row)
+    (or_none (id_fault header before row) (content_fault header (length before) row) here).0 in (
+      some_byte _ (when_none _ (fault.EmptyId (length before)) none.1.1.0),
+      few_bytes _ (when_none _ (fault.IdTooLong (length before)) none.1.1.1.0),
+    )
+  where
+    some_byte : (n : ℕ) → (n == 0) ≡ false → 1 ≤ n
+    some_byte n h = grind (arith, nat_tests)
+
+    few_bytes : (n : ℕ) → nat_lt 255 n ≡ false → n ≤ 255
+    few_bytes n h = grind (arith, nat_tests)
+id-limits header before (row ∷ rows) (suc b) e h =
+    id-limits header (before ++ row ∷ []) rows b
+    (or_none (row_fault header before row) (rows_fault header (before ++ row ∷ []) rows) e).1 (omega arith)

@@ -1,0 +1,35 @@
+use Rattle.std.proofs.Common.{◌∙◌}
+use Rattle.csv.specs.Records.{fields_of}
+use Rattle.csv_instance.specs.Columns.{field_of}
+use Rattle.csv_instance.specs.Records.{Record}
+use Rattle.csv_instance.specs.declared.columns.Column.TheVariants.{Id}
+use Rattle.csv_instance.proofs.IdLemmas.{map-map}
+use Rattle.std.proofs.Common.{ap, map, length, arith}
+use Rattle.std.proofs.lemmas.List.{length-map}
+use Rattle.csv.specs.Records.{Row}
+use Rattle.csv_instance.specs.Parse.{buffer_of}
+use Rattle.csv_instance.proofs.TableLemmas.{parse-good}
+use Rattle.csv_instance.proofs.table.Table.ids.Goals as goal
+
+pub returns-clause-ids : goal.returns-clause-ids
+returns-clause-ids c =
+    rw (← c.self.view_is)
+    (c.self.invariant.ids
+    ∙ map-map (λ (row : Record). field_of
+    (fields_of c.self.inside.header) row Id) fields_of c.self.inside.rows.items)
+
+pub returns-clause-few : goal.returns-clause-few
+returns-clause-few c =
+    let i = c.self.invariant in
+    let same = ap length i.ids in
+    let keys = length-map c.self.inside.ids.keys (λ k. k.items) in
+    let rows = length-map c.self.inside.rows.items
+    (λ (row : Row). field_of (fields_of c.self.inside.header) (fields_of row) Id) in
+    omega (arith, i.few, same, keys, rows)
+
+pub returns-clause-parsed : goal.returns-clause-parsed
+returns-clause-parsed c =
+    let i = c.self.invariant in (
+      map (buffer_of (fields_of c.self.inside.header)) (map fields_of c.self.inside.rows.items),
+      rw (← c.self.view_is) (parse-good _ _ i.header_good i.rows_good),
+    )

@@ -1,0 +1,27 @@
+-- The gaps that a field writes.
+use Rattle.std.specs.Prelude.{ℕ, ◌+◌, List, [], ◌∷◌, ◌==◌, if◌then◌else◌, Option, Some, option_map, option_and_then, length, take, drop, map, position}
+use Rattle.std.specs.List.{slice_split}
+use Rattle.csv_instance.specs.Numbers.{number_of, time_limit}
+
+-- both values, where there are both
+abbrev pub both : {A B : Type 0} → Option A → Option B → Option (A × B)
+both a b = option_and_then (λ x. option_map (λ y. (x, y)) b) a
+
+-- all values, where there are all
+abbrev pub all_some : {A : Type 0} → List (Option A) → Option (List A)
+all_some [] = Some []
+all_some (o ∷ os) = option_and_then (λ x. option_map (λ xs. x ∷ xs) (all_some os)) o
+
+-- the gap that a piece writes: two numbers with a hyphen between them
+abbrev pub gap_of : List ℕ → Option (ℕ × ℕ)
+gap_of piece =
+    option_and_then (λ k. both (number_of time_limit (take k piece)) (number_of time_limit (drop (k + 1) piece)))
+    (position (λ c. c == 45) piece)
+
+-- the pieces of a field between its spaces
+abbrev pub pieces_of : List ℕ → List (List ℕ)
+pieces_of field = slice_split (λ c. c == 32) field
+
+-- the gaps that a field writes: none where it is empty, and else one for each piece between its spaces
+abbrev pub gaps_of : List ℕ → Option (List (ℕ × ℕ))
+gaps_of field = if length field == 0 then Some [] else all_some (map gap_of (pieces_of field))

@@ -1,0 +1,13 @@
+pub mod Records
+pub mod Numbers
+pub mod Gaps
+pub mod Columns
+pub mod Places
+pub mod Parse
+pub mod Row
+pub mod Table
+pub mod Gives
+pub mod Layout
+pub mod Wrote
+pub mod Offsets
+pub mod Found

@@ -1,0 +1,107 @@
+-- The instance of a table of records, or its first fault.
+use Rattle.std.specs.Prelude.{ℕ, List, [], ◌∷◌, ◌++◌, not, ◌==◌, if◌then◌else◌, Option, Some, None, option_map, unwrap_or, Result, Ok, Err, length, nat_lt, nat_eq, slice_index_or, find, position, map, is_some}
+use Rattle.std.specs.List.{starts_with}
+use Rattle.std.specs.Option.{option_or, option_map_or}
+use Rattle.std.specs.Str.{bytes_eq}
+use Rattle.dsa_model.specs.Buffer.{first_fault, when, buffer_fault}
+use Rattle.dsa_terms.specs.Buffers.{Buffer}
+use Rattle.csv_instance.specs.Records.{Record}
+use Rattle.csv_instance.specs.Numbers.{number_of, time_limit}
+use Rattle.csv_instance.specs.Gaps.{gaps_of}
+use Rattle.csv_instance.specs.Columns.{named_columns, needed_columns, has_column, stands_twice, field_of}
+use Rattle.csv_instance.specs.declared.columns.Column.{Column}
+use Rattle.csv_instance.specs.declared.columns.Column.TheVariants.{Id, Lower, Upper, Size, Alignment, Gaps, Offset}
+use Rattle.csv_instance.specs.declared.fault.InstanceFault.{InstanceFault}
+use Rattle.csv_instance.specs.declared.fault.InstanceFault.TheVariants as fault
+
+-- the bytes of a byte order mark
+abbrev pub mark : List ℕ
+mark = 239 ∷ 187 ∷ 191 ∷ []
+
+-- what can be wrong with a header
+abbrev pub header_faults : Record → List (Option InstanceFault)
+header_faults header =
+    when (starts_with nat_eq (slice_index_or header 0 []) mark) fault.MarkedHeader
+    ∷ option_map fault.DuplicateColumn (find (stands_twice header) named_columns)
+    ∷ when (has_column header Offset) fault.OffsetColumn
+    ∷ option_map fault.MissingColumn (find (λ c. not (has_column header c)) needed_columns)
+    ∷ []
+
+-- the first of these
+abbrev pub header_fault : Record → Option InstanceFault
+header_fault header = first_fault (header_faults header)
+
+-- the alignment that a field gives; an empty one gives 1
+abbrev pub alignment_of : List ℕ → Option ℕ
+alignment_of field = if length field == 0 then Some 1 else number_of time_limit field
+
+-- the number under a column of a row
+abbrev pub number_under : Record → Record → Column → Option ℕ
+number_under header row Alignment = alignment_of (field_of header row Alignment)
+number_under header row c = number_of time_limit (field_of header row c)
+
+-- the columns that hold numbers
+abbrev pub number_columns : List Column
+number_columns = Lower ∷ Upper ∷ Size ∷ Alignment ∷ []
+
+-- the first of them that has no number
+abbrev pub bad_column : Record → Record → Option Column
+bad_column header row = find (λ c. not (is_some (number_under header row c))) number_columns
+
+-- the buffer of a row whose fields are right
+abbrev pub buffer_of : Record → Record → Buffer
+buffer_of header row = record {
+  lower = unwrap_or (number_under header row Lower) 0;
+  upper = unwrap_or (number_under header row Upper) 0;
+  size = unwrap_or (number_under header row Size) 0;
+  alignment = unwrap_or (number_under header row Alignment) 0;
+  gaps = unwrap_or (gaps_of (field_of header row Gaps)) [];
+}
+
+-- the greatest number of buffers
+abbrev pub buffer_limit : ℕ
+buffer_limit = 512
+
+-- the greatest length of an id, in bytes
+abbrev pub id_limit : ℕ
+id_limit = 255
+
+-- what can be wrong with a row's length and id, given the rows before it
+abbrev pub id_faults : Record → List Record → Record → List (Option InstanceFault)
+id_faults header before row =
+    let number = length before in
+    let id = field_of header row Id in
+    when (number == buffer_limit) fault.TooManyBuffers
+    ∷ when (not (length row == length header)) (fault.FieldCount number)
+    ∷ when (length id == 0) (fault.EmptyId number)
+    ∷ when (nat_lt id_limit (length id)) (fault.IdTooLong number)
+    ∷ option_map (fault.DuplicateId number) (position (λ earlier. bytes_eq id (field_of header earlier Id)) before)
+    ∷ []
+
+-- the first of these
+abbrev pub id_fault : Record → List Record → Record → Option InstanceFault
+id_fault header before row = first_fault (id_faults header before row)
+
+-- the first fault of what a row says of its buffer
+abbrev pub content_fault : Record → ℕ → Record → Option InstanceFault
+content_fault header number row = first_fault (
+    option_map (fault.BadNumber number) (bad_column header row)
+    ∷ when (not (is_some (gaps_of (field_of header row Gaps)))) (fault.BadGap number)
+    ∷ option_map (fault.BadBuffer number) (buffer_fault (buffer_of header row))
+    ∷ [])
+
+-- the first fault of a row, given the rows before it
+abbrev pub row_fault : Record → List Record → Record → Option InstanceFault
+row_fault header before row = option_or (id_fault header before row) (content_fault header (length before) row)
+
+-- the first fault of rows, after those before them
+abbrev pub rows_fault : Record → List Record → List Record → Option InstanceFault
+rows_fault header before [] = None
+rows_fault header before (row ∷ rows) =
+    option_or (row_fault header before row) (rows_fault header (before ++ row ∷ []) rows)
+
+-- the buffers of a table, or its first fault: that of the header, and then row by row
+abbrev pub parse : List Record → Result (List Buffer) InstanceFault
+parse [] = Err fault.NoHeader
+parse (header ∷ rows) = option_map_or Err (option_or (header_fault header) (rows_fault header [] rows))
+    (Ok (map (buffer_of header) rows))

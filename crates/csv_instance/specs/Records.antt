@@ -1,0 +1,21 @@
+-- The records of a file.
+use Rattle.std.specs.Prelude.{ℕ, List, ◌≤◌, length}
+use Rattle.std.specs.List.{All}
+use Rattle.csv.specs.Reading.{default_config, records, strip_bom}
+
+-- a record: the bytes of its fields
+abbrev pub Record : Type 0
+Record = List (List ℕ)
+
+-- the table of these bytes: their records as the `csv` reader gives them, with commas, double quotes, no trimming,
+-- no row set apart as a header, records of any length, and one byte order mark taken off the start
+abbrev pub table_of : List ℕ → List Record
+table_of bytes = records default_config (strip_bom bytes)
+
+-- the greatest length of a file, in bytes
+abbrev pub file_limit : ℕ
+file_limit = 67108864
+
+-- no field is longer than a file may be
+abbrev pub IsShort : Record → Type 0
+IsShort fields = All (λ field. length field ≤ file_limit) fields

@@ -1,0 +1,25 @@
+//! Instances and layouts as CSV: an instance file is read into a table, a layout is written as the
+//! table's records with an offset each, and a layout file is read back into offsets by buffer.
+#![tactic(auto)]
+
+mod columns;
+mod fault;
+mod gaps;
+mod header;
+mod layout;
+mod numbers;
+mod offset_row;
+mod offsets;
+mod read;
+mod records;
+mod row;
+mod table;
+#[cfg(test)]
+mod tests;
+
+pub use columns::Column;
+pub use fault::{InstanceFault, OffsetsFault};
+pub use layout::write_layout;
+pub use offsets::read_offsets;
+pub use read::read_instance;
+pub use table::Table;

@@ -1,0 +1,155 @@
+//! A row of an instance file.
+
+ghost use Rattle.std.specs.Prelude.{◌≡◌, ◌∷◌, ◌++◌, ◌≤◌, [], List, ℕ, Ok, Err, Some, None, IfOk, MatchResult, map, length, slice_index_or};
+ghost use Rattle.csv.specs.Records.{fields_of};
+ghost use Rattle.dsa_model.specs.Fails.{UnlessNoMemory};
+ghost use Rattle.csv_instance.specs.Columns.{field_of};
+ghost use Rattle.csv_instance.specs.Places.{places_of};
+ghost use Rattle.csv_instance.specs.Records.{IsShort, Record};
+ghost use Rattle.csv_instance.specs.Numbers.{time_limit};
+ghost use Rattle.csv_instance.specs.Parse.{alignment_of, bad_column, buffer_of, content_fault, id_fault};
+ghost use Rattle.csv_instance.specs.Row.{AreNumbers};
+ghost use Rattle.std.specs.Option.{option_map_or};
+ghost use Rattle.csv_instance.specs.declared.columns.Column.TheVariants.{Id};
+
+use crate::columns::{Column, Places, field_under};
+use crate::fault::InstanceFault;
+use crate::gaps::read_gaps;
+use crate::numbers::{TIME_LIMIT, parse_number};
+use csv::ByteRecord;
+use dsa_model::{BUFFER_LIMIT, Buffer, Fail, NoMemory};
+use indexmap::IndexSet;
+use std::alloc::Global;
+
+/// The greatest length of an id, in bytes.
+const ID_LIMIT: usize = 255;
+
+/// The first fault of a row's length and id.
+pub(crate) fn check_id(
+    header: &ByteRecord,
+    places: &Places,
+    ids: &IndexSet<Vec<u8>>,
+    rows: &Vec<ByteRecord>,
+    row: &ByteRecord,
+) -> Option<InstanceFault>
+    requires places { places.now ≡ places_of (fields_of header.now) }
+    requires ids { map (λ k. k.items) ids.now.keys
+        ≡ map (λ e. field_of (fields_of header.now) (fields_of e) Id) rows.now.items }
+    requires few { length rows.now.items ≤ 512 }
+    ensures { result
+        ≡ id_fault (fields_of header.now) (map fields_of rows.now.items) (fields_of row.now) }
+{
+    let number = rows.len() as u32;
+    if number == BUFFER_LIMIT {
+        return Some(InstanceFault::TooManyBuffers);
+    }
+    if row.len() != header.len() {
+        return Some(InstanceFault::FieldCount { row: number });
+    }
+    let id = field_under(row, places.id);
+    if id.is_empty() {
+        return Some(InstanceFault::EmptyId { row: number });
+    }
+    if id.len() > ID_LIMIT {
+        return Some(InstanceFault::IdTooLong { row: number });
+    }
+    match ids.get_index_of(id) {
+        Some(earlier) => Some(InstanceFault::DuplicateId {
+            row: number,
+            earlier: earlier as u32,
+        }),
+        None => None,
+    }
+}
+
+/// The alignment of a row: 1 where it gives none.
+fn read_alignment(row: &ByteRecord, place: Option<usize>) -> Option<u64>
+    ensures { result
+        ≡ alignment_of (option_map_or (λ i. slice_index_or (fields_of row.now) i []) place []) }
+{
+    let field = field_under(row, place);
+    if field.is_empty() {
+        Some(1)
+    } else {
+        parse_number(field, TIME_LIMIT)
+    }
+}
+
+/// The numbers of a row.
+#[derive(Clone, Copy)]
+struct Numbers {
+    lower: u64,
+    upper: u64,
+    size: u64,
+    alignment: u64,
+}
+
+/// The numbers of a row, or the first column without one.
+fn read_numbers(places: &Places, row: &ByteRecord) -> Result<Numbers, Column>
+    ensures limits { IfOk result (λ n. (n.lower ≤ time_limit) × (n.upper ≤ time_limit)) }
+    ensures numbers { let fields = fields_of row.now in
+        (header : Record) → places.now ≡ places_of header
+        → MatchResult result
+        (λ n. (bad_column header fields ≡ None) × AreNumbers header fields n)
+        (λ column. bad_column header fields ≡ Some column) }
+{
+    let Some(lower) = parse_number(field_under(row, places.lower), TIME_LIMIT) else {
+        return Err(Column::Lower);
+    };
+    let Some(upper) = parse_number(field_under(row, places.upper), TIME_LIMIT) else {
+        return Err(Column::Upper);
+    };
+    let Some(size) = parse_number(field_under(row, places.size), TIME_LIMIT) else {
+        return Err(Column::Size);
+    };
+    let Some(alignment) = read_alignment(row, places.alignment) else {
+        return Err(Column::Alignment);
+    };
+    Ok(Numbers {
+        lower,
+        upper,
+        size,
+        alignment,
+    })
+}
+
+/// The buffer that a row tells of, or the first fault of what it says.
+pub(crate) fn read_buffer(
+    alloc: Global,
+    places: &Places,
+    number: u32,
+    row: &ByteRecord,
+) -> Result<Buffer, Fail<InstanceFault>>
+    requires { IsShort (fields_of row.now) }
+    ensures { let fields = fields_of row.now in (header : Record) → places.now ≡ places_of header
+        → UnlessNoMemory result
+        (λ b. (content_fault header number fields ≡ None) × (b ≡ buffer_of header fields))
+        (λ f. content_fault header number fields ≡ Some f) }
+{
+    let Numbers {
+        lower,
+        upper,
+        size,
+        alignment,
+    } = match read_numbers(places, row) {
+        Ok(numbers) => numbers,
+        Err(column) => {
+            return Err(Fail::Fault(InstanceFault::BadNumber {
+                row: number,
+                column,
+            }));
+        }
+    };
+    let gaps = match read_gaps(alloc, field_under(row, places.gaps)) {
+        Ok(Some(gaps)) => gaps,
+        Ok(None) => return Err(Fail::Fault(InstanceFault::BadGap { row: number })),
+        Err(NoMemory) => return Err(Fail::NoMemory),
+    };
+    match Buffer::new(alloc, lower, upper, size, alignment, &gaps) {
+        Ok(buffer) => Ok(buffer),
+        Err(Fail::Fault(fault)) => {
+            Err(Fail::Fault(InstanceFault::BadBuffer { row: number, fault }))
+        }
+        Err(Fail::NoMemory) => Err(Fail::NoMemory),
+    }
+}

@@ -1,0 +1,144 @@
+//! An instance file that was read.
+
+ghost use Rattle.std.specs.Prelude.{◌≡◌, ◌∷◌, ◌++◌, ◌+◌, ◌<◌, ◌≤◌, [], List, ℕ, Ok, Err, MatchResult, length, map, slice_index_or};
+ghost use Rattle.csv.specs.Records.{fields_of};
+ghost use Rattle.dsa_terms.specs.Buffers.{Buffer as BufferTerm};
+ghost use Rattle.dsa_model.specs.Fails.{UnlessNoMemory};
+ghost use Rattle.csv_instance.specs.Records.{IsShort, Record};
+ghost use Rattle.csv_instance.specs.Offsets.{ids_of};
+ghost use Rattle.csv_instance.specs.Parse.{parse};
+
+use crate::columns::{Places, field_under, find_columns};
+use crate::fault::InstanceFault;
+use crate::header::check_header;
+use crate::row::{check_id, read_buffer};
+use csv::ByteRecord;
+use dsa_model::{Fail, Instance};
+use indexmap::IndexSet;
+use std::alloc::Global;
+use std::marker::Model;
+
+/// The records of an instance file without a fault, with the instance that they tell of. A contract
+/// sees the list of the records, the header first.
+#[derive(Drop)]
+pub struct Table {
+    header: ByteRecord,
+    places: Places,
+    rows: Vec<ByteRecord>,
+    ids: IndexSet<Vec<u8>>,
+    instance: Instance,
+}
+
+impl Model for Table {
+    ghost use Rattle.std.specs.Prelude.{List};
+    ghost use Rattle.csv_instance.specs.Records.{Record};
+
+    ghost Value = { List Record };
+
+    ghost use Rattle.csv_instance.specs.Table.{records_of, IsKept};
+
+    ghost view = { records_of };
+
+    ghost invariant = { IsKept };
+}
+
+impl Table {
+    /// A table with no rows yet, or the header's fault, which is the file's whatever comes after.
+    pub(crate) fn start(alloc: Global, header: ByteRecord) -> Result<Table, InstanceFault>
+        ensures { MatchResult result (λ t. t ≡ fields_of header ∷ [])
+            (λ f. (rest : List Record) → parse (fields_of header ∷ rest) ≡ Err f) }
+    {
+        if let Some(fault) = check_header(&header) {
+            return Err(fault);
+        }
+        let places = find_columns(&header);
+        Ok(Table {
+            header,
+            places,
+            rows: Vec::new(alloc),
+            ids: IndexSet::new(alloc),
+            instance: Instance::new(alloc),
+        })
+    }
+
+    /// The table with one more row, or the row's fault, which is the file's whatever comes after.
+    pub(crate) fn with_row(
+        self,
+        alloc: Global,
+        row: ByteRecord,
+    ) -> Result<Table, Fail<InstanceFault>>
+        requires { IsShort (fields_of row) }
+        ensures { UnlessNoMemory result (λ t. t ≡ self ++ fields_of row ∷ [])
+            (λ f. (rest : List Record) → parse (self ++ fields_of row ∷ rest) ≡ Err f) }
+    {
+        let Table {
+            header,
+            places,
+            mut rows,
+            mut ids,
+            mut instance,
+        } = self;
+        if let Some(fault) = check_id(&header, &places, &ids, &rows, &row) {
+            return Err(Fail::Fault(fault));
+        }
+        let number = rows.len() as u32;
+        let buffer = match read_buffer(alloc, &places, number, &row) {
+            Ok(buffer) => buffer,
+            Err(failure) => return Err(failure),
+        };
+        let Ok(id) = Vec::from_slice(alloc, field_under(&row, places.id)) else {
+            return Err(Fail::NoMemory);
+        };
+        if ids.insert(id).is_err() {
+            return Err(Fail::NoMemory);
+        }
+        if instance.push(buffer).is_err() {
+            return Err(Fail::NoMemory);
+        }
+        if rows.push(row).is_err() {
+            return Err(Fail::NoMemory);
+        }
+        Ok(Table {
+            header,
+            places,
+            rows,
+            ids,
+            instance,
+        })
+    }
+
+    /// The header, and the rows.
+    pub(crate) fn records(&self) -> (&ByteRecord, &[ByteRecord])
+        ensures records { self.now ≡ fields_of result.0.now ∷ map fields_of result.1.now }
+        ensures parsed { (buffers : List BufferTerm) × (parse self.now ≡ Ok buffers) }
+    {
+        (&self.header, self.rows.as_slice())
+    }
+
+    /// The ids of the buffers, in order.
+    pub(crate) fn ids(&self) -> &IndexSet<Vec<u8>>
+        ensures ids { map (λ k. k.items) result.now.keys ≡ ids_of self.now }
+        ensures few { length result.now.keys ≤ 512 }
+        ensures parsed { (buffers : List BufferTerm) × (parse self.now ≡ Ok buffers) }
+    {
+        &self.ids
+    }
+
+    /// The instance of the records.
+    pub fn instance(&self) -> &Instance
+        ensures parsed { parse self.now ≡ Ok result.now }
+        ensures count { length self.now ≡ length result.now + 1 }
+    {
+        &self.instance
+    }
+
+    /// The bytes of a buffer's id field, of which there are 1 to 255. The caller owes that `b` is
+    /// below the count of buffers.
+    pub fn id(&self, b: u32) -> &[u8]
+        requires { b + 1 < length self.now }
+        ensures value { result.now ≡ slice_index_or (ids_of self.now) b [] }
+        ensures limit { (1 ≤ length result.now) × (length result.now ≤ 255) }
+    {
+        field_under(&self.rows[b as usize], self.places.id)
+    }
+}

@@ -1,0 +1,235 @@
+ghost use Rattle.std.specs.Prelude.{◌≤◌, length};
+
+use crate::{Column, InstanceFault, OffsetsFault, read_instance, read_offsets, write_layout};
+use dsa_model::{BufferFault, Fail, NoMemory};
+use std::alloc::Global;
+use std::test::Fail as TestFail;
+
+const EXAMPLE: &[u8] = b"id,lower,upper,size\nb1,0,3,4\nb2,3,9,4\nb3,0,9,4\n";
+
+/// The fault of an instance file.
+fn fault_of(alloc: Global, text: &[u8]) -> Result<Option<InstanceFault>, NoMemory>
+    requires { length text.now ≤ 67108864 }
+{
+    match read_instance(alloc, text) {
+        Ok(_) => Ok(None),
+        Err(Fail::Fault(fault)) => Ok(Some(fault)),
+        Err(Fail::NoMemory) => Err(NoMemory),
+    }
+}
+
+/// What a layout file gives the example's buffers.
+fn offsets_of(alloc: Global, text: &[u8]) -> Result<Vec<u64>, Fail<OffsetsFault>>
+    requires { length text.now ≤ 67108864 }
+{
+    match read_instance(alloc, EXAMPLE) {
+        Ok(table) => read_offsets(alloc, &table, text),
+        Err(_) => Err(Fail::NoMemory),
+    }
+}
+
+#[test]
+fn a_layout_is_written_and_read_back(rt: HostRuntime) -> Result<(), TestFail> {
+    let Ok(table) = read_instance(rt.alloc(), EXAMPLE) else {
+        panic!(rt; "no table");
+    };
+    assert_eq!(rt; table.instance().len(), 3);
+    assert_eq!(rt; table.id(2), b"b3".as_slice());
+    let offsets: [u64; 3] = [0, 0, 4];
+    let Ok(text) = write_layout(rt.alloc(), &table, &offsets) else {
+        panic!(rt; "no text");
+    };
+    let want: &[u8] = b"id,lower,upper,size,offset\nb1,0,3,4,0\nb2,3,9,4,0\nb3,0,9,4,4\n";
+    assert_eq!(rt; text.as_slice(), want);
+    let Ok(back) = read_offsets(rt.alloc(), &table, want) else {
+        panic!(rt; "no offsets");
+    };
+    assert_eq!(rt; back.as_slice(), offsets.as_slice());
+    Ok(())
+}
+
+#[test]
+fn other_columns_are_carried(rt: HostRuntime) -> Result<(), TestFail> {
+    let input: &[u8] = b"size,note,id,upper,lower\n4,\"x,y\",b1,3,0\n";
+    let Ok(table) = read_instance(rt.alloc(), input) else {
+        panic!(rt; "no table");
+    };
+    assert_eq!(rt; table.instance().len(), 1);
+    let offsets: [u64; 1] = [0];
+    let Ok(text) = write_layout(rt.alloc(), &table, &offsets) else {
+        panic!(rt; "no text");
+    };
+    let want: &[u8] = b"size,note,id,upper,lower,offset\n4,\"x,y\",b1,3,0,0\n";
+    assert_eq!(rt; text.as_slice(), want);
+    Ok(())
+}
+
+#[test]
+fn a_bad_header_is_named(rt: HostRuntime) {
+    let table: [(&[u8], Option<InstanceFault>); 7] = [
+        (b"", Some(InstanceFault::NoHeader)),
+        (
+            b"\"\xEF\xBB\xBFnote\",id,lower,upper,size\n",
+            Some(InstanceFault::MarkedHeader),
+        ),
+        (b"\xEF\xBB\xBFid,lower,upper,size\n", None),
+        (
+            b"size,id,lower,upper,size,id\n",
+            Some(InstanceFault::DuplicateColumn { column: Column::Id }),
+        ),
+        (
+            b"id,lower,upper,size,offset\nb1,0,3,4,0\n",
+            Some(InstanceFault::OffsetColumn),
+        ),
+        (
+            b"id,lower,size\n",
+            Some(InstanceFault::MissingColumn {
+                column: Column::Upper,
+            }),
+        ),
+        (b"id,lower,upper,size,note,note\n", None),
+    ];
+    for (text, want) in table {
+        assert!(rt; text.len() <= 67108864);
+        assert_eq!(rt; fault_of(rt.alloc(), text), Ok(want));
+    }
+}
+
+/// The fault of one record after the header with alignments.
+fn row_fault(alloc: Global, row: &[u8]) -> Result<Option<InstanceFault>, NoMemory>
+    requires { length row.now ≤ 1000 }
+{
+    let mut text = Vec::from_slice(alloc, b"id,lower,upper,size,alignment\n")?;
+    text.extend_from_slice(row)?;
+    fault_of(alloc, text.as_slice())
+}
+
+#[test]
+fn a_bad_record_is_named(rt: HostRuntime) {
+    let table: [(&[u8], Option<InstanceFault>); 11] = [
+        (
+            b"A,0,1,1099511627777,1",
+            Some(InstanceFault::BadBuffer {
+                row: 0,
+                fault: BufferFault::TooLarge,
+            }),
+        ),
+        (
+            b"A,0,1,000000000000000000001,1",
+            Some(InstanceFault::BadNumber {
+                row: 0,
+                column: Column::Size,
+            }),
+        ),
+        (b"A,0,1,00000000000000000001,1", None),
+        (
+            b"A,0,1,0,1",
+            Some(InstanceFault::BadBuffer {
+                row: 0,
+                fault: BufferFault::ZeroSize,
+            }),
+        ),
+        (
+            b"A,1,1,4,1",
+            Some(InstanceFault::BadBuffer {
+                row: 0,
+                fault: BufferFault::EmptyLifetime,
+            }),
+        ),
+        (
+            b"A,0,4611686018427387904,4,1",
+            Some(InstanceFault::BadNumber {
+                row: 0,
+                column: Column::Upper,
+            }),
+        ),
+        (
+            b"A,0,1,4,0",
+            Some(InstanceFault::BadBuffer {
+                row: 0,
+                fault: BufferFault::ZeroAlignment,
+            }),
+        ),
+        (b",0,1,4,1", Some(InstanceFault::EmptyId { row: 0 })),
+        (b"A,0,1,4", Some(InstanceFault::FieldCount { row: 0 })),
+        (b"A,0,1,4,", None),
+        (
+            b"A,0,1,4,1\nA,0,1,4,1",
+            Some(InstanceFault::DuplicateId { row: 1, earlier: 0 }),
+        ),
+    ];
+    for (row, want) in table {
+        assert!(rt; row.len() <= 1000);
+        assert_eq!(rt; row_fault(rt.alloc(), row), Ok(want));
+    }
+}
+
+#[test]
+fn gaps_are_pieces_between_spaces(rt: HostRuntime) {
+    let table: [(&[u8], Option<InstanceFault>); 4] = [
+        (b"id,lower,upper,size,gaps\nA,0,10,4,4-6 1-2\n", None),
+        (
+            b"id,lower,upper,size,gaps\nA,0,10,4,1-2  4-6\n",
+            Some(InstanceFault::BadGap { row: 0 }),
+        ),
+        (
+            b"id,lower,upper,size,gaps\nA,0,10,4,0-6 4-10\n",
+            Some(InstanceFault::BadBuffer {
+                row: 0,
+                fault: BufferFault::NeverLive,
+            }),
+        ),
+        (
+            b"id,lower,upper,size,gaps\nA,0,10,4,1-2 6-6\n",
+            Some(InstanceFault::BadBuffer {
+                row: 0,
+                fault: BufferFault::GapEmpty { gap: 1 },
+            }),
+        ),
+    ];
+    for (text, want) in table {
+        assert!(rt; text.len() <= 67108864);
+        assert_eq!(rt; fault_of(rt.alloc(), text), Ok(want));
+    }
+}
+
+#[test]
+fn a_layout_file_has_a_row_for_each_buffer(rt: HostRuntime) {
+    let table: [(&[u8], OffsetsFault); 8] = [
+        (b"\n\n", OffsetsFault::NoHeader),
+        (
+            b"offset,offset,id,id\n",
+            OffsetsFault::DuplicateColumn { column: Column::Id },
+        ),
+        (
+            b"id,size,size\n",
+            OffsetsFault::MissingColumn {
+                column: Column::Offset,
+            },
+        ),
+        (
+            b"id,offset\nb3,0\nb1\n",
+            OffsetsFault::FieldCount { row: 1 },
+        ),
+        (b"id,offset\nb4,x\n", OffsetsFault::UnknownId { row: 0 }),
+        (
+            b"id,offset\nb3,1\nb2,0\nb3,x\n",
+            OffsetsFault::DuplicateId { row: 2, earlier: 0 },
+        ),
+        (
+            b"id,offset\nb3,1152921504606846977\n",
+            OffsetsFault::BadNumber { row: 0 },
+        ),
+        (
+            b"offset,id\n1152921504606846976,b3\n0,b1\n",
+            OffsetsFault::MissingId { buffer: 1 },
+        ),
+    ];
+    for (text, want) in table {
+        assert!(rt; text.len() <= 67108864);
+        match offsets_of(rt.alloc(), text) {
+            Err(Fail::Fault(fault)) => assert_eq!(rt; fault, want),
+            _ => panic!(rt; "no fault"),
+        }
+    }
+}
