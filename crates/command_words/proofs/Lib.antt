@@ -1,0 +1,3 @@
+mod ExampleFacts
+pub mod NumberLemmas
+pub mod PairLemmas

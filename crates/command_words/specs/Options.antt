@@ -1,0 +1,69 @@
+-- The words of commands and options, and the options of each command.
+use Rattle.std.specs.Prelude.{ℕ, ◌^◌, Bool, true, false, not, ◌&&◌, List, [], ◌∷◌, codes, length, nat_le, Option, Some, None, is_some, if◌then◌else◌, find}
+use Rattle.std.specs.List.{list_all}
+use Rattle.std.specs.Char.{is_ascii_digit}
+use Rattle.std.specs.Str.{bytes_eq}
+use Rattle.std.specs.Str.Parse.{digits_value}
+use Rattle.dsa_terms.specs.Parts.{is_empty}
+use Rattle.command_words.specs.declared.option.OptionName.{OptionName}
+use Rattle.command_words.specs.declared.option.OptionName.TheVariants.{Capacity, Input, Output, Log, Layout, Steps, Seed, Count}
+use Rattle.command_words.specs.declared.verb.Verb.{Verb}
+use Rattle.command_words.specs.declared.verb.Verb.TheVariants.{Solve, Verify, Refute, Bounds}
+
+-- the bytes of a word
+abbrev pub Word : Type 0
+Word = List ℕ
+
+-- a command's word
+abbrev pub verb_word : Verb → Word
+verb_word Solve = codes "solve"
+verb_word Verify = codes "verify"
+verb_word Refute = codes "refute"
+verb_word Bounds = codes "bounds"
+
+-- the commands that there are
+abbrev pub verbs : List Verb
+verbs = Solve ∷ Verify ∷ Refute ∷ Bounds ∷ []
+
+-- an option's word
+abbrev pub option_word : OptionName → Word
+option_word Capacity = codes "--capacity"
+option_word Input = codes "--input"
+option_word Output = codes "--output"
+option_word Log = codes "--log"
+option_word Layout = codes "--layout"
+option_word Steps = codes "--steps"
+option_word Seed = codes "--seed"
+option_word Count = codes "--count"
+
+-- the options of a command, in their order; it needs each of them
+abbrev pub options_of : Verb → List OptionName
+options_of Solve = Capacity ∷ Input ∷ Output ∷ Log ∷ []
+options_of Verify = Capacity ∷ Input ∷ Layout ∷ []
+options_of Refute = Input ∷ Log ∷ []
+options_of Bounds = Input ∷ []
+
+-- the option of the command that has this word
+abbrev pub option_of : Verb → Word → Option OptionName
+option_of verb word = find (λ o. bytes_eq (option_word o) word) (options_of verb)
+
+-- the option names a file
+abbrev pub is_file : OptionName → Bool
+is_file Input = true
+is_file Output = true
+is_file Log = true
+is_file Layout = true
+is_file other = false
+
+-- 1 to 20 digits
+abbrev pub is_number : Word → Bool
+is_number word = nat_le 1 (length word) && nat_le (length word) 20 && list_all is_ascii_digit word
+
+-- the number that a word of 1 to 20 digits writes, where it is at most 2^60
+abbrev pub number_of : Word → Option ℕ
+number_of word =
+    if is_number word && nat_le (digits_value 10 word) (2 ^ 60) then Some (digits_value 10 word) else None
+
+-- a value that the option can't have: an empty name, or a word that writes no number where one is wanted
+abbrev pub is_bad : OptionName → Word → Bool
+is_bad option value = if is_file option then is_empty value else not (is_some (number_of value))

@@ -1,0 +1,73 @@
+-- The words after the command, taken two by two: options with their values.
+use Rattle.std.specs.Prelude.{ℕ, ◌+◌, ◌*◌, ◌-◌, ◌^◌, min, Bool, false, not, ◌||◌, List, [], ◌∷◌, ◌++◌, length, Option, Some, None, is_some, unwrap_or, option_map, find}
+use Rattle.std.specs.List.{list_any}
+use Rattle.std.specs.Option.{option_or, option_and_then}
+use Rattle.std.specs.Str.{bytes_eq}
+use Rattle.dsa_terms.specs.Firsts.{when, first_fault}
+use Rattle.command_words.specs.Options.{Word, option_word, options_of, option_of, number_of, is_bad}
+use Rattle.command_words.specs.declared.pair.Pair as written
+use Rattle.command_words.specs.declared.option.OptionName.{OptionName}
+use Rattle.command_words.specs.declared.verb.Verb.{Verb}
+use Rattle.command_words.specs.declared.fault.UsageFault.{UsageFault}
+use Rattle.command_words.specs.declared.fault.UsageFault.TheVariants as fault
+
+-- a word and the word after it, where there is one
+pub record Pair : Type 0 where
+  pub option : Word
+  pub value : Option Word
+
+-- what the code's pair stands for
+abbrev pub pair_value : written.Pair → Pair
+pair_value pair = record { option = pair.option.now; value = option_map (λ value. value.now) pair.value }
+
+-- words, two by two
+abbrev pub pairs_of : List Word → List Pair
+pairs_of [] = []
+pairs_of (option ∷ []) = record { option = option; value = None } ∷ []
+pairs_of (option ∷ value ∷ words) = record { option = option; value = Some value } ∷ pairs_of words
+
+-- the place of the first word of the pair that so many others come before; the command's word has place 0
+abbrev pub place_after : ℕ → ℕ
+place_after pairs = min (2 * pairs + 1) (2 ^ 32 - 1)
+
+-- the first fault of a pair whose word is this option of the command, or none of its options
+abbrev pub option_fault : ℕ → List Pair → Pair → Option OptionName → Option UsageFault
+option_fault place earlier pair None = Some (fault.UnknownOption place)
+option_fault place earlier pair (Some option) = first_fault (
+    when (list_any (λ (p : Pair). bytes_eq p.option pair.option) earlier) (fault.RepeatedOption place)
+    ∷ when (not (is_some pair.value)) (fault.MissingValue place)
+    ∷ when (is_bad option (unwrap_or pair.value [])) (fault.BadValue place)
+    ∷ [])
+
+-- the first fault of a pair after the earlier ones
+abbrev pub pair_fault : Verb → List Pair → Pair → Option UsageFault
+pair_fault verb earlier pair = option_fault (place_after (length earlier)) earlier pair (option_of verb pair.option)
+
+-- the fault of the first pair that has one, after the earlier pairs
+abbrev pub pairs_fault : Verb → List Pair → List Pair → Option UsageFault
+pairs_fault verb earlier [] = None
+pairs_fault verb earlier (pair ∷ pairs) =
+    option_or (pair_fault verb earlier pair) (pairs_fault verb (earlier ++ pair ∷ []) pairs)
+
+-- the value that the pairs give an option
+abbrev pub value_of : List Pair → OptionName → Option Word
+value_of pairs option =
+    option_and_then (λ (p : Pair). p.value) (find (λ (p : Pair). bytes_eq p.option (option_word option)) pairs)
+
+-- the first option that the command needs and the pairs don't give
+abbrev pub missing_fault : Verb → List Pair → Option UsageFault
+missing_fault verb pairs =
+    option_map fault.MissingOption (find (λ o. not (is_some (value_of pairs o))) (options_of verb))
+
+-- two of the words are equal
+abbrev pub has_equal : List Word → Bool
+has_equal [] = false
+has_equal (word ∷ words) = list_any (bytes_eq word) words || has_equal words
+
+-- the word that the pairs give an option, and an empty one where they give none
+abbrev pub word_at : List Pair → OptionName → Word
+word_at pairs option = unwrap_or (value_of pairs option) []
+
+-- the number that the pairs give an option, and 0 where they give none
+abbrev pub number_at : List Pair → OptionName → ℕ
+number_at pairs option = unwrap_or (number_of (word_at pairs option)) 0

@@ -1,0 +1,69 @@
+//! The first fault of pairs of words.
+
+ghost use Rattle.std.specs.Prelude.{◌≡◌, ◌<◌, ◌≤◌, ◌^◌, [], map, take, length, string_bytes, find, not, is_some};
+ghost use Rattle.command_words.specs.Options.{options_of};
+ghost use Rattle.command_words.specs.Pairs.{pairs_of, pair_value, place_after, pair_fault, pairs_fault, value_of};
+
+use crate::pair::{Pair, has_option, split_pair, value_of};
+use crate::value::is_bad;
+use crate::verb::Verb;
+use crate::{OptionName, UsageFault};
+
+/// The place of the first word of the pair that so many others come before, or 4294967295 where it
+/// is greater.
+fn place_after(pairs: usize) -> u32
+    requires { pairs < 2 ^ 63 }
+    ensures { result ≡ place_after pairs }
+{
+    (2 * pairs + 1).min(u32::MAX as usize) as u32
+}
+
+/// The first fault of a pair that so many of the pairs of words come before.
+fn pair_fault(verb: Verb, words: &[String], earlier: usize, pair: Pair<'_>) -> Option<UsageFault>
+    requires small { earlier < 2 ^ 63 }
+    requires within { earlier < length (pairs_of (map string_bytes words.now)) }
+    ensures { let pairs = pairs_of (map string_bytes words.now) in
+        result ≡ pair_fault verb (take earlier pairs) (pair_value pair.entry) }
+{
+    let word = place_after(earlier);
+    let Some(option) = verb.option_of(pair.option) else {
+        return Some(UsageFault::UnknownOption { word });
+    };
+    if has_option(words, earlier, pair.option) {
+        return Some(UsageFault::RepeatedOption { word });
+    }
+    let Some(value) = pair.value else {
+        return Some(UsageFault::MissingValue { word });
+    };
+    if is_bad(option, value) {
+        return Some(UsageFault::BadValue { word });
+    }
+    None
+}
+
+/// The fault of the first pair that has one.
+pub(crate) fn pairs_fault(verb: Verb, words: &[String]) -> Option<UsageFault>
+    ensures { result ≡ pairs_fault verb [] (pairs_of (map string_bytes words.now)) }
+{
+    let mut rest = words;
+    let mut earlier: usize = 0;
+    while let Some((pair, after)) = split_pair(rest) {
+        if let Some(fault) = pair_fault(verb, words, earlier, pair) {
+            return Some(fault);
+        }
+        rest = after;
+        earlier += 1;
+    }
+    None
+}
+
+/// The first option that the command needs and the pairs don't give.
+pub(crate) fn first_missing(verb: Verb, words: &[String]) -> Option<OptionName>
+    ensures { let pairs = pairs_of (map string_bytes words.now) in
+        result ≡ find (λ o. not (is_some (value_of pairs o))) (options_of verb) }
+{
+    verb.options()
+        .iter()
+        .copied()
+        .find(|option| value_of(words, *option).is_none())
+}

@@ -1,0 +1,55 @@
+//! The options of commands.
+
+ghost use Rattle.std.specs.Prelude.{◌≡◌};
+ghost use Rattle.command_words.specs.Options.{option_word, is_file};
+
+/// An option of a command; its word is its name after two dashes.
+#[derive(Clone, Copy, Debug, PartialEq, Eq)]
+pub enum OptionName {
+    /// `--capacity`: a capacity in bytes.
+    Capacity,
+    /// `--input`: the name of the instance file.
+    Input,
+    /// `--output`: the name of the file to write.
+    Output,
+    /// `--log`: the name of the log's file.
+    Log,
+    /// `--layout`: the name of a layout file.
+    Layout,
+    /// `--steps`: a budget in units, each a claim that is opened.
+    Steps,
+    /// `--seed`: the seed of a made instance.
+    Seed,
+    /// `--count`: the number of buffers of a made instance.
+    Count,
+}
+
+impl OptionName {
+    /// The word of the option, its two dashes included.
+    pub fn word(&self) -> &'static str
+        ensures { result.now ≡ option_word self.now }
+    {
+        match self {
+            OptionName::Capacity => "--capacity",
+            OptionName::Input => "--input",
+            OptionName::Output => "--output",
+            OptionName::Log => "--log",
+            OptionName::Layout => "--layout",
+            OptionName::Steps => "--steps",
+            OptionName::Seed => "--seed",
+            OptionName::Count => "--count",
+        }
+    }
+
+    /// Whether the option names a file; the others have numbers.
+    pub(crate) fn is_file(&self) -> bool
+        ensures { result ≡ is_file self.now }
+    {
+        match self {
+            OptionName::Input | OptionName::Output | OptionName::Log | OptionName::Layout => true,
+            OptionName::Capacity | OptionName::Steps | OptionName::Seed | OptionName::Count => {
+                false
+            }
+        }
+    }
+}

@@ -1,0 +1,94 @@
+use crate::{Command, OptionName, UsageFault, read_words};
+use std::alloc::{AllocError, Global};
+use std::test::Fail;
+
+/// The words, each with memory of its own.
+fn owned(alloc: Global, words: &[&str]) -> Result<Vec<String>, AllocError> {
+    let mut all = Vec::new(alloc);
+    for word in words {
+        let word = String::from_str(alloc, word)?;
+        all.push(word)?;
+    }
+    Ok(all)
+}
+
+#[test]
+fn each_wrong_line_has_its_first_fault(rt: HostRuntime) -> Result<(), Fail> {
+    let cases: [(&[&str], UsageFault); 11] = [
+        (&[], UsageFault::NoCommand),
+        (&["plan"], UsageFault::UnknownCommand),
+        (&["Bounds", "--input", "i"], UsageFault::UnknownCommand),
+        (
+            &["bounds", "--log", "l"],
+            UsageFault::UnknownOption { word: 1 },
+        ),
+        (&["bounds", "--input"], UsageFault::MissingValue { word: 1 }),
+        (
+            &["bounds", "--input", "i", "--input", "i"],
+            UsageFault::RepeatedOption { word: 3 },
+        ),
+        (
+            &["solve", "--capacity", "1152921504606846977", "--input", "i"],
+            UsageFault::BadValue { word: 1 },
+        ),
+        (
+            &[
+                "verify",
+                "--input",
+                "i",
+                "--capacity",
+                "000000000000000000001",
+            ],
+            UsageFault::BadValue { word: 3 },
+        ),
+        (&["bounds", "--input", ""], UsageFault::BadValue { word: 1 }),
+        (
+            &["refute", "--input", "i"],
+            UsageFault::MissingOption {
+                option: OptionName::Log,
+            },
+        ),
+        (
+            &["refute", "--log", "i", "--input", "i"],
+            UsageFault::SameName,
+        ),
+    ];
+    for (line, want) in cases {
+        let words = owned(rt.alloc(), line)?;
+        assert_eq!(rt; read_words(words.as_slice()).err(), Some(want), "{line:?}");
+    }
+    Ok(())
+}
+
+#[test]
+fn options_come_in_any_order_and_their_values_may_look_like_options(
+    rt: HostRuntime,
+) -> Result<(), Fail> {
+    let words = owned(
+        rt.alloc(),
+        &[
+            "solve",
+            "--log",
+            "--input",
+            "--output",
+            "o",
+            "--input",
+            "i",
+            "--capacity",
+            "012",
+        ],
+    )?;
+    let want = Command::Solve {
+        capacity: 12,
+        input: "i",
+        output: "o",
+        log: "--input",
+    };
+    assert_eq!(rt; read_words(words.as_slice()), Ok(want));
+    Ok(())
+}
+
+#[test]
+fn an_option_is_written_with_two_dashes(rt: HostRuntime) {
+    assert_eq!(rt; OptionName::Log.word(), "--log");
+}
