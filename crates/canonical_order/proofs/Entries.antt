@@ -17,7 +17,8 @@ pub entry_in : (l : Claim) (b : ℕ) → HasBuffer l b → IsIn (entry_of l b) l
 entry_in [] b h = absurd h
 entry_in (x ∷ xs) b h = go (x.0 == b) refl h (entry_in xs b)
   where
-    go : (t : Bool) → (x.0 == b) ≡ t → HasBuffer (x ∷ xs) b → (HasBuffer xs b → IsIn (entry_of xs b) xs) → IsIn (b, cond t x.1 (number_of xs b)) (x ∷ xs)
+    go : (t : Bool) → (x.0 == b) ≡ t → HasBuffer (x ∷ xs) b → (HasBuffer xs b → IsIn (entry_of xs b) xs) →
+        IsIn (b, cond t x.1 (number_of xs b)) (x ∷ xs)
     go true e h ih = inl (let k : x.0 ≡ b = (grind (arith, nat_tests)) in rw (← k) refl)
     go false e (inl h) ih = absurd (let k : x.0 ≢ b = (grind (arith, nat_tests)) in k (sym h))
     go false e (inr h) ih = inr (ih h)
@@ -30,8 +31,10 @@ pub bound_some : (l : Claim) (b bound : ℕ) → Some bound ≡ bound_of l b →
 bound_some [] b bound h = absurd cc
 bound_some (x ∷ xs) b bound h = go (x.0 == b) refl h (bound_some xs b bound)
   where
-    go : (t : Bool) → (x.0 == b) ≡ t → Some bound ≡ option_map (λ (e : Entry). e.1) (cond t (Some x) (find (λ e. e.0 == b) xs)) →
-        (Some bound ≡ bound_of xs b → HasBuffer xs b × (bound ≡ number_of xs b)) → HasBuffer (x ∷ xs) b × (bound ≡ cond t x.1 (number_of xs b))
+    go : (t : Bool) → (x.0 == b) ≡ t → Some bound ≡ option_map (λ (e : Entry). e.1)
+        (cond t (Some x) (find (λ e. e.0 == b) xs)) →
+        (Some bound ≡ bound_of xs b → HasBuffer xs b × (bound ≡ number_of xs b)) →
+        HasBuffer (x ∷ xs) b × (bound ≡ cond t x.1 (number_of xs b))
     go true e h ih = (inl (let k : x.0 ≡ b = (grind (arith, nat_tests)) in sym k), cc)
     go false e h ih = let r = ih h in (inr r.0, r.1)
 
@@ -39,14 +42,16 @@ pub bound_none : (l : Claim) (b : ℕ) → None ≡ bound_of l b → HasBuffer l
 bound_none [] b h i = i
 bound_none (x ∷ xs) b h i = go (x.0 == b) refl h i (bound_none xs b)
   where
-    go : (t : Bool) → (x.0 == b) ≡ t → None ≡ option_map (λ (e : Entry). e.1) (cond t (Some x) (find (λ e. e.0 == b) xs)) → HasBuffer (x ∷ xs) b →
+    go : (t : Bool) → (x.0 == b) ≡ t → None ≡ option_map (λ (e : Entry). e.1)
+        (cond t (Some x) (find (λ e. e.0 == b) xs)) → HasBuffer (x ∷ xs) b →
         (None ≡ bound_of xs b → HasBuffer xs b → ⊥) → ⊥
     go true e h i ih = absurd cc
     go false e h (inl i) ih = absurd (let k : x.0 ≢ b = (grind (arith, nat_tests)) in k (sym i))
     go false e h (inr i) ih = ih h i
 
 -- ---- claims of the code
-pub stands : (I : Instance) (l : Claim) → IsKept l → ((b : ℕ) → HasBuffer l b → b < length I) → All IsBuffer I → length I ≤ 512 → Stands I l
+pub stands : (I : Instance) (l : Claim) → IsKept l → ((b : ℕ) → HasBuffer l b → b < length I) → All IsBuffer I →
+    length I ≤ 512 → Stands I l
 stands I l k h bs n = record {
   claim = record { rises = k.rises; in_range = λ e i. h e.0 (in_buffers l e i) };
   bounds = k.bounds;
@@ -75,7 +80,8 @@ length-whole (b ∷ bs) = ap suc (length-whole bs)
 pub whole_is_kept : (bs : List ℕ) → Rises bs → length bs < 2 ^ 32 → IsKept (whole bs)
 whole_is_kept bs r n = record {
   rises = rw (buffers_of-whole bs) r;
-  bounds = λ e i. let q = from_map (λ (b : ℕ). let e : Entry = (b, 0) in e) bs e i in let k : e.1 ≡ 0 = ap (λ (e : Entry). e.1) q.2 in omega arith;
+  bounds = λ e i. let q = from_map (λ (b : ℕ). let e : Entry = (b, 0) in e) bs e i in let k : e.1 ≡ 0 =
+      ap (λ (e : Entry). e.1) q.2 in omega arith;
   count = rw (length-whole bs) n;
 }
 
@@ -95,23 +101,29 @@ some_from_has l b h = go (bound_of l b) refl
 
 -- the bound of a buffer of the claim
 pub bound_within : (l : Claim) (b bound : ℕ) → IsBoundedBy (2 ^ 61) l → Some bound ≡ bound_of l b → bound ≤ 2 ^ 61
-bound_within l b bound h e = let r = bound_some l b bound e in let k : number_of l b ≤ 2 ^ 61 = h (entry_of l b) (entry_in l b r.0) in let q : bound ≡ number_of l b = r.1 in omega arith
+bound_within l b bound h e = let r = bound_some l b bound e in let k : number_of l b ≤ 2 ^ 61 =
+    h (entry_of l b) (entry_in l b r.0) in let q : bound ≡ number_of l b = r.1 in omega arith
 
-pub up_of_bound : (I : Instance) (l : Claim) (b bound : ℕ) → Some bound ≡ bound_of l b → next_multiple_of bound (buffer I b).alignment ≡ up I (entry_of l b)
+pub up_of_bound : (I : Instance) (l : Claim) (b bound : ℕ) → Some bound ≡ bound_of l b →
+    next_multiple_of bound (buffer I b).alignment ≡ up I (entry_of l b)
 unfolding up
 up_of_bound I l b bound e = ap (λ n. next_multiple_of n (buffer I b).alignment) (bound_some l b bound e).1
 
 -- an up is below the bound with the alignment
-pub up_below : (I : Instance) (l : Claim) (b : ℕ) → Stands I l → HasBuffer l b → up I (entry_of l b) < number_of l b + (buffer I b).alignment
+pub up_below : (I : Instance) (l : Claim) (b : ℕ) → Stands I l → HasBuffer l b →
+    up I (entry_of l b) < number_of l b + (buffer I b).alignment
 unfolding up
-up_below I l b s h = next_is_below (number_of l b) (buffer I b).alignment (sound_buffer I b s.buffers (in_range I l b s h)).sound.1
+up_below I l b s h = next_is_below (number_of l b) (buffer I b).alignment
+    (sound_buffer I b s.buffers (in_range I l b s h)).sound.1
 
-pub up_limit : (I : Instance) (l : Claim) (b n : ℕ) → Stands I l → IsBoundedBy n l → HasBuffer l b → up I (entry_of l b) < n + 2 ^ 32
+pub up_limit : (I : Instance) (l : Claim) (b n : ℕ) → Stands I l → IsBoundedBy n l → HasBuffer l b →
+    up I (entry_of l b) < n + 2 ^ 32
 up_limit I l b n s k h =
     let lt : up I (entry_of l b) < number_of l b + (buffer I b).alignment = up_below I l b s h in
     let le : number_of l b ≤ n = k (entry_of l b) (entry_in l b h) in
     let m : (buffer I b).alignment ≤ 2 ^ 32 = (sound_buffer I b s.buffers (in_range I l b s h)).within_alignment in
     omega arith
 
-pub low_limit : (I : Instance) (l : Claim) (b n low : ℕ) → low ≡ up I (entry_of l b) → Stands I l → IsBoundedBy n l → HasBuffer l b → low < n + 2 ^ 32
+pub low_limit : (I : Instance) (l : Claim) (b n low : ℕ) → low ≡ up I (entry_of l b) → Stands I l → IsBoundedBy n l →
+    HasBuffer l b → low < n + 2 ^ 32
 low_limit I l b n low e s k h = rw e (up_limit I l b n s k h)

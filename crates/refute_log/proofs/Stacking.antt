@@ -1,6 +1,5 @@
 -- Numbers of stacked buffers.
-use Rattle.std.proofs.Common.{◌≡◌, ◌^◌, ℕ, zero, suc, ◌+◌, ◌*◌, ◌/◌, ◌%◌, ◌<◌, ◌≤◌, true, ◌==◌, length, arith}
-use Rattle.std.proofs.lemmas.Bool.Decides.{nat_tests}
+use Rattle.std.proofs.Common.{◌≡◌, ◌^◌, ℕ, zero, suc, ◌+◌, ◌*◌, ◌/◌, ◌%◌, ◌<◌, ◌≤◌, true, length, arith}
 use Rattle.std.specs.Int.{next_multiple_of}
 use Rattle.dsa_terms.specs.Buffers.{Buffer, Instance}
 use Rattle.dsa_terms.specs.Claims.{Claim}
@@ -8,6 +7,7 @@ use Rattle.canonical_order.specs.Stands.{Stands}
 use Rattle.canonical_order.proofs.CoverLemmas.{length_within}
 use Rattle.dsa_terms.proofs.Moments.{and_true}
 use Rattle.dsa_terms.proofs.Numbers.{multiple_is, next_is_below}
+use Rattle.canonical_order.proofs.NumberTests.{equal}
 use Rattle.dsa_model.specs.Buffer.{IsBuffer}
 use Rattle.refute_log.specs.Stacks.{stacks}
 
@@ -19,18 +19,16 @@ divisor_limit a g pos h = let e : g * (a / g) ≡ a = multiple_is a g h in go (a
     go zero e = absurd (omega arith)
     go (suc q) e = grind arith
 
-pub rounded_limit : (b : Buffer) (bound T H G r : ℕ) → IsBuffer b → 1 ≤ G → stacks b bound T H G ≡ true → r ≡ next_multiple_of b.size G → r ≤ 2 ^ 41
+pub rounded_limit : (b : Buffer) (bound T H G r : ℕ) → IsBuffer b → 1 ≤ G → stacks b bound T H G ≡ true →
+    r ≡ next_multiple_of b.size G → r ≤ 2 ^ 41
 rounded_limit b bound T H G r k pos h e =
-    let t = (and_true _ _ h).1 in
-    let q : G ≤ b.alignment = divisor_limit b.alignment G k.sound.1 (equal (b.alignment % G) 0 t) in
-    let m : next_multiple_of b.size G < b.size + G = next_is_below b.size G pos in
-    let s : b.size ≤ 2 ^ 40 = k.within_size in
-    let a : b.alignment ≤ 2 ^ 32 = k.within_alignment in
-    rw e (omega arith)
+    rw e (below_both (next_is_below b.size G pos) k.within_size k.within_alignment
+    (divisor_limit b.alignment G k.sound.1 (equal (b.alignment % G) 0 (and_true _ _ h).1)))
   where
-    equal : (a b : ℕ) → (a == b) ≡ true → a ≡ b
-    equal a b h = grind (arith, nat_tests)
+    below_both : {m s a g : ℕ} → m < s + g → s ≤ 2 ^ 40 → a ≤ 2 ^ 32 → g ≤ a → m ≤ 2 ^ 41
+    below_both m s a g = omega arith
 
 -- a claim of an instance has at most 512 buffers
 pub few : (I : Instance) (l items : Claim) → Stands I l → items ≡ l → length items ≤ 512
-few I l items s e = rw e (let k : length l ≤ length I = length_within l (length I) s.claim.rises s.claim.in_range in let m : length I ≤ 512 = s.count in omega arith)
+few I l items s e = rw e (let k : length l ≤ length I = length_within l (length I) s.claim.rises s.claim.in_range in
+    let m : length I ≤ 512 = s.count in omega arith)

@@ -1,0 +1,88 @@
+-- Worked claims: bounds, children, tall buffers, and what is covered.
+use Rattle.std.proofs.Common.{◌≡◌, ℕ, inl, inr, [], ◌∷◌, Some, None, refl, ap, lit≤, arith}
+use Rattle.dsa_terms.specs.Buffers.{Buffer, Instance, is_live, buffer, do_share, some_before}
+use Rattle.dsa_terms.specs.Claims.{Entry, IsIn, Covers, up, step, child}
+use Rattle.dsa_terms.specs.Search.{is_tall}
+use Rattle.canonical_order.specs.Claims.{bound_of, entries_below, entry_of, least_buffer}
+
+abbrev plain : ℕ → ℕ → ℕ → ℕ → Buffer
+plain lower upper size alignment = record {
+  lower = lower;
+  upper = upper;
+  size = size;
+  alignment = alignment;
+  gaps =
+      [];
+}
+
+-- two buffers of size 1 at even offsets and one of size 2, all live at moment 0
+abbrev three : Instance
+three = plain 0 1 1 2 ∷ plain 0 1 1 2 ∷ plain 0 1 2 1 ∷ []
+
+-- two buffers one after the other
+abbrev in_turn : Instance
+in_turn = plain 0 1 3 1 ∷ plain 1 2 5 1 ∷ []
+
+-- ---- bounds
+bound_there : bound_of ((0, 5) ∷ (2, 7) ∷ []) 2 ≡ Some 7
+bound_there = refl
+
+bound_not_there : bound_of ((0, 5) ∷ (2, 7) ∷ []) 1 ≡ None
+bound_not_there = refl
+
+entry_there : entry_of ((0, 5) ∷ (2, 7) ∷ []) 2 ≡ (2, 7)
+entry_there = refl
+
+below_two : entries_below 2 ((0, 5) ∷ (1, 6) ∷ (2, 7) ∷ []) ≡ (0, 5) ∷ (1, 6) ∷ []
+below_two = refl
+
+-- ---- children
+-- past the size of the first, which each other one shares a moment with
+child_sharing : child three ((0, 0) ∷ (1, 0) ∷ (2, 0) ∷ []) (2, 0) ≡ (0, 2) ∷ (1, 2) ∷ []
+unfolding child up step do_share some_before is_live buffer
+child_sharing = refl
+
+-- from the lows, 2 and 1, and not from the bounds, 1 and 1
+child_from_low : child three ((1, 1) ∷ (2, 1) ∷ []) (1, 1) ≡ (2, 3) ∷ []
+unfolding child up step do_share some_before is_live buffer
+child_from_low = refl
+
+-- a smaller number without a shared moment starts one above the first, a greater one where the first does
+child_of_smaller : child in_turn ((0, 0) ∷ (1, 4) ∷ []) (1, 4) ≡ (0, 5) ∷ []
+unfolding child up step do_share some_before is_live buffer
+child_of_smaller = refl
+
+child_of_greater : child in_turn ((0, 4) ∷ (1, 0) ∷ []) (0, 4) ≡ (1, 4) ∷ []
+unfolding child up step do_share some_before is_live buffer
+child_of_greater = refl
+
+-- a bound above that stays
+child_keeps_low : child in_turn ((0, 4) ∷ (1, 9) ∷ []) (0, 4) ≡ (1, 9) ∷ []
+unfolding child up step do_share some_before is_live buffer
+child_keeps_low = refl
+
+-- ---- tall buffers
+-- buffer 1 ends at 5 from its low, 4, though it would end at 4 from its bound, 3
+tall_by_low : least_buffer (is_tall three 4) ((0, 2) ∷ (1, 3) ∷ (2, 3) ∷ []) ≡ Some 1
+unfolding is_tall up buffer
+tall_by_low = refl
+
+-- to end at the capacity is not to be tall
+none_tall : least_buffer (is_tall three 5) ((0, 2) ∷ (1, 3) ∷ (2, 3) ∷ []) ≡ None
+unfolding is_tall up buffer
+none_tall = refl
+
+-- ---- covering
+-- the bound 4 is covered by the low of the bound 3, and fewer buffers cover more
+covered_by_low : Covers three ((1, 4) ∷ []) ((1, 3) ∷ (2, 0) ∷ [])
+unfolding up buffer
+covered_by_low e (inl q) = ((1, 3), inl refl, rw q refl, rw q (lit≤ {m = 4} {n = 4} tt))
+covered_by_low e (inr i) = absurd i
+
+-- but the claim of bound 3 does not have its two buffers among those of the other
+not_covered : Covers three ((1, 3) ∷ (2, 0) ∷ []) ((1, 4) ∷ []) → ⊥
+not_covered h = let k = h (2, 0) (inr (inl refl)) in apart k.0 k.1 k.2
+  where
+    apart : (f : Entry) → IsIn f ((1, 4) ∷ []) → f.0 ≡ 2 → ⊥
+    apart f (inl q) e = let k : f.0 ≡ 1 = ap (λ (f : Entry). f.0) q in absurd (omega arith)
+    apart f (inr i) e = absurd i

@@ -1,0 +1,26 @@
+//! Each call that takes memory, with memory.
+
+use crate::{Claim, View, child};
+use dsa_model::{Buffer, Instance};
+
+#[test]
+fn the_child_of_a_whole_claim_is_made(rt: HostRuntime) {
+    let alloc = rt.alloc();
+    let mut three = Instance::new(alloc);
+    for alignment in [2, 2, 1] {
+        let buffer = Buffer::new(alloc, 0, 1, 3 - alignment, alignment, &[]).expect(&rt, "memory");
+        if three.len() < 512 {
+            three.push(buffer).expect(&rt, "memory");
+        }
+    }
+    let whole = Claim::whole(alloc, &[0, 1, 2]).expect(&rt, "memory");
+    let claim = Claim::from_pairs(alloc, whole.pairs()).expect(&rt, "memory");
+    assert!(rt; whole.out_of_range(three.len()).is_none());
+    let view = View {
+        instance: &three,
+        claim: &claim,
+    };
+    let left = child(alloc, &view, 2).expect(&rt, "memory");
+    let copied = left.copy(alloc).expect(&rt, "memory");
+    assert_eq!(rt; copied.pairs(), [(0, 2), (1, 2)].as_slice());
+}

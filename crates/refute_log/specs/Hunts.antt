@@ -1,0 +1,23 @@
+-- The units that halving a bracket can take.
+use Rattle.std.specs.Prelude.{ℕ, zero, suc, ◌+◌, ◌-◌, ◌/◌, ◌<◌, ◌≤◌, ◌^◌, ◌⊎◌, cond, nat_le, min, Option}
+use Rattle.std.specs.declared.option.Option.TheVariants.{Some, None}
+
+-- a count rose from `before` to `after`: it is greater, or at the end of 64 bits
+abbrev pub Rose : ℕ → ℕ → Type 0
+Rose before after = (before < after) ⊎ (2 ^ 64 - 1 ≤ after)
+
+-- what is left after the turn at m: none raises the lower end, a height lowers the upper end, to m at least
+abbrev pub after_turn : (ℕ → ℕ → ℕ) → ℕ → ℕ → ℕ → Option ℕ → ℕ
+after_turn hunt_on a b m None = hunt_on (m + 1) b
+after_turn hunt_on a b m (Some t) = hunt_on a (min t m)
+
+-- the most units for a bracket a, b of that length at most
+abbrev pub hunt_within : ℕ → (ℕ → ℕ) → (ℕ → Option ℕ) → ℕ → ℕ → ℕ
+hunt_within zero most turn a b = 0
+hunt_within (suc k) most turn a b =
+    cond (nat_le b a) 0
+    (most ((a + b) / 2) + after_turn (hunt_within k most turn) a b ((a + b) / 2) (turn ((a + b) / 2)))
+
+-- the most units that halving the bracket a, b can take, where one capacity takes `most` and turns out as `turn` says
+unfoldable pub hunt : (ℕ → ℕ) → (ℕ → Option ℕ) → ℕ → ℕ → ℕ
+hunt most turn a b = hunt_within (b - a) most turn a b
