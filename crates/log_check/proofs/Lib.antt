@@ -1,0 +1,7 @@
+pub mod Options
+pub mod Narrowed
+pub mod Taken
+pub mod Texts
+pub mod AcceptedLogs
+pub mod Ends
+mod ExampleFacts

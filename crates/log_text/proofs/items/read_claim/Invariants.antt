@@ -1,0 +1,11 @@
+use Rattle.std.proofs.Common.{length}
+use Rattle.log_text.specs.RawTexts.{pair_text}
+use Rattle.log_text.specs.Reading.{capped_pair}
+use Rattle.log_text.proofs.ListLemmas.{IsReadSoFar}
+use Rattle.log_text.proofs.items.read_claim.Given as goal
+
+abbrev pub invariant-loop-cursor : goal.invariant-loop-cursor
+invariant-loop-cursor l = IsReadSoFar pair_text capped_pair l.fn.cursor l.pairs.items l.cursor
+
+abbrev pub decreases-loop-cursor : goal.decreases-loop-cursor
+decreases-loop-cursor l = length l.cursor

@@ -1,0 +1,111 @@
+//! Whether the numbers of a line are within their limits, and whether its lists rise.
+
+ghost use Rattle.std.specs.Prelude.{◌≡◌, ◌↔◌, ◌^◌, ◌≤◌, ◌<◌, All, IsTrue, map};
+ghost use Rattle.dsa_terms.specs.Claims.{Rises, buffers_of};
+ghost use Rattle.log_text.specs.Faults.{IsRowRising, IsRowWithin};
+ghost use Rattle.log_text.specs.RawLogs.{IsCiteWithin, IsPairWithin, number_of_cite};
+ghost use Rattle.log_text.specs.Rows.{row_value};
+
+use crate::rows::Read;
+use crate::{RawCite, RawLine};
+
+/// The greatest moment of a text.
+const MOMENT_LIMIT: u64 = (1 << 62) - 1;
+
+/// The greatest of each other number of a text.
+pub(crate) const NUMBER_LIMIT: u64 = 1 << 60;
+
+/// The number that a cite names.
+fn number_of(cite: RawCite) -> u64
+    ensures { result ≡ number_of_cite cite }
+{
+    match cite {
+        RawCite::Line(k) => k,
+        RawCite::Below(c) => c,
+        RawCite::Twin(c) => c,
+    }
+}
+
+/// Whether each buffer and each bound is within its limit.
+fn pairs_within(pairs: &[(u64, u64)]) -> bool
+    ensures { IsTrue result ↔ All IsPairWithin pairs.now }
+{
+    pairs
+        .iter()
+        .all(|pair| pair.0 <= NUMBER_LIMIT && pair.1 <= NUMBER_LIMIT)
+}
+
+/// Whether each buffer and each number that is cited is within its limit.
+fn cites_within(cites: &[(u64, RawCite)]) -> bool
+    ensures { IsTrue result ↔ All IsCiteWithin cites.now }
+{
+    cites.iter().all(|cite| cite.0 <= NUMBER_LIMIT && number_of(cite.1) <= NUMBER_LIMIT)
+}
+
+/// Whether each number of the row is within its limit.
+pub(crate) fn is_within(row: &Read) -> bool
+    ensures { IsTrue result ↔ IsRowWithin (row_value row.now) }
+{
+    match row {
+        Read::Line(
+            RawLine::Over {
+                moment,
+                height,
+                modulus,
+                claim,
+            },
+        ) => {
+            if *moment > MOMENT_LIMIT || *height > NUMBER_LIMIT || *modulus > NUMBER_LIMIT {
+                return false;
+            }
+            pairs_within(claim.as_slice())
+        }
+        Read::Line(RawLine::Cases { claim, cites }) => {
+            if !pairs_within(claim.as_slice()) {
+                return false;
+            }
+            cites_within(cites.as_slice())
+        }
+        Read::End(end) => *end <= NUMBER_LIMIT,
+    }
+}
+
+/// Whether each buffer is above the one before it.
+fn pairs_rise(pairs: &[(u64, u64)]) -> bool
+    ensures { IsTrue result ↔ Rises (buffers_of pairs.now) }
+{
+    for place in 1..pairs.len() {
+        if pairs[place].0 <= pairs[place - 1].0 {
+            return false;
+        }
+    }
+    true
+}
+
+/// Whether each buffer is above the one before it.
+fn cites_rise(cites: &[(u64, RawCite)]) -> bool
+    ensures { IsTrue result ↔ Rises (map (λ c. c.0) cites.now) }
+{
+    for place in 1..cites.len() {
+        if cites[place].0 <= cites[place - 1].0 {
+            return false;
+        }
+    }
+    true
+}
+
+/// Whether each list of the row rises.
+pub(crate) fn is_rising(row: &Read) -> bool
+    ensures { IsTrue result ↔ IsRowRising (row_value row.now) }
+{
+    match row {
+        Read::Line(RawLine::Over { claim, .. }) => pairs_rise(claim.as_slice()),
+        Read::Line(RawLine::Cases { claim, cites }) => {
+            if !pairs_rise(claim.as_slice()) {
+                return false;
+            }
+            cites_rise(cites.as_slice())
+        }
+        Read::End(_) => true,
+    }
+}

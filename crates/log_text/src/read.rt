@@ -1,0 +1,152 @@
+//! Reading a log.
+
+ghost use Rattle.std.specs.Prelude.{◌≡◌, ◌≢◌, ◌^◌, ◌≤◌, ◌<◌, [], IfNone, IfOk, IfSome, List, MatchResult, ℕ};
+ghost use Rattle.dsa_model.specs.Fails.{UnlessNoMemory};
+ghost use Rattle.log_text.specs.Faults.{HasHeader, IsFaultAt, IsFirstFault, IsTextOf};
+ghost use Rattle.log_text.specs.RawLogs.{IsRawKept};
+ghost use Rattle.log_text.specs.Rows.{HasNoHeader, IsGoodRead, IsHeaderRead};
+ghost use Rattle.log_text.specs.declared.raw.RawLog.{RawLog as Raw};
+ghost use Rattle.log_text.specs.declared.fault.TextFault.{TextFault as Fault};
+
+use crate::cursor::Cursor;
+use crate::limits::{NUMBER_LIMIT, is_rising, is_within};
+use crate::rows::{Read, read_row};
+use crate::{RawLines, RawLog, TextFault};
+use dsa_model::Fail;
+use std::alloc::Global;
+
+/// The numbers of a header, each where it fits 64 bits.
+#[derive(Clone, Copy)]
+struct Header {
+    version: Option<u64>,
+    count: Option<u64>,
+    capacity: Option<u64>,
+}
+
+/// Reads a header of any numbers.
+fn read_header(cursor: &mut Cursor) -> Option<Header>
+    ensures some { IfSome result
+        (λ h. IsHeaderRead cursor.old h.version h.count h.capacity cursor.new) }
+    ensures none { IfNone result (HasNoHeader cursor.old) }
+{
+    if !cursor.take(b"dsalog ") {
+        return None;
+    }
+    let version = cursor.field(b" ")?;
+    let count = cursor.field(b" ")?;
+    let capacity = cursor.field(b"\n")?;
+    Some(Header {
+        version,
+        count,
+        capacity,
+    })
+}
+
+/// The count of buffers and the capacity of a header of version 1.
+#[derive(Clone, Copy)]
+struct Sizes {
+    count: u64,
+    capacity: u64,
+}
+
+/// The number, where it is within its limit.
+fn within_limit(number: Option<u64>) -> Option<u64>
+    ensures some { IfSome result (λ n. (number ≡ Some n) × (n ≤ 2 ^ 60)) }
+    ensures none { IfNone result ((n : ℕ) → number ≡ Some n → 2 ^ 60 < n) }
+{
+    let n = number?;
+    if n <= NUMBER_LIMIT { Some(n) } else { None }
+}
+
+/// Reads the header of a log.
+fn read_sizes(cursor: &mut Cursor) -> Result<Sizes, TextFault>
+    ensures { MatchResult result
+        (λ s. HasHeader cursor.old 1 s.count s.capacity cursor.new)
+        (λ fault. IsFirstFault cursor.old fault) }
+{
+    let Some(header) = read_header(cursor) else {
+        return Err(TextFault::NotLog);
+    };
+    let Some(version) = header.version else {
+        return Err(TextFault::NotLog);
+    };
+    let Some(count) = within_limit(header.count) else {
+        return Err(TextFault::NotLog);
+    };
+    let Some(capacity) = within_limit(header.capacity) else {
+        return Err(TextFault::NotLog);
+    };
+    if version != 1 {
+        return Err(TextFault::BadVersion { version });
+    }
+    Ok(Sizes { count, capacity })
+}
+
+/// Reads the row of that number.
+fn read_good_row(alloc: Global, cursor: &mut Cursor, line: u64) -> Result<Read, Fail<TextFault>>
+    requires { cursor.old ≢ [] }
+    ensures { UnlessNoMemory result
+        (λ read. IsGoodRead cursor.old read cursor.new)
+        (λ fault. IsFaultAt cursor.old line fault) }
+{
+    let row = match read_row(alloc, cursor) {
+        Ok(row) => row,
+        Err(Fail::NoMemory) => return Err(Fail::NoMemory),
+        Err(Fail::Fault(_)) => return Err(Fail::Fault(TextFault::BadLine { line })),
+    };
+    if !is_within(&row) {
+        return Err(Fail::Fault(TextFault::NumberTooLarge { line }));
+    }
+    if !is_rising(&row) {
+        return Err(Fail::Fault(TextFault::NotRising { line }));
+    }
+    Ok(row)
+}
+
+/// Reads the text of a log, or finds its first fault.
+fn read_text(alloc: Global, bytes: &[u8]) -> Result<RawLog, Fail<TextFault>>
+    ensures { UnlessNoMemory result
+        (λ raw. IsTextOf bytes.now raw)
+        (λ fault. IsFirstFault bytes.now fault) }
+{
+    let mut cursor = Cursor::new(bytes);
+    let sizes = match read_sizes(&mut cursor) {
+        Ok(sizes) => sizes,
+        Err(fault) => return Err(Fail::Fault(fault)),
+    };
+    let mut lines = Vec::new(alloc);
+    while !cursor.is_done() {
+        match read_good_row(alloc, &mut cursor, lines.len() as u64)? {
+            Read::Line(line) => lines.push(line)?,
+            Read::End(end) => {
+                if !cursor.is_done() {
+                    return Err(Fail::Fault(TextFault::AfterEnd));
+                }
+                return Ok(RawLog {
+                    count: sizes.count,
+                    capacity: sizes.capacity,
+                    lines: RawLines::from_vec(lines),
+                    end,
+                });
+            }
+        }
+    }
+    Err(Fail::Fault(TextFault::NoEnd))
+}
+
+/// Reads the text of a log. The answer is the one log, by its numbers, of which the bytes are the
+/// text; else the first fault, which is there exactly where the bytes are no log's text. In a log
+/// that was read no claim is empty, the buffers of claims and of cites rise, a moment is at most
+/// 2^62 - 1 and each other number at most 2^60. One pass over the bytes.
+pub fn read_log(alloc: Global, bytes: &[u8]) -> Result<RawLog, Fail<TextFault>>
+    ensures sound { UnlessNoMemory result
+        (λ raw. IsTextOf bytes.now raw)
+        (λ fault. IsFirstFault bytes.now fault) }
+    ensures complete { (raw : Raw) → IsTextOf bytes.now raw →
+        UnlessNoMemory result (λ read. read ≡ raw) (λ _. ⊥) }
+    ensures cause { (fault : Fault) → IsFirstFault bytes.now fault →
+        UnlessNoMemory result (λ _. ⊥) (λ found. found ≡ fault) }
+    ensures kept { IfOk result IsRawKept }
+{
+    read_text(alloc, bytes)
+}
