@@ -1,0 +1,217 @@
+-- Lists: membership, filters over numbers, and lists that rise.
+use Rattle.std.proofs.Common.{◌≡◌, ◌≢◌, ℕ, zero, suc, ◌+◌, ◌<◌, ◌≤◌, ◌⊎◌, inl, inr, Bool, true, false, cond, List, [], ◌∷◌, ◌++◌, length, map, filter, take, slice_index_or, refl, sym, ap, ◌∙◌, subst, arith, append-nil}
+use Rattle.std.specs.List.{All, Contains, flat_map, range_with_len}
+use Rattle.dsa_terms.specs.Claims.{IsIn, Rises}
+use Rattle.dsa_terms.specs.Parts.{numbers}
+use Rattle.dsa_terms.proofs.Lists.{from_append, from_filter, into_filter, left_append, right_append}
+
+-- ---- numbers
+from_range : (n a x : ℕ) → IsIn x (range_with_len a n) → (a ≤ x) × (x < a + n)
+from_range zero a x i = absurd i
+from_range (suc n) a x (inl q) = (omega arith, omega arith)
+from_range (suc n) a x (inr q) = let r = from_range n (a + 1) x q in
+    (let k = r.0 in omega arith, let k = r.1 in omega arith)
+
+into_range : (n a x : ℕ) → a ≤ x → x < a + n → IsIn x (range_with_len a n)
+into_range zero a x le lt = absurd (omega arith)
+into_range (suc n) a x le lt = go (into_range n (a + 1) x) (cases a x le)
+  where
+    cases : (a x : ℕ) → a ≤ x → (x ≡ a) ⊎ (a + 1 ≤ x)
+    cases a x h = grind arith
+
+    go : (a + 1 ≤ x → x < a + 1 + n → IsIn x (range_with_len (a + 1) n)) → (x ≡ a) ⊎ (a + 1 ≤ x) →
+        IsIn x (range_with_len a (suc n))
+    go ih (inl q) = inl q
+    go ih (inr q) = inr (ih q (omega arith))
+
+rises-range : (n a : ℕ) → Rises (range_with_len a n)
+rises-range zero a = tt
+rises-range (suc n) a = ((λ y i. (let k = (from_range n (a + 1) y i).0 in omega arith)), rises-range n (a + 1))
+
+pub below : (n x : ℕ) → IsIn x (numbers n) → x < n
+below n x i = let k = (from_range n 0 x i).1 in omega arith
+
+pub among : (n x : ℕ) → x < n → IsIn x (numbers n)
+among n x lt = into_range n 0 x (omega arith) (omega arith)
+
+pub rises-filter : (p : ℕ → Bool) (xs : List ℕ) → Rises xs → Rises (filter p xs)
+rises-filter p [] r = tt
+rises-filter p (x ∷ xs) r = go (rises-filter p xs r.1) (p x)
+  where
+    go : Rises (filter p xs) → (b : Bool) → Rises (cond b (x ∷ filter p xs) (filter p xs))
+    go ih true = ((λ y i. r.0 y (from_filter p xs y i).0), ih)
+    go ih false = ih
+
+pub rises-numbers : (p : ℕ → Bool) (n : ℕ) → Rises (filter p (numbers n))
+rises-numbers p n = rises-filter p (numbers n) (rises-range n 0)
+
+-- ---- places
+pub any_default : {X : Type 0} (xs : List X) (k : ℕ) (d e : X) → k < length xs →
+    slice_index_or xs k d ≡ slice_index_or xs k e
+any_default [] k d e lt = absurd (omega arith)
+any_default (x ∷ xs) zero d e lt = refl
+any_default (x ∷ xs) (suc k) d e lt = any_default xs k d e (omega arith)
+
+pub place_of : {X : Type 0} (xs : List X) (x d : X) → IsIn x xs →
+    (k : ℕ) × (k < length xs) × (slice_index_or xs k d ≡ x)
+place_of [] x d i = absurd i
+place_of (y ∷ ys) x d (inl e) = (0, omega arith, sym e)
+place_of (y ∷ ys) x d (inr i) = let r = place_of ys x d i in (suc r.0, (let k = r.1 in omega arith), r.2)
+
+pub in_at : {X : Type 0} (xs : List X) (k : ℕ) (d : X) → k < length xs → IsIn (slice_index_or xs k d) xs
+in_at [] k d lt = absurd (omega arith)
+in_at (y ∷ ys) zero d lt = inl refl
+in_at (y ∷ ys) (suc k) d lt = inr (in_at ys k d (omega arith))
+
+pub all_from_in : {X : Type 0} (P : X → Type 0) (xs : List X) → ((x : X) → IsIn x xs → P x) → All P xs
+all_from_in P [] h k d lt = absurd (omega arith)
+all_from_in P (x ∷ xs) h zero d lt = h x (inl refl)
+all_from_in P (x ∷ xs) h (suc k) d lt = all_from_in P xs (λ y i. h y (inr i)) k d (omega arith)
+
+pub in_from_all : {X : Type 0} (P : X → Type 0) (xs : List X) → All P xs → (x : X) → IsIn x xs → P x
+in_from_all P [] h x i = absurd i
+in_from_all P (y ∷ ys) h x (inl e) = subst P (sym e) (h 0 y (omega arith))
+in_from_all P (y ∷ ys) h x (inr i) = in_from_all P ys (λ k d lt. h (suc k) d (omega arith)) x i
+
+pub to_contains : {X : Type 0} (xs : List X) (x : X) → IsIn x xs → Contains xs x
+to_contains xs x i = let r = place_of xs x x i in (r.0, r.1, r.2)
+
+pub from_contains : {X : Type 0} (xs : List X) (x : X) → Contains xs x → IsIn x xs
+from_contains {X} xs x h = subst (λ (y : X). IsIn y xs) h.2 (in_at xs h.0 x h.1)
+
+-- ---- filters
+filter_more_from : (p : ℕ → Bool) (n a j : ℕ) → a + n ≡ j →
+    filter p (range_with_len a (suc n)) ≡ filter p (range_with_len a n) ++ cond (p j) (j ∷ []) []
+filter_more_from p zero a j e = let k : a ≡ j = omega arith in rw k refl
+filter_more_from p (suc n) a j e = go (filter_more_from p n (a + 1) j (omega arith)) (p a)
+  where
+    go : filter p (range_with_len (a + 1) (suc n)) ≡ filter p (range_with_len (a + 1) n) ++ cond (p j) (j ∷ []) [] →
+        (b : Bool) →
+        cond b (a ∷ filter p (range_with_len (a + 1) (suc n))) (filter p (range_with_len (a + 1) (suc n)))
+        ≡ cond b (a ∷ filter p (range_with_len (a + 1) n)) (filter p (range_with_len (a + 1) n)) ++ cond (p j) (j ∷ [])
+        []
+    go ih true = ap (λ ys. a ∷ ys) ih
+    go ih false = ih
+
+pub filter_more : (p : ℕ → Bool) (n : ℕ) → filter p (numbers (n + 1)) ≡ filter p (numbers n) ++ cond (p n) (n ∷ []) []
+filter_more p n = let e : n + 1 ≡ suc n = omega arith in rw e (filter_more_from p n 0 n (omega arith))
+
+pub taken : (p : ℕ → Bool) (b : ℕ) (xs ys : List ℕ) → xs ≡ filter p (numbers b) → p b ≡ true → ys ≡ xs ++ b ∷ [] →
+    ys ≡ filter p (numbers (b + 1))
+taken p b xs ys e t h = h ∙ (ap (λ zs. zs ++ b ∷ []) e ∙ sym
+    (filter_more p b ∙ ap (λ t. filter p (numbers b) ++ cond t (b ∷ []) []) t))
+
+pub left : (p : ℕ → Bool) (b : ℕ) (xs ys : List ℕ) → xs ≡ filter p (numbers b) → p b ≡ false → ys ≡ xs →
+    ys ≡ filter p (numbers (b + 1))
+left p b xs ys e t h = h ∙ (e ∙ sym (filter_more p b ∙
+    (ap (λ t. filter p (numbers b) ++ cond t (b ∷ []) []) t ∙ append-nil (filter p (numbers b)))))
+
+pub filter_same : {X : Type 0} (p q : X → Bool) (xs : List X) → ((x : X) → IsIn x xs → p x ≡ q x) →
+    filter p xs ≡ filter q xs
+filter_same p q [] h = refl
+filter_same {X} p q (x ∷ xs) h = go (filter_same p q xs (λ y i. h y (inr i))) (p x) (q x) (h x (inl refl))
+  where
+    go : filter p xs ≡ filter q xs → (a b : Bool) → a ≡ b →
+        cond a (x ∷ filter p xs) (filter p xs) ≡ cond b (x ∷ filter q xs) (filter q xs)
+    go ih true true e = ap (λ ys. x ∷ ys) ih
+    go ih true false e = absurd cc
+    go ih false true e = absurd cc
+    go ih false false e = ih
+
+-- a number that tells two tests apart tells their lists apart
+pub filter_differs : (p q : ℕ → Bool) (xs : List ℕ) (x : ℕ) → IsIn x xs → p x ≢ q x → filter p xs ≢ filter q xs
+filter_differs p q xs x i ne e = go (p x) (q x) refl refl
+  where
+    go : (a b : Bool) → p x ≡ a → q x ≡ b → ⊥
+    go true true f g = ne (f ∙ sym g)
+    go false false f g = ne (f ∙ sym g)
+    go true false f g =
+        let k : IsIn x (filter q xs) = rw e at (into_filter p xs x i f) in
+        let m = (from_filter q xs x k).1 in absurd cc
+    go false true f g =
+        let k : IsIn x (filter p xs) = rw (← e) at (into_filter q xs x i g) in
+        let m = (from_filter p xs x k).1 in absurd cc
+
+-- ---- lists that rise
+pub rises-push : (xs : List ℕ) (y : ℕ) → Rises xs → ((x : ℕ) → IsIn x xs → x < y) → Rises (xs ++ y ∷ [])
+rises-push [] y r h = ((λ z i. absurd i), tt)
+rises-push (x ∷ xs) y r h = (first, rises-push xs y r.1 (λ z i. h z (inr i)))
+  where
+    first : (z : ℕ) → IsIn z (xs ++ y ∷ []) → x < z
+    first z i = elim (from_append xs (y ∷ []) z i) [
+      | inl j ↦ r.0 z j
+      | inr j ↦ elim j [ inl e ↦ (let k = h x (inl refl) in omega arith) | inr k ↦ absurd k ]
+    ]
+
+pub rises_at : (xs : List ℕ) (j k d : ℕ) → Rises xs → j < k → k < length xs →
+    slice_index_or xs j d < slice_index_or xs k d
+rises_at [] j k d r lt kn = absurd (omega arith)
+rises_at (x ∷ xs) zero zero d r lt kn = absurd (omega arith)
+rises_at (x ∷ xs) zero (suc k) d r lt kn = r.0 (slice_index_or xs k d) (in_at xs k d (omega arith))
+rises_at (x ∷ xs) (suc j) zero d r lt kn = absurd (omega arith)
+rises_at (x ∷ xs) (suc j) (suc k) d r lt kn = rises_at xs j k d r.1 (omega arith) (omega arith)
+
+-- ---- lists put together
+pub into_flat : {X Y : Type 0} (f : X → List Y) (xs : List X) (x : X) (y : Y) → IsIn x xs → IsIn y (f x) →
+    IsIn y (flat_map f xs)
+into_flat f [] x y i j = absurd i
+into_flat {X} {Y} f (z ∷ zs) x y (inl e) j = left_append (f z) (flat_map f zs) y (subst (λ (x : X). IsIn y (f x)) e j)
+into_flat f (z ∷ zs) x y (inr i) j = right_append (f z) (flat_map f zs) y (into_flat f zs x y i j)
+
+pub from_flat : {X Y : Type 0} (f : X → List Y) (xs : List X) (y : Y) → IsIn y (flat_map f xs) →
+    (x : X) × IsIn x xs × IsIn y (f x)
+from_flat f [] y i = absurd i
+from_flat f (z ∷ zs) y i = elim (from_append (f z) (flat_map f zs) y i) [
+  | inl j ↦ (z, inl refl, j)
+  | inr j ↦ let r = from_flat f zs y j in (r.0, inr r.1, r.2)
+]
+
+-- ---- choices
+pub same_or_not : (xs ys : List ℕ) → (xs ≡ ys) ⊎ (xs ≢ ys)
+same_or_not [] [] = inl refl
+same_or_not [] (y ∷ ys) = inr (λ e. absurd cc)
+same_or_not (x ∷ xs) [] = inr (λ e. absurd cc)
+same_or_not (x ∷ xs) (y ∷ ys) = go (equal_or_not x y) (same_or_not xs ys)
+  where
+    equal_or_not : (m n : ℕ) → (m ≡ n) ⊎ (m ≢ n)
+    equal_or_not m n = grind arith
+
+    both : x ≡ y → xs ≡ ys → x ∷ xs ≡ y ∷ ys
+    both e f = cc
+
+    heads : x ∷ xs ≡ y ∷ ys → x ≡ y
+    heads e = cc
+
+    tails : x ∷ xs ≡ y ∷ ys → xs ≡ ys
+    tails e = cc
+
+    go : (x ≡ y) ⊎ (x ≢ y) → (xs ≡ ys) ⊎ (xs ≢ ys) → (x ∷ xs ≡ y ∷ ys) ⊎ (x ∷ xs ≢ y ∷ ys)
+    go (inl e) (inl f) = inl (both e f)
+    go (inl e) (inr n) = inr (λ h. n (tails h))
+    go (inr n) q = inr (λ h. n (heads h))
+
+pub in_or_not : (x : ℕ) (xs : List ℕ) → IsIn x xs ⊎ (IsIn x xs → ⊥)
+in_or_not x [] = inr (λ i. i)
+in_or_not x (y ∷ ys) = go (equal_or_not x y) (in_or_not x ys)
+  where
+    equal_or_not : (m n : ℕ) → (m ≡ n) ⊎ (m ≢ n)
+    equal_or_not m n = grind arith
+
+    neither : x ≢ y → (IsIn x ys → ⊥) → IsIn x (y ∷ ys) → ⊥
+    neither m n (inl e) = m e
+    neither m n (inr i) = n i
+
+    go : (x ≡ y) ⊎ (x ≢ y) → IsIn x ys ⊎ (IsIn x ys → ⊥) → IsIn x (y ∷ ys) ⊎ (IsIn x (y ∷ ys) → ⊥)
+    go (inl e) q = inl (inl e)
+    go (inr n) (inl i) = inl (inr i)
+    go (inr m) (inr n) = inr (neither m n)
+
+pub map-append : {X Y : Type 0} (f : X → Y) (xs ys : List X) → map f (xs ++ ys) ≡ map f xs ++ map f ys
+map-append f [] ys = refl
+map-append f (x ∷ xs) ys = ap (λ zs. f x ∷ zs) (map-append f xs ys)
+
+-- a slice that was lent and given back
+pub handed : {X : Type 0} (xs ys : List X) (n : ℕ) → length xs ≡ n → take n (xs ++ ys) ≡ xs
+handed [] ys n e = rw (← e) refl
+handed (x ∷ xs) ys zero e = absurd (omega arith)
+handed (x ∷ xs) ys (suc n) e = ap (λ zs. x ∷ zs) (handed xs ys n (omega arith))

@@ -1,0 +1,284 @@
+-- Going from one edge moment to the next.
+use Rattle.std.proofs.Common.{◌≡◌, ◌≢◌, ℕ, suc, ◌<◌, ◌≤◌, ◌⊎◌, inl, inr, Bool, true, false, List, [], ◌∷◌, ◌++◌, length, filter, replicate, slice_index_or, refl, sym, ap, ◌∙◌, arith, length-append}
+use Rattle.std.proofs.lemmas.List.{get_or-replicate}
+use Rattle.dsa_terms.specs.Buffers.{Instance, buffer, is_live}
+use Rattle.dsa_terms.specs.Claims.{IsIn}
+use Rattle.dsa_terms.specs.Parts.{numbers}
+use Rattle.dsa_terms.proofs.Lists.{from_append, nil_or_not, left_append, right_append}
+use Rattle.lifetime.specs.Edges.{AreEdges, AreRunsBefore, IsPassed, WereLiveFlags, edge_at, edge_moments}
+use Rattle.lifetime.specs.Flags.{flagged}
+use Rattle.lifetime.specs.Runs.{BeginsRun, live_before, starts_of, was_live}
+use Rattle.lifetime.specs.SectionList.{Section, live_at}
+use Rattle.lifetime.proofs.Flagging.{flag_at, flagged_live, flags_from, flags_length}
+use Rattle.lifetime.proofs.Lists.{below, filter_same, map-append, place_of, rises-push}
+use Rattle.lifetime.proofs.Stays.{not_before, not_live_before_lower, quiet, was_live_after}
+
+-- what is known before the edges from the next on
+pub record IsSweeping (I : Instance) (edges : List (ℕ × ℕ)) (next : ℕ) (flags : List Bool) (sections : List Section) :
+    Type 0 where
+  pub within : next ≤ length edges
+  pub fresh : (k : ℕ) → k < next → next < length edges → (edge_at edges k).0 < (edge_at edges next).0
+  pub were : next < length edges → WereLiveFlags I (edge_at edges next).0 flags
+  pub count : length flags ≡ length I
+  pub runs : AreRunsBefore I edges next sections
+  pub limit : length sections ≤ next
+
+cases : (m n : ℕ) → (m < n) ⊎ (n ≤ m)
+cases m n = grind arith
+
+which : (m n : ℕ) → (m < n) ⊎ ((m ≡ n) ⊎ (n < m))
+which m n = grind arith
+
+-- the edge of a buffer stands somewhere
+edge_place : (I : Instance) (edges : List (ℕ × ℕ)) (b t : ℕ) → AreEdges I edges → b < length I →
+    IsIn t (edge_moments (buffer I b)) →
+    (k : ℕ) × (k < length edges) × ((edge_at edges k).0 ≡ t)
+edge_place I edges b t a bn i =
+    let r = place_of edges (t, b) (0, 0) (a.complete b t bn i) in
+    (r.0, r.1, ap (λ (e : ℕ × ℕ). e.0) r.2)
+
+-- before all edges nothing is live
+nothing_before : (I : Instance) (edges : List (ℕ × ℕ)) (t : ℕ) → AreEdges I edges →
+    ((k : ℕ) → k < length edges → t < (edge_at edges k).0) → live_at I t ≡ []
+unfolding live_at
+nothing_before I edges t a h = none (numbers (length I)) (λ b i. i)
+  where
+    dead : (b : ℕ) → b < length I → is_live (buffer I b) t ≡ false
+    dead b bn =
+        let r = edge_place I edges b (buffer I b).lower a bn (inl refl) in
+        let k = h r.0 r.1 in let e = r.2 in
+        not_before (buffer I b) t (omega arith)
+
+    none : (bs : List ℕ) → ((b : ℕ) → IsIn b bs → IsIn b (numbers (length I))) →
+        filter (λ b. is_live (buffer I b) t) bs ≡ []
+    none [] h = refl
+    none (b ∷ bs) h = rw (dead b (below (length I) b (h b (inl refl)))) (none bs (λ c i. h c (inr i)))
+
+-- where no edge is, what is live stays
+stays_at : (I : Instance) (edges : List (ℕ × ℕ)) (t : ℕ) → AreEdges I edges →
+    ((k : ℕ) → k < length edges → (edge_at edges k).0 ≢ t) → live_at I t ≡ live_before I t
+unfolding live_at live_before
+stays_at I edges t a h = filter_same (λ b. is_live (buffer I b) t) (λ b. was_live (buffer I b) t) (numbers (length I))
+    (λ b i. let bn = below (length I) b i in quiet (buffer I b) t
+    (λ j. let r = edge_place I edges b t a bn j in h r.0 r.1 r.2))
+
+pub sweeping_none : (I : Instance) (edges : List (ℕ × ℕ)) (flags : List Bool) → AreEdges I edges →
+    length flags ≡ length I → ((b : ℕ) → b < length I → slice_index_or flags b false ≡ false) →
+    IsSweeping I edges 0 flags []
+sweeping_none I edges flags a e h = record {
+  within = omega arith;
+  fresh = λ k lt. absurd (omega arith);
+  were = λ lt. flags_from (λ b. was_live (buffer I b) (edge_at edges 0).0) (length I) flags e
+      (λ b bn. h b bn ∙ sym (dead b bn));
+  count = e;
+  runs = record {
+    each = λ x i. absurd i;
+    rise = tt;
+    runs = λ t. (
+      (λ i. absurd i),
+      λ q. absurd (q.0.something
+          (nothing_before I edges t a (λ k lt. q.1 k (omega arith) lt))),
+    );
+  };
+  limit = omega arith;
+}
+  where
+    dead : (b : ℕ) → b < length I → was_live (buffer I b) (edge_at edges 0).0 ≡ false
+    dead b bn =
+        let r = edge_place I edges b (buffer I b).lower a bn (inl refl) in
+        let k = a.sorted 0 r.0 (0, 0) (omega arith) r.1 in let z = r.2 in
+        not_live_before_lower (buffer I b) (edge_at edges 0).0 (omega arith)
+
+-- ---- one moment on
+pub record MovesOn (I : Instance) (edges : List (ℕ × ℕ)) (first next : ℕ) (flags now : List Bool)
+    (sections more : List Section) (changed : Bool) : Type 0 where
+  pub edges_of_it : AreEdges I edges
+  pub before : IsSweeping I edges first flags sections
+  pub in_edges : first < length edges
+  pub passed : IsPassed I edges first next changed now
+
+module _ (I : Instance) (edges : List (ℕ × ℕ)) (first next : ℕ) (flags now : List Bool) (sections more : List Section)
+    (changed : Bool) (m : MovesOn I edges first next flags now sections more changed) where
+  moment : ℕ
+  moment = (edge_at edges first).0
+
+  -- where a run begins before the next edges it begins before this moment or at it
+  none_between : (t : ℕ) → (edge_at edges first).0 < t →
+      ((k : ℕ) → next ≤ k → k < length edges → t < (edge_at edges k).0) → live_at I t ≡ live_before I t
+  none_between t low high = stays_at I edges t m.edges_of_it (λ k lt. elim (cases k next) [
+    | inl q ↦ (λ e. let z = m.passed.after.passed k q in absurd (omega arith))
+    | inr q ↦ (λ e. let z = high k q lt in absurd (omega arith))
+  ])
+
+  before_first : (t : ℕ) → t < (edge_at edges first).0 → (k : ℕ) → first ≤ k → k < length edges →
+      t < (edge_at edges k).0
+  before_first t lt k le kn = let z = m.edges_of_it.sorted first k (0, 0) le kn in omega arith
+
+  before_next : (t : ℕ) → t ≤ (edge_at edges first).0 → (k : ℕ) → next ≤ k → k < length edges → t < (edge_at edges k).0
+  before_next t le k low kn = let z = m.passed.after.later k low kn in omega arith
+
+  first_before : (t : ℕ) → ((k : ℕ) → first ≤ k → k < length edges → t < (edge_at edges k).0) →
+      t < (edge_at edges first).0
+  first_before t h = h first (omega arith) m.in_edges
+
+  pub runs_same : (live_at I (edge_at edges first).0 ≡ live_before I (edge_at edges first).0) ⊎
+      (live_at I (edge_at edges first).0 ≡ []) → AreRunsBefore I edges next sections
+  runs_same quiet = record {
+    each = m.before.runs.each;
+    rise = m.before.runs.rise;
+    runs = λ t. (forth t, back t);
+  }
+    where
+      forth : (t : ℕ) → IsIn t (starts_of sections) → BeginsRun I t ×
+          ((k : ℕ) → next ≤ k → k < length edges → t < (edge_at edges k).0)
+      forth t i = let q = (m.before.runs.runs t).0 i in (q.0, before_next t (let z = first_before t q.1 in omega arith))
+
+      back : (t : ℕ) → BeginsRun I t × ((k : ℕ) → next ≤ k → k < length edges → t < (edge_at edges k).0) →
+          IsIn t (starts_of sections)
+      back t q = elim (which t (edge_at edges first).0) [
+        | inl less ↦ (m.before.runs.runs t).1 (q.0, before_first t less)
+        | inr r ↦ elim r [
+          | inl same ↦ elim quiet [
+            | inl e ↦ absurd (q.0.changed (rw same e))
+            | inr e ↦ absurd (q.0.something (rw same e))
+          ]
+          | inr more ↦ absurd (q.0.changed (none_between t more q.1))
+        ]
+      ]
+
+  pub runs_more : live_at I (edge_at edges first).0 ≢ live_before I (edge_at edges first).0 →
+      live_at I (edge_at edges first).0 ≢ [] →
+      more ≡ sections ++ (record { start = (edge_at edges first).0; members = live_at I (edge_at edges first).0 }) ∷ []
+      → AreRunsBefore I edges next more
+  runs_more changes something e = rw e (record {
+    each = each;
+    rise = rw (map-append (λ (x : Section). x.start) sections (added ∷ []))
+        (rises-push (starts_of sections) (edge_at edges first).0 m.before.runs.rise
+        (λ t i. first_before t ((m.before.runs.runs t).0 i).1));
+    runs = λ t. (forth t, back t);
+  })
+    where
+      added : Section
+      added = record { start = (edge_at edges first).0; members = live_at I (edge_at edges first).0 }
+
+      each : (x : Section) → IsIn x (sections ++ added ∷ []) → x.members ≡ live_at I x.start
+      each x i = elim (from_append sections (added ∷ []) x i) [
+        | inl j ↦ m.before.runs.each x j
+        | inr j ↦ elim j [ inl f ↦ rw f refl | inr k ↦ absurd k ]
+      ]
+
+      begins : BeginsRun I (edge_at edges first).0
+      begins = record { something = something; changed = changes }
+
+      forth : (t : ℕ) → IsIn t (starts_of (sections ++ added ∷ [])) →
+          BeginsRun I t × ((k : ℕ) → next ≤ k → k < length edges → t < (edge_at edges k).0)
+      forth t i = elim (from_append (starts_of sections) ((edge_at edges first).0 ∷ []) t
+          (rw (map-append (λ (x : Section). x.start) sections (added ∷ [])) at i)) [
+            | inl j ↦ let q = (m.before.runs.runs t).0 j in (q.0, before_next t (let z = first_before t q.1 in omega arith))
+            | inr j ↦ elim j [ inl f ↦ (rw f begins, before_next t (omega arith)) | inr k ↦ absurd k ]
+          ]
+
+      put : (t : ℕ) → IsIn t (starts_of sections) ⊎ (t ≡ (edge_at edges first).0) →
+          IsIn t (starts_of (sections ++ added ∷ []))
+      put t (inl i) = rw (map-append (λ (x : Section). x.start) sections (added ∷ []))
+          (left_append (starts_of sections) ((edge_at edges first).0 ∷ []) t i)
+      put t (inr f) = rw (map-append (λ (x : Section). x.start) sections (added ∷ []))
+          (right_append (starts_of sections) ((edge_at edges first).0 ∷ []) t (inl f))
+
+      back : (t : ℕ) → BeginsRun I t × ((k : ℕ) → next ≤ k → k < length edges → t < (edge_at edges k).0) →
+          IsIn t (starts_of (sections ++ added ∷ []))
+      back t q = elim (which t (edge_at edges first).0) [
+        | inl less ↦ put t (inl ((m.before.runs.runs t).1 (q.0, before_first t less)))
+        | inr r ↦ elim r [ inl same ↦ put t (inr same) | inr later ↦ absurd (q.0.changed (none_between t later q.1)) ]
+      ]
+
+  -- the flags tell at the next edges what was live before them
+  pub were_next : next < length edges → WereLiveFlags I (edge_at edges next).0 now
+  were_next lt = flags_from (λ b. was_live (buffer I b) (edge_at edges next).0) (length I) now
+      (flags_length (λ b. is_live (buffer I b) (edge_at edges first).0) (length I) now m.passed.are)
+      (λ b bn. flag_at (λ b. is_live (buffer I b) (edge_at edges first).0) (length I) b now m.passed.are bn
+      ∙ sym (was_live_after (buffer I b) (edge_at edges first).0 (edge_at edges next).0
+      (m.passed.after.later next (omega arith) lt) (between b bn)))
+    where
+      between : (b : ℕ) → b < length I → (u : ℕ) → (edge_at edges first).0 < u → u < (edge_at edges next).0 →
+          IsIn u (edge_moments (buffer I b)) → ⊥
+      between b bn u low high i =
+          let r = edge_place I edges b u m.edges_of_it bn i in
+          elim (cases r.0 next) [
+            | inl q ↦ (let z = m.passed.after.passed r.0 q in let e = r.2 in absurd (omega arith))
+            | inr q ↦ (let z = m.edges_of_it.sorted next r.0 (0, 0) q r.1 in let e = r.2 in absurd (omega arith))
+          ]
+
+  pub moved_on : AreRunsBefore I edges next more → length more ≤ suc (length sections) →
+      IsSweeping I edges next now more
+  moved_on runs few = record {
+    within = m.passed.after.within;
+    fresh = λ k lt nl. let a = m.passed.after.passed k lt in let b = m.passed.after.later next (omega arith) nl in
+        omega arith;
+    were = were_next;
+    count = flags_length (λ b. is_live (buffer I b) (edge_at edges first).0) (length I) now m.passed.are;
+    runs = runs;
+    limit = let a = m.before.limit in let b = m.passed.later in omega arith;
+  }
+
+  -- nothing changed
+  pub moved_same : changed ≡ false → IsSweeping I edges next now sections
+  moved_same e = record {
+    within = m.passed.after.within;
+    fresh = λ k lt nl. let a = m.passed.after.passed k lt in let b = m.passed.after.later next (omega arith) nl in
+        omega arith;
+    were = were_next;
+    count = flags_length (λ b. is_live (buffer I b) (edge_at edges first).0) (length I) now m.passed.are;
+    runs = runs_same (inl (m.passed.same e));
+    limit = let a = m.before.limit in let b = m.passed.later in omega arith;
+  }
+
+  -- what is live changed: a section more, unless nothing is
+  pub moved_changed : (given : List Bool) → given ≡ now → (flagged given ≡ [] → more ≡ sections) →
+      (flagged given ≢ [] → more ≡ sections ++ (record { start = (edge_at edges first).0; members = flagged given }) ∷
+      []) → changed ≡ true → IsSweeping I edges next now more
+  moved_changed given same none some e = go (nil_or_not (flagged given))
+    where
+      live : flagged given ≡ live_at I (edge_at edges first).0
+      live = ap flagged same ∙ flagged_live I (edge_at edges first).0 now m.passed.are
+
+      not_nil : (xs : List ℕ) (x : ℕ) → IsIn x xs → xs ≢ []
+      not_nil [] x i f = i
+      not_nil (y ∷ ys) x i f = absurd cc
+
+      go : (flagged given ≡ []) ⊎ ((x : ℕ) × IsIn x (flagged given)) → IsSweeping I edges next now more
+      go (inl f) = rw (none f) (moved_on_same (inr (sym live ∙ f)))
+        where
+          moved_on_same : (live_at I (edge_at edges first).0 ≡ live_before I (edge_at edges first).0) ⊎
+              (live_at I (edge_at edges first).0 ≡ []) → IsSweeping I edges next now sections
+          moved_on_same q = record {
+            within = m.passed.after.within;
+            fresh = λ k lt nl. let a = m.passed.after.passed k lt in let b = m.passed.after.later next (omega arith) nl
+                in omega arith;
+            were = were_next;
+            count = flags_length (λ b. is_live (buffer I b) (edge_at edges first).0) (length I) now m.passed.are;
+            runs = runs_same q;
+            limit = let a = m.before.limit in let b = m.passed.later in omega arith;
+          }
+      go (inr r) =
+          let nonempty : flagged given ≢ [] = not_nil (flagged given) r.0 r.1 in
+          let added : more ≡ sections ++ (record {
+            start = (edge_at edges first).0;
+            members = live_at I
+                (edge_at edges first).0;
+          }) ∷ [] =
+          some nonempty ∙ ap (λ ms. sections ++ (record { start = (edge_at edges first).0; members = ms }) ∷ []) live in
+          moved_on (runs_more (m.passed.differs e) (rw (← live) nonempty) added)
+          (rw (
+            added,
+            length-append sections ((record {
+              start = (edge_at edges first).0;
+              members = live_at I
+                  (edge_at edges first).0;
+            }) ∷ []),
+          ) (omega arith))
+
+-- flags that are all clear
+pub all_clear : (n : ℕ) (flags : List Bool) → flags ≡ replicate n false → (b : ℕ) → b < n →
+    slice_index_or flags b false ≡ false
+all_clear n flags e b lt = ap (λ xs. slice_index_or xs b false) e ∙ get_or-replicate n b false false lt

@@ -1,0 +1,8 @@
+use Rattle.std.proofs.Common.{◌≡◌, map}
+use Rattle.dsa_terms.specs.Parts.{numbers}
+use Rattle.lifetime.specs.Views.{items_of, section_of}
+use Rattle.lifetime.proofs.Noting.{places_below}
+use Rattle.lifetime.proofs.places.places.Given as goal
+
+abbrev pub invariant-loop-s : goal.invariant-loop-s
+invariant-loop-s l = map items_of l.lists.items ≡ map (places_below (map section_of l.sections) l.s) (numbers l.count)

@@ -1,0 +1,29 @@
+-- Runs of moments in which the same buffers are live.
+use Rattle.std.specs.Prelude.{◌≢◌, ℕ, zero, suc, ◌↔◌, Bool, false, List, [], length, map}
+use Rattle.std.specs.List.{filter}
+use Rattle.dsa_terms.specs.Buffers.{Buffer, Instance, buffer, is_live}
+use Rattle.dsa_terms.specs.Claims.{IsIn}
+use Rattle.dsa_terms.specs.Parts.{numbers}
+use Rattle.lifetime.specs.SectionList.{Section, SectionList, live_at}
+
+-- the buffer is live at the moment before t, where there is one
+unfoldable pub was_live : Buffer → ℕ → Bool
+was_live b zero = false
+was_live b (suc t) = is_live b t
+
+-- the buffers that are live at the moment before t, in rising order
+unfoldable pub live_before : Instance → ℕ → List ℕ
+live_before I t = filter (λ b. was_live (buffer I b) t) (numbers (length I))
+
+-- a run begins at t: some buffer is live at t, and not the same ones as at the moment before
+pub record BeginsRun (I : Instance) (t : ℕ) : Type 0 where
+  pub something : live_at I t ≢ []
+  pub changed : live_at I t ≢ live_before I t
+
+-- the moments of the sections
+abbrev pub starts_of : List Section → List ℕ
+starts_of sections = map (λ (x : Section). x.start) sections
+
+-- the starts of the sections are the moments at which runs begin
+abbrev pub HasEachRun : Instance → SectionList → Type 0
+HasEachRun I S = (t : ℕ) → IsIn t (starts_of S.sections) ↔ BeginsRun I t

@@ -1,0 +1,13 @@
+//! The sections of an instance: moments that stand for all moments, each with the buffers that are
+//! live then.
+#![tactic(auto)]
+
+mod build;
+mod edges;
+mod places;
+mod section_list;
+mod sweep;
+#[cfg(test)]
+mod tests;
+
+pub use section_list::Sections;

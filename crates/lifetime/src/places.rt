@@ -1,0 +1,54 @@
+//! For each buffer the places of its sections.
+
+ghost use Rattle.std.specs.Prelude.{◌≡◌, ◌<◌, ◌^◌, [], length, map, IfOk, OnOk};
+ghost use Rattle.std.specs.List.{All};
+ghost use Rattle.dsa_terms.specs.Claims.{Rises};
+ghost use Rattle.dsa_terms.specs.Parts.{numbers};
+ghost use Rattle.lifetime.specs.Edges.{places_of};
+ghost use Rattle.lifetime.specs.Places.{AreMembersBelow, ends_with};
+ghost use Rattle.lifetime.specs.Views.{items_of, section_of};
+
+use crate::section_list::Section;
+use std::alloc::{AllocError, Global};
+
+/// As many empty lists.
+fn empty_lists(alloc: Global, count: usize) -> Result<Vec<Vec<u32>>, AllocError>
+    ensures { IfOk result (λ lists. map items_of lists.items ≡ map (λ _. []) (numbers count)) }
+{
+    let mut lists = Vec::new(alloc);
+    for _b in 0..count {
+        lists.push(Vec::new(alloc))?;
+    }
+    Ok(lists)
+}
+
+/// Puts s last in the list of each member.
+fn note(lists: &mut [Vec<u32>], members: &[u32], s: u32) -> Result<(), AllocError>
+    requires in_range { All (λ b. b < length lists.old) members.now }
+    requires rises { Rises members.now }
+    ensures { OnOk result
+        (map items_of lists.new ≡ ends_with members.now s (map items_of lists.old)) }
+{
+    for b in members {
+        lists[*b as usize].push(s)?;
+    }
+    Ok(())
+}
+
+/// For each buffer below the count the places of the sections that have it.
+pub(crate) fn places(
+    alloc: Global,
+    sections: &[Section],
+    count: usize,
+) -> Result<Vec<Vec<u32>>, AllocError>
+    requires few { length sections.now < 2 ^ 32 }
+    requires members { AreMembersBelow count (map section_of sections.now) }
+    ensures { IfOk result (λ lists.
+        map items_of lists.items ≡ map (places_of (map section_of sections.now)) (numbers count)) }
+{
+    let mut lists = empty_lists(alloc, count)?;
+    for s in 0..sections.len() {
+        note(&mut lists, &sections[s].members, s as u32)?;
+    }
+    Ok(lists)
+}

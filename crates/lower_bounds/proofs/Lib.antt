@@ -1,0 +1,7 @@
+pub mod Stacking
+pub mod Candidates
+pub mod Raising
+pub mod SoFar
+pub mod Reaching
+pub mod Lines
+mod ExampleFacts

@@ -1,0 +1,7 @@
+pub mod Lists
+pub mod Kept
+pub mod Cuts
+pub mod Sweeping
+pub mod Order
+pub mod Grouping
+mod ExampleFacts

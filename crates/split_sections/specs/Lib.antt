@@ -1,0 +1,2 @@
+pub mod PartList
+pub mod Sweep
