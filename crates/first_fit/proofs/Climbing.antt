@@ -1,0 +1,135 @@
+-- First-fit's way up past the addresses that it would meet.
+use Rattle.std.proofs.Common.{◌≡◌, ◌^◌, ◌%◌, ℕ, ◌+◌, ◌<◌, ◌≤◌, ◌⊎◌, inl, inr, List, length, slice_index_or, sym, subst, arith}
+use Rattle.std.specs.Int.{next_multiple_of}
+use Rattle.std.specs.List.{All}
+use Rattle.std.specs.List.Sorted.{IsNonDecreasingBy}
+use Rattle.dsa_terms.specs.Buffers.{Instance, IsInstance, buffer}
+use Rattle.dsa_terms.specs.Claims.{Entry, IsIn}
+use Rattle.dsa_terms.specs.Fits.{IsClear, first_place, top}
+use Rattle.dsa_terms.specs.Layouts.{IsApart}
+use Rattle.dsa_terms.proofs.Numbers.{next_at_or_above, next_is_below, next_is_least, next_is_multiple}
+use Rattle.dsa_start_laws.proofs.Places.{first_is_clear, first_is_least}
+use Rattle.first_fit.specs.Taken.{AreTaken, IsLow, IsSpanOf}
+use Rattle.first_fit.specs.declared.spans.Span.{Span}
+use Rattle.first_fit.proofs.Lists.{in_at, place_of}
+
+abbrev pub no_span : Span
+no_span = record { start = 0; stop = 0 }
+
+-- from x on, so many addresses meet none of the span
+abbrev pub IsBeside : ℕ → ℕ → Span → Type 0
+IsBeside x size s = (x + size ≤ s.start) ⊎ (s.stop ≤ x)
+
+-- aligned, beside the first k, and no higher than what is beside all
+pub record IsClimbed (size a : ℕ) (spans : List Span) (k x : ℕ) : Type 0 where
+  pub aligned : x % a ≡ 0
+  pub beside : (j : ℕ) → j < k → IsBeside x size (slice_index_or spans j no_span)
+  pub least : (y : ℕ) → y % a ≡ 0 → ((s : Span) → IsIn s spans → IsBeside y size s) → x ≤ y
+
+pub record IsClimbing (size a : ℕ) (spans : List Span) (k x : ℕ) : Type 0 where
+  pub limit : x ≤ 2 ^ 50 + 2 ^ 32
+  pub climbed : IsNonDecreasingBy (λ (s : Span). s.start) spans → IsClimbed size a spans k x
+
+pub climbing_none : (size a : ℕ) (spans : List Span) → IsClimbing size a spans 0 0
+climbing_none size a spans = record {
+  limit = omega arith;
+  climbed = λ up. record {
+    aligned = zero_multiple a;
+    beside = λ j lt. absurd (omega arith);
+    least = λ y m h. omega arith;
+  };
+}
+  where
+    zero_multiple : (a : ℕ) → 0 % a ≡ 0
+    zero_multiple a = omega arith
+
+split : (j k : ℕ) → j < k + 1 → (j < k) ⊎ (j ≡ k)
+split j k h = grind arith
+
+-- beside the next one too
+pub climbing_stays : (size a : ℕ) (spans : List Span) (k x : ℕ) → IsBeside x size (slice_index_or spans k no_span) →
+    IsClimbing size a spans k x → IsClimbing size a spans (k + 1) x
+climbing_stays size a spans k x here h = record {
+  limit = h.limit;
+  climbed = λ up. let c = h.climbed up in record {
+    aligned = c.aligned;
+    beside = λ j lt. elim (split j k lt) [
+      | inl less ↦ c.beside j less
+      | inr e ↦ subst (λ (j : ℕ). IsBeside x size (slice_index_or spans j no_span)) (sym e) here
+    ];
+    least = c.least;
+  };
+}
+
+-- up past the next one, which it would meet
+pub climbing_past : (size a : ℕ) (spans : List Span) (k x : ℕ) → 1 ≤ a → a ≤ 2 ^ 32 → k < length spans →
+    All IsLow spans → (slice_index_or spans k no_span).start < x + size → x < (slice_index_or spans k no_span).stop →
+    IsClimbing size a spans k x →
+    IsClimbing size a spans (k + 1) (next_multiple_of (slice_index_or spans k no_span).stop a)
+climbing_past size a spans k x pos most lt low under over h = record {
+  limit = (let b = next_is_below stop a pos in let l = (low k no_span lt).limit in omega arith);
+  climbed = λ up. let c = h.climbed up in record {
+    aligned = next_is_multiple stop a pos;
+    beside = λ j less. elim (split j k less) [
+      | inl early ↦ before j early up (c.beside j early)
+      | inr e ↦ subst (λ (j : ℕ). IsBeside next size (slice_index_or spans j no_span)) (sym e) (inr above)
+    ];
+    least = λ y m clear. next_is_least stop a y pos (past y (c.least y m clear)
+        (clear (slice_index_or spans k no_span) (in_at spans k no_span lt))) m;
+  };
+}
+  where
+    stop : ℕ
+    stop = (slice_index_or spans k no_span).stop
+
+    next : ℕ
+    next = next_multiple_of (slice_index_or spans k no_span).stop a
+
+    above : (slice_index_or spans k no_span).stop ≤ next_multiple_of (slice_index_or spans k no_span).stop a
+    above = next_at_or_above (slice_index_or spans k no_span).stop a pos
+
+    before : (j : ℕ) → j < k → IsNonDecreasingBy (λ (s : Span). s.start) spans →
+        IsBeside x size (slice_index_or spans j no_span) →
+        IsBeside (next_multiple_of (slice_index_or spans k no_span).stop a) size (slice_index_or spans j no_span)
+    before j early up (inl q) = absurd (let z = up j k no_span (omega arith) lt in omega arith)
+    before j early up (inr q) = inr (let z = above in omega arith)
+
+    past : (y : ℕ) → x ≤ y → IsBeside y size (slice_index_or spans k no_span) →
+        (slice_index_or spans k no_span).stop ≤ y
+    past y le (inl q) = absurd (omega arith)
+    past y le (inr q) = q
+
+-- beside all: first-fit's place
+pub climbed_is_first : (I : Instance) (b : ℕ) (placed : List Entry) (spans : List Span) (k x : ℕ) → IsInstance I →
+    AreTaken I placed spans → length spans ≤ k →
+    IsClimbing (buffer I b).size (buffer I b).alignment spans k x → x ≡ first_place I b placed
+unfolding top
+climbed_is_first I b placed spans k x s t le h =
+    both x (first_place I b placed)
+    (c.least (first_place I b placed) clear.aligned (λ r i. let q = t.each r i in
+    of_entry r q.0 q.2 (clear.apart q.0 q.1)))
+    (first_is_least I b placed x s (record {
+      aligned = c.aligned;
+      apart = λ e i. let q = t.all e i in let p = place_of spans q.0 no_span q.1 in
+          to_entry q.0 e q.2 (subst (IsBeside x (buffer I b).size) p.2 (c.beside p.0 (let z = p.1 in omega arith)));
+    }))
+  where
+    c : IsClimbed (buffer I b).size (buffer I b).alignment spans k x
+    c = h.climbed t.sorted
+
+    clear : IsClear I b placed (first_place I b placed)
+    clear = first_is_clear I s b placed
+
+    both : (m n : ℕ) → m ≤ n → n ≤ m → m ≡ n
+    both m n p q = omega arith
+
+    of_entry : (r : Span) (e : Entry) → IsSpanOf I e r →
+        IsApart (buffer I b) (first_place I b placed) (buffer I e.0) e.1 →
+        IsBeside (first_place I b placed) (buffer I b).size r
+    of_entry r e q (inl a) = inl (let z = q.start in omega arith)
+    of_entry r e q (inr a) = inr (let z = q.stop in omega arith)
+
+    to_entry : (r : Span) (e : Entry) → IsSpanOf I e r → IsBeside x (buffer I b).size r →
+        IsApart (buffer I b) x (buffer I e.0) e.1
+    to_entry r e q (inl a) = inl (let z = q.start in omega arith)
+    to_entry r e q (inr a) = inr (let z = q.stop in omega arith)

@@ -1,0 +1,115 @@
+-- What the definitions come to on small instances.
+use Rattle.std.proofs.Common.{◌≡◌, ◌^◌, ◌-◌, ◌<◌, ◌⊎◌, inl, inr, ℕ, List, [], ◌∷◌, length, None, Some, refl, ap, arith}
+use Rattle.dsa_terms.specs.Buffers.{buffer, do_share, is_live, some_before}
+use Rattle.dsa_terms.specs.Claims.{Entry, IsIn}
+use Rattle.dsa_terms.specs.Fits.{best_place, first_passing, first_place, free_ranges, highest, holds, is_free, is_tighter, neighbours, stretches, top}
+use Rattle.dsa_terms.specs.Orders.{falls_by, rises_by}
+use Rattle.dsa_terms.proofs.Examples.{evens, five, two_of_four, unlike}
+use Rattle.first_fit.specs.Free.{narrowed, narrower, range_of}
+use Rattle.first_fit.specs.Orders.{in_order, key_of, keyed}
+use Rattle.first_fit.specs.Rules.{IsOrderOf, rule_of}
+use Rattle.first_fit.specs.Starts.{start_of}
+use Rattle.first_fit.specs.Taken.{AreTaken}
+use Rattle.first_fit.specs.declared.fits.Rule.TheVariants.{Best, First}
+use Rattle.first_fit.specs.declared.orders.Order.TheVariants.{AreaFalling, LowerRising, SizeFalling}
+use Rattle.first_fit.specs.declared.spans.Span.{Span}
+use Rattle.first_fit.proofs.Gaps.{between}
+use Rattle.first_fit.proofs.Lists.{all_from_in}
+
+-- the first range, the shorter one, and of two that are as long the lower one
+first_range : narrower None (between 3 5) ≡ Some (between 3 5)
+first_range = refl
+
+shorter_range : narrower (Some (between 0 3)) (between 4 5) ≡ Some (between 4 5)
+unfolding is_tighter
+shorter_range = refl
+
+lower_range : narrower (Some (between 0 2)) (between 4 6) ≡ Some (between 0 2)
+unfolding is_tighter
+lower_range = refl
+
+-- buffer 2 of `evens` has size 2
+no_room : narrowed evens 2 None (between 4 5) ≡ None
+unfolding holds buffer
+no_room = refl
+
+same_addresses : range_of (record { start = 4; stop = 6 }) ≡ between 4 6
+same_addresses = refl
+
+-- keys, and the three orders
+size_key : keyed SizeFalling evens 2 ≡ (2 ^ 128 - 3, 2)
+unfolding buffer
+size_key = refl
+
+lower_key : keyed LowerRising unlike 1 ≡ (4, 1)
+unfolding buffer
+lower_key = refl
+
+area_key : key_of AreaFalling (buffer five 3) ≡ 2 ^ 128 - 49
+unfolding buffer
+area_key = refl
+
+by_size : in_order SizeFalling evens ≡ 2 ∷ 0 ∷ 1 ∷ []
+unfolding falls_by buffer
+by_size = refl
+
+by_lower : in_order LowerRising five ≡ 0 ∷ 2 ∷ 4 ∷ 1 ∷ 3 ∷ []
+unfolding rises_by buffer
+by_lower = refl
+
+by_area : in_order AreaFalling five ≡ 4 ∷ 3 ∷ 2 ∷ 1 ∷ 0 ∷ []
+unfolding falls_by buffer
+by_area = refl
+
+-- two of the starts
+first_by_lower : start_of unlike (First, LowerRising) ≡ 0 ∷ 9 ∷ 1 ∷ 2 ∷ 13 ∷ 6 ∷ []
+unfolding rises_by neighbours first_place first_passing is_free highest top do_share some_before is_live buffer
+first_by_lower = refl
+
+best_by_lower : start_of unlike (Best, LowerRising) ≡ 0 ∷ 9 ∷ 1 ∷ 8 ∷ 1 ∷ 6 ∷ []
+unfolding rises_by neighbours best_place free_ranges stretches holds is_tighter is_free highest top do_share
+    some_before is_live buffer
+best_by_lower = refl
+
+-- ---- a rule, an order that has each buffer once, and addresses by rising start
+first_rule : rule_of First ≡ first_place
+first_rule = refl
+
+best_rule : rule_of Best ≡ best_place
+best_rule = refl
+
+both_once : IsOrderOf two_of_four (1 ∷ 0 ∷ [])
+both_once = record {
+  count = refl;
+  in_range = all_from_in (λ b. b < length two_of_four) (1 ∷ 0 ∷ []) below;
+  each = λ b lt. among b (which b lt);
+}
+  where
+    below : (b : ℕ) → IsIn b (1 ∷ 0 ∷ []) → b < length two_of_four
+    below b (inl q) = omega arith
+    below b (inr (inl q)) = omega arith
+    below b (inr (inr i)) = absurd i
+
+    which : (b : ℕ) → b < 2 → (b ≡ 1) ⊎ (b ≡ 0)
+    which b lt = grind arith
+
+    among : (b : ℕ) → (b ≡ 1) ⊎ (b ≡ 0) → IsIn b (1 ∷ 0 ∷ [])
+    among b (inl q) = inl q
+    among b (inr q) = inr (inl q)
+
+not_one_twice : IsOrderOf two_of_four (0 ∷ 0 ∷ []) → ⊥
+not_one_twice o = elim (o.each 1 (omega arith)) [
+  | inl q ↦ omega arith
+  | inr i ↦ elim i [ inl q ↦ omega arith | inr j ↦ absurd j ]
+]
+
+not_falling : (placed : List Entry) → AreTaken two_of_four placed
+    (record { start = 4; stop = 7 } ∷ record { start = 0; stop = 3 } ∷ []) → ⊥
+not_falling placed t = let k = t.sorted 0 1 (record { start = 0; stop = 0 }) (omega arith) (omega arith) in omega arith
+
+-- the second buffer's addresses are left out
+not_all : AreTaken two_of_four ((1, 4) ∷ (0, 0) ∷ []) (record { start = 0; stop = 3 } ∷ []) → ⊥
+not_all t = let q = t.all (1, 4) (inl refl) in elim q.1 [
+  | inl e ↦ (let z = q.2.start in let w : q.0.start ≡ 0 = ap (λ (s : Span). s.start) e in omega arith)
+  | inr i ↦ absurd i
+]

@@ -1,0 +1,5 @@
+pub mod Taken
+pub mod Free
+pub mod Rules
+pub mod Orders
+pub mod Starts
