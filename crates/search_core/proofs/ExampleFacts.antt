@@ -1,0 +1,117 @@
+-- Worked facts: a buffer of size 3 beside one of size 1 that stands at multiples of 4 alone, which fit into 4 and
+-- not into 3.
+use Rattle.std.proofs.Common.{◌≡◌, ◌^◌, ℕ, zero, suc, [], ◌∷◌, Some, None, inl, inr, refl, sym, ap, subst, arith}
+use Rattle.dsa_terms.specs.Buffers.{Buffer, Instance, buffer, do_share, have_same_moments, is_live, some_before}
+use Rattle.dsa_terms.specs.Claims.{Entry, IsIn, child, step, up}
+use Rattle.dsa_terms.specs.Plans.{layout_height}
+use Rattle.dsa_terms.specs.Logs.{Line, Over, claim_of, ends_below, is_twin}
+use Rattle.dsa_terms.specs.Parts.{is_cut, last_cut, part_of, parts, searched}
+use Rattle.dsa_terms.specs.Search.{comes_before, first, is_tall}
+use Rattle.canonical_order.specs.Claims.{HasBuffer}
+use Rattle.refute_log.specs.Answers.{Offsets}
+use Rattle.search_core.specs.Cites.{IsCoveredBy}
+use Rattle.search_core.specs.Courses.{at_start}
+use Rattle.search_core.specs.Decisions.{IsGiven, allowance_of, turn_of}
+use Rattle.search_core.specs.Found.{IsLow}
+use Rattle.search_core.specs.Keys.{key_of}
+use Rattle.search_core.specs.Logs.{AreUncovered, Extends, NoneCovers}
+use Rattle.search_core.specs.Meters.{AreSpent, AreWithin, HasUnit, counted}
+
+abbrev plain : ℕ → ℕ → ℕ → ℕ → Buffer
+plain lower upper size alignment = record
+    { lower = lower; upper = upper; size = size; alignment = alignment; gaps = [] }
+
+abbrev two : Instance
+two = plain 0 1 3 1 ∷ plain 0 1 1 4 ∷ []
+
+-- ---- the order of choices
+key_of_aligned : key_of two (1, 2) ≡ (4, 1)
+unfolding up buffer
+key_of_aligned = refl
+
+-- ---- units
+nothing_counted : counted None 3 ≡ 0
+nothing_counted = refl
+
+all_counted : counted (Some 5) 3 ≡ 3
+all_counted = refl
+
+one_is_left : HasUnit (record { most = Some 2; used = 1 })
+one_is_left = omega arith
+
+none_is_left : AreSpent (record { most = Some 2; used = 2 })
+none_is_left = refl
+
+no_number_is_never_spent : AreSpent (record { most = None; used = 0 }) → ⊥
+no_number_is_never_spent h = h
+
+none_without_number : AreWithin (record { most = None; used = 0 })
+none_without_number = refl
+
+allowance_of_seven : allowance_of (Some 7) ≡ 7
+allowance_of_seven = refl
+
+allowance_of_none : allowance_of None ≡ 2 ^ 64
+allowance_of_none = refl
+
+starts_unused : at_start two (Some 7) ≡ record { subject = two; units = record { most = Some 7; used = 0 }; spends = 0 }
+starts_unused = refl
+
+-- ---- lines
+abbrev tall : Line
+tall = Over ((1, 3) ∷ []) 0 3 1
+
+covers_a_lower_bound : IsCoveredBy two (tall ∷ []) ((1, 1) ∷ []) 0
+unfolding up buffer
+covers_a_lower_bound = record {
+  limit = omega arith;
+  line = tall;
+  stands = refl;
+  covers = λ e i. elim i [
+    | inl q ↦ (
+      (1, 1),
+      inl refl,
+      ap (λ (e : Entry). e.0) (sym q),
+      (let b : e.1 ≡ 3 = ap (λ (e : Entry). e.1) q in
+          omega arith),
+    )
+    | inr j ↦ absurd j
+  ];
+}
+
+nothing_covers : NoneCovers two [] ((1, 1) ∷ [])
+nothing_covers k line at covers = cc
+
+one_line_is_uncovered : AreUncovered two (tall ∷ [])
+one_line_is_uncovered zero zero earlier line lt at_j at_k covers = absurd (omega arith)
+one_line_is_uncovered zero (suc k) earlier line lt at_j at_k covers = absurd cc
+one_line_is_uncovered (suc j) k earlier line lt at_j at_k covers = absurd cc
+
+extends_by_one : Extends ((1, 1) ∷ []) [] (tall ∷ [])
+extends_by_one = record { more = tall ∷ []; is = refl; among = among }
+  where
+    among : (line : Line) (e : Entry) → IsIn line (tall ∷ []) → IsIn e (claim_of line) → HasBuffer ((1, 1) ∷ []) e.0
+    among line e (inl q) j = elim (subst (λ (x : Line). IsIn e (claim_of x)) q j)
+        [ inl p ↦ inl (ap (λ (e : Entry). e.0) p) | inr z ↦ absurd z ]
+    among line e (inr z) j = absurd z
+
+low_at_first : IsLow ((0, 0) ∷ (1, 0) ∷ [])
+low_at_first e (inl q) = let b : e.1 ≡ 0 = ap (λ (e : Entry). e.1) q in omega arith
+low_at_first e (inr (inl q)) = let b : e.1 ≡ 0 = ap (λ (e : Entry). e.1) q in omega arith
+low_at_first e (inr (inr z)) = absurd z
+
+-- ---- answers
+small_stands_below : IsGiven two 4 (Offsets (1 ∷ 0 ∷ []))
+unfolding searched parts part_of last_cut is_cut first is_tall comes_before ends_below is_twin have_same_moments child
+    step do_share some_before is_live up buffer
+small_stands_below = refl
+
+height_of_four : turn_of two 4 ≡ Some 4
+unfolding layout_height searched parts part_of last_cut is_cut first is_tall comes_before ends_below is_twin
+    have_same_moments child step do_share some_before is_live up buffer
+height_of_four = refl
+
+none_below_four : turn_of two 3 ≡ None
+unfolding searched parts part_of last_cut is_cut first is_tall comes_before ends_below is_twin have_same_moments child
+    step do_share some_before is_live up buffer
+none_below_four = refl

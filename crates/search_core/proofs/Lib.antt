@@ -1,0 +1,15 @@
+pub mod Least
+pub mod Order
+pub mod Noted
+pub mod Seating
+pub mod TallLines
+pub mod Descent
+pub mod Growing
+pub mod Uncovered
+pub mod Searching
+pub mod CasesLines
+pub mod Working
+pub mod Parting
+pub mod Joining
+pub mod Deciding
+pub mod ExampleFacts

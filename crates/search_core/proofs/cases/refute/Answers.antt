@@ -1,0 +1,43 @@
+use Rattle.std.proofs.Common.{map}
+use Rattle.canonical_order.proofs.Entries.{in_range}
+use Rattle.refute_log.specs.Lines.{cite_value}
+use Rattle.search_core.proofs.CasesLines.{cases_legal, cites_own, cites_within}
+use Rattle.search_core.proofs.Descent.{covers_itself, is_instance, low_bounds}
+use Rattle.search_core.proofs.cases.refute.Goals as goal
+
+pub invariant_of-view : goal.invariant_of-view
+invariant_of-view c = record {
+  in_range = λ b h. in_range c.args.task.now.instance.now c.args.claim b c.requires.stands
+      h;
+}
+
+pub append-requires-clause-legal : goal.append-requires-clause-legal
+append-requires-clause-legal c =
+    cases_legal c.args.task.now.instance.now c.args.claim c.args.refuted.now
+    (map cite_value c.in_ok-cites.cites) c.in_ok-cites.ensures
+    c.args.task.now.capacity c.args.log.now.lines c.requires.stands c.requires.not_empty c.requires.covered
+
+pub append-requires-clause-within : goal.append-requires-clause-within
+append-requires-clause-within c = (
+  low_bounds c.args.claim c.requires.low,
+  cites_within c.args.task.now.instance.now c.args.claim c.args.refuted.now
+      (map cite_value c.in_ok-cites.cites) c.in_ok-cites.ensures
+      c.args.log.now.lines c.requires.stands c.requires.covered,
+)
+
+pub append-requires-clause-lean : goal.append-requires-clause-lean
+append-requires-clause-lean c =
+    cites_own c.args.task.now.instance.now c.args.claim c.args.refuted.now
+    (map cite_value c.in_ok-cites.cites) c.in_ok-cites.ensures
+
+pub returns-clause-grown : goal.returns-clause-grown
+returns-clause-grown c =
+    c.append.ensures.grown c.args.claim
+    (covers_itself c.args.task.now.instance.now c.args.claim
+    (is_instance c.args.task.now.instance.now c.args.claim c.requires.stands))
+
+pub returns-clause-covered : goal.returns-clause-covered
+returns-clause-covered c =
+    c.append.ensures.covered c.args.claim
+    (covers_itself c.args.task.now.instance.now c.args.claim
+    (is_instance c.args.task.now.instance.now c.args.claim c.requires.stands))

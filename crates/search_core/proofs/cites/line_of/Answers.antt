@@ -1,0 +1,14 @@
+use Rattle.std.proofs.Common.{slice_index_or, refl}
+use Rattle.canonical_order.proofs.CoverLemmas.{in_at}
+use Rattle.search_core.specs.declared.found.Refuted.{Refuted}
+use Rattle.search_core.proofs.cites.line_of.Goals as goal
+
+pub returns-then-r-b : goal.returns-then-r-b
+returns-then-r-b c =
+    let none : Refuted = record { buffer = 0; line = 0 } in (
+      slice_index_or c.args.refuted.now c.loop-r.r-index none,
+      in_at c.args.refuted.now c.loop-r.r-index none
+          c.loop-r-test.true,
+      c.if-r-b.true,
+      refl,
+    )

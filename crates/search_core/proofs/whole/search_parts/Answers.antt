@@ -1,0 +1,85 @@
+use Rattle.std.proofs.Common.{◌∙◌, refl, arith}
+use Rattle.search_core.proofs.Joining.{all_joined, all_work, is_part, joining_next, part_refuted, part_work}
+use Rattle.search_core.proofs.whole.search_parts.Goals as goal
+
+pub search_part-requires : goal.search_part-requires
+search_part-requires c =
+    rw c.members.ensures.value (is_part c.args.task.now.instance.now c.args.task.now.capacity c.args.parts.now
+    c.loop-p.p c.requires (omega arith))
+
+pub returns-in_err-found-clause-used : goal.returns-in_err-found-clause-used
+returns-in_err-found-clause-used c =
+    let n = part_work c.args.task.now.instance.now c.args.task.now.capacity c.args.parts.now c.loop-p.p
+    c.loop-p.seats.items c.args.meter.now c.loop-p.meter c.requires
+    (omega arith) c.loop-p.invariant in
+    let u = rw c.members.ensures.value at c.search_part.ensures.used in
+    omega arith
+
+pub returns-in_err-extend_from_slice-in-Seats-clause-used : goal.returns-in_err-extend_from_slice-in-Seats-clause-used
+returns-in_err-extend_from_slice-in-Seats-clause-used c =
+    let n = part_work c.args.task.now.instance.now c.args.task.now.capacity c.args.parts.now c.loop-p.p
+    c.loop-p.seats.items c.args.meter.now c.loop-p.meter c.requires
+    (omega arith) c.loop-p.invariant in
+    let u = rw c.members.ensures.value at c.search_part.ensures.used in
+    omega arith
+
+pub returns-in-Refuted-clause-used : goal.returns-in-Refuted-clause-used
+returns-in-Refuted-clause-used c =
+    let n = part_work c.args.task.now.instance.now c.args.task.now.capacity c.args.parts.now c.loop-p.p
+    c.loop-p.seats.items c.args.meter.now c.loop-p.meter c.requires
+    (omega arith) c.loop-p.invariant in
+    let u = rw c.members.ensures.value at c.search_part.ensures.used in
+    omega arith
+
+pub returns-in-Spent-clause-used : goal.returns-in-Spent-clause-used
+returns-in-Spent-clause-used c =
+    let n = part_work c.args.task.now.instance.now c.args.task.now.capacity c.args.parts.now c.loop-p.p
+    c.loop-p.seats.items c.args.meter.now c.loop-p.meter c.requires
+    (omega arith) c.loop-p.invariant in
+    let u = rw c.members.ensures.value at c.search_part.ensures.used in
+    omega arith
+
+pub returns-in-Spent-clause-spent : goal.returns-in-Spent-clause-spent
+returns-in-Spent-clause-spent c =
+    let n = part_work c.args.task.now.instance.now c.args.task.now.capacity c.args.parts.now c.loop-p.p
+    c.loop-p.seats.items c.args.meter.now c.loop-p.meter c.requires
+    (omega arith) c.loop-p.invariant in
+    let u = rw c.members.ensures.value at c.search_part.ensures.used in
+    let s = rw (c.in-Spent.is, c.members.ensures.value) at c.in_ok-found.ensures.spent in
+    (s.0, omega (arith, s.1))
+
+pub returns-in-Refuted-clause-decided : goal.returns-in-Refuted-clause-decided
+returns-in-Refuted-clause-decided c =
+    let found = rw (c.in-Refuted.is, c.members.ensures.value) at c.in_ok-found.ensures.found in (
+      part_refuted c.args.task.now.instance.now c.args.task.now.capacity c.args.parts.now c.loop-p.p
+          c.loop-p.seats.items c.args.meter.now c.loop-p.meter c.requires
+          (omega arith) c.loop-p.invariant found.0,
+      found.1,
+    )
+
+pub loop-p-preserved : goal.loop-p-preserved
+loop-p-preserved c =
+    let found = rw (c.in-Seats.is, c.members.ensures.value) at c.in_ok-found.ensures.found in
+    joining_next c.args.task.now.instance.now c.args.task.now.capacity c.args.parts.now c.loop-p.p c.loop-p.seats.items
+    c.in-Seats.found.items c.extend_from_slice.new.self.items c.args.meter.now
+    c.loop-p.meter c.search_part.new.meter (omega arith) c.loop-p.invariant found
+    (c.in_ok-extend_from_slice-in-Seats.ensures.items ∙ (rw c.deref.ensures.value refl)) c.search_part.ensures.most
+    c.search_part.ensures.units
+    (rw c.members.ensures.value at c.search_part.ensures.used)
+
+pub returns-in_err-offsets-clause-used : goal.returns-in_err-offsets-clause-used
+returns-in_err-offsets-clause-used c =
+    all_work c.args.task.now.instance.now c.args.task.now.capacity c.args.parts.now c.loop-p.p c.loop-p.seats.items
+    c.args.meter.now c.loop-p.meter c.requires c.loop-p.invariant
+
+pub returns-clause-used : goal.returns-clause-used
+returns-clause-used c =
+    all_work c.args.task.now.instance.now c.args.task.now.capacity c.args.parts.now c.loop-p.p c.loop-p.seats.items
+    c.args.meter.now c.loop-p.meter c.requires c.loop-p.invariant
+
+pub returns-clause-decided : goal.returns-clause-decided
+returns-clause-decided c =
+    rw (c.in_ok-offsets.ensures, c.deref-2.ensures.value)
+    (all_joined c.args.task.now.instance.now c.args.task.now.capacity c.args.parts.now c.loop-p.p c.loop-p.seats.items
+    c.args.meter.now c.loop-p.meter c.requires
+    (omega arith) c.loop-p.invariant)

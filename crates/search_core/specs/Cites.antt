@@ -1,0 +1,26 @@
+-- Why the search does not take a buffer of a claim first, or takes it in vain.
+use Rattle.std.specs.Prelude.{◌≡◌, ℕ, ◌^◌, ◌≤◌, true, List, [], slice_get, Some}
+use Rattle.dsa_terms.specs.Buffers.{Instance}
+use Rattle.dsa_terms.specs.Claims.{Claim, Entry, IsIn, Covers, child}
+use Rattle.dsa_terms.specs.Logs.{Cite, ByLine, Below, Twin, Line, claim_of, IsLegalCite}
+use Rattle.dsa_terms.specs.Search.{not_excluded}
+use Rattle.canonical_order.specs.Claims.{entry_of}
+use Rattle.search_core.specs.declared.found.Refuted.{Refuted}
+
+-- the line of that number covers the claim, and its number is at most 2^60
+pub record IsCoveredBy (I : Instance) (lines : List Line) (l : Claim) (k : ℕ) : Type 0 where
+  pub limit : k ≤ 2 ^ 60
+  pub line : Line
+  pub stands : slice_get lines k ≡ Some line
+  pub covers : Covers I (claim_of line) l
+
+-- the line covers the child by the buffer
+abbrev pub IsChildCovered : Instance → List Line → Claim → Refuted → Type 0
+IsChildCovered I lines l r = IsCoveredBy I lines (child I l (entry_of l r.buffer)) r.line
+
+-- the cite of the entry e: of the line noted for its buffer where no rule excludes it, and else by a rule
+abbrev pub IsCiteFor : Instance → Claim → List Refuted → Entry → Cite → Type 0
+IsCiteFor I l refuted e (ByLine k) = (not_excluded I l e ≡ true) × (r : Refuted) × IsIn r
+    refuted × (r.buffer ≡ e.0) × (r.line ≡ k)
+IsCiteFor I l refuted e (Below c) = IsLegalCite I [] l e (Below c)
+IsCiteFor I l refuted e (Twin c) = IsLegalCite I [] l e (Twin c)

@@ -1,0 +1,9 @@
+pub mod Keys
+pub mod Cites
+pub mod Found
+pub mod Logs
+pub mod Meters
+pub mod Decisions
+pub mod Pieces
+pub mod Outcomes
+pub mod Courses

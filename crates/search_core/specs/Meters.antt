@@ -1,0 +1,23 @@
+-- Units of a budget.
+use Rattle.std.specs.Prelude.{◌≡◌, ℕ, ◌<◌, ◌≤◌, ⊤, cond, Option, is_some, MatchOption}
+
+-- how many units there are, if there is a number, and how many of them are used
+pub record Units : Type 0 where
+  pub most : Option ℕ
+  pub used : ℕ
+
+-- where there is no number, none is counted
+abbrev pub AreWithin : Units → Type 0
+AreWithin u = MatchOption u.most (u.used ≡ 0) (λ k. u.used ≤ k)
+
+-- there is no number, or not all of them are used
+abbrev pub HasUnit : Units → Type 0
+HasUnit u = MatchOption u.most ⊤ (λ k. u.used < k)
+
+-- there is a number, and all of them are used
+abbrev pub AreSpent : Units → Type 0
+AreSpent u = MatchOption u.most ⊥ (λ k. u.used ≡ k)
+
+-- how many units are counted for so many that are taken
+abbrev pub counted : Option ℕ → ℕ → ℕ
+counted most n = cond (is_some most) n 0

@@ -1,0 +1,20 @@
+-- What is found of one part.
+use Rattle.std.specs.Prelude.{◌≡◌, ℕ, ⊤, List, Some, None}
+use Rattle.dsa_terms.specs.Buffers.{Instance}
+use Rattle.dsa_terms.specs.Parts.{whole}
+use Rattle.dsa_terms.specs.Search.{first}
+use Rattle.search_core.specs.declared.part.Piece.{Piece}
+use Rattle.search_core.specs.declared.part.Piece.TheVariants as piece
+use Rattle.search_core.specs.Decisions.{IsRefutation}
+
+-- the first layout of the part, or a log that refutes the capacity where there is none
+abbrev pub IsPiece : Instance → ℕ → List ℕ → Piece → Type 0
+IsPiece I C p (piece.Seats seats) = first I C (whole p) ≡ Some seats.items
+IsPiece I C p (piece.Refuted log) = (first I C (whole p) ≡ None) × IsRefutation I C log
+IsPiece I C p piece.Spent = ⊤
+
+-- the fact holds where the budget is spent
+abbrev pub IfPieceSpent : Type 0 → Piece → Type 0
+IfPieceSpent P (piece.Seats seats) = ⊤
+IfPieceSpent P (piece.Refuted log) = ⊤
+IfPieceSpent P piece.Spent = P

@@ -1,0 +1,67 @@
+//! The cites of a claim each of whose choices is refuted.
+
+ghost use Rattle.std.specs.Prelude.{◌≡◌, map, true, IfOk};
+ghost use Rattle.std.specs.List.{AllZip};
+ghost use Rattle.dsa_terms.specs.Claims.{Entry, IsIn};
+ghost use Rattle.dsa_terms.specs.Search.{not_excluded};
+ghost use Rattle.canonical_order.specs.Claims.{HasBuffer, entry_of};
+ghost use Rattle.refute_log.specs.Lines.{cite_value};
+ghost use Rattle.search_core.specs.declared.found.Refuted.{Refuted as RefutedTerm};
+ghost use Rattle.search_core.specs.Cites.{IsCiteFor};
+
+use crate::choice::own_cite;
+use crate::found::Refuted;
+use canonical_order::Lows;
+use dsa_model::NoMemory;
+use refute_log::{Cite, Cites};
+use std::alloc::Global;
+
+/// The line that is noted for the buffer.
+fn line_of(refuted: &[Refuted], b: u32) -> u64
+    requires { IsIn b (map (λ (r : RefutedTerm). r.buffer) refuted.now) }
+    ensures { (r : RefutedTerm) × IsIn r refuted.now × (r.buffer ≡ b) × (r.line ≡ result) }
+{
+    for r in refuted {
+        if r.buffer == b {
+            return r.line;
+        }
+    }
+    0
+}
+
+/// The cite of a buffer of the claim.
+fn cite_for<L: Lows>(lows: &L, b: u32, refuted: &[Refuted]) -> Cite
+    requires b_in { HasBuffer (L.claim lows.now) b }
+    requires noted { let l = L.claim lows.now in
+        not_excluded (L.subject lows.now) l (entry_of l b) ≡ true →
+        IsIn b (map (λ (r : RefutedTerm). r.buffer) refuted.now) }
+    ensures { let l = L.claim lows.now in
+        IsCiteFor (L.subject lows.now) l refuted.now (entry_of l b) (cite_value result) }
+{
+    match own_cite(lows, b) {
+        Some(cite) => cite,
+        None => Cite::Line(line_of(refuted, b)),
+    }
+}
+
+/// The cites of the claim: below or twin wherever one is legal, and else the line that is noted.
+pub(crate) fn cites<L: Lows>(
+    alloc: Global,
+    lows: &L,
+    refuted: &[Refuted],
+) -> Result<Cites, NoMemory>
+    requires noted { let l = L.claim lows.now in
+        (e : Entry) → IsIn e l → not_excluded (L.subject lows.now) l e ≡ true →
+        IsIn e.0 (map (λ (r : RefutedTerm). r.buffer) refuted.now) }
+    ensures { let l = L.claim lows.now in
+        IfOk result (λ cites.
+        AllZip (IsCiteFor (L.subject lows.now) l refuted.now) l (map cite_value cites)) }
+{
+    let mut cites = Vec::new(alloc);
+    for b in 0..lows.instance().len() {
+        if lows.is_free(b) {
+            cites.push(cite_for(lows, b, refuted))?;
+        }
+    }
+    Ok(Cites::from_vec(cites))
+}

@@ -1,0 +1,19 @@
+//! What the search finds of a claim.
+
+/// What the search finds of a claim.
+#[derive(Drop)]
+pub(crate) enum Found {
+    /// The offsets of its buffers, in rising order of buffers.
+    Seats(Vec<(u32, u64)>),
+    /// The number of a line of the log whose claim covers it: it has no layout.
+    Line(u64),
+    /// Nothing, since the budget is spent.
+    Spent,
+}
+
+/// A buffer of a claim, and the number of a line that covers the child by it.
+#[derive(Clone, Copy, Debug)]
+pub(crate) struct Refuted {
+    pub(crate) buffer: u32,
+    pub(crate) line: u64,
+}

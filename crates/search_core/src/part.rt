@@ -1,0 +1,57 @@
+//! The search through one part.
+
+ghost use Rattle.std.specs.Prelude.{◌≡◌, ◌+◌, ◌<◌, ◌≤◌, IfOk};
+ghost use Rattle.dsa_terms.specs.Claims.{IsIn};
+ghost use Rattle.dsa_terms.specs.Parts.{parts, whole};
+ghost use Rattle.dsa_terms.specs.Search.{work};
+ghost use Rattle.search_core.specs.Meters.{AreSpent};
+ghost use Rattle.search_core.specs.Pieces.{IfPieceSpent, IsPiece};
+
+use crate::found::Found;
+use crate::meter::Meter;
+use crate::recursion::search;
+use crate::task::Task;
+use canonical_order::Claim;
+use dsa_model::NoMemory;
+use refute_log::{ClosedLog, Log};
+use std::alloc::Global;
+
+/// What is found of one part.
+#[derive(Drop)]
+pub(crate) enum Piece {
+    /// The offsets of its buffers, in rising order of buffers.
+    Seats(Vec<(u32, u64)>),
+    /// A log that refutes the capacity.
+    Refuted(ClosedLog),
+    /// Nothing, since the budget is spent.
+    Spent,
+}
+
+/// Searches the whole claim of a part, with a log of its own.
+pub(crate) fn search_part(
+    alloc: Global,
+    task: &Task,
+    meter: &mut Meter,
+    members: &[u32],
+) -> Result<Piece, NoMemory>
+    requires { IsIn members.now (parts task.now.instance.now) }
+    ensures most { meter.new.most ≡ meter.old.most }
+    ensures units { meter.old.used ≤ meter.new.used }
+    ensures used { let most = work task.now.instance.now task.now.capacity (whole members.now) in
+        meter.new.used ≤ meter.old.used + most }
+    ensures spent { let most = work task.now.instance.now task.now.capacity (whole members.now) in
+        IfOk result (IfPieceSpent (AreSpent meter.new × (meter.new.used < meter.old.used + most))) }
+    ensures found { IfOk result (IsPiece task.now.instance.now task.now.capacity members.now) }
+{
+    let _count = task.instance.len();
+    let claim = Claim::whole(alloc, members)?;
+    let mut log = Log::new(alloc, task.instance, task.capacity);
+    match search(alloc, task, &mut log, meter, claim)? {
+        Found::Seats(seats) => Ok(Piece::Seats(seats)),
+        Found::Line(end) => match log.close(task.instance, end) {
+            Ok(closed) => Ok(Piece::Refuted(closed)),
+            Err(_) => unreachable!(),
+        },
+        Found::Spent => Ok(Piece::Spent),
+    }
+}

@@ -1,0 +1,55 @@
+//! The search through all parts.
+
+ghost use Rattle.std.specs.Prelude.{◌≡◌, ◌+◌, ◌<◌, ◌≤◌, IfOk};
+ghost use Rattle.dsa_terms.specs.Parts.{offsets_of, parts as parts_of, whole_work};
+ghost use Rattle.refute_log.specs.Decided.{IfSpent};
+ghost use Rattle.search_core.specs.Meters.{AreSpent};
+ghost use Rattle.search_core.specs.Outcomes.{IsDecided};
+
+use crate::meter::Meter;
+use crate::part::{Piece, search_part};
+use crate::seats::offset_of;
+use crate::task::Task;
+use dsa_model::{Instance, NoMemory};
+use refute_log::Decided;
+use split_sections::Parts;
+use std::alloc::Global;
+
+/// The offsets of all buffers in order.
+fn offsets(alloc: Global, instance: &Instance, seats: &[(u32, u64)]) -> Result<Vec<u64>, NoMemory>
+    ensures { IfOk result (λ v. v.items ≡ offsets_of instance.now seats.now) }
+{
+    let offsets = (0..instance.len())
+        .map(|b| offset_of(seats, b))
+        .collect(alloc)?;
+    Ok(offsets)
+}
+
+/// Searches part after part, up to the first that has no layout.
+pub(crate) fn search_parts(
+    alloc: Global,
+    task: &Task,
+    meter: &mut Meter,
+    parts: &Parts,
+) -> Result<Decided, NoMemory>
+    requires { parts.now ≡ parts_of task.now.instance.now }
+    ensures most { meter.new.most ≡ meter.old.most }
+    ensures units { meter.old.used ≤ meter.new.used }
+    ensures used { let most = whole_work task.now.instance.now task.now.capacity in
+        meter.new.used ≤ meter.old.used + most }
+    ensures spent { let most = whole_work task.now.instance.now task.now.capacity in
+        IfOk result (λ d.
+        IfSpent d (AreSpent meter.new × (meter.new.used < meter.old.used + most))) }
+    ensures decided { IfOk result (IsDecided task.now.instance.now task.now.capacity) }
+{
+    let mut seats = Vec::new(alloc);
+    for p in 0..parts.count() {
+        match search_part(alloc, task, meter, parts.members(p))? {
+            Piece::Seats(found) => seats.extend_from_slice(&found)?,
+            Piece::Refuted(log) => return Ok(Decided::Refuted(log)),
+            Piece::Spent => return Ok(Decided::Spent),
+        }
+    }
+    let offsets = offsets(alloc, task.instance, &seats)?;
+    Ok(Decided::Layout(offsets))
+}
