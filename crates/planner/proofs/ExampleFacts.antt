@@ -1,0 +1,49 @@
+-- Small instances, and what the definitions say of them.
+use Rattle.std.proofs.Common.{◌≡◌, [], ◌∷◌, Some, None, refl}
+use Rattle.dsa_terms.specs.Bounds.{bound_modulus, counted, highest_stack, lower_bound, moduli, moments, rounded_size, stack, stack_log}
+use Rattle.dsa_terms.specs.Buffers.{buffer, do_share, is_live, some_before}
+use Rattle.dsa_terms.specs.Fits.{best_fit, best_place, first_fit, first_passing, first_place, free_ranges, highest, holds, is_free, is_tighter, neighbours, stretches, top}
+use Rattle.dsa_terms.specs.Logs.{Over, Log}
+use Rattle.dsa_terms.specs.Orders.{falls_by, orders, rises_by}
+use Rattle.dsa_terms.specs.Parts.{is_cut, last_cut, part_of, parts}
+use Rattle.dsa_terms.specs.Plans.{layout_height}
+use Rattle.dsa_terms.specs.Starts.{best_start, lowest_place, starts}
+use Rattle.dsa_terms.proofs.Examples.{evens, small_below, two_of_four}
+use Rattle.layout_report.specs.declared.facts.Facts.{Facts}
+use Rattle.planner.specs.Decides.{IsBoundLog}
+use Rattle.planner.specs.InstanceFacts.{AreFactsOf}
+use Rattle.planner.specs.FirstStart.{start_within}
+
+-- all starts of three buffers have height 5, and the first of them is taken
+start_at_5 : start_within evens 5 ≡ Some (2 ∷ 4 ∷ 0 ∷ [])
+unfolding layout_height starts orders falls_by rises_by first_fit best_fit neighbours first_place first_passing
+    best_place free_ranges stretches holds is_tighter is_free highest top do_share some_before is_live buffer
+start_at_5 = refl
+
+no_start_at_4 : start_within evens 4 ≡ None
+unfolding layout_height starts orders falls_by rises_by first_fit best_fit neighbours first_place first_passing
+    best_place free_ranges stretches holds is_tighter is_free highest top do_share some_before is_live buffer
+no_start_at_4 = refl
+
+-- the search has a layout of height 4, and no start has
+no_start_where_the_search_has_one : start_within small_below 4 ≡ None
+unfolding layout_height starts orders falls_by rises_by first_fit best_fit neighbours first_place first_passing
+    best_place free_ranges stretches holds is_tighter is_free highest top do_share some_before is_live buffer
+no_start_where_the_search_has_one = refl
+
+-- two buffers of size 3, aligned to four, come to 7; one line refutes 6
+abbrev one_line : Log
+one_line = record { count = 2; capacity = 6; lines = Over ((0, 0) ∷ (1, 0) ∷ []) 0 0 4 ∷ []; final = 0 }
+
+bound_log : IsBoundLog two_of_four 6 one_line
+unfolding stack stack_log counted rounded_size bound_modulus lower_bound highest_stack moduli moments is_live buffer
+bound_log = record { moment = 0; reached = refl; one_line = refl }
+
+-- no buffers have no peak, no parts, and nothing to bound
+abbrev no_facts : Facts
+no_facts = record { buffers = 0; peak = None; parts = 0; bound = 0; modulus = 1; best = 0 }
+
+facts_of_none : AreFactsOf [] no_facts
+unfolding parts part_of last_cut is_cut bound_modulus lower_bound highest_stack moduli moments stack counted
+    layout_height best_start lowest_place starts orders first_fit best_fit
+facts_of_none = record { buffers = refl; peak = refl; parts = refl; bound = refl; modulus = refl; best = refl }

@@ -1,0 +1,4 @@
+pub mod Refuting
+pub mod Choosing
+pub mod SixStarts
+mod ExampleFacts

@@ -1,0 +1,22 @@
+use Rattle.std.proofs.Common.{sym}
+use Rattle.std.proofs.lemmas.List.Quantifiers.{position-Some}
+use Rattle.first_fit.specs.Starts.{offsets_in}
+use Rattle.planner.proofs.SixStarts.{none_within, within_at}
+use Rattle.planner.proofs.starting.start_within.Goals as goal
+
+pub returns-in-Some : goal.returns-in-Some
+returns-in-Some c =
+    let I = c.args.instance.now in let ss = c.in_ok-starts.starts.items in
+    let place = rw (c.in-Some.is, c.deref.ensures.value) at c.first_within.ensures.place in
+    within_at I c.args.capacity offsets_in ss c.in-Some.place c.swap_remove.result c.in_ok-starts.ensures.value
+    (position-Some _ ss c.in-Some.place c.swap_remove.result (sym place)).0
+    c.swap_remove.ensures.value
+    (rw (c.in-Some.is, c.deref.ensures.value) at
+    (c.first_within.ensures.offsets I (rw c.deref.ensures.value c.in_ok-starts.ensures.sound)))
+
+pub returns : goal.returns
+returns c =
+    let I = c.args.instance.now in let ss = c.in_ok-starts.starts.items in
+    none_within I c.args.capacity offsets_in ss c.in_ok-starts.ensures.value
+    (rw (c.in-None.is, c.deref.ensures.value) at
+    (c.first_within.ensures.offsets I (rw c.deref.ensures.value c.in_ok-starts.ensures.sound)))

@@ -1,0 +1,32 @@
+//! Deciding a capacity by the lower bound.
+
+ghost use Rattle.std.specs.Prelude.{◌<◌, ◌↔◌, IfOk, IsSome, IfSome};
+ghost use Rattle.dsa_terms.specs.Bounds.{lower_bound};
+ghost use Rattle.lifetime.specs.SectionList.{AreSectionsOf};
+ghost use Rattle.planner.specs.Decides.{IsStackRefutation};
+
+use dsa_model::{Instance, NoMemory};
+use lifetime::Sections;
+use lower_bounds::bound;
+use refute_log::ClosedLog;
+use std::alloc::Global;
+
+/// The log of one line that refutes the capacity, where it is below the lower bound.
+pub(crate) fn stack_refutation(
+    alloc: Global,
+    instance: &Instance,
+    sections: &Sections,
+    capacity: u64,
+) -> Result<Option<ClosedLog>, NoMemory>
+    requires sections { AreSectionsOf instance.now sections.now }
+    ensures some { IfOk result (λ found. IsSome found ↔ (capacity < lower_bound instance.now)) }
+    ensures refutation { IfOk result (λ found.
+        IfSome found (IsStackRefutation instance.now capacity)) }
+{
+    let _count = instance.len();
+    let bound = bound(alloc, instance, sections)?;
+    if bound.capacity <= capacity {
+        return Ok(None);
+    }
+    Ok(Some(bound.log(alloc, instance, capacity)?))
+}
