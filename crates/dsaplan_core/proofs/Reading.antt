@@ -1,0 +1,62 @@
+-- The second file of a command, as it was read after the input.
+use Rattle.std.proofs.Common.{◌≡◌, ℕ, List, All, Result, Ok, Err, refl, sym, subst}
+use Rattle.dsa_model.specs.Fails.{IfFault, UnlessNoMemory}
+use Rattle.dsa_model.specs.declared.fail.Fail.{Fail}
+use Rattle.dsa_model.specs.declared.fail.Fail.TheVariants.{Fault}
+use Rattle.dsa_terms.specs.Logs.{Log}
+use Rattle.log_text.specs.Faults.{IsTextOf, HasCite}
+use Rattle.log_text.specs.RawLogs.{IsRawKept}
+use Rattle.log_text.specs.Text.{log_text, raw_log_of}
+use Rattle.log_text.specs.declared.raw.RawLog.{RawLog}
+use Rattle.dsa_terms.specs.Buffers.{Instance}
+use Rattle.csv_instance.specs.Records.{Record}
+use Rattle.command_words.specs.Options.{Word}
+use Rattle.command_words.specs.Commands.{Verify, Refute, command_of}
+use Rattle.dsaplan_core.specs.Seen.{FilesSeen}
+use Rattle.dsaplan_core.specs.Steps.{table_limit, log_limit, IsWhole, IsInput}
+use Rattle.dsaplan_core.specs.Rows.{ReadsLayout, ReadsLog}
+use Rattle.dsaplan_core.proofs.Earlier.{whole_since}
+
+pub layout_read : (words : List Word) (old mid : FilesSeen) (C : ℕ) (input layout : Word) (table : List Record)
+    (I : Instance)
+    (seen bytes : List ℕ) → command_of words ≡ Ok (Verify C input layout) → IsInput old input table I →
+    mid.held ≡ old.held →
+    seen ≡ bytes → IsWhole mid layout table_limit bytes → ReadsLayout words old C layout table I seen
+layout_read words old mid C input layout table I seen bytes asked given same value whole = record {
+  input = input;
+  asked = record { words_ask = asked; input = given };
+  whole = subst (λ b. IsWhole old layout table_limit b) (sym value)
+      (whole_since old mid layout table_limit bytes same whole);
+}
+
+pub log_read : (words : List Word) (old mid : FilesSeen) (input log : Word) (table : List Record) (I : Instance)
+    (seen bytes : List ℕ) → command_of words ≡ Ok (Refute input log) → IsInput old input table I → mid.held ≡ old.held →
+    seen ≡ bytes → IsWhole mid log log_limit bytes → ReadsLog words old I seen
+log_read words old mid input log table I seen bytes asked given same value whole = record {
+  input = input;
+  log = log;
+  table = table;
+  asked = record { words_ask = asked; input = given };
+  whole = subst (λ b. IsWhole old log log_limit b) (sym value) (whole_since old mid log log_limit bytes same whole);
+}
+
+-- the text of a log, by its numbers
+pub text_of : (bytes : List ℕ) (raw : RawLog) (g : Log) → raw_log_of g ≡ raw → IsTextOf bytes raw →
+    IsTextOf (log_text g) (raw_log_of g)
+text_of bytes raw g same text = record {
+  kept = subst IsRawKept (sym same) text.kept;
+  cited = subst (λ (r : RawLog). All HasCite r.lines) (sym same) text.cited;
+  text = refl;
+}
+
+-- what was written is the text, and reads back
+pub readable : (bytes : List ℕ) (g : Log) → bytes ≡ log_text g → IsTextOf bytes (raw_log_of g) →
+    IsTextOf (log_text g) (raw_log_of g)
+readable bytes g same text = subst (λ b. IsTextOf b (raw_log_of g)) same text
+
+-- what a clause says of the fault that came
+pub fault_gives : {T E : Type 0} (P : T → Type 0) (Q : E → Type 0) (r : Result T (Fail E)) (f : Fail E) (e : E) →
+    r ≡ Err f → f ≡ Fault e →
+    UnlessNoMemory r P Q → Q e
+fault_gives P Q r f e is f_is said =
+    subst (λ x. IfFault Q x) f_is (subst (λ x. UnlessNoMemory x P Q) is said)

@@ -1,0 +1,11 @@
+pub mod Codes
+pub mod Seen
+pub mod Steps
+pub mod FaultTexts
+pub mod Opens
+pub mod Lines
+pub mod Rows
+pub mod Answers
+pub mod Complete
+pub mod Prepares
+pub mod Theorem

@@ -1,0 +1,84 @@
+//! The line that is printed for a status.
+
+ghost use Rattle.std.specs.Prelude.{◌≡◌, IfOk, string_bytes};
+ghost use Rattle.dsaplan_core.specs.Lines.{role_text, wrong_text, refused_text, line};
+
+use crate::fault_texts::{
+    check_line, instance_line, layout_line, offsets_line, text_line, usage_line,
+};
+use crate::status::{LogCause, Role, Status, WrongCause};
+use dsa_model::NoMemory;
+use std::alloc::Global;
+
+/// The option of a role.
+fn role_word(role: Role) -> &'static str
+    ensures { result.now ≡ role_text role }
+{
+    match role {
+        Role::Input => "--input",
+        Role::Layout => "--layout",
+        Role::Log => "--log",
+        Role::Output => "--output",
+    }
+}
+
+/// Why a layout is wrong.
+fn wrong_line(alloc: Global, cause: WrongCause) -> Result<String, NoMemory>
+    ensures { IfOk result (λ text. string_bytes text ≡ wrong_text cause) }
+{
+    match cause {
+        WrongCause::Offsets(fault) => offsets_line(alloc, fault),
+        WrongCause::Layout(fault) => layout_line(alloc, fault),
+    }
+}
+
+/// Why a log is refused.
+fn refused_line(alloc: Global, cause: LogCause) -> Result<String, NoMemory>
+    ensures { IfOk result (λ text. string_bytes text ≡ refused_text cause) }
+{
+    match cause {
+        LogCause::Text(fault) => text_line(alloc, fault),
+        LogCause::Check(fault) => check_line(alloc, fault),
+    }
+}
+
+/// The line of a status.
+pub(crate) fn status_line(alloc: Global, status: Status) -> Result<String, NoMemory>
+    ensures { IfOk result (λ text. string_bytes text ≡ line status) }
+{
+    match status {
+        Status::Feasible { capacity } => Ok(format!(in alloc; "feasible {capacity}\n")?),
+        Status::Infeasible { capacity } => Ok(format!(in alloc; "infeasible {capacity}\n")?),
+        Status::Right => Ok(String::from_str(alloc, "right\n")?),
+        Status::Accepted { capacity } => Ok(format!(in alloc; "accepted {capacity}\n")?),
+        Status::Wrong(cause) => {
+            let text = wrong_line(alloc, cause)?;
+            Ok(format!(in alloc; "wrong {text}\n")?)
+        }
+        Status::LogRefused(cause) => {
+            let text = refused_line(alloc, cause)?;
+            Ok(format!(in alloc; "refused {text}\n")?)
+        }
+        Status::Usage(fault) => {
+            let text = usage_line(alloc, fault)?;
+            Ok(format!(in alloc; "usage {text}\n")?)
+        }
+        Status::Malformed(fault) => {
+            let text = instance_line(alloc, fault)?;
+            Ok(format!(in alloc; "malformed {text}\n")?)
+        }
+        Status::ReadFault(role) => {
+            let word = role_word(role);
+            Ok(format!(in alloc; "unread {word}\n")?)
+        }
+        Status::TooLong(role) => {
+            let word = role_word(role);
+            Ok(format!(in alloc; "too long {word}\n")?)
+        }
+        Status::WriteFault(role) => {
+            let word = role_word(role);
+            Ok(format!(in alloc; "unwritten {word}\n")?)
+        }
+        Status::Shown | Status::PrintFault | Status::NoMemory => Ok(String::new(alloc)),
+    }
+}
