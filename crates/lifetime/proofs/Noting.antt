@@ -1,26 +1,23 @@
 -- Filling the lists of places.
-use Rattle.std.proofs.Common.{◌≡◌, ◌≢◌, ℕ, zero, suc, ◌+◌, ◌<◌, ◌≤◌, ◌==◌, ◌⊎◌, inl, inr, Bool, true, false, cond, List, [], ◌∷◌, ◌++◌, length, map, filter, drop, slice_index_or, slice_set, refl, sym, ap, ◌∙◌, subst, arith, append-nil}
+use Rattle.std.proofs.Common.{◌≡◌, ◌≢◌, ℕ, zero, suc, ◌+◌, ◌<◌, ◌≤◌, ◌==◌, ◌⊎◌, inl, inr, true, false, cond, List, [], ◌∷◌, ◌++◌, length, map, filter, drop, slice_index_or, slice_set, refl, sym, ap, ◌∙◌, subst, arith, append-nil}
 use Rattle.std.proofs.lemmas.Bool.Decides.{nat_tests}
 use Rattle.std.proofs.lemmas.List.{drop_all, get_or-set_same, get_or-set_other, length-map, length-set}
 use Rattle.std.proofs.lemmas.List.FromFn.{fill_by_all, get_or-map-range_with_len, length-map-range_with_len, map-range_with_len_more}
 use Rattle.std.specs.Global.{Vec}
-use Rattle.std.specs.List.{All, list_any}
+use Rattle.std.specs.List.{All}
 use Rattle.dsa_terms.specs.Claims.{IsIn, Rises}
 use Rattle.dsa_terms.specs.Parts.{numbers}
 use Rattle.lifetime.specs.Edges.{has_member}
 use Rattle.lifetime.specs.Places.{HasMembersBelow, ends_with}
 use Rattle.lifetime.specs.SectionList.{Section, no_section}
+use Rattle.lifetime.specs.Switching.{has_number}
 use Rattle.lifetime.specs.Views.{items_of, section_of}
 use Rattle.lifetime.specs.declared.section_list.Section.{Section as Declared}
 use Rattle.lifetime.proofs.Lists.{below, filter_more, map-append}
 
--- b is one of the members
-abbrev pub is_among : List ℕ → ℕ → Bool
-is_among members b = list_any (λ c. c == b) members
-
 -- s put last in the list where b is one of the members
 abbrev pub with_last : List ℕ → ℕ → ℕ → List ℕ → List ℕ
-with_last members s b places = places ++ cond (is_among members b) (s ∷ []) []
+with_last members s b places = places ++ cond (has_number members b) (s ∷ []) []
 
 -- the lists once the members up to place i have been gone over: what is left is as it was, with what is still to come
 pub record IsNoting (members : List ℕ) (s i : ℕ) (old lists : List (Vec ℕ)) : Type 0 where
@@ -32,17 +29,17 @@ pub record IsNoting (members : List ℕ) (s i : ℕ) (old lists : List (Vec ℕ)
 pub none_noted : (members : List ℕ) (s : ℕ) (old : List (Vec ℕ)) → IsNoting members s 0 old old
 none_noted members s old = record { count = refl; left = λ b d lt. refl }
 
-drop_at : (xs : List ℕ) (i : ℕ) → i < length xs → drop i xs ≡ slice_index_or xs i 0 ∷ drop (i + 1) xs
+pub drop_at : (xs : List ℕ) (i : ℕ) → i < length xs → drop i xs ≡ slice_index_or xs i 0 ∷ drop (i + 1) xs
 drop_at [] i lt = absurd (omega arith)
 drop_at (x ∷ xs) zero lt = refl
 drop_at (x ∷ xs) (suc i) lt = let k : suc i + 1 ≡ suc (i + 1) = omega arith in rw k (drop_at xs i (omega arith))
 
-rises_drop : (xs : List ℕ) (i : ℕ) → Rises xs → Rises (drop i xs)
+pub rises_drop : (xs : List ℕ) (i : ℕ) → Rises xs → Rises (drop i xs)
 rises_drop xs zero r = r
 rises_drop [] (suc i) r = tt
 rises_drop (x ∷ xs) (suc i) r = rises_drop xs i r.1
 
-not_among : (xs : List ℕ) (x : ℕ) → ((y : ℕ) → IsIn y xs → x < y) → is_among xs x ≡ false
+not_among : (xs : List ℕ) (x : ℕ) → ((y : ℕ) → IsIn y xs → x < y) → has_number xs x ≡ false
 not_among [] x h = refl
 not_among (y ∷ ys) x h = let k = h y (inl refl) in rw (differs y x k) (not_among ys x (λ z i. h z (inr i)))
   where
@@ -65,7 +62,7 @@ noted_more members s i x old lists more v w r n lt at xn is pushed e = record {
     dropped : drop i members ≡ x ∷ drop (i + 1) members
     dropped = rw at (drop_at members i lt)
 
-    later : is_among (drop (i + 1) members) x ≡ false
+    later : has_number (drop (i + 1) members) x ≡ false
     later = not_among (drop (i + 1) members) x (rw dropped at (rises_drop members i r)).0
 
     default : (lists : List (Vec ℕ)) (x : ℕ) (v d : Vec ℕ) → x < length lists →
@@ -158,6 +155,18 @@ pub section_at : (xs : List Declared) (s : ℕ) (x : Declared) → s < length xs
 section_at [] s x lt e = absurd (omega arith)
 section_at (y ∷ ys) zero x lt e = ap section_of (sym e)
 section_at (y ∷ ys) (suc s) x lt e = section_at ys s x (omega arith) e
+
+-- one of its members is below the count
+pub member_at : (count s : ℕ) (xs : List Declared) (x : Declared) (given : List ℕ) (i n : ℕ) →
+    All (HasMembersBelow count) (map section_of xs) → s < length xs → x ≡ slice_index_or xs s x →
+    given ≡ x.members.items → i < length given → n ≡ count → slice_index_or given i 0 < n
+member_at count s xs x given i n h lt e g il c = rw c (below_all i 0 il)
+  where
+    same : (slice_index_or (map section_of xs) s no_section).members ≡ given
+    same = ap (λ (y : Section). y.members) (section_at xs s x lt e) ∙ sym g
+
+    below_all : All (λ b. b < count) given
+    below_all = rw same at (h s no_section (let k = length-map xs section_of in omega arith)).in_range
 
 pub ready : (count s : ℕ) (xs : List Declared) (x : Declared) (given : List ℕ) (lists lent : List (Vec ℕ))
     (f : ℕ → List ℕ) → All (HasMembersBelow count) (map section_of xs) → s < length xs →

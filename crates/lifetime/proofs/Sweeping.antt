@@ -1,25 +1,21 @@
 -- Going from one edge moment to the next.
-use Rattle.std.proofs.Common.{◌≡◌, ◌≢◌, ℕ, suc, ◌<◌, ◌≤◌, ◌⊎◌, inl, inr, Bool, true, false, List, [], ◌∷◌, ◌++◌, length, filter, replicate, slice_index_or, refl, sym, ap, ◌∙◌, arith, length-append}
-use Rattle.std.proofs.lemmas.List.{get_or-replicate}
+use Rattle.std.proofs.Common.{◌≡◌, ◌≢◌, ℕ, suc, ◌<◌, ◌≤◌, ◌⊎◌, inl, inr, Bool, true, false, List, [], ◌∷◌, ◌++◌, length, filter, refl, sym, ap, ◌∙◌, arith, length-append}
 use Rattle.dsa_terms.specs.Buffers.{Instance, buffer, is_live}
 use Rattle.dsa_terms.specs.Claims.{IsIn}
 use Rattle.dsa_terms.specs.Parts.{numbers}
 use Rattle.dsa_terms.proofs.Lists.{from_append, nil_or_not, left_append, right_append}
-use Rattle.lifetime.specs.Edges.{AreEdges, AreRunsBefore, IsPassed, WereLiveFlags, edge_at, edge_moments}
-use Rattle.lifetime.specs.Flags.{flagged}
+use Rattle.lifetime.specs.Edges.{AreEdges, AreRunsBefore, IsPassed, edge_at, edge_moments}
 use Rattle.lifetime.specs.Runs.{BeginsRun, live_before, starts_of, was_live}
 use Rattle.lifetime.specs.SectionList.{Section, live_at}
-use Rattle.lifetime.proofs.Flagging.{flag_at, flagged_live, flags_from, flags_length}
 use Rattle.lifetime.proofs.Lists.{below, filter_same, map-append, place_of, rises-push}
 use Rattle.lifetime.proofs.Stays.{not_before, not_live_before_lower, quiet, was_live_after}
 
 -- what is known before the edges from the next on
-pub record IsSweeping (I : Instance) (edges : List (ℕ × ℕ)) (next : ℕ) (flags : List Bool) (sections : List Section) :
+pub record IsSweeping (I : Instance) (edges : List (ℕ × ℕ)) (next : ℕ) (live : List ℕ) (sections : List Section) :
     Type 0 where
   pub within : next ≤ length edges
   pub fresh : (k : ℕ) → k < next → next < length edges → (edge_at edges k).0 < (edge_at edges next).0
-  pub were : next < length edges → WereLiveFlags I (edge_at edges next).0 flags
-  pub count : length flags ≡ length I
+  pub were : next < length edges → live ≡ live_before I (edge_at edges next).0
   pub runs : AreRunsBefore I edges next sections
   pub limit : length sections ≤ next
 
@@ -62,15 +58,29 @@ stays_at I edges t a h = filter_same (λ b. is_live (buffer I b) t) (λ b. was_l
     (λ b i. let bn = below (length I) b i in quiet (buffer I b) t
     (λ j. let r = edge_place I edges b t a bn j in h r.0 r.1 r.2))
 
-pub sweeping_none : (I : Instance) (edges : List (ℕ × ℕ)) (flags : List Bool) → AreEdges I edges →
-    length flags ≡ length I → ((b : ℕ) → b < length I → slice_index_or flags b false ≡ false) →
-    IsSweeping I edges 0 flags []
-sweeping_none I edges flags a e h = record {
+-- nor was it before them
+none_before : (I : Instance) (edges : List (ℕ × ℕ)) → AreEdges I edges → 0 < length edges →
+    [] ≡ live_before I (edge_at edges 0).0
+unfolding live_before
+none_before I edges a lt = sym (none (numbers (length I)) (λ b i. i))
+  where
+    dead : (b : ℕ) → b < length I → was_live (buffer I b) (edge_at edges 0).0 ≡ false
+    dead b bn =
+        let r = edge_place I edges b (buffer I b).lower a bn (inl refl) in
+        let k = a.sorted 0 r.0 (0, 0) (omega arith) r.1 in let z = r.2 in
+        not_live_before_lower (buffer I b) (edge_at edges 0).0 (omega arith)
+
+    none : (bs : List ℕ) → ((b : ℕ) → IsIn b bs → IsIn b (numbers (length I))) →
+        filter (λ b. was_live (buffer I b) (edge_at edges 0).0) bs ≡ []
+    none [] h = refl
+    none (b ∷ bs) h = rw (dead b (below (length I) b (h b (inl refl)))) (none bs (λ c i. h c (inr i)))
+
+pub sweeping_none : (I : Instance) (edges : List (ℕ × ℕ)) (live : List ℕ) → AreEdges I edges → live ≡ [] →
+    IsSweeping I edges 0 live []
+sweeping_none I edges live a e = record {
   within = omega arith;
   fresh = λ k lt. absurd (omega arith);
-  were = λ lt. flags_from (λ b. was_live (buffer I b) (edge_at edges 0).0) (length I) flags e
-      (λ b bn. h b bn ∙ sym (dead b bn));
-  count = e;
+  were = λ lt. e ∙ none_before I edges a lt;
   runs = record {
     each = λ x i. absurd i;
     rise = tt;
@@ -82,23 +92,25 @@ sweeping_none I edges flags a e h = record {
   };
   limit = omega arith;
 }
-  where
-    dead : (b : ℕ) → b < length I → was_live (buffer I b) (edge_at edges 0).0 ≡ false
-    dead b bn =
-        let r = edge_place I edges b (buffer I b).lower a bn (inl refl) in
-        let k = a.sorted 0 r.0 (0, 0) (omega arith) r.1 in let z = r.2 in
-        not_live_before_lower (buffer I b) (edge_at edges 0).0 (omega arith)
+
+-- what is live at a moment was live before a later one, if no edge lies between
+stays_until : (I : Instance) (t next : ℕ) → t < next →
+    ((b : ℕ) → b < length I → (u : ℕ) → t < u → u < next → IsIn u (edge_moments (buffer I b)) → ⊥) →
+    live_at I t ≡ live_before I next
+unfolding live_at live_before
+stays_until I t next lt h = filter_same (λ b. is_live (buffer I b) t) (λ b. was_live (buffer I b) next)
+    (numbers (length I)) (λ b i. sym (was_live_after (buffer I b) t next lt (h b (below (length I) b i))))
 
 -- ---- one moment on
-pub record MovesOn (I : Instance) (edges : List (ℕ × ℕ)) (first next : ℕ) (flags now : List Bool)
+pub record MovesOn (I : Instance) (edges : List (ℕ × ℕ)) (first next : ℕ) (live now : List ℕ)
     (sections more : List Section) (changed : Bool) : Type 0 where
   pub edges_of_it : AreEdges I edges
-  pub before : IsSweeping I edges first flags sections
+  pub before : IsSweeping I edges first live sections
   pub in_edges : first < length edges
   pub passed : IsPassed I edges first next changed now
 
-module _ (I : Instance) (edges : List (ℕ × ℕ)) (first next : ℕ) (flags now : List Bool) (sections more : List Section)
-    (changed : Bool) (m : MovesOn I edges first next flags now sections more changed) where
+module _ (I : Instance) (edges : List (ℕ × ℕ)) (first next : ℕ) (live now : List ℕ) (sections more : List Section)
+    (changed : Bool) (m : MovesOn I edges first next live now sections more changed) where
   moment : ℕ
   moment = (edge_at edges first).0
 
@@ -174,7 +186,8 @@ module _ (I : Instance) (edges : List (ℕ × ℕ)) (first next : ℕ) (flags no
           BeginsRun I t × ((k : ℕ) → next ≤ k → k < length edges → t < (edge_at edges k).0)
       forth t i = elim (from_append (starts_of sections) ((edge_at edges first).0 ∷ []) t
           (rw (map-append (λ (x : Section). x.start) sections (added ∷ [])) at i)) [
-            | inl j ↦ let q = (m.before.runs.runs t).0 j in (q.0, before_next t (let z = first_before t q.1 in omega arith))
+            | inl j ↦ let q = (m.before.runs.runs t).0 j in
+                (q.0, before_next t (let z = first_before t q.1 in omega arith))
             | inr j ↦ elim j [ inl f ↦ (rw f begins, before_next t (omega arith)) | inr k ↦ absurd k ]
           ]
 
@@ -192,13 +205,10 @@ module _ (I : Instance) (edges : List (ℕ × ℕ)) (first next : ℕ) (flags no
         | inr r ↦ elim r [ inl same ↦ put t (inr same) | inr later ↦ absurd (q.0.changed (none_between t later q.1)) ]
       ]
 
-  -- the flags tell at the next edges what was live before them
-  pub were_next : next < length edges → WereLiveFlags I (edge_at edges next).0 now
-  were_next lt = flags_from (λ b. was_live (buffer I b) (edge_at edges next).0) (length I) now
-      (flags_length (λ b. is_live (buffer I b) (edge_at edges first).0) (length I) now m.passed.are)
-      (λ b bn. flag_at (λ b. is_live (buffer I b) (edge_at edges first).0) (length I) b now m.passed.are bn
-      ∙ sym (was_live_after (buffer I b) (edge_at edges first).0 (edge_at edges next).0
-      (m.passed.after.later next (omega arith) lt) (between b bn)))
+  -- what is live now was live before the next edges
+  pub were_next : next < length edges → now ≡ live_before I (edge_at edges next).0
+  were_next lt = m.passed.are ∙ stays_until I (edge_at edges first).0 (edge_at edges next).0
+      (m.passed.after.later next (omega arith) lt) between
     where
       between : (b : ℕ) → b < length I → (u : ℕ) → (edge_at edges first).0 < u → u < (edge_at edges next).0 →
           IsIn u (edge_moments (buffer I b)) → ⊥
@@ -216,7 +226,6 @@ module _ (I : Instance) (edges : List (ℕ × ℕ)) (first next : ℕ) (flags no
     fresh = λ k lt nl. let a = m.passed.after.passed k lt in let b = m.passed.after.later next (omega arith) nl in
         omega arith;
     were = were_next;
-    count = flags_length (λ b. is_live (buffer I b) (edge_at edges first).0) (length I) now m.passed.are;
     runs = runs;
     limit = let a = m.before.limit in let b = m.passed.later in omega arith;
   }
@@ -228,26 +237,25 @@ module _ (I : Instance) (edges : List (ℕ × ℕ)) (first next : ℕ) (flags no
     fresh = λ k lt nl. let a = m.passed.after.passed k lt in let b = m.passed.after.later next (omega arith) nl in
         omega arith;
     were = were_next;
-    count = flags_length (λ b. is_live (buffer I b) (edge_at edges first).0) (length I) now m.passed.are;
     runs = runs_same (inl (m.passed.same e));
     limit = let a = m.before.limit in let b = m.passed.later in omega arith;
   }
 
   -- what is live changed: a section more, unless nothing is
-  pub moved_changed : (given : List Bool) → given ≡ now → (flagged given ≡ [] → more ≡ sections) →
-      (flagged given ≢ [] → more ≡ sections ++ (record { start = (edge_at edges first).0; members = flagged given }) ∷
-      []) → changed ≡ true → IsSweeping I edges next now more
-  moved_changed given same none some e = go (nil_or_not (flagged given))
+  pub moved_changed : (given : List ℕ) → given ≡ now → (given ≡ [] → more ≡ sections) →
+      (given ≢ [] → more ≡ sections ++ (record { start = (edge_at edges first).0; members = given }) ∷ []) →
+      changed ≡ true → IsSweeping I edges next now more
+  moved_changed given same none some e = go (nil_or_not given)
     where
-      live : flagged given ≡ live_at I (edge_at edges first).0
-      live = ap flagged same ∙ flagged_live I (edge_at edges first).0 now m.passed.are
+      is_live_now : given ≡ live_at I (edge_at edges first).0
+      is_live_now = same ∙ m.passed.are
 
       not_nil : (xs : List ℕ) (x : ℕ) → IsIn x xs → xs ≢ []
       not_nil [] x i f = i
       not_nil (y ∷ ys) x i f = absurd cc
 
-      go : (flagged given ≡ []) ⊎ ((x : ℕ) × IsIn x (flagged given)) → IsSweeping I edges next now more
-      go (inl f) = rw (none f) (moved_on_same (inr (sym live ∙ f)))
+      go : (given ≡ []) ⊎ ((x : ℕ) × IsIn x given) → IsSweeping I edges next now more
+      go (inl f) = rw (none f) (moved_on_same (inr (sym is_live_now ∙ f)))
         where
           moved_on_same : (live_at I (edge_at edges first).0 ≡ live_before I (edge_at edges first).0) ⊎
               (live_at I (edge_at edges first).0 ≡ []) → IsSweeping I edges next now sections
@@ -256,19 +264,19 @@ module _ (I : Instance) (edges : List (ℕ × ℕ)) (first next : ℕ) (flags no
             fresh = λ k lt nl. let a = m.passed.after.passed k lt in let b = m.passed.after.later next (omega arith) nl
                 in omega arith;
             were = were_next;
-            count = flags_length (λ b. is_live (buffer I b) (edge_at edges first).0) (length I) now m.passed.are;
             runs = runs_same q;
             limit = let a = m.before.limit in let b = m.passed.later in omega arith;
           }
       go (inr r) =
-          let nonempty : flagged given ≢ [] = not_nil (flagged given) r.0 r.1 in
+          let nonempty : given ≢ [] = not_nil given r.0 r.1 in
           let added : more ≡ sections ++ (record {
             start = (edge_at edges first).0;
             members = live_at I
                 (edge_at edges first).0;
           }) ∷ [] =
-          some nonempty ∙ ap (λ ms. sections ++ (record { start = (edge_at edges first).0; members = ms }) ∷ []) live in
-          moved_on (runs_more (m.passed.differs e) (rw (← live) nonempty) added)
+          some nonempty
+          ∙ ap (λ ms. sections ++ (record { start = (edge_at edges first).0; members = ms }) ∷ []) is_live_now in
+          moved_on (runs_more (m.passed.differs e) (rw (← is_live_now) nonempty) added)
           (rw (
             added,
             length-append sections ((record {
@@ -277,8 +285,3 @@ module _ (I : Instance) (edges : List (ℕ × ℕ)) (first next : ℕ) (flags no
                   (edge_at edges first).0;
             }) ∷ []),
           ) (omega arith))
-
--- flags that are all clear
-pub all_clear : (n : ℕ) (flags : List Bool) → flags ≡ replicate n false → (b : ℕ) → b < n →
-    slice_index_or flags b false ≡ false
-all_clear n flags e b lt = ap (λ xs. slice_index_or xs b false) e ∙ get_or-replicate n b false false lt

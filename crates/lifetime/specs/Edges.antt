@@ -1,12 +1,13 @@
 -- Edges: moments at which a lifetime or a gap begins or ends.
-use Rattle.std.specs.Prelude.{◌≡◌, ◌≢◌, ℕ, ◌*◌, ◌<◌, ◌≤◌, ◌==◌, ◌↔◌, Bool, true, false, List, [], ◌∷◌, length, map, slice_index_or}
-use Rattle.std.specs.List.{All, filter, flat_map, list_any}
+use Rattle.std.specs.Prelude.{◌≡◌, ◌≢◌, ℕ, ◌*◌, ◌<◌, ◌≤◌, ◌↔◌, Bool, true, false, List, [], ◌∷◌, length, map, slice_index_or}
+use Rattle.std.specs.List.{All, filter, flat_map}
 use Rattle.std.specs.List.Sorted.{IsNonDecreasingBy}
-use Rattle.dsa_terms.specs.Buffers.{Buffer, Instance, buffer, is_live}
+use Rattle.dsa_terms.specs.Buffers.{Buffer, Instance, buffer}
 use Rattle.dsa_terms.specs.Claims.{IsIn, Rises}
 use Rattle.dsa_terms.specs.Parts.{numbers}
 use Rattle.lifetime.specs.SectionList.{Section, live_at, no_section}
-use Rattle.lifetime.specs.Runs.{BeginsRun, live_before, starts_of, was_live}
+use Rattle.lifetime.specs.Switching.{has_number}
+use Rattle.lifetime.specs.Runs.{BeginsRun, live_before, starts_of}
 
 -- the ends of the gaps
 abbrev pub gap_ends : List (ℕ × ℕ) → List ℕ
@@ -31,29 +32,21 @@ pub record AreEdges (I : Instance) (edges : List (ℕ × ℕ)) : Type 0 where
 abbrev pub edge_at : List (ℕ × ℕ) → ℕ → ℕ × ℕ
 edge_at edges k = slice_index_or edges k (0, 0)
 
--- the flags tell which buffers are live at t
-abbrev pub AreLiveFlags : Instance → ℕ → List Bool → Type 0
-AreLiveFlags I t flags = flags ≡ map (λ b. is_live (buffer I b) t) (numbers (length I))
-
--- the flags tell which buffers were live at the moment before t
-abbrev pub WereLiveFlags : Instance → ℕ → List Bool → Type 0
-WereLiveFlags I t flags = flags ≡ map (λ b. was_live (buffer I b) t) (numbers (length I))
-
 -- from this place on all edges are later than t, and before it none is
 pub record IsAfter (edges : List (ℕ × ℕ)) (next t : ℕ) : Type 0 where
   pub within : next ≤ length edges
   pub passed : (k : ℕ) → k < next → (edge_at edges k).0 ≤ t
   pub later : (k : ℕ) → next ≤ k → k < length edges → t < (edge_at edges k).0
 
--- the edges from the first up to the next are those of one moment: the flags tell what is live then, and whether
--- that is a change is told
-pub record IsPassed (I : Instance) (edges : List (ℕ × ℕ)) (first next : ℕ) (changed : Bool) (flags : List Bool) : Type
-    0 where
-  pub after : IsAfter edges next (edge_at edges first).0
-  pub later : first < next
-  pub are : AreLiveFlags I (edge_at edges first).0 flags
-  pub same : changed ≡ false → live_at I (edge_at edges first).0 ≡ live_before I (edge_at edges first).0
-  pub differs : changed ≡ true → live_at I (edge_at edges first).0 ≢ live_before I (edge_at edges first).0
+-- the edges from the first up to the next are those of one moment, the list has what is live then, and it is told
+-- whether that is a change
+pub record IsPassed (I : Instance) (edges : List (ℕ × ℕ)) (first next : ℕ) (changed : Bool) (live : List ℕ) : Type 0
+  where
+    pub after : IsAfter edges next (edge_at edges first).0
+    pub later : first < next
+    pub are : live ≡ live_at I (edge_at edges first).0
+    pub same : changed ≡ false → live_at I (edge_at edges first).0 ≡ live_before I (edge_at edges first).0
+    pub differs : changed ≡ true → live_at I (edge_at edges first).0 ≢ live_before I (edge_at edges first).0
 
 -- each section has what is live at its start, and the starts are the moments before the given edge at which runs begin
 pub record AreRunsBefore (I : Instance) (edges : List (ℕ × ℕ)) (next : ℕ) (sections : List Section) : Type 0 where
@@ -64,7 +57,7 @@ pub record AreRunsBefore (I : Instance) (edges : List (ℕ × ℕ)) (next : ℕ)
 
 -- the section has the buffer
 abbrev pub has_member : Section → ℕ → Bool
-has_member x b = list_any (λ c. c == b) x.members
+has_member x b = has_number x.members b
 
 -- the places of the sections that have the buffer
 abbrev pub places_of : List Section → ℕ → List ℕ

@@ -1,10 +1,10 @@
 -- Runs of moments in which the same buffers are live.
-use Rattle.std.specs.Prelude.{◌≢◌, ℕ, zero, suc, ◌↔◌, Bool, false, List, [], length, map}
+use Rattle.std.specs.Prelude.{◌≡◌, ◌≢◌, ℕ, zero, suc, ◌<◌, ◌↔◌, Bool, false, List, [], length, map}
 use Rattle.std.specs.List.{filter}
 use Rattle.dsa_terms.specs.Buffers.{Buffer, Instance, buffer, is_live}
-use Rattle.dsa_terms.specs.Claims.{IsIn}
+use Rattle.dsa_terms.specs.Claims.{IsIn, Rises}
 use Rattle.dsa_terms.specs.Parts.{numbers}
-use Rattle.lifetime.specs.SectionList.{Section, SectionList, live_at}
+use Rattle.lifetime.specs.SectionList.{Section, SectionList, count_of, live_at, start_of}
 
 -- the buffer is live at the moment before t, where there is one
 unfoldable pub was_live : Buffer → ℕ → Bool
@@ -24,6 +24,12 @@ pub record BeginsRun (I : Instance) (t : ℕ) : Type 0 where
 abbrev pub starts_of : List Section → List ℕ
 starts_of sections = map (λ (x : Section). x.start) sections
 
--- the starts of the sections are the moments at which runs begin
-abbrev pub HasEachRun : Instance → SectionList → Type 0
-HasEachRun I S = (t : ℕ) → IsIn t (starts_of S.sections) ↔ BeginsRun I t
+-- the sections start at the moments at which runs begin, in order, and each has what is live at its start
+pub record ArePlainRuns (I : Instance) (sections : List Section) : Type 0 where
+  pub each : (x : Section) → IsIn x sections → x.members ≡ live_at I x.start
+  pub rise : Rises (starts_of sections)
+  pub runs : (t : ℕ) → IsIn t (starts_of sections) ↔ BeginsRun I t
+
+-- each section starts where a run begins
+abbrev pub AreRuns : Instance → SectionList → Type 0
+AreRuns I S = (s : ℕ) → s < count_of S → BeginsRun I (start_of S s)

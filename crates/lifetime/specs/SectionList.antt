@@ -1,8 +1,8 @@
 -- Sections as a value, and when they are those of an instance.
-use Rattle.std.specs.Prelude.{◌≡◌, ◌≢◌, ℕ, ◌<◌, ◌↔◌, List, [], length, slice_index_or}
-use Rattle.std.specs.List.{filter}
+use Rattle.std.specs.Prelude.{◌≡◌, ◌≢◌, ℕ, ◌<◌, ◌^◌, ◌↔◌, List, [], length, slice_index_or}
+use Rattle.std.specs.List.{All, filter}
 use Rattle.dsa_terms.specs.Buffers.{Instance, buffer, is_live, IsLive, Share}
-use Rattle.dsa_terms.specs.Claims.{IsIn}
+use Rattle.dsa_terms.specs.Claims.{IsIn, Rises}
 use Rattle.dsa_terms.specs.Parts.{numbers}
 use Rattle.dsa_terms.specs.Plans.{IsPeak}
 
@@ -39,6 +39,26 @@ members_of S s = (slice_index_or S.sections s no_section).members
 -- the places of the sections of buffer b
 abbrev pub sections_of : SectionList → ℕ → List ℕ
 sections_of S b = slice_index_or S.of_buffers b []
+
+-- what every section list keeps
+pub record IsKept (S : SectionList) : Type 0 where
+  -- there are fewer than 2^32 sections
+  pub limit : count_of S < 2 ^ 32
+  -- starts rise
+  pub rise : (r s : ℕ) → r < s → s < count_of S → start_of S r < start_of S s
+  -- the members of a section rise
+  pub members_rise : (s : ℕ) → s < count_of S → Rises (members_of S s)
+  -- each is a buffer that has a list of places
+  pub members_in_range : (s : ℕ) → s < count_of S → All (λ b. b < length S.of_buffers) (members_of S s)
+  -- and there is one at least
+  pub members_not_empty : (s : ℕ) → s < count_of S → members_of S s ≢ []
+  -- the sections of a buffer rise
+  pub places_rise : (b : ℕ) → b < length S.of_buffers → Rises (sections_of S b)
+  -- each is a section of the list
+  pub places_in_range : (b : ℕ) → b < length S.of_buffers → All (λ s. s < count_of S) (sections_of S b)
+  -- and they are those that have the buffer
+  pub each_other : (b s : ℕ) → b < length S.of_buffers → s < count_of S →
+      IsIn s (sections_of S b) ↔ IsIn b (members_of S s)
 
 -- the buffers that are live at t, in rising order
 unfoldable pub live_at : Instance → ℕ → List ℕ

@@ -1,5 +1,5 @@
 -- What the parts of a section list stand for.
-use Rattle.std.specs.Prelude.{ℕ, List}
+use Rattle.std.specs.Prelude.{ℕ, List, map}
 use Rattle.std.specs.Global.{Vec}
 use Rattle.lifetime.specs.SectionList as terms
 use Rattle.lifetime.specs.declared.section_list.Section.{Section}
@@ -11,3 +11,7 @@ items_of v = v.items
 -- a section by its moment and the list of its members
 abbrev pub section_of : Section → terms.Section
 section_of x = record { start = x.start; members = x.members.items }
+
+-- a section list by its sections and its lists of places
+abbrev pub list_of : List Section → List (Vec ℕ) → terms.SectionList
+list_of sections of_buffers = record { sections = map section_of sections; of_buffers = map items_of of_buffers }

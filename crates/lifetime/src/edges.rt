@@ -23,7 +23,7 @@ fn push_edges(edges: &mut Vec<(u64, u32)>, buffer: &Buffer, b: u32) -> Result<()
 pub(crate) fn edges(alloc: Global, instance: &Instance) -> Result<Vec<(u64, u32)>, AllocError>
     ensures { IfOk result (λ edges. AreEdges instance.now edges.items) }
 {
-    let mut edges = Vec::new(alloc);
+    let mut edges = Vec::with_capacity(alloc, 2 * instance.len() as usize)?;
     for b in 0..instance.len() {
         push_edges(&mut edges, instance.buffer(b), b)?;
     }

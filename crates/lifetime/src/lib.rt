@@ -9,5 +9,6 @@ mod section_list;
 mod sweep;
 #[cfg(test)]
 mod tests;
+mod thin;
 
 pub use section_list::Sections;

@@ -11,13 +11,33 @@ ghost use Rattle.lifetime.specs.Views.{items_of, section_of};
 use crate::section_list::Section;
 use std::alloc::{AllocError, Global};
 
-/// As many empty lists.
-fn empty_lists(alloc: Global, count: usize) -> Result<Vec<Vec<u32>>, AllocError>
+/// How many sections have each buffer.
+fn entries(alloc: Global, sections: &[Section], count: usize) -> Result<Vec<usize>, AllocError>
+    requires { AreMembersBelow count (map section_of sections.now) }
+    ensures { IfOk result (λ entries. length entries.items ≡ count) }
+{
+    let mut entries = vec![in alloc; 0usize; count]?;
+    for section in sections {
+        for b in &section.members {
+            entries[*b as usize] = entries[*b as usize].saturating_add(1);
+        }
+    }
+    Ok(entries)
+}
+
+/// An empty list for each buffer, with room for the places of its sections.
+fn empty_lists(
+    alloc: Global,
+    sections: &[Section],
+    count: usize,
+) -> Result<Vec<Vec<u32>>, AllocError>
+    requires { AreMembersBelow count (map section_of sections.now) }
     ensures { IfOk result (λ lists. map items_of lists.items ≡ map (λ _. []) (numbers count)) }
 {
-    let mut lists = Vec::new(alloc);
-    for _b in 0..count {
-        lists.push(Vec::new(alloc))?;
+    let entries = entries(alloc, sections, count)?;
+    let mut lists = Vec::with_capacity(alloc, count)?;
+    for places in &entries {
+        lists.push(Vec::with_capacity(alloc, *places)?)?;
     }
     Ok(lists)
 }
@@ -46,7 +66,7 @@ pub(crate) fn places(
     ensures { IfOk result (λ lists.
         map items_of lists.items ≡ map (places_of (map section_of sections.now)) (numbers count)) }
 {
-    let mut lists = empty_lists(alloc, count)?;
+    let mut lists = empty_lists(alloc, sections, count)?;
     for s in 0..sections.len() {
         note(&mut lists, &sections[s].members, s as u32)?;
     }

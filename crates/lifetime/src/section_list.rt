@@ -1,8 +1,8 @@
 //! A list of sections.
 
-ghost use Rattle.std.specs.Prelude.{◌≡◌, ◌<◌, ◌^◌, length, map};
-ghost use Rattle.lifetime.specs.SectionList.{count_of, members_of, sections_of, start_of};
-ghost use Rattle.lifetime.specs.Views.{items_of, section_of};
+ghost use Rattle.std.specs.Prelude.{◌≡◌, ◌<◌, ◌^◌, length};
+ghost use Rattle.lifetime.specs.SectionList.{IsKept, count_of, members_of, sections_of, start_of};
+ghost use Rattle.lifetime.specs.Views.{list_of};
 
 use std::marker::Model;
 
@@ -22,28 +22,21 @@ pub struct Sections {
 }
 
 impl Model for Sections {
-    ghost use Rattle.std.specs.Prelude.{map, ◌<◌, ◌^◌, length};
-    ghost use Rattle.lifetime.specs.SectionList.{SectionList};
-    ghost use Rattle.lifetime.specs.Views.{items_of, section_of};
+    ghost use Rattle.lifetime.specs.SectionList.{IsKept, SectionList};
+    ghost use Rattle.lifetime.specs.Views.{list_of};
 
     ghost Value = { SectionList };
 
-    ghost view = { λ s. record {
-      sections = map section_of s.sections.items;
-      of_buffers = map items_of s.of_buffers.items;
-    } };
+    ghost view = { λ s. list_of s.sections.items s.of_buffers.items };
 
-    ghost invariant = { λ s. length s.sections.items < 2 ^ 32 };
+    ghost invariant = { λ s. IsKept (list_of s.sections.items s.of_buffers.items) };
 }
 
 impl Sections {
     /// These sections, and these places of each buffer's.
     pub(crate) fn of_lists(sections: Vec<Section>, of_buffers: Vec<Vec<u32>>) -> Sections
-        requires { length sections.items < 2 ^ 32 }
-        ensures { result ≡ record {
-          sections = map section_of sections.items;
-          of_buffers = map items_of of_buffers.items;
-        } }
+        requires { IsKept (list_of sections.items of_buffers.items) }
+        ensures { result ≡ list_of sections.items of_buffers.items }
     {
         Sections {
             sections,
@@ -55,22 +48,26 @@ impl Sections {
     pub fn count(&self) -> u32
         ensures value { result ≡ count_of self.now }
         ensures limit { count_of self.now < 2 ^ 32 }
+        ensures kept { IsKept self.now }
     {
         self.sections.len() as u32
     }
 
-    /// The moment of section s; the caller owes that s is below the count.
+    /// The moment of section s, which rises with s; the caller owes that s is below the count.
     pub fn start(&self, s: u32) -> u64
         requires { s < count_of self.now }
-        ensures { result ≡ start_of self.now s }
+        ensures value { result ≡ start_of self.now s }
+        ensures kept { IsKept self.now }
     {
         self.sections[s as usize].start
     }
 
-    /// The buffers of section s, by rising number; the caller owes that s is below the count.
+    /// The buffers of section s, at least one, by rising number; the caller owes that s is below
+    /// the count.
     pub fn members(&self, s: u32) -> &[u32]
         requires { s < count_of self.now }
-        ensures { result.now ≡ members_of self.now s }
+        ensures value { result.now ≡ members_of self.now s }
+        ensures kept { IsKept self.now }
     {
         self.sections[s as usize].members.as_slice()
     }
@@ -79,7 +76,8 @@ impl Sections {
     /// instance's buffers.
     pub fn sections_of(&self, b: u32) -> &[u32]
         requires { b < length self.now.of_buffers }
-        ensures { result.now ≡ sections_of self.now b }
+        ensures value { result.now ≡ sections_of self.now b }
+        ensures kept { IsKept self.now }
     {
         self.of_buffers[b as usize].as_slice()
     }

@@ -1,9 +1,11 @@
 //! Going over the edges in order of time.
 
-ghost use Rattle.std.specs.Prelude.{◌≡◌, ◌≢◌, ◌<◌, ◌≤◌, ◌++◌, ◌∷◌, ◌^◌, ℕ, [], length, map, IfOk, OnOk};
-ghost use Rattle.lifetime.specs.Edges.{AreEdges, AreRunsBefore, IsPassed, WereLiveFlags, edge_at};
-ghost use Rattle.lifetime.specs.Flags.{flagged};
+ghost use Rattle.std.specs.Prelude.{◌≡◌, ◌≢◌, ◌<◌, ◌≤◌, ◌++◌, ◌∷◌, ◌↔◌, ℕ, [], length, map, IfOk, IsTrue, OnOk};
+ghost use Rattle.dsa_terms.specs.Claims.{Rises};
+ghost use Rattle.lifetime.specs.Edges.{AreEdges, AreRunsBefore, IsPassed, edge_at};
+ghost use Rattle.lifetime.specs.Runs.{live_before};
 ghost use Rattle.lifetime.specs.SectionList.{section_with};
+ghost use Rattle.lifetime.specs.Switching.{IsSwitched, has_number};
 ghost use Rattle.lifetime.specs.Views.{section_of};
 
 use crate::section_list::Section;
@@ -17,41 +19,55 @@ struct Passed {
     changed: bool,
 }
 
-/// Brings the flags up to date with all edges at the moment of the first of them.
-fn pass(instance: &Instance, edges: &[(u64, u32)], first: usize, live: &mut [bool]) -> Passed
+/// Puts b into the rising list if it is wanted there and takes it out if not; tells whether that
+/// changed the list.
+fn switch(numbers: &mut Vec<u32>, b: u32, wanted: bool) -> Result<bool, AllocError>
+    requires { Rises numbers.old.items }
+    ensures switched { OnOk result (IsSwitched numbers.old.items b wanted numbers.new.items) }
+    ensures changed { IfOk result (λ changed.
+        IsTrue changed ↔ (has_number numbers.old.items b ≢ wanted)) }
+{
+    match numbers.binary_search(&b) {
+        Ok(place) => {
+            if !wanted {
+                numbers.remove(place);
+            }
+            Ok(!wanted)
+        }
+        Err(place) => {
+            if wanted {
+                numbers.insert(place, b)?;
+            }
+            Ok(wanted)
+        }
+    }
+}
+
+/// Brings the list of what is live up to date with all edges at the moment of the first of them.
+fn pass(
+    instance: &Instance,
+    edges: &[(u64, u32)],
+    first: usize,
+    live: &mut Vec<u32>,
+) -> Result<Passed, AllocError>
     requires edges { AreEdges instance.now edges.now }
     requires in_edges { first < length edges.now }
     requires fresh { (k : ℕ) → k < first → (edge_at edges.now k).0 < (edge_at edges.now first).0 }
-    requires were { WereLiveFlags instance.now (edge_at edges.now first).0 live.old }
-    ensures { IsPassed instance.now edges.now first result.next result.changed live.new }
+    requires were { live.old.items ≡ live_before instance.now (edge_at edges.now first).0 }
+    ensures { IfOk result (λ passed.
+        IsPassed instance.now edges.now first passed.next passed.changed live.new.items) }
 {
     let moment = edges[first].0;
     let mut next = first;
     let mut changed = false;
     while next < edges.len() && edges[next].0 == moment {
         let b = edges[next].1;
-        let lives = instance.buffer(b).live_at(moment);
-        if live[b as usize] != lives {
-            live[b as usize] = lives;
+        if switch(live, b, instance.buffer(b).live_at(moment))? {
             changed = true;
         }
         next += 1;
     }
-    Passed { next, changed }
-}
-
-/// The numbers whose flags are set, in rising order.
-fn flagged(alloc: Global, flags: &[bool]) -> Result<Vec<u32>, AllocError>
-    requires { length flags.now < 2 ^ 32 }
-    ensures { IfOk result (λ members. members.items ≡ flagged flags.now) }
-{
-    let mut members = Vec::new(alloc);
-    for b in 0..flags.len() {
-        if flags[b] {
-            members.push(b as u32)?;
-        }
-    }
-    Ok(members)
+    Ok(Passed { next, changed })
 }
 
 /// Appends the section of a moment, where something is live.
@@ -59,16 +75,14 @@ fn push_section(
     alloc: Global,
     sections: &mut Vec<Section>,
     start: u64,
-    live: &[bool],
+    live: &[u32],
 ) -> Result<(), AllocError>
-    requires { length live.now < 2 ^ 32 }
-    ensures none { OnOk result (flagged live.now ≡ [] → sections.new.items ≡ sections.old.items) }
-    ensures some { let added = section_with start (flagged live.now) in
-        OnOk result (flagged live.now ≢ [] →
+    ensures none { OnOk result (live.now ≡ [] → sections.new.items ≡ sections.old.items) }
+    ensures some { let added = section_with start live.now in OnOk result (live.now ≢ [] →
         map section_of sections.new.items ≡ map section_of sections.old.items ++ added ∷ []) }
 {
-    let members = flagged(alloc, live)?;
-    if !members.is_empty() {
+    if !live.is_empty() {
+        let members = Vec::from_slice(alloc, live)?;
         sections.push(Section { start, members })?;
     }
     Ok(())
@@ -85,12 +99,12 @@ pub(crate) fn runs(
         AreRunsBefore instance.now edges.now (length edges.now) (map section_of sections.items)) }
     ensures limit { IfOk result (λ sections. length sections.items ≤ length edges.now) }
 {
-    let mut live = vec![in alloc; false; instance.len() as usize]?;
+    let mut live = Vec::with_capacity(alloc, instance.len() as usize)?;
     let mut sections = Vec::new(alloc);
     let mut next = 0;
     while next < edges.len() {
         let moment = edges[next].0;
-        let passed = pass(instance, edges, next, &mut live);
+        let passed = pass(instance, edges, next, &mut live)?;
         if passed.changed {
             push_section(alloc, &mut sections, moment, &live)?;
         }

@@ -3,6 +3,8 @@
 ghost use Rattle.std.specs.Prelude.{◌<◌, ◌^◌, length};
 
 use crate::Sections;
+use crate::build::plain_runs;
+use crate::section_list::Section;
 use dsa_model::{Buffer, BufferFault, Fail, Instance};
 use std::alloc::{AllocError, Global};
 use std::test;
@@ -50,20 +52,53 @@ fn listed(alloc: Global, sections: &Sections) -> Result<Vec<u64>, AllocError> {
     Ok(found)
 }
 
+/// The same of sections that are in no list yet.
+fn listed_plainly(alloc: Global, sections: &[Section]) -> Result<Vec<u64>, AllocError> {
+    let mut found = Vec::new(alloc);
+    for section in sections {
+        found.push(section.start)?;
+        for b in &section.members {
+            found.push(*b as u64)?;
+        }
+        found.push(99)?;
+    }
+    Ok(found)
+}
+
 #[test]
-fn a_section_begins_where_what_is_live_changes(rt: HostRuntime) -> Result<(), test::Fail> {
+fn a_run_begins_where_what_is_live_changes(rt: HostRuntime) -> Result<(), test::Fail> {
     let alloc = rt.alloc();
-    let two: [(u32, u32, u32, u32); 2] = [(0, 10, 4, 1), (4, 6, 4, 1)];
     let longer: [(u32, u32, u32, u32); 2] = [(0, 10, 4, 1), (4, 7, 4, 1)];
     let rows: [(&[(u32, u32, u32, u32)], &[(u64, u64)], &[u64]); 4] = [
         (&[], &[], &[]),
         (&FIVE, &[], &[0, 0, 2, 4, 99, 3, 1, 2, 4, 99, 9, 3, 4, 99]),
-        (&two, &[(4, 6)], &[0, 0, 99, 4, 1, 99, 6, 0, 99]),
         (
             &longer,
             &[(4, 6)],
             &[0, 0, 99, 4, 1, 99, 6, 0, 1, 99, 7, 0, 99],
         ),
+        (&[(1, 9, 1, 1)], &[(2, 5), (3, 6)], &[1, 0, 99, 6, 0, 99]),
+    ];
+    for (buffers, gaps, want) in rows {
+        let runs = plain_runs(alloc, &instance_of(alloc, buffers, gaps)?)?;
+        assert_eq!(rt; listed_plainly(alloc, &runs)?.as_slice(), want);
+    }
+    Ok(())
+}
+
+#[test]
+fn a_section_within_a_neighbour_is_left_out(rt: HostRuntime) -> Result<(), test::Fail> {
+    let alloc = rt.alloc();
+    let two: [(u32, u32, u32, u32); 2] = [(0, 10, 4, 1), (4, 6, 4, 1)];
+    let longer: [(u32, u32, u32, u32); 2] = [(0, 10, 4, 1), (4, 7, 4, 1)];
+    let equal: [(u32, u32, u32, u32); 2] = [(0, 10, 4, 1), (0, 10, 4, 1)];
+    let rows: [(&[(u32, u32, u32, u32)], &[(u64, u64)], &[u64]); 6] = [
+        (&[], &[], &[]),
+        (&FIVE, &[], &[0, 0, 2, 4, 99, 3, 1, 2, 4, 99, 9, 3, 4, 99]),
+        (&two, &[(4, 6)], &[0, 0, 99, 4, 1, 99, 6, 0, 99]),
+        (&longer, &[(4, 6)], &[6, 0, 1, 99]),
+        (&equal, &[(4, 6)], &[0, 0, 1, 99]),
+        (&[(1, 9, 1, 1)], &[(2, 5), (3, 6)], &[1, 0, 99]),
     ];
     for (buffers, gaps, want) in rows {
         let sections = Sections::build(alloc, &instance_of(alloc, buffers, gaps)?)?;
@@ -72,15 +107,69 @@ fn a_section_begins_where_what_is_live_changes(rt: HostRuntime) -> Result<(), te
     Ok(())
 }
 
+/// Eight buffers with a gap each, from a made sequence of numbers.
+fn made_instance(alloc: Global, start: u64) -> Result<Instance, Fail<BufferFault>> {
+    let mut instance = Instance::new(alloc);
+    let mut seed = start;
+    for _b in 0..8 {
+        seed = seed
+            .wrapping_mul(6364136223846793005)
+            .wrapping_add(1442695040888963407);
+        let lower = (seed >> 30) % 16;
+        let from = lower + (seed >> 36) % 6;
+        let to = from + 1 + (seed >> 42) % 4;
+        let upper = to + 1 + (seed >> 48) % 6;
+        let buffer = Buffer::new(alloc, lower, upper, 1, 1, &[(from, to)])?;
+        if instance.len() < 512 {
+            instance.push(buffer)?;
+        }
+    }
+    Ok(instance)
+}
+
+/// Whether each number of the first list is in the second.
+fn are_all_in(part: &[u32], whole: &[u32]) -> bool {
+    part.iter().all(|b| whole.contains(b))
+}
+
+/// Whether section s has no member that a neighbour lacks, the earlier of equals aside.
+fn says_less(sections: &[Section], s: usize) -> bool
+    requires { s < length sections.now }
+{
+    let own = sections[s].members.as_slice();
+    if s > 0 && are_all_in(own, sections[s - 1].members.as_slice()) {
+        return true;
+    }
+    if s + 1 < sections.len() {
+        let next = sections[s + 1].members.as_slice();
+        return are_all_in(own, next) && !are_all_in(next, own);
+    }
+    false
+}
+
+/// The sections without those that say less than a neighbour, taken out one by one.
+fn thinned_one_by_one(mut sections: Vec<Section>) -> Vec<Section> {
+    for _round in 0..sections.len() {
+        for s in 0..sections.len() {
+            if s < sections.len() && says_less(&sections, s) {
+                sections.remove(s);
+            }
+        }
+    }
+    sections
+}
+
 #[test]
-fn an_edge_at_which_nothing_changes_begins_no_section(rt: HostRuntime) -> Result<(), test::Fail> {
+fn the_order_of_leaving_out_makes_no_difference(rt: HostRuntime) -> Result<(), test::Fail> {
     let alloc = rt.alloc();
-    let gaps = [(2, 5), (3, 6)];
-    let sections = Sections::build(alloc, &instance_of(alloc, &[(1, 9, 1, 1)], &gaps)?)?;
-    assert_eq!(rt;
-        listed(alloc, &sections)?.as_slice(),
-        [1, 0, 99, 6, 0, 99].as_slice()
-    );
+    for start in 0..20 {
+        let instance = made_instance(alloc, start)?;
+        let sections = Sections::build(alloc, &instance)?;
+        let plain = plain_runs(alloc, &instance)?;
+        assert!(rt; (sections.count() as usize) < plain.len());
+        let want = listed_plainly(alloc, &thinned_one_by_one(plain))?;
+        assert_eq!(rt; listed(alloc, &sections)?.as_slice(), want.as_slice());
+    }
     Ok(())
 }
 

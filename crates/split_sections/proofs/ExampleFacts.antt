@@ -1,8 +1,8 @@
 -- The definitions at small instances.
-use Rattle.std.proofs.Common.{◌≡◌, ℕ, [], ◌∷◌, refl}
+use Rattle.std.proofs.Common.{◌≡◌, ℕ, zero, suc, ◌<◌, ◌≤◌, [], ◌∷◌, List, refl, arith}
 use Rattle.dsa_terms.specs.Buffers.{Buffer, Instance, buffer}
 use Rattle.dsa_terms.specs.Parts.{is_cut, last_cut, part_of, parts}
-use Rattle.split_sections.specs.Sweep.{lower_entry, part_starts, places_of}
+use Rattle.split_sections.specs.Sweep.{BeginsAt, IsRun, entry_at, lower_entry}
 
 abbrev lives : ℕ → ℕ → Buffer
 lives lower upper = record { lower = lower; upper = upper; size = 1; alignment = 1; gaps = [] }
@@ -15,13 +15,26 @@ three_parts : parts three ≡ (1 ∷ []) ∷ (2 ∷ []) ∷ (0 ∷ []) ∷ []
 unfolding parts part_of last_cut is_cut buffer
 three_parts = refl
 
-three_starts : part_starts three ≡ 5 ∷ 0 ∷ 3 ∷ []
-unfolding part_of last_cut is_cut buffer
-three_starts = refl
-
-places_of_three : places_of (5 ∷ 0 ∷ 5 ∷ []) 5 ≡ 0 ∷ 2 ∷ []
-places_of_three = refl
-
 entry_of_first : lower_entry three 0 ≡ (5, 0)
 unfolding buffer
 entry_of_first = refl
+
+abbrev order : List (ℕ × ℕ)
+order = (0, 1) ∷ (3, 2) ∷ (5, 0) ∷ []
+
+entry_in_order : entry_at order 1 ≡ (3, 2)
+entry_in_order = refl
+
+-- the second of the order begins where the first ends
+second_begins : BeginsAt three order 1
+unfolding buffer
+second_begins zero lt = omega arith
+second_begins (suc k) lt = absurd (omega arith)
+
+first_is_run : IsRun three order 0 1
+unfolding part_of last_cut is_cut buffer
+first_is_run = record { some = omega arith; within = omega arith; same = same; ended = λ _. second_begins }
+  where
+    same : (k : ℕ) → 0 ≤ k → k < 1 → part_of three (entry_at order k).1 ≡ (entry_at order 0).0
+    same zero le lt = refl
+    same (suc k) le lt = absurd (omega arith)

@@ -1,19 +1,23 @@
--- The parts are, for each cut at which one begins, the buffers whose part begins there.
-use Rattle.std.proofs.Common.{◌≡◌, ℕ, zero, suc, ◌<◌, ◌≤◌, ◌^◌, ◌==◌, ◌↔◌, inl, Bool, true, false, cond, not, List, [], ◌∷◌, length, map, filter, refl, sym, ap, ◌∙◌, subst, arith}
+-- The parts are, for each cut at which one begins, the buffers whose part begins there; and these are the runs of the
+-- order by lowers.
+use Rattle.std.proofs.Common.{◌≡◌, ℕ, zero, suc, ◌+◌, ◌-◌, ◌<◌, ◌≤◌, ◌^◌, ◌==◌, ◌⊎◌, ◌↔◌, inl, inr, Bool, true, false, cond, not, List, [], ◌∷◌, ◌++◌, length, map, filter, slice_index_or, refl, sym, ap, ◌∙◌, subst, arith}
 use Rattle.std.proofs.lemmas.Bool.Decides.{nat_tests}
-use Rattle.std.proofs.lemmas.List.FromFn.{get_or-map-range_with_len, length-map-range_with_len}
-use Rattle.std.proofs.lemmas.List.{length-map}
+use Rattle.std.specs.List.{All, between}
+use Rattle.std.proofs.lemmas.List.{length_push, map_push}
+use Rattle.std.proofs.lemmas.List.Edits.{get_or-between, length-between}
 use Rattle.dsa_terms.specs.Buffers.{Buffer, Instance, buffer}
 use Rattle.dsa_terms.specs.Claims.{IsIn, Rises}
 use Rattle.dsa_terms.specs.Logs.{greatest}
 use Rattle.dsa_terms.specs.Parts.{is_cut, is_empty, last_cut, members, numbers, part_of, parts}
-use Rattle.dsa_terms.proofs.Lists.{into_map, from_map, into_filter, from_filter}
+use Rattle.dsa_terms.proofs.Lists.{from_append, from_filter, from_map, into_filter, into_map, left_append, right_append}
 use Rattle.dsa_search_laws.proofs.Logs.{in_greatest}
 use Rattle.dsa_search_laws.proofs.Parts.{from_range, into_range, item, part_is_members, rises-filter_numbers, rises-range}
 use Rattle.split_sections.specs.PartList.{ArePartsKept, IsPart}
-use Rattle.split_sections.specs.Sweep.{part_starts, places_of, starts_at}
-use Rattle.split_sections.proofs.Kept.{all_from_in}
-use Rattle.split_sections.proofs.Lists.{filter_same, filter_of_map, map_same, rises_same}
+use Rattle.dsa_model.specs.Buffer.{IsBuffer}
+use Rattle.split_sections.specs.Sweep.{AreByLower, BeginsAt, IsRun, entry_at, lower_entry}
+use Rattle.split_sections.proofs.Kept.{all_from_in, in_at, in_from_all}
+use Rattle.split_sections.proofs.Lists.{filter_of_map, rises-push, rises_same}
+use Rattle.split_sections.proofs.Sweeping.{cut_here, place_of}
 
 last_cut_le : (I : Instance) (t : ℕ) → last_cut I t ≤ t
 unfolding last_cut
@@ -32,6 +36,10 @@ true_equal m n h = grind (arith, nat_tests)
 
 below : (I : Instance) (b : ℕ) → IsIn b (numbers (length I)) → b < length I
 below I b i = let k = (from_range (length I) 0 b i).1 in omega arith
+
+-- for each buffer the moment at which its part begins
+part_starts : Instance → List ℕ
+part_starts I = map (part_of I) (numbers (length I))
 
 -- the lowers have a greatest
 last_lower : Instance → ℕ
@@ -56,7 +64,7 @@ begins : Instance → ℕ → Bool
 begins I t = not (is_empty (members I t))
 
 cut_begins : (I : Instance) (t : ℕ) → IsIn t (part_starts I) → IsIn t (filter (begins I) (numbers (suc (last_lower I))))
-unfolding begins
+unfolding begins part_starts
 cut_begins I t i =
     let r = from_map (part_of I) (numbers (length I)) t i in
     let lt = below I r.0 r.1 in
@@ -66,7 +74,7 @@ cut_begins I t i =
     (equal_true (part_of I r.0) t (sym r.2))))
 
 begins_cut : (I : Instance) (t : ℕ) → IsIn t (filter (begins I) (numbers (suc (last_lower I)))) → IsIn t (part_starts I)
-unfolding begins
+unfolding begins part_starts
 begins_cut I t i =
     let q = from_filter (λ t. not (is_empty (members I t))) (numbers (suc (last_lower I))) t i in
     let r = some_in (members I t) q.1 in
@@ -79,26 +87,15 @@ unfolding parts begins last_lower
 parts_by_begins I = filter_of_map (λ p. not (is_empty p)) (members I)
     (numbers (suc (greatest (map (λ (b : Buffer). b.lower) I))))
 
-places_are_members : (I : Instance) (t : ℕ) → places_of (part_starts I) t ≡ members I t
-places_are_members I t = rw (length-map-range_with_len (part_of I) 0 (length I))
-    (filter_same (starts_at (part_starts I) t) (λ b. part_of I b == t) (numbers (length I))
-    (λ b i. ap (λ s. s == t) (get_or-map-range_with_len (part_of I) 0 (length I) b b 0 (below I b i) (omega arith))))
-
-pub parts_are : (I : Instance) (starts cuts : List ℕ) → starts ≡ part_starts I → Rises cuts →
-    ((t : ℕ) → IsIn t cuts ↔ IsIn t starts) → map (places_of starts) cuts ≡ parts I
-parts_are I starts cuts e r same = rw (e, cuts_are) (map_same (places_of (part_starts I)) (members I)
-    (filter (begins I) (numbers (suc (last_lower I)))) (places_are_members I) ∙ sym (parts_by_begins I))
+-- the cuts at which parts begin are all that make up the list of parts
+parts_are : (I : Instance) (cuts : List ℕ) → Rises cuts → ((t : ℕ) → IsIn t cuts ↔ IsIn t (part_starts I)) →
+    map (members I) cuts ≡ parts I
+parts_are I cuts r same = rw cuts_are (sym (parts_by_begins I))
   where
-    forth : (t : ℕ) → IsIn t cuts → IsIn t (filter (begins I) (numbers (suc (last_lower I))))
-    forth t i = cut_begins I t (rw e at ((same t).0 i))
-
-    back : (t : ℕ) → IsIn t (filter (begins I) (numbers (suc (last_lower I)))) → IsIn t cuts
-    back t i = (same t).1 (rw e (begins_cut I t i))
-
     cuts_are : cuts ≡ filter (begins I) (numbers (suc (last_lower I)))
     cuts_are = rises_same cuts (filter (begins I) (numbers (suc (last_lower I)))) r
         (rises-filter_numbers (begins I) (numbers (suc (last_lower I))) (rises-range (suc (last_lower I)) 0))
-        (λ t. (forth t, back t))
+        (λ t. (λ i. cut_begins I t ((same t).0 i), λ i. (same t).1 (begins_cut I t i)))
 
 is_part : (I : Instance) (p : List ℕ) → IsIn p (parts I) → IsPart p
 unfolding parts
@@ -115,36 +112,212 @@ is_part I p i =
     not_nil [] e h = absurd cc
     not_nil (x ∷ xs) e h = absurd cc
 
-pub kept : (I : Instance) (ps : List (List ℕ)) → ps ≡ parts I → length ps < 2 ^ 32 → ArePartsKept ps
+kept : (I : Instance) (ps : List (List ℕ)) → ps ≡ parts I → length ps < 2 ^ 32 → ArePartsKept ps
 kept I ps e lt = record {
   each = all_from_in IsPart ps (λ p i. is_part I p (rw e at i));
   limit = lt;
 }
 
-few : (I : Instance) → length (part_starts I) ≡ length I
-few I = length-map-range_with_len (part_of I) 0 (length I)
-
-pub few_starts : (I : Instance) (starts given : List ℕ) → starts ≡ part_starts I → given ≡ starts → length I ≤ 512 →
-    length given < 2 ^ 32
-few_starts I starts given e f lt = rw (f, e, few I) (omega arith)
-
--- what the code finds
-pub found_are : (I : Instance) (starts copy cuts given taken : List ℕ) (ps : List (List ℕ)) → starts ≡ part_starts I →
-    copy ≡ starts → Rises cuts →
-    ((t : ℕ) → IsIn t cuts ↔ IsIn t copy) → given ≡ starts → taken ≡ cuts → ps ≡ map (places_of given) taken →
-    ps ≡ parts I
-found_are I starts copy cuts given taken ps e f r same g h found =
-    found ∙ (rw (g, h) (parts_are I starts cuts e r (λ t. let q = same t in rw f at q)))
-
-pub found_kept : (I : Instance) (starts copy cuts given taken : List ℕ) (ps : List (List ℕ)) → starts ≡ part_starts I →
-    copy ≡ starts → Rises cuts →
-    ((t : ℕ) → IsIn t cuts ↔ IsIn t copy) → length cuts ≤ length copy → length I ≤ 512 → given ≡ starts →
-    taken ≡ cuts → ps ≡ map (places_of given) taken → ArePartsKept ps
-found_kept I starts copy cuts given taken ps e f r same le few_buffers g h found =
-    kept I ps (found_are I starts copy cuts given taken ps e f r same g h found) (limit (few I))
+-- ---- runs of the order
+-- a cut that is no later than the moment is no later than the last cut there
+last_cut_from : (I : Instance) (s t : ℕ) → is_cut I s ≡ true → s ≤ t → s ≤ last_cut I t
+unfolding last_cut
+last_cut_from I s zero h le = omega arith
+last_cut_from I s (suc t) h le = go (is_cut I (suc t)) refl (last_cut_from I s t h) (last_or_before s t le)
   where
-    limit : length (part_starts I) ≡ length I → length ps < 2 ^ 32
-    limit k =
-        let m : length ps ≡ length cuts = rw (found, h) (length-map cuts (places_of given)) in
-        let n : length copy ≡ length I = rw (f, e) k in
-        omega arith
+    last_or_before : (s t : ℕ) → s ≤ suc t → (s ≡ suc t) ⊎ (s ≤ t)
+    last_or_before s t le = grind arith
+
+    go : (b : Bool) → is_cut I (suc t) ≡ b → (s ≤ t → s ≤ last_cut I t) → (s ≡ suc t) ⊎ (s ≤ t) →
+        s ≤ cond b (suc t) (last_cut I t)
+    go true e ih q = le
+    go false e ih (inl q) = let z : is_cut I (suc t) ≡ true = rw q at h in absurd cc
+    go false e ih (inr q) = ih q
+
+-- the buffer stands at a place from `first` to before `next`
+abbrev Stands : List (ℕ × ℕ) → ℕ → ℕ → ℕ → Type 0
+Stands order first next b = (k : ℕ) × (first ≤ k) × (k < next) × ((entry_at order k).1 ≡ b)
+
+stands_from : (order : List (ℕ × ℕ)) (first next b : ℕ) → next ≤ length order →
+    IsIn b (map (λ (e : ℕ × ℕ). e.1) (between first next order)) → Stands order first next b
+stands_from order first next b le i =
+    let r = from_map (λ (e : ℕ × ℕ). e.1) (between first next order) b i in
+    let q = place_of (between first next order) r.0 (0, 0) r.1 in
+    let n = length-between order first next le in
+    let lt : first + q.0 < next = (let z = q.1 in omega arith) in (
+      first + q.0,
+      omega arith,
+      lt,
+      ap (λ (e : ℕ × ℕ). e.1) (sym (get_or-between order first next q.0 (0, 0) lt) ∙ q.2) ∙ sym r.2,
+    )
+
+stands_in : (order : List (ℕ × ℕ)) (first next b : ℕ) → next ≤ length order → Stands order first next b →
+    IsIn b (map (λ (e : ℕ × ℕ). e.1) (between first next order))
+stands_in order first next b le s = subst (λ (x : ℕ). IsIn x (map (λ (e : ℕ × ℕ). e.1) (between first next order))) s.3
+    (into_map (λ (e : ℕ × ℕ). e.1) (between first next order) (entry_at order s.0) here)
+  where
+    n : length (between first next order) ≡ next - first
+    n = length-between order first next le
+
+    lt : s.0 - first < length (between first next order)
+    lt = let z = s.1 in let y = s.2 in let m = n in omega arith
+
+    back : first + (s.0 - first) ≡ s.0
+    back = let z = s.1 in omega arith
+
+    read : slice_index_or (between first next order) (s.0 - first) (0, 0) ≡ entry_at order s.0
+    read = get_or-between order first next (s.0 - first) (0, 0) (let z = s.2 in let y = back in omega arith)
+        ∙ ap (entry_at order) back
+
+    here : IsIn (entry_at order s.0) (between first next order)
+    here = subst (λ (e : ℕ × ℕ). IsIn e (between first next order)) read
+        (in_at (between first next order) (s.0 - first) (0, 0) lt)
+
+-- what is known of the parts once the places before `first` have been gone over
+pub record ArePartsBelow (I : Instance) (order : List (ℕ × ℕ)) (first : ℕ) (ps : List (List ℕ)) : Type 0 where
+  pub cuts : List ℕ
+  pub rises : Rises cuts
+  pub parts_of : ps ≡ map (members I) cuts
+  pub some : (t : ℕ) → IsIn t cuts → (k : ℕ) × (k < first) × (part_of I (entry_at order k).1 ≡ t)
+  pub all : (k : ℕ) → k < first → IsIn (part_of I (entry_at order k).1) cuts
+  pub few : length ps ≤ first
+  pub within : first ≤ length order
+  pub begins : first < length order → BeginsAt I order first
+
+below_or_from : (m n : ℕ) → (m < n) ⊎ (n ≤ m)
+below_or_from m n = grind arith
+
+-- a buffer's lifetime is not empty
+lasts : (I : Instance) (b : ℕ) → All IsBuffer I → b < length I → (buffer I b).lower < (buffer I b).upper
+lasts I b h lt = (in_from_all IsBuffer I h (buffer I b) (item I b lt)).sound.2
+
+-- the parts of earlier places begin earlier
+begins_later : (I : Instance) (order : List (ℕ × ℕ)) (i k : ℕ) → AreByLower I order → All IsBuffer I →
+    BeginsAt I order i → k < i → i < length order → part_of I (entry_at order k).1 < (entry_at order i).0
+unfolding part_of
+begins_later I order i k a sound h lt len =
+    let c = last_cut_le I (buffer I (entry_at order k).1).lower in
+    let l = lasts I (entry_at order k).1 sound (a.each k (0, 0) (omega arith)).in_range in
+    let u = h k lt in omega arith
+
+-- the parts of the places from a beginning on begin there or later
+begins_from : (I : Instance) (order : List (ℕ × ℕ)) (i k : ℕ) → AreByLower I order → BeginsAt I order i → i ≤ k →
+    k < length order → (entry_at order i).0 ≤ part_of I (entry_at order k).1
+unfolding part_of
+begins_from I order i k a h le lt =
+    let e = (a.each k (0, 0) lt).lower in
+    let s : (entry_at order i).0 ≤ (entry_at order k).0 = a.sorted i k (0, 0) le lt in
+    last_cut_from I (entry_at order i).0 (buffer I (entry_at order k).1).lower
+    (cut_here I order i a h (omega arith)) (omega arith)
+
+-- a run has just the members of its part
+run_members : (I : Instance) (order : List (ℕ × ℕ)) (first next : ℕ) (p : List ℕ) → AreByLower I order →
+    All IsBuffer I → BeginsAt I order first → IsRun I order first next → Rises p →
+    ((b : ℕ) → IsIn b p ↔ IsIn b (map (λ (e : ℕ × ℕ). e.1) (between first next order))) →
+    p ≡ members I (entry_at order first).0
+run_members I order first next p a sound h run r same = rises_same p (members I (entry_at order first).0) r
+    (rises-filter_numbers (λ b. part_of I b == (entry_at order first).0) (numbers (length I))
+    (rises-range (length I) 0))
+    (λ b. (
+      λ i. forth b (stands_from order first next b run.within ((same b).0 i)),
+      λ i. (same b).1
+          (stands_in order first next b run.within (back b i)),
+    ))
+  where
+    forth : (b : ℕ) → Stands order first next b → IsIn b (members I (entry_at order first).0)
+    forth b s = subst (λ (b : ℕ). IsIn b (members I (entry_at order first).0)) s.3
+        (into_filter (λ b. part_of I b == (entry_at order first).0) (numbers (length I)) (entry_at order s.0).1
+        (into_range (length I) 0 (entry_at order s.0).1 (omega arith)
+        (let z = (a.each s.0 (0, 0) (let y = s.2 in let w = run.within in omega arith)).in_range in omega arith))
+        (equal_true (part_of I (entry_at order s.0).1) (entry_at order first).0 (run.same s.0 s.1 s.2)))
+
+    back : (b : ℕ) → IsIn b (members I (entry_at order first).0) → Stands order first next b
+    back b i =
+        let q = from_filter (λ b. part_of I b == (entry_at order first).0) (numbers (length I)) b i in
+        let r = place_of order (lower_entry I b) (0, 0) (a.complete b (below I b q.0)) in
+        let e : (entry_at order r.0).1 ≡ b = ap (λ (e : ℕ × ℕ). e.1) r.2 in
+        let t : part_of I (entry_at order r.0).1 ≡ (entry_at order first).0 =
+        ap (part_of I) e ∙ true_equal (part_of I b) (entry_at order first).0 q.1 in
+        (r.0, not_before r.0 t, not_after r.0 r.1 t, e)
+      where
+        not_before : (k : ℕ) → part_of I (entry_at order k).1 ≡ (entry_at order first).0 → first ≤ k
+        not_before k t = elim (below_or_from k first) [
+          | inl lt ↦ absurd (let z = begins_later I order first k a sound h lt
+              (let y = run.some in let w = run.within in omega arith) in omega arith)
+          | inr le ↦ le
+        ]
+
+        not_after : (k : ℕ) → k < length order → part_of I (entry_at order k).1 ≡ (entry_at order first).0 → k < next
+        not_after k lt t = elim (below_or_from k next) [
+          | inl lt ↦ lt
+          | inr le ↦ absurd (past le (run.ended (omega arith)))
+        ]
+          where
+            past : next ≤ k → BeginsAt I order next → ⊥
+            past le g =
+                let z = begins_from I order next k a g le lt in
+                let y = begins_later I order next first a sound g run.some (omega arith) in
+                let x = run.same first (omega arith) run.some in
+                omega arith
+
+-- the next run is one part more
+pub one_part_more : (I : Instance) (order : List (ℕ × ℕ)) (first next : ℕ) (ps new : List (List ℕ)) (p : List ℕ) →
+    AreByLower I order → All IsBuffer I → ArePartsBelow I order first ps → IsRun I order first next → Rises p →
+    ((b : ℕ) → IsIn b p ↔ IsIn b (map (λ (e : ℕ × ℕ). e.1) (between first next order))) → new ≡ ps ++ p ∷ [] →
+    ArePartsBelow I order next new
+one_part_more I order first next ps new p a sound s run r same e = record {
+  cuts = s.cuts ++ (entry_at order first).0 ∷ [];
+  rises = rises-push s.cuts (entry_at order first).0 s.rises (λ t i. earlier t (s.some t i));
+  parts_of = e ∙ (rw (s.parts_of, run_members I order first next p a sound here run r same)
+      (sym (map_push (members I) s.cuts (entry_at order first).0)));
+  some = λ t i. elim (from_append s.cuts ((entry_at order first).0 ∷ []) t i) [
+    | inl j ↦ (let q = s.some t j in (q.0, (let z = q.1 in let y = run.some in omega arith), q.2))
+    | inr j ↦ (first, run.some, run.same first (omega arith) run.some ∙ only t j)
+  ];
+  all = λ k lt. elim (below_or_from k first) [
+    | inl h ↦ left_append s.cuts ((entry_at order first).0 ∷ []) (part_of I (entry_at order k).1) (s.all k h)
+    | inr h ↦ right_append s.cuts ((entry_at order first).0 ∷ []) (part_of I (entry_at order k).1)
+        (inl (run.same k h lt))
+  ];
+  few = (let z = s.few in let y = run.some in let w = ap length e in let v = length_push ps p in omega arith);
+  within = run.within;
+  begins = run.ended;
+}
+  where
+    within : first < length order
+    within = let y = run.some in let w = run.within in omega arith
+
+    here : BeginsAt I order first
+    here = s.begins within
+
+    only : (t : ℕ) → IsIn t ((entry_at order first).0 ∷ []) → (entry_at order first).0 ≡ t
+    only t (inl q) = sym q
+    only t (inr q) = absurd q
+
+    earlier : (t : ℕ) → (k : ℕ) × (k < first) × (part_of I (entry_at order k).1 ≡ t) → t < (entry_at order first).0
+    earlier t q = rw (← q.2) (begins_later I order first q.0 a sound here q.1 within)
+
+-- at the end of the order these are all the parts
+pub all_parts : (I : Instance) (order : List (ℕ × ℕ)) (first : ℕ) (ps : List (List ℕ)) → AreByLower I order →
+    ArePartsBelow I order first ps → length order ≤ first → ps ≡ parts I
+unfolding part_starts
+all_parts I order first ps a s le = s.parts_of
+    ∙ parts_are I s.cuts s.rises (λ t. (λ i. forth t (s.some t i), λ i. back t i))
+  where
+    forth : (t : ℕ) → (k : ℕ) × (k < first) × (part_of I (entry_at order k).1 ≡ t) → IsIn t (part_starts I)
+    forth t q = subst (λ (t : ℕ). IsIn t (part_starts I)) q.2
+        (into_map (part_of I) (numbers (length I)) (entry_at order q.0).1
+        (into_range (length I) 0 (entry_at order q.0).1 (omega arith)
+        (let z = (a.each q.0 (0, 0) (let y = q.1 in let w = s.within in omega arith)).in_range in omega arith)))
+
+    back : (t : ℕ) → IsIn t (part_starts I) → IsIn t s.cuts
+    back t i =
+        let r = from_map (part_of I) (numbers (length I)) t i in
+        let q = place_of order (lower_entry I r.0) (0, 0) (a.complete r.0 (below I r.0 r.1)) in
+        let e : part_of I (entry_at order q.0).1 ≡ t = ap (λ (e : ℕ × ℕ). part_of I e.1) q.2 ∙ sym r.2 in
+        subst (λ (t : ℕ). IsIn t s.cuts) e (s.all q.0 (let z = q.1 in omega arith))
+
+pub all_kept : (I : Instance) (order : List (ℕ × ℕ)) (first : ℕ) (ps : List (List ℕ)) → AreByLower I order →
+    ArePartsBelow I order first ps → length order ≤ first → length I ≤ 512 → ArePartsKept ps
+all_kept I order first ps a s le few = kept I ps (all_parts I order first ps a s le)
+    (let z = s.few in let y = s.within in let w = a.count in omega arith)

@@ -1,10 +1,10 @@
 -- Lists of numbers, filtered, and lists that rise.
-use Rattle.std.proofs.Common.{◌≡◌, ℕ, zero, suc, ◌+◌, ◌<◌, ◌↔◌, inl, inr, Bool, true, false, cond, List, [], ◌∷◌, ◌++◌, length, map, filter, slice_index_or, refl, sym, ap, ◌∙◌, arith, append-nil}
-use Rattle.std.specs.List.{range_with_len, AllPairs, Contains}
+use Rattle.std.proofs.Common.{◌≡◌, ℕ, zero, suc, ◌<◌, ◌↔◌, inl, inr, Bool, true, false, cond, List, [], ◌∷◌, ◌++◌, length, map, filter, slice_index_or, refl, sym, ap, arith}
+use Rattle.std.specs.List.{AllPairs, Contains}
 use Rattle.std.specs.List.Sorted.{IsStrictlyIncreasing}
 use Rattle.std.proofs.lemmas.List.Kept.{AllPairs-from_increasing}
 use Rattle.dsa_terms.specs.Claims.{IsIn, Rises}
-use Rattle.dsa_terms.specs.Parts.{numbers}
+use Rattle.dsa_terms.proofs.Lists.{from_append}
 
 -- the item does not hang on what is answered past the end
 pub any_default : {X : Type 0} (xs : List X) (k : ℕ) (d e : X) → k < length xs →
@@ -12,35 +12,6 @@ pub any_default : {X : Type 0} (xs : List X) (k : ℕ) (d e : X) → k < length 
 any_default [] k d e lt = absurd (omega arith)
 any_default (x ∷ xs) zero d e lt = refl
 any_default (x ∷ xs) (suc k) d e lt = any_default xs k d e (omega arith)
-
-filter_more_from : (p : ℕ → Bool) (n a j : ℕ) → a + n ≡ j →
-    filter p (range_with_len a (suc n)) ≡ filter p (range_with_len a n) ++ cond (p j) (j ∷ []) []
-filter_more_from p zero a j e = let k : a ≡ j = omega arith in rw k refl
-filter_more_from p (suc n) a j e = go (filter_more_from p n (a + 1) j (omega arith)) (p a)
-  where
-    go : filter p (range_with_len (a + 1) (suc n)) ≡ filter p (range_with_len (a + 1) n) ++ cond (p j) (j ∷ []) [] →
-        (b : Bool) →
-        cond b (a ∷ filter p (range_with_len (a + 1) (suc n))) (filter p (range_with_len (a + 1) (suc n)))
-        ≡ cond b (a ∷ filter p (range_with_len (a + 1) n)) (filter p (range_with_len (a + 1) n)) ++ cond (p j) (j ∷ [])
-        []
-    go ih true = ap (λ ys. a ∷ ys) ih
-    go ih false = ih
-
--- one number more
-pub filter_more : (p : ℕ → Bool) (n : ℕ) → filter p (numbers (n + 1)) ≡ filter p (numbers n) ++ cond (p n) (n ∷ []) []
-filter_more p n = let e : n + 1 ≡ suc n = omega arith in rw e (filter_more_from p n 0 n (omega arith))
-
-pub filter_same : {X : Type 0} (p q : X → Bool) (xs : List X) → ((x : X) → IsIn x xs → p x ≡ q x) →
-    filter p xs ≡ filter q xs
-filter_same p q [] h = refl
-filter_same {X} p q (x ∷ xs) h = go (filter_same p q xs (λ y i. h y (inr i))) (p x) (q x) (h x (inl refl))
-  where
-    go : filter p xs ≡ filter q xs → (a b : Bool) → a ≡ b →
-        cond a (x ∷ filter p xs) (filter p xs) ≡ cond b (x ∷ filter q xs) (filter q xs)
-    go ih true true e = ap (λ ys. x ∷ ys) ih
-    go ih true false e = absurd cc
-    go ih false true e = absurd cc
-    go ih false false e = ih
 
 pub filter_of_map : {X Y : Type 0} (p : Y → Bool) (f : X → Y) (xs : List X) →
     filter p (map f xs) ≡ map f (filter (λ x. p (f x)) xs)
@@ -52,10 +23,6 @@ filter_of_map {X} {Y} p f (x ∷ xs) = go (filter_of_map p f xs) (p (f x))
         (cond b (x ∷ filter (λ x. p (f x)) xs) (filter (λ x. p (f x)) xs))
     go ih true = ap (λ ys. f x ∷ ys) ih
     go ih false = ih
-
-pub map_same : {X Y : Type 0} (f g : X → Y) (xs : List X) → ((x : X) → f x ≡ g x) → map f xs ≡ map g xs
-map_same f g [] h = refl
-map_same f g (x ∷ xs) h = let e = h x in let k = map_same f g xs h in cc
 
 -- ---- membership as std has it
 pub to_contains : {X : Type 0} (xs : List X) (x : X) → IsIn x xs → Contains xs x
@@ -121,13 +88,13 @@ rises_same (x ∷ xs) (y ∷ ys) r s h = joined heads (rises_same xs ys r.1 s.1 
         go (inl e) = absurd (let k = s.0 z i in let f = heads in omega arith)
         go (inr j) = j
 
--- ---- one number more, taken or left
-pub taken : (p : ℕ → Bool) (b : ℕ) (xs ys : List ℕ) → xs ≡ filter p (numbers b) → p b ≡ true → ys ≡ xs ++ b ∷ [] →
-    ys ≡ filter p (numbers (b + 1))
-taken p b xs ys e t h = h ∙ (ap (λ zs. zs ++ b ∷ []) e ∙ sym
-    (filter_more p b ∙ ap (λ t. filter p (numbers b) ++ cond t (b ∷ []) []) t))
-
-pub left : (p : ℕ → Bool) (b : ℕ) (xs ys : List ℕ) → xs ≡ filter p (numbers b) → p b ≡ false → ys ≡ xs →
-    ys ≡ filter p (numbers (b + 1))
-left p b xs ys e t h = h ∙ (e ∙ sym (filter_more p b ∙
-    (ap (λ t. filter p (numbers b) ++ cond t (b ∷ []) []) t ∙ append-nil (filter p (numbers b)))))
+-- one more that is greater than all
+pub rises-push : (xs : List ℕ) (y : ℕ) → Rises xs → ((x : ℕ) → IsIn x xs → x < y) → Rises (xs ++ y ∷ [])
+rises-push [] y r h = ((λ z i. absurd i), tt)
+rises-push (x ∷ xs) y r h = (first, rises-push xs y r.1 (λ z i. h z (inr i)))
+  where
+    first : (z : ℕ) → IsIn z (xs ++ y ∷ []) → x < z
+    first z i = elim (from_append xs (y ∷ []) z i) [
+      | inl j ↦ r.0 z j
+      | inr j ↦ elim j [ inl e ↦ (let k = h x (inl refl) in omega arith) | inr k ↦ absurd k ]
+    ]

@@ -1,9 +1,9 @@
 -- The buffers put into the order of their lowers.
-use Rattle.std.proofs.Common.{◌≡◌, ℕ, ◌+◌, List, [], ◌∷◌, ◌++◌, length, map, arith, refl}
+use Rattle.std.proofs.Common.{◌≡◌, ℕ, ◌+◌, List, [], ◌∷◌, ◌++◌, length, map, arith, refl, ◌∙◌}
 use Rattle.std.specs.List.Sorted.{IsNonDecreasingBy, IsPermutation}
-use Rattle.std.proofs.lemmas.List.Sorted.{All-permutation, Contains-permutation}
+use Rattle.std.proofs.lemmas.List.Sorted.{All-permutation, Contains-permutation, length_permutation}
 use Rattle.dsa_terms.specs.Buffers.{Buffer, Instance, buffer}
-use Rattle.std.proofs.lemmas.List.FromFn.{map-range_with_len_more}
+use Rattle.std.proofs.lemmas.List.FromFn.{length-map-range_with_len, map-range_with_len_more}
 use Rattle.dsa_terms.specs.Claims.{IsIn}
 use Rattle.dsa_terms.specs.Parts.{numbers}
 use Rattle.dsa_terms.proofs.Lists.{from_map, into_map}
@@ -28,6 +28,7 @@ by_lower_is I entries order n e m p sorted = record {
   complete = λ b lt. from_contains order (lower_entry I b) (Contains-permutation entries order (lower_entry I b) p
       (rw (e, m) (to_contains (map (lower_entry I) (numbers (length I))) (lower_entry I b)
       (into_map (lower_entry I) (numbers (length I)) b (into_range (length I) 0 b (omega arith) (omega arith))))));
+  count = length_permutation entries order p ∙ rw (e, length-map-range_with_len (lower_entry I) 0 n) m;
 }
 
 pub pushed : (I : Instance) (b : ℕ) (xs ys : List (ℕ × ℕ)) (low : ℕ) (x : Buffer) →

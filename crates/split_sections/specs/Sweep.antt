@@ -1,10 +1,10 @@
 -- The buffers by rising lower.
-use Rattle.std.specs.Prelude.{◌≡◌, ℕ, ◌<◌, ◌==◌, Bool, List, map, length, slice_index}
-use Rattle.std.specs.List.{All, filter}
+use Rattle.std.specs.Prelude.{◌≡◌, ℕ, ◌<◌, ◌≤◌, List, length, slice_index_or}
+use Rattle.std.specs.List.{All}
 use Rattle.std.specs.List.Sorted.{IsNonDecreasingBy}
 use Rattle.dsa_terms.specs.Buffers.{Instance, buffer}
 use Rattle.dsa_terms.specs.Claims.{IsIn}
-use Rattle.dsa_terms.specs.Parts.{numbers, part_of}
+use Rattle.dsa_terms.specs.Parts.{part_of}
 
 -- a buffer's number behind its lower
 abbrev pub lower_entry : Instance → ℕ → ℕ × ℕ
@@ -15,20 +15,24 @@ pub record IsLowerEntry (I : Instance) (e : ℕ × ℕ) : Type 0 where
   pub in_range : e.1 < length I
   pub lower : e.0 ≡ (buffer I e.1).lower
 
--- each buffer stands there behind its lower, and lowers never fall
+-- each buffer stands there behind its lower, in as many entries as there are buffers, and lowers never fall
 pub record AreByLower (I : Instance) (entries : List (ℕ × ℕ)) : Type 0 where
   pub sorted : IsNonDecreasingBy (λ (e : ℕ × ℕ). e.0) entries
   pub each : All (IsLowerEntry I) entries
   pub complete : (b : ℕ) → b < length I → IsIn (lower_entry I b) entries
+  pub count : length entries ≡ length I
 
--- for each buffer the moment at which its part begins
-abbrev pub part_starts : Instance → List ℕ
-part_starts I = map (part_of I) (numbers (length I))
+-- the entry at a place
+abbrev pub entry_at : List (ℕ × ℕ) → ℕ → ℕ × ℕ
+entry_at order k = slice_index_or order k (0, 0)
 
--- that start stands at place b
-abbrev pub starts_at : List ℕ → ℕ → ℕ → Bool
-starts_at starts cut b = slice_index starts b == cut
+-- no buffer at an earlier place reaches past the lower at this one
+abbrev pub BeginsAt : Instance → List (ℕ × ℕ) → ℕ → Type 0
+BeginsAt I order i = (k : ℕ) → k < i → (buffer I (entry_at order k).1).upper ≤ (entry_at order i).0
 
--- the places of a start
-abbrev pub places_of : List ℕ → ℕ → List ℕ
-places_of starts cut = filter (starts_at starts cut) (numbers (length starts))
+-- the places from `first` to before `next` are those of one part, which begins at the lower of the first of them
+pub record IsRun (I : Instance) (order : List (ℕ × ℕ)) (first next : ℕ) : Type 0 where
+  pub some : first < next
+  pub within : next ≤ length order
+  pub same : (k : ℕ) → first ≤ k → k < next → part_of I (entry_at order k).1 ≡ (entry_at order first).0
+  pub ended : next < length order → BeginsAt I order next

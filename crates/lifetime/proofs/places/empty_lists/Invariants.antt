@@ -3,5 +3,5 @@ use Rattle.dsa_terms.specs.Parts.{numbers}
 use Rattle.lifetime.specs.Views.{items_of}
 use Rattle.lifetime.proofs.places.empty_lists.Given as goal
 
-abbrev pub invariant-loop-b : goal.invariant-loop-b
-invariant-loop-b l = map items_of l.lists.items ≡ map (λ _. []) (numbers l._b)
+abbrev pub invariant-loop-places : goal.invariant-loop-places
+invariant-loop-places l = map items_of l.lists.items ≡ map (λ _. []) (numbers l.places-index)

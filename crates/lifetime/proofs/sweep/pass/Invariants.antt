@@ -6,4 +6,4 @@ abbrev pub decreases-loop-next : goal.decreases-loop-next
 decreases-loop-next l = length l.edges - l.next
 
 abbrev pub invariant-loop-next : goal.invariant-loop-next
-invariant-loop-next l = IsPassing l.instance l.edges l.first l.moment l.next l.changed l.live
+invariant-loop-next l = IsPassing l.instance l.edges l.first l.moment l.next l.changed l.live.items

@@ -5,9 +5,9 @@ use Rattle.load_profile.proofs.loads.loads.Goals as goal
 pub load_of-requires-clause-in_range : goal.load_of-requires-clause-in_range
 load_of-requires-clause-in_range c =
     members_in_range c.args.instance.now c.args.sections.now c.loop-s.s c.members.result.now c.requires.sections
-    (search rules) c.members.ensures
+    (search rules) c.members.ensures.value
 
 pub load_of-requires-clause-few : goal.load_of-requires-clause-few
 load_of-requires-clause-few c =
     few_members c.args.instance.now c.args.sections.now c.loop-s.s c.members.result.now c.requires.sections
-    (search rules) c.members.ensures c.requires.few
+    (search rules) c.members.ensures.value c.requires.few

@@ -7,22 +7,22 @@ use Rattle.lower_bounds.proofs.highest.raised.Goals as goal
 pub stack_of-capacity-requires-clause-in_range : goal.stack_of-capacity-requires-clause-in_range
 stack_of-capacity-requires-clause-in_range c =
     members_in_range c.args.instance.now c.args.sections.now c.loop-s.s c.members.result.now c.requires.sections
-    (search rules) c.members.ensures
+    (search rules) c.members.ensures.value
 
 pub stack_of-capacity-requires-clause-few : goal.stack_of-capacity-requires-clause-few
 stack_of-capacity-requires-clause-few c =
     few_members c.args.instance.now c.args.sections.now c.loop-s.s c.members.result.now c.requires.sections
-    (search rules) c.members.ensures c.requires.few
+    (search rules) c.members.ensures.value c.requires.few
 
 pub loop-s-preserved : goal.loop-s-preserved
 loop-s-preserved c =
     let value = c.stack_of-capacity.ensures ∙ stack_is c.args.instance.now c.args.sections.now c.args.modulus
-    c.loop-s.s c.members.result.now c.requires.sections (search rules) c.members.ensures in
+    c.loop-s.s c.members.result.now c.requires.sections (search rules) c.members.ensures.value in
     elim c.if-capacity-best.branch [
       | then-capacity-best w ↦ rw (w.best-is)
           (raised_more c.args.instance.now c.args.sections.now c.args.modulus c.loop-s.s c.stack_of-capacity.result
           w.start.result c.args.bound c.loop-s.best c.loop-s.invariant value
-          w.if-capacity-best.true w.start.ensures)
+          w.if-capacity-best.true w.start.ensures.value)
       | else-capacity-best w ↦ rw (w.best-is)
           (raised_same c.args.instance.now c.args.sections.now c.args.modulus c.loop-s.s c.stack_of-capacity.result
           c.args.bound c.loop-s.best c.loop-s.invariant value
