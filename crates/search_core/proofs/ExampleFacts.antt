@@ -1,21 +1,26 @@
 -- Worked facts: a buffer of size 3 beside one of size 1 that stands at multiples of 4 alone, which fit into 4 and
 -- not into 3.
-use Rattle.std.proofs.Common.{◌≡◌, ◌^◌, ℕ, zero, suc, [], ◌∷◌, Some, None, inl, inr, refl, sym, ap, subst, arith}
+use Rattle.std.proofs.Common.{◌≡◌, ◌-◌, ◌^◌, ℕ, zero, suc, List, [], ◌∷◌, Some, None, inl, inr, refl, sym, ap, subst, arith}
 use Rattle.dsa_terms.specs.Buffers.{Buffer, Instance, buffer, do_share, have_same_moments, is_live, some_before}
-use Rattle.dsa_terms.specs.Claims.{Entry, IsIn, child, step, up}
+use Rattle.dsa_terms.specs.Claims.{Claim, Entry, IsIn, child, step, up}
 use Rattle.dsa_terms.specs.Plans.{layout_height}
 use Rattle.dsa_terms.specs.Logs.{Line, Over, claim_of, ends_below, is_twin}
 use Rattle.dsa_terms.specs.Parts.{is_cut, last_cut, part_of, parts, searched}
-use Rattle.dsa_terms.specs.Search.{comes_before, first, is_tall}
+use Rattle.dsa_terms.specs.Search.{comes_before, first, is_tall, work}
 use Rattle.canonical_order.specs.Claims.{HasBuffer}
 use Rattle.refute_log.specs.Answers.{Offsets}
+use Rattle.refute_log.specs.declared.decided.Decided.TheVariants.{Spent}
 use Rattle.search_core.specs.Cites.{IsCoveredBy}
 use Rattle.search_core.specs.Courses.{at_start}
 use Rattle.search_core.specs.Decisions.{IsGiven, allowance_of, turn_of}
-use Rattle.search_core.specs.Found.{IsLow}
+use Rattle.skyline.specs.Skies.{Sky}
+use Rattle.search_core.specs.Descents.{above_of, owed, root_of, through}
+use Rattle.search_core.specs.Lifted.{lifted}
+use Rattle.search_core.specs.Tries.{Tried, chosen_of, later_of, noted_by, rest_of}
 use Rattle.search_core.specs.Keys.{key_of}
 use Rattle.search_core.specs.Logs.{AreUncovered, Extends, NoneCovers}
-use Rattle.search_core.specs.Meters.{AreSpent, AreWithin, HasUnit, counted}
+use Rattle.search_core.specs.Meters.{AreMore, AreSpent, AreWithin, HasUnit, counted}
+use Rattle.search_core.specs.Outcomes.{spends_after}
 
 abbrev plain : ℕ → ℕ → ℕ → ℕ → Buffer
 plain lower upper size alignment = record
@@ -47,6 +52,21 @@ no_number_is_never_spent h = h
 
 none_without_number : AreWithin (record { most = None; used = 0 })
 none_without_number = refl
+
+one_more : AreMore (record { most = Some 7; used = 2 }) (record { most = Some 7; used = 3 })
+one_more = omega arith
+
+no_more : AreMore (record { most = Some 7; used = 2 }) (record { most = Some 7; used = 2 }) → ⊥
+no_more h = omega (arith, h)
+
+no_more_without_number : AreMore (record { most = None; used = 0 }) (record { most = None; used = 0 })
+no_more_without_number = omega arith
+
+a_spent_answer_is_counted : spends_after 3 Spent ≡ 4
+a_spent_answer_is_counted = refl
+
+answers_are_counted_to_the_end : spends_after (2 ^ 64 - 1) Spent ≡ 2 ^ 64 - 1
+answers_are_counted_to_the_end = refl
 
 allowance_of_seven : allowance_of (Some 7) ≡ 7
 allowance_of_seven = refl
@@ -95,10 +115,60 @@ extends_by_one = record { more = tall ∷ []; is = refl; among = among }
         [ inl p ↦ inl (ap (λ (e : Entry). e.0) p) | inr z ↦ absurd z ]
     among line e (inr z) j = absurd z
 
-low_at_first : IsLow ((0, 0) ∷ (1, 0) ∷ [])
-low_at_first e (inl q) = let b : e.1 ≡ 0 = ap (λ (e : Entry). e.1) q in omega arith
-low_at_first e (inr (inl q)) = let b : e.1 ≡ 0 = ap (λ (e : Entry). e.1) q in omega arith
-low_at_first e (inr (inr z)) = absurd z
+-- ---- choices
+abbrev one_refuted : Tried
+one_refuted = record { order = 2 ∷ 0 ∷ 1 ∷ []; refuted = record { buffer = 2; line = 7 } ∷ [] }
+
+rest_after_one : rest_of one_refuted ≡ 0 ∷ 1 ∷ []
+rest_after_one = refl
+
+chosen_after_one : chosen_of one_refuted ≡ 0
+chosen_after_one = refl
+
+later_after_one : later_of one_refuted ≡ 1 ∷ []
+later_after_one = refl
+
+two_refuted : noted_by one_refuted 8 ≡ record {
+  order = 2 ∷ 0 ∷ 1 ∷ [];
+  refuted = record { buffer = 2; line = 7 } ∷ record { buffer = 0; line = 8 } ∷ [];
+}
+two_refuted = refl
+
+-- the bound 3 of a buffer that is aligned to four becomes 4
+lows_are_bounds : lifted two ((0, 0) ∷ (1, 3) ∷ []) ≡ (0, 0) ∷ (1, 4) ∷ []
+unfolding up buffer
+lows_are_bounds = refl
+
+-- ---- claims above the last one
+last_one_first : above_of (((0, 0) ∷ (1, 0) ∷ []) ∷ ((1, 3) ∷ []) ∷ [] ∷ []) ≡ ((1, 3) ∷ []) ∷
+    ((0, 0) ∷ (1, 0) ∷ []) ∷ []
+last_one_first = refl
+
+the_first_one : root_of [] (((1, 3) ∷ []) ∷ ((0, 0) ∷ (1, 0) ∷ []) ∷ []) ≡ (0, 0) ∷ (1, 0) ∷ []
+the_first_one = refl
+
+abbrev sky_of : List Claim → Sky
+sky_of claims = record { instance = two; sections = record { sections = []; of_buffers = [] }; claims = claims }
+
+-- four claims in all at 4, of which the first is looked at, and then buffer 0 stands at 0
+four_owed : owed two 4 (sky_of (((0, 0) ∷ (1, 0) ∷ []) ∷ [])) [] None ≡ 4
+unfolding work first is_tall comes_before ends_below is_twin have_same_moments child step do_share some_before is_live
+    up
+    buffer
+four_owed = refl
+
+three_owed : owed two 4 (sky_of (((0, 0) ∷ (1, 0) ∷ []) ∷ ((1, 3) ∷ []) ∷ []))
+    (record { order = 0 ∷ 1 ∷ []; refuted = [] } ∷ []) None ≡ 3
+unfolding work through first is_tall comes_before ends_below is_twin have_same_moments child step do_share some_before
+    is_live up buffer
+three_owed = refl
+
+-- once a line covers what is left of it, the other choice is owed
+two_owed : owed two 4 (sky_of (((0, 0) ∷ (1, 0) ∷ []) ∷ ((1, 3) ∷ []) ∷ []))
+    (record { order = 0 ∷ 1 ∷ []; refuted = [] } ∷ []) (Some 0) ≡ 2
+unfolding work through first is_tall comes_before ends_below is_twin have_same_moments child step do_share some_before
+    is_live up buffer
+two_owed = refl
 
 -- ---- answers
 small_stands_below : IsGiven two 4 (Offsets (1 ∷ 0 ∷ []))

@@ -9,7 +9,8 @@ use Rattle.dsa_terms.specs.Claims.{Entry, IsIn}
 use Rattle.dsa_terms.specs.Parts.{first_of_all, join, offsets_of, parts, searched, whole, whole_work}
 use Rattle.dsa_terms.specs.Search.{first, work}
 use Rattle.canonical_order.proofs.CoverLemmas.{in_at}
-use Rattle.search_core.specs.Meters.{Units}
+use Rattle.search_core.specs.Meters.{AreMore, Units}
+use Rattle.search_core.proofs.Taking.{more_after, some_part}
 
 -- the work of these parts
 abbrev pub work_of_parts : Instance → ℕ → List (List ℕ) → ℕ
@@ -21,6 +22,7 @@ pub record IsJoining (I : Instance) (C : ℕ) (ps : List (List ℕ)) (i : ℕ) (
   pub left : first_of_all I C ps ≡ join (Some seats) (first_of_all I C (drop i ps))
   pub most : after.most ≡ before.most
   pub units : before.used ≤ after.used
+  pub taken : 0 < i → AreMore before after
   pub work : after.used + work_of_parts I C (drop i ps) ≤ before.used + work_of_parts I C ps
 
 next_part : (ps : List (List ℕ)) (i : ℕ) → i < length ps → drop i ps ≡ slice_index_or ps i [] ∷ drop (i + 1) ps
@@ -61,12 +63,13 @@ module _ (I : Instance) (C : ℕ) (ps : List (List ℕ)) where
   pub joining_next : (i : ℕ) (seats found all : List Entry) (before between after : Units) → i < length ps →
       IsJoining I C ps i seats before between →
       first I C (whole (slice_index_or ps i [])) ≡ Some found → all ≡ seats ++ found → after.most ≡ between.most →
-      between.used ≤ after.used →
+      between.used ≤ after.used → AreMore between after →
       after.used ≤ between.used + work I C (whole (slice_index_or ps i [])) → IsJoining I C ps (i + 1) all before after
-  joining_next i seats found all before between after lt j some q most units used = record {
+  joining_next i seats found all before between after lt j some q most units more used = record {
     left = j.left ∙ (rw (next_part ps i lt, some, q) (join_along seats found (first_of_all I C (drop (i + 1) ps))));
     most = most ∙ j.most;
     units = let k = j.units in omega arith;
+    taken = λ _. more_after before between after j.most j.units more;
     work = let k = left_work i seats before between lt j in omega arith;
   }
 
@@ -77,6 +80,14 @@ module _ (I : Instance) (C : ℕ) (ps : List (List ℕ)) where
   part_refuted i seats before between q lt j none =
       let k : first_of_all I C ps ≡ None = j.left ∙ (rw (next_part ps i lt, none) refl) in
       rw (← q, k) refl
+
+  -- all parts are searched, and so is one
+  pub all_taken : (i : ℕ) (seats : List Entry) (before after : Units) → ps ≡ parts I → length ps ≤ i →
+      IsJoining I C ps i seats before after → 0 < length I → AreMore before after
+  all_taken i seats before after q le j lt =
+      let n = some_part I lt in
+      let m = ap length q in
+      j.taken (omega (arith, n, m, le))
 
   pub all_joined : (i : ℕ) (seats : List Entry) (before after : Units) → ps ≡ parts I → length ps ≤ i →
       IsJoining I C ps i seats before after →

@@ -34,3 +34,21 @@ module _ {A B : Type 0} (f : A → B) (R : Entry → B → Type 0) (l : Claim) w
   pub zip_all : (n : ℕ) (items : List A) →
       ((e : Entry) → IsIn e l → e.0 < n) → AllZip R (entries_below n l) (map f items) → AllZip R l (map f items)
   zip_all n items h z = rw (below_all l n h) at z
+
+-- the same of a list that is made of the entries
+module _ {A : Type 0} (f : Entry → A) (l : Claim) where
+  pub map_none : (items : List A) → items ≡ [] → items ≡ map f (entries_below 0 l)
+  map_none items q = rw (q, ← below_zero l) refl
+
+  pub map_skip : (n : ℕ) (items after : List A) → (HasBuffer l n → ⊥) → after ≡ items →
+      items ≡ map f (entries_below n l) → after ≡ map f (entries_below (n + 1) l)
+  map_skip n items after h q e = rw (q, below_skip l n h) e
+
+  pub map_take : (n : ℕ) (items after : List A) → Rises (buffers_of l) → HasBuffer l n →
+      after ≡ items ++ f (entry_of l n) ∷ [] → items ≡ map f (entries_below n l) →
+      after ≡ map f (entries_below (n + 1) l)
+  map_take n items after r h q e = rw (q, below_take l n r h, map_next f (entries_below n l) (entry_of l n), e) refl
+
+  pub map_all : (n : ℕ) (items : List A) → ((e : Entry) → IsIn e l → e.0 < n) →
+      items ≡ map f (entries_below n l) → items ≡ map f l
+  map_all n items h e = rw (below_all l n h) at e

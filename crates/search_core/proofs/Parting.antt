@@ -1,12 +1,12 @@
 -- The whole claim of a part, and the log that refutes it.
-use Rattle.std.proofs.Common.{◌≡◌, ℕ, zero, suc, ◌≤◌, ◌==◌, true, List, [], ◌∷◌, length, slice_get, Some, sym, refl, ap, ◌∙◌, subst, inl, inr, arith}
+use Rattle.std.proofs.Common.{◌≡◌, ℕ, zero, suc, ◌≤◌, ◌<◌, ◌==◌, true, List, [], ◌∷◌, length, slice_get, Some, sym, refl, ap, ◌∙◌, subst, inl, inr, arith}
 use Rattle.std.proofs.lemmas.Bool.Decides.{nat_tests}
 use Rattle.std.specs.List.{All}
 use Rattle.dsa_terms.specs.Buffers.{Instance, IsInstance}
 use Rattle.dsa_terms.specs.Claims.{Claim, Entry, IsIn, Rises, Covers, IsWhole, up}
 use Rattle.dsa_terms.specs.Logs.{Line, Log, claim_of, IsAccepted}
 use Rattle.dsa_terms.specs.Parts.{numbers, part_of, parts, whole}
-use Rattle.dsa_terms.proofs.Lists.{from_filter}
+use Rattle.dsa_terms.proofs.Lists.{from_filter, into_map}
 use Rattle.dsa_search_laws.proofs.Parts.{buffers_of-whole, claim_of_part, part_is_members, whole_is_whole}
 use Rattle.dsa_search_laws.proofs.Placing.{up_is_least}
 use Rattle.dsa_model.specs.Buffer.{IsBuffer}
@@ -14,13 +14,7 @@ use Rattle.canonical_order.specs.Stands.{Stands}
 use Rattle.refute_log.specs.Logs.{OpenLog, ended}
 use Rattle.search_core.specs.Cites.{IsCoveredBy}
 use Rattle.search_core.specs.Decisions.{IsRefutation}
-use Rattle.search_core.specs.Found.{IsLow}
 use Rattle.search_core.specs.Logs.{Extends, IsSearchLog}
-use Rattle.search_core.proofs.Descent.{few}
-
-length_whole : (p : List ℕ) → length (whole p) ≡ length p
-length_whole [] = refl
-length_whole (b ∷ bs) = ap suc (length_whole bs)
 
 pub part_rises : (I : Instance) (p : List ℕ) → IsIn p (parts I) → Rises p
 part_rises I p h = rw buffers_of-whole at (claim_of_part I p h).rises
@@ -33,11 +27,14 @@ stands_part I p s n h = record {
   count = n;
 }
 
-pub part_count : (I : Instance) (p : List ℕ) → All IsBuffer I → length I ≤ 512 → IsIn p (parts I) → length p ≤ 512
-part_count I p s n h = let k = few I (whole p) (stands_part I p s n h) in let q = length_whole p in omega arith
-
-pub low_part : (I : Instance) (p : List ℕ) → All IsBuffer I → length I ≤ 512 → IsIn p (parts I) → IsLow (whole p)
-low_part I p s n h e i = let k = few I (whole p) (stands_part I p s n h) in let q = whole_is_whole p e i in omega arith
+pub part_in_range : (I : Instance) (p : List ℕ) → IsIn p (parts I) → All (λ b. b < length I) p
+part_in_range I p h = all_in p (λ b i.
+    (claim_of_part I p h).in_range (b, 0) (into_map (λ (b : ℕ). let e : Entry = (b, 0) in e) p b i))
+  where
+    all_in : (xs : List ℕ) → ((b : ℕ) → IsIn b xs → b < length I) → All (λ b. b < length I) xs
+    all_in [] k n d lt = absurd (omega arith)
+    all_in (x ∷ xs) k zero d lt = k x (inl refl)
+    all_in (x ∷ xs) k (suc n) d lt = all_in xs (λ b i. k b (inr i)) n d (omega arith)
 
 -- ---- the claim of a line that covers the whole claim is whole
 covers_whole : (I : Instance) (k : Claim) (p : List ℕ) → IsInstance I → Covers I k (whole p) → IsWhole k

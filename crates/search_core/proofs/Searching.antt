@@ -1,41 +1,29 @@
 -- What the search through a claim knows after some of its choices.
-use Rattle.std.proofs.Common.{◌≡◌, ℕ, ◌+◌, ◌-◌, ◌<◌, ◌≤◌, true, List, [], ◌∷◌, ◌++◌, map, drop, length, slice_index_or, Option, Some, None, sym, refl, ap, ◌∙◌, subst, inl, inr, arith, append_assoc, add-one}
-use Rattle.std.proofs.lemmas.List.{append-nil, map-append}
+use Rattle.std.proofs.Common.{◌≡◌, ◌≢◌, length-append, ℕ, ◌+◌, ◌-◌, ◌<◌, ◌≤◌, ◌==◌, true, false, List, [], ◌∷◌, map, drop, length, slice_index_or, Some, None, sym, refl, ap, ◌∙◌, subst, inl, inr, arith, append_assoc, add-one}
+use Rattle.std.proofs.lemmas.Bool.Decides.{nat_tests}
+use Rattle.std.proofs.lemmas.List.{append-nil, length-map, map-append}
 use Rattle.std.proofs.Math.ListN.{drop_of_length-le}
 use Rattle.std.proofs.Math.Seq.{drop-cons}
 use Rattle.std.specs.List.{list_any}
 use Rattle.dsa_terms.specs.Buffers.{Instance, buffer}
-use Rattle.dsa_terms.specs.Claims.{Claim, Entry, IsIn, IsClaim, Rises, buffers_of, Covers, child, up}
-use Rattle.dsa_terms.specs.Search.{choices, first, first_some, is_tall, not_excluded, seated}
-use Rattle.dsa_terms.proofs.Lists.{any_from, into_map, from_append, from_map}
+use Rattle.dsa_terms.specs.Claims.{Claim, Entry, IsIn, IsClaim, Covers, child, up}
+use Rattle.dsa_terms.specs.Search.{choices, first, is_tall, not_excluded, seated}
+use Rattle.dsa_terms.proofs.Lists.{any_from, into_map, from_append, from_map, left_append}
 use Rattle.dsa_search_laws.proofs.Complete.{from_choices, into_choices, tall_is}
 use Rattle.dsa_search_laws.proofs.Placing.{in_buffers}
 use Rattle.dsa_search_laws.proofs.Search.{first_equation, first_empty}
 use Rattle.canonical_order.specs.Claims.{HasBuffer, entry_of, least_buffer}
 use Rattle.canonical_order.proofs.CoverLemmas.{in_at}
-use Rattle.refute_log.specs.Logs.{OpenLog}
+use Rattle.dsa_terms.specs.Logs.{Line}
 use Rattle.search_core.specs.declared.found.Refuted.{Refuted}
-use Rattle.search_core.specs.Cites.{IsChildCovered, IsCoveredBy}
-use Rattle.search_core.specs.Logs.{Extends, IsSearchLog}
-use Rattle.search_core.proofs.Descent.{child_within}
-use Rattle.search_core.proofs.Growing.{covered_still, extends_none, extends_along}
+use Rattle.search_core.specs.Cites.{IsChildCovered}
+use Rattle.search_core.specs.Logs.{Extends}
+use Rattle.search_core.specs.Descents.{IsKnown, IsTrying, buffer_of}
+use Rattle.search_core.specs.Tries.{IsLeft, Tried, chosen_of, later_of, noted_by, rest_of, untried}
+use Rattle.search_core.proofs.Growing.{covered_still}
+use Rattle.search_core.specs.Opened.{AreChoices}
 use Rattle.search_core.proofs.Least.{least_passes, none_least}
-
--- the layout of the claim with that entry first
-abbrev pub try_of : Instance → ℕ → Claim → Entry → Option (List Entry)
-try_of I C l e = seated I l e (first I C (child I l e))
-
-abbrev pub buffer_of : Refuted → ℕ
-buffer_of r = r.buffer
-
--- the first i choices are refuted, and the layout of the claim is the one that the others give
-pub record IsSearching (I : Instance) (C : ℕ) (l : Claim) (order : List ℕ) (i : ℕ) (refuted : List Refuted)
-    (before after : OpenLog) : Type 0 where
-  pub log : IsSearchLog I C after
-  pub grown : Extends l before.lines after.lines
-  pub left : first I C l ≡ first_some (try_of I C l) (map (entry_of l) (drop i order))
-  pub noted : order ≡ map buffer_of refuted ++ drop i order
-  pub covered : (r : Refuted) → IsIn r refuted → IsChildCovered I after.lines l r
+use Rattle.search_core.proofs.Working.{work_is}
 
 -- ---- a claim with a tall buffer, and one with none
 pub tall_has_none : (I : Instance) (C : ℕ) (l : Claim) (b : ℕ) → IsClaim I l → Some b ≡ least_buffer (is_tall I C) l →
@@ -75,9 +63,9 @@ first_of_nothing I C [] h = first_empty I C
 first_of_nothing I C (x ∷ xs) h = absurd (omega arith)
 
 -- ---- the choices
-pub chosen_in : (I : Instance) (l : Claim) (order : List ℕ) (i : ℕ) →
+chosen_at : (I : Instance) (l : Claim) (order : List ℕ) (i : ℕ) →
     map (entry_of l) order ≡ choices I (not_excluded I) l → i < length order → HasBuffer l (slice_index_or order i 0)
-chosen_in I l order i q lt =
+chosen_at I l order i q lt =
     let b = slice_index_or order i 0 in
     let j : IsIn (entry_of l b) (choices I (not_excluded I) l) = subst (IsIn (entry_of l b)) q
     (into_map (entry_of l) order b (in_at order i 0 lt)) in
@@ -87,75 +75,107 @@ pub drop_zero : (xs : List ℕ) → drop 0 xs ≡ xs
 drop_zero [] = refl
 drop_zero (x ∷ xs) = refl
 
-pub searching_start : (I : Instance) (C : ℕ) (l : Claim) (order : List ℕ) (refuted : List Refuted) (log : OpenLog) →
-    IsClaim I l → (length l ≡ 0 → ⊥) → None ≡ least_buffer (is_tall I C) l →
-    map (entry_of l) order ≡ choices I (not_excluded I) l → refuted ≡ [] → IsSearchLog I C log →
-    IsSearching I C l order 0 refuted log log
-searching_start I C l order refuted log c ne none q e s = rw e (record {
-  log = s;
-  grown = extends_none l log.lines;
-  left = first_equation I C l c (λ z. ne (ap length z)) ∙ (rw
-      (none_least (is_tall I C) l none, ← q, drop_zero order) refl);
-  noted = sym (drop_zero order);
-  covered = λ r i. absurd i;
-})
+-- the next choice, and those after it
+pub next_choice : (f : Tried) → IsLeft f → rest_of f ≡ chosen_of f ∷ later_of f
+next_choice f lt = rw add-one (drop-cons f.order (length f.refuted) 0 lt)
 
-pub next_choice : (order : List ℕ) (i : ℕ) → i < length order →
-    drop i order ≡ slice_index_or order i 0 ∷ drop (i + 1) order
-next_choice order i lt = rw add-one (drop-cons order i 0 lt)
+pub rest_of_noted : (f : Tried) (k : ℕ) → rest_of (noted_by f k) ≡ later_of f
+rest_of_noted f k = ap (λ n. drop n f.order) (length-append f.refuted (record { buffer = chosen_of f; line = k } ∷ []))
 
--- what the answer for the child of the next choice says of the claim
-pub layout_found : (I : Instance) (C : ℕ) (l : Claim) (order : List ℕ) (i : ℕ) (refuted : List Refuted)
-    (before after : OpenLog) (seats all : List Entry) → i < length order →
-    IsSearching I C l order i refuted before after →
-    first I C (child I l (entry_of l (slice_index_or order i 0))) ≡ Some seats →
-    seated I l (entry_of l (slice_index_or order i 0)) (Some seats) ≡ Some all → first I C l ≡ Some all
-layout_found I C l order i refuted before after seats all lt s h k = s.left ∙ (rw (next_choice order i lt, h, k) refl)
+pub none_is_left : (f : Tried) → length f.refuted ≡ length f.order → rest_of f ≡ []
+none_is_left f e = drop_of_length-le f.order (omega arith)
 
-pub choice_refuted : (I : Instance) (C : ℕ) (l : Claim) (order : List ℕ) (i : ℕ) (refuted more : List Refuted)
-    (before between after : OpenLog) (b k : ℕ) → i < length order →
-    b ≡ slice_index_or order i 0 →
-    IsSearching I C l order i refuted before between →
-    first I C (child I l (entry_of l b)) ≡ None → IsCoveredBy I after.lines (child I l (entry_of l b)) k →
-    IsSearchLog I C after → Extends (child I l (entry_of l b)) between.lines after.lines →
-    more ≡ refuted ++ record { buffer = b; line = k } ∷ [] → IsSearching I C l order (i + 1) more before after
-choice_refuted I C l order i refuted more before between after b k lt q s none covered log grown p = record {
-  log = log;
-  grown = extends_along (child I l (entry_of l b)) l before.lines between.lines after.lines
-      (child_within I l b) s.grown grown;
-  left = s.left ∙ (rw (next_choice order i lt, ← q, none) refl);
-  noted = s.noted ∙ (rw (
-    next_choice order i lt,
-    p,
-    map-append buffer_of refuted
-        (record { buffer = b; line = k } ∷ []),
-    ← q,
-  )
-      (sym (append_assoc (map buffer_of refuted) (b ∷ []) (drop (i + 1) order))));
-  covered = λ r i. elim (from_append refuted (record { buffer = b; line = k } ∷ []) r (subst (IsIn r) p i)) [
-    | inl j ↦ covered_still I (child I l (entry_of l b))
-        (child I l (entry_of l r.buffer)) r.line between.lines after.lines grown (s.covered r j)
-    | inr j ↦ elim j [
-      | inl e ↦ subst (λ (r : Refuted). IsChildCovered I after.lines l r)
-          (sym e) covered
-      | inr z ↦ absurd z
-    ]
-  ];
-}
+module _ (I : Instance) (C : ℕ) (l : Claim) where
+  pub trying_start : (lines : List Line) (order : List ℕ) → IsClaim I l → l ≢ [] →
+      None ≡ least_buffer (is_tall I C) l → map (entry_of l) order ≡ choices I (not_excluded I) l →
+      IsTrying I C lines l (untried order)
+  trying_start lines order c ne none q = record {
+    order = q;
+    noted = sym (drop_zero order);
+    covered = λ r i. absurd i;
+    left = first_equation I C l c ne ∙ (rw (none_least (is_tall I C) l none, ← q, drop_zero order) refl);
+  }
 
--- no choice is left
-pub all_refuted : (I : Instance) (C : ℕ) (l : Claim) (order : List ℕ) (i : ℕ) (refuted : List Refuted)
-    (before after : OpenLog) → length order ≤ i →
-    IsSearching I C l order i refuted before after → first I C l ≡ None
-all_refuted I C l order i refuted before after le s = s.left ∙ (rw (drop_of_length-le order le) refl)
+  -- each choice is in the claim
+  pub chosen_in : (lines : List Line) (f : Tried) → IsTrying I C lines l f → IsLeft f → HasBuffer l (chosen_of f)
+  chosen_in lines f t lt = chosen_at I l f.order (length f.refuted) t.order lt
 
-pub each_noted : (I : Instance) (C : ℕ) (l : Claim) (order : List ℕ) (i : ℕ) (refuted : List Refuted)
-    (before after : OpenLog) → length order ≤ i → Rises (buffers_of l) →
-    map (entry_of l) order ≡ choices I (not_excluded I) l →
-    IsSearching I C l order i refuted before after →
-    (e : Entry) → IsIn e l → not_excluded I l e ≡ true → IsIn e.0 (map buffer_of refuted)
-each_noted I C l order i refuted before after le r q s e j t =
-    let all : order ≡ map buffer_of refuted = s.noted ∙ (rw (drop_of_length-le order le)
-    (append-nil (map buffer_of refuted))) in
-    let m = from_map (entry_of l) order e (subst (IsIn e) (sym q) (into_choices I (not_excluded I) l e j t)) in
-    subst (IsIn e.0) all (rw (ap (λ (e : Entry). e.0) m.2) m.1)
+  -- and so is each that was refuted
+  pub refuted_in : (lines : List Line) (f : Tried) → IsTrying I C lines l f → (r : Refuted) → IsIn r f.refuted →
+      HasBuffer l r.buffer
+  refuted_in lines f t r i =
+      let j : IsIn r.buffer f.order = subst (IsIn r.buffer) (sym t.noted)
+      (left_append (map buffer_of f.refuted) (rest_of f) r.buffer (into_map buffer_of f.refuted r i)) in
+      let k : IsIn (entry_of l r.buffer) (choices I (not_excluded I) l) = subst (IsIn (entry_of l r.buffer)) t.order
+      (into_map (entry_of l) f.order r.buffer j) in
+      in_buffers l (entry_of l r.buffer) (from_choices I (not_excluded I) l (entry_of l r.buffer) k)
+
+  -- what the answer for the child of the next choice says of the claim
+  pub layout_found : (lines : List Line) (f : Tried) (seats all : List Entry) → IsTrying I C lines l f → IsLeft f →
+      first I C (child I l (entry_of l (chosen_of f))) ≡ Some seats →
+      seated I l (entry_of l (chosen_of f)) (Some seats) ≡ Some all → first I C l ≡ Some all
+  layout_found lines f seats all t lt h k = t.left ∙ (rw (next_choice f lt, h, k) refl)
+
+  pub choice_refuted : (lines : List Line) (f : Tried) (k : ℕ) → IsTrying I C lines l f → IsLeft f →
+      IsKnown I C lines (child I l (entry_of l (chosen_of f))) k → IsTrying I C lines l (noted_by f k)
+  choice_refuted lines f k t lt known = record {
+    order = t.order;
+    noted = t.noted ∙ (rw (
+      next_choice f lt,
+      rest_of_noted f k,
+      map-append buffer_of f.refuted (record { buffer = chosen_of f; line = k } ∷ []),
+    ) (sym (append_assoc (map buffer_of f.refuted) (chosen_of f ∷ []) (later_of f))));
+    covered = λ r i. elim (from_append f.refuted (record { buffer = chosen_of f; line = k } ∷ []) r i) [
+      | inl j ↦ t.covered r j
+      | inr j ↦ elim j [
+        | inl e ↦ subst (λ (r : Refuted). IsChildCovered I lines l r) (sym e) known.covered
+        | inr z ↦ absurd z
+      ]
+    ];
+    left = t.left ∙ (rw (next_choice f lt, known.none, rest_of_noted f k) refl);
+  }
+
+  -- a log that grows keeps what is known
+  pub trying_still : (k : Claim) (lines after : List Line) (f : Tried) → Extends k lines after →
+      IsTrying I C lines l f → IsTrying I C after l f
+  trying_still k lines after f grown t = record {
+    order = t.order;
+    noted = t.noted;
+    covered = λ r i. covered_still I k (child I l (entry_of l r.buffer)) r.line lines after grown (t.covered r i);
+    left = t.left;
+  }
+
+  -- no choice is left
+  pub all_refuted : (lines : List Line) (f : Tried) → IsTrying I C lines l f → length f.refuted ≡ length f.order →
+      first I C l ≡ None
+  all_refuted lines f t e = t.left ∙ (rw (none_is_left f e) refl)
+
+  pub each_noted : (lines : List Line) (f : Tried) → IsTrying I C lines l f → length f.refuted ≡ length f.order →
+      (e : Entry) → IsIn e l → not_excluded I l e ≡ true → IsIn e.0 (map buffer_of f.refuted)
+  each_noted lines f t q e j x =
+      let all : f.order ≡ map buffer_of f.refuted =
+      t.noted ∙ (rw (none_is_left f q) (append-nil (map buffer_of f.refuted))) in
+      let m = from_map (entry_of l) f.order e (subst (IsIn e) (sym t.order) (into_choices I (not_excluded I) l e j x))
+      in
+      subst (IsIn e.0) all (rw (ap (λ (e : Entry). e.0) m.2) m.1)
+
+  -- a choice is left where not all are refuted
+  pub one_is_left : (lines : List Line) (f : Tried) → IsTrying I C lines l f →
+      (length f.refuted == length f.order) ≡ false → IsLeft f
+  one_is_left lines f t h =
+      let n : length f.order ≡ length (map buffer_of f.refuted) + length (rest_of f) =
+      ap length t.noted ∙ length-append (map buffer_of f.refuted) (rest_of f) in
+      let m : length (map buffer_of f.refuted) ≡ length f.refuted = length-map f.refuted buffer_of in
+      less (length f.refuted) (length f.order) (omega arith) h
+    where
+      less : (m n : ℕ) → m ≤ n → (m == n) ≡ false → m < n
+      less m n le h = grind (arith, nat_tests)
+
+  -- the choices of a claim that has some buffers, none of which is tall
+  pub are_choices : (lines : List Line) (order : List ℕ) → IsClaim I l → l ≢ [] → None ≡ least_buffer (is_tall I C) l →
+      map (entry_of l) order ≡ choices I (not_excluded I) l → AreChoices I C lines l (untried order)
+  are_choices lines order c ne none q = record {
+    not_empty = ne;
+    trying = trying_start lines order c ne none q;
+    work = work_is I C l c ne none ∙ (rw (drop_zero order, q) refl);
+  }

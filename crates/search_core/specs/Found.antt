@@ -1,7 +1,7 @@
 -- What the search finds of a claim.
-use Rattle.std.specs.Prelude.{◌≡◌, ℕ, ◌+◌, ◌*◌, ◌^◌, ◌≤◌, ⊤, List, length, Some, None}
+use Rattle.std.specs.Prelude.{◌≡◌, ℕ, ⊤, List, Some, None}
 use Rattle.dsa_terms.specs.Buffers.{Instance}
-use Rattle.dsa_terms.specs.Claims.{Claim, Entry, IsIn}
+use Rattle.dsa_terms.specs.Claims.{Claim}
 use Rattle.dsa_terms.specs.Logs.{Line}
 use Rattle.dsa_terms.specs.Search.{first}
 use Rattle.search_core.specs.declared.found.Found.{Found}
@@ -20,7 +20,8 @@ IfSpent P (found.Seats seats) = ⊤
 IfSpent P (found.Line k) = ⊤
 IfSpent P found.Spent = P
 
--- a choice raises a bound by less than the greatest size and the greatest alignment: with that for each choice
--- that is left, no bound comes above what 512 choices raise
-abbrev pub IsLow : Claim → Type 0
-IsLow l = (e : Entry) → IsIn e l → e.1 + length l * (2 ^ 40 + 2 ^ 32) ≤ 512 * (2 ^ 40 + 2 ^ 32)
+-- the fact holds unless the budget is spent
+abbrev pub UnlessSpent : Type 0 → Found → Type 0
+UnlessSpent P (found.Seats seats) = P
+UnlessSpent P (found.Line k) = P
+UnlessSpent P found.Spent = ⊤

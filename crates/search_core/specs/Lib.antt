@@ -1,6 +1,11 @@
 pub mod Keys
 pub mod Cites
 pub mod Found
+pub mod Lifted
+pub mod Tries
+pub mod Descents
+pub mod Opened
+pub mod Turns
 pub mod Logs
 pub mod Meters
 pub mod Decisions

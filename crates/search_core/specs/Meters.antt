@@ -1,5 +1,5 @@
 -- Units of a budget.
-use Rattle.std.specs.Prelude.{◌≡◌, ℕ, ◌<◌, ◌≤◌, ⊤, cond, Option, is_some, MatchOption}
+use Rattle.std.specs.Prelude.{◌≡◌, ℕ, ◌+◌, ◌<◌, ◌≤◌, ⊤, cond, Option, is_some, MatchOption}
 
 -- how many units there are, if there is a number, and how many of them are used
 pub record Units : Type 0 where
@@ -21,3 +21,7 @@ AreSpent u = MatchOption u.most ⊥ (λ k. u.used ≡ k)
 -- how many units are counted for so many that are taken
 abbrev pub counted : Option ℕ → ℕ → ℕ
 counted most n = cond (is_some most) n 0
+
+-- at least one more is used, where there is a number
+abbrev pub AreMore : Units → Units → Type 0
+AreMore before after = before.used + counted before.most 1 ≤ after.used

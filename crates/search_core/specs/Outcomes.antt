@@ -1,5 +1,5 @@
 -- What is found of all parts.
-use Rattle.std.specs.Prelude.{◌≡◌, ℕ, ⊤, Some, None}
+use Rattle.std.specs.Prelude.{◌≡◌, ℕ, ◌+◌, ◌-◌, ◌^◌, ⊤, Some, None, min}
 use Rattle.dsa_terms.specs.Buffers.{Instance}
 use Rattle.dsa_terms.specs.Parts.{searched}
 use Rattle.refute_log.specs.declared.decided.Decided.{Decided}
@@ -11,3 +11,15 @@ abbrev pub IsDecided : Instance → ℕ → Decided → Type 0
 IsDecided I C (Layout offsets) = searched I C ≡ Some offsets.items
 IsDecided I C (Refuted log) = (searched I C ≡ None) × IsRefutation I C log
 IsDecided I C Spent = ⊤
+
+-- the fact holds unless the budget is spent
+abbrev pub UnlessSpent : Type 0 → Decided → Type 0
+UnlessSpent P (Layout offsets) = P
+UnlessSpent P (Refuted log) = P
+UnlessSpent P Spent = ⊤
+
+-- how many answers were Spent after one more answer: at most 2^64 - 1 are counted
+abbrev pub spends_after : ℕ → Decided → ℕ
+spends_after n (Layout offsets) = n
+spends_after n (Refuted log) = n
+spends_after n Spent = min (n + 1) (2 ^ 64 - 1)

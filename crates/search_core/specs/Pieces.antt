@@ -18,3 +18,9 @@ abbrev pub IfPieceSpent : Type 0 → Piece → Type 0
 IfPieceSpent P (piece.Seats seats) = ⊤
 IfPieceSpent P (piece.Refuted log) = ⊤
 IfPieceSpent P piece.Spent = P
+
+-- the fact holds unless the budget is spent
+abbrev pub UnlessPieceSpent : Type 0 → Piece → Type 0
+UnlessPieceSpent P (piece.Seats seats) = P
+UnlessPieceSpent P (piece.Refuted log) = P
+UnlessPieceSpent P piece.Spent = ⊤

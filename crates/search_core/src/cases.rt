@@ -1,12 +1,12 @@
 //! The end of a claim each of whose choices is refuted.
 
-ghost use Rattle.std.specs.Prelude.{◌≡◌, ◌≢◌, [], map, true, IfOk, OnOk};
+ghost use Rattle.std.specs.Prelude.{◌≡◌, ◌≢◌, ◌^◌, [], map, true, IfOk, OnOk};
 ghost use Rattle.dsa_terms.specs.Claims.{Entry, IsIn};
 ghost use Rattle.dsa_terms.specs.Search.{not_excluded};
+ghost use Rattle.canonical_order.specs.Claims.{IsBoundedBy};
 ghost use Rattle.canonical_order.specs.Stands.{Stands};
 ghost use Rattle.search_core.specs.declared.found.Refuted.{Refuted as RefutedTerm};
 ghost use Rattle.search_core.specs.Cites.{IsChildCovered, IsCoveredBy};
-ghost use Rattle.search_core.specs.Found.{IsLow};
 ghost use Rattle.search_core.specs.Logs.{Extends, IsSearchLog};
 
 use crate::cites::cites;
@@ -29,7 +29,7 @@ pub(crate) fn refute(
     refuted: &[Refuted],
 ) -> Result<u64, NoMemory>
     requires stands { Stands task.now.instance.now claim }
-    requires low { IsLow claim }
+    requires low { IsBoundedBy (2 ^ 60) claim }
     requires not_empty { claim ≢ [] }
     requires noted { (e : Entry) → IsIn e claim →
         not_excluded task.now.instance.now claim e ≡ true →

@@ -7,16 +7,19 @@ mod cases;
 mod choice;
 mod cites;
 mod found;
+mod frame;
 mod learned;
+mod lifted;
 mod lines;
 mod meter;
+mod opening;
 mod part;
-mod recursion;
 mod search;
 mod seats;
 mod task;
 #[cfg(test)]
 mod tests;
+mod walk;
 mod whole;
 
 pub use budget::Budget;

@@ -4,15 +4,16 @@ ghost use Rattle.std.specs.Prelude.{◌≡◌, ◌+◌, ◌<◌, ◌≤◌, IfOk
 ghost use Rattle.dsa_terms.specs.Claims.{IsIn};
 ghost use Rattle.dsa_terms.specs.Parts.{parts, whole};
 ghost use Rattle.dsa_terms.specs.Search.{work};
-ghost use Rattle.search_core.specs.Meters.{AreSpent};
-ghost use Rattle.search_core.specs.Pieces.{IfPieceSpent, IsPiece};
+ghost use Rattle.lifetime.specs.SectionList.{AreSectionsOf};
+ghost use Rattle.search_core.specs.Meters.{AreMore, AreSpent};
+ghost use Rattle.search_core.specs.Pieces.{IfPieceSpent, IsPiece, UnlessPieceSpent};
 
 use crate::found::Found;
 use crate::meter::Meter;
-use crate::recursion::search;
 use crate::task::Task;
-use canonical_order::Claim;
+use crate::walk::search;
 use dsa_model::NoMemory;
+use lifetime::Sections;
 use refute_log::{ClosedLog, Log};
 use std::alloc::Global;
 
@@ -32,21 +33,23 @@ pub(crate) fn search_part(
     alloc: Global,
     task: &Task,
     meter: &mut Meter,
+    sections: &Sections,
     members: &[u32],
 ) -> Result<Piece, NoMemory>
-    requires { IsIn members.now (parts task.now.instance.now) }
+    requires sections { AreSectionsOf task.now.instance.now sections.now }
+    requires part { IsIn members.now (parts task.now.instance.now) }
     ensures most { meter.new.most ≡ meter.old.most }
     ensures units { meter.old.used ≤ meter.new.used }
     ensures used { let most = work task.now.instance.now task.now.capacity (whole members.now) in
         meter.new.used ≤ meter.old.used + most }
     ensures spent { let most = work task.now.instance.now task.now.capacity (whole members.now) in
         IfOk result (IfPieceSpent (AreSpent meter.new × (meter.new.used < meter.old.used + most))) }
+    ensures taken { IfOk result (UnlessPieceSpent (AreMore meter.old meter.new)) }
     ensures found { IfOk result (IsPiece task.now.instance.now task.now.capacity members.now) }
 {
     let _count = task.instance.len();
-    let claim = Claim::whole(alloc, members)?;
     let mut log = Log::new(alloc, task.instance, task.capacity);
-    match search(alloc, task, &mut log, meter, claim)? {
+    match search(alloc, task, &mut log, meter, sections, members)? {
         Found::Seats(seats) => Ok(Piece::Seats(seats)),
         Found::Line(end) => match log.close(task.instance, end) {
             Ok(closed) => Ok(Piece::Refuted(closed)),

@@ -76,8 +76,13 @@ impl<'a> Search<'a> {
 }
 
 impl<'a> Decider for Search<'a> {
+    ghost use Rattle.std.specs.Prelude.{◌≡◌, ◌+◌, ◌<◌, ◌≤◌, ◌^◌, IfOk, OnErr, length};
     ghost use Rattle.dsa_terms.specs.Parts.{whole_work};
+    ghost use Rattle.refute_log.specs.Decided.{IfSpent, IsRight, TurnsOut, answer_of};
+    ghost use Rattle.refute_log.specs.Hunts.{Rose};
     ghost use Rattle.search_core.specs.Decisions.{IsGiven, allowance_of, turn_of};
+    ghost use Rattle.search_core.specs.Meters.{AreMore};
+    ghost use Rattle.search_core.specs.Outcomes.{UnlessSpent, spends_after};
 
     ghost subject = { λ s. s.subject };
 
@@ -93,13 +98,39 @@ impl<'a> Decider for Search<'a> {
 
     ghost turn = { turn_of };
 
-    fn decide(&mut self, capacity: u64) -> Result<Decided, NoMemory> {
+    /// As the trait says. `spends` counts the answers Spent and nothing else, and any other answer
+    /// for an instance with a buffer takes a unit, where the budget has a number of them.
+    fn decide(&mut self, capacity: u64) -> Result<Decided, NoMemory>
+        requires { capacity ≤ 2 ^ 60 }
+        ensures subject { self.new.subject ≡ self.old.subject }
+        ensures allowance { let most = self.old.units.most in
+            allowance_of self.new.units.most ≡ allowance_of most }
+        ensures spends { self.old.spends ≤ self.new.spends }
+        ensures units { self.old.units.used ≤ self.new.units.used }
+        ensures used { let most = whole_work self.old.subject capacity in
+            self.new.units.used ≤ self.old.units.used + most }
+        ensures right { IfOk result (λ d. IsRight self.old.subject capacity d) }
+        ensures given { IfOk result (λ d. IsGiven self.old.subject capacity (answer_of d)) }
+        ensures turned { let I = self.old.subject in
+            IfOk result (λ d. TurnsOut I (turn_of I capacity) d) }
+        ensures spent { IfOk result (λ d. IfSpent d (Rose self.old.spends self.new.spends)) }
+        ensures fewer { let limit = self.old.units.used + whole_work self.old.subject capacity in
+            IfOk result (λ d. IfSpent d (self.new.units.used < limit)) }
+        ensures exhausted { let most = self.old.units.most in
+            IfOk result (λ d. IfSpent d (allowance_of most ≤ self.new.units.used)) }
+        ensures counted { let n = self.old.spends in
+            IfOk result (λ d. self.new.spends ≡ spends_after n d) }
+        ensures uncounted { OnErr result (self.new.spends ≡ self.old.spends) }
+        ensures taken { 0 < length self.old.subject →
+            IfOk result (UnlessSpent (AreMore self.old.units self.new.units)) }
+    {
         let _count = self.instance.len();
         let task = Task {
             instance: self.instance,
             capacity,
         };
-        let decided = search_parts(self.alloc, &task, &mut self.meter, self.parts)?;
+        let meter = &mut self.meter;
+        let decided = search_parts(self.alloc, &task, meter, self.sections, self.parts)?;
         if let Decided::Spent = decided {
             self.spends = self.spends.saturating_add(1);
         }

@@ -83,10 +83,48 @@ fn a_refutation_names_buffers_of_one_part(rt: HostRuntime) {
             assert_eq!(rt; log.capacity(), 4);
             assert!(rt; names(&log, 1) && names(&log, 2));
             assert_eq!(rt; names(&log, 0), rows.len() == 3);
+            assert!(rt; log.len() <= 5);
         } else {
             assert!(rt; false, "not refuted");
         }
     }
+}
+
+/// As many buffers of size 1 as an instance may have, all live at one moment.
+fn tower(alloc: Global) -> Result<Instance, Fail<BufferFault>> {
+    let mut instance = Instance::new(alloc);
+    for _ in 0..BUFFER_LIMIT {
+        let buffer = Buffer::new(alloc, 0, 1, 1, 1, &[])?;
+        if instance.len() < BUFFER_LIMIT {
+            instance.push(buffer)?;
+        }
+    }
+    Ok(instance)
+}
+
+#[test]
+fn as_many_buffers_as_there_may_be_stand_one_on_another(rt: HostRuntime) {
+    let alloc = rt.alloc();
+    let instance = tower(alloc).expect(&rt, "memory");
+    let sections = Sections::build(alloc, &instance).expect(&rt, "memory");
+    let parts = parts(alloc, &instance).expect(&rt, "memory");
+    let search = Search::new(alloc, &instance, &sections, &parts, Budget::unlimited());
+    let answer = search.expect(&rt, "memory").decide(BUFFER_LIMIT as u64);
+    if let Decided::Layout(found) = answer.expect(&rt, "memory") {
+        assert_eq!(rt; found.len(), BUFFER_LIMIT as usize);
+        for b in 0..found.len() {
+            assert_eq!(rt; found[b], b as u64);
+        }
+    } else {
+        assert!(rt; false, "no layout");
+    }
+}
+
+fn is_spent(answer: &Decided) -> bool {
+    if let Decided::Spent = answer {
+        return true;
+    }
+    false
 }
 
 #[test]
@@ -94,11 +132,16 @@ fn a_budget_of_the_work_is_enough_and_one_unit_less_is_not(rt: HostRuntime) {
     let alloc = rt.alloc();
     for (units, enough) in [(0, false), (3, false), (4, true)] {
         let answer = answer_at(alloc, TWO, 4, Budget::units(units)).expect(&rt, "memory");
-        let spent = if let Decided::Spent = answer {
-            true
-        } else {
-            false
-        };
-        assert_eq!(rt; spent, !enough, "with {units} units");
+        assert_eq!(rt; is_spent(&answer), !enough, "with {units} units");
+    }
+}
+
+/// Six claims are met, and a line that was learned before covers the last of them.
+#[test]
+fn a_claim_that_a_line_covers_takes_no_unit(rt: HostRuntime) {
+    let alloc = rt.alloc();
+    for (units, enough) in [(4, false), (5, true)] {
+        let answer = answer_at(alloc, THREE, 4, Budget::units(units)).expect(&rt, "memory");
+        assert_eq!(rt; is_spent(&answer), !enough, "with {units} units");
     }
 }

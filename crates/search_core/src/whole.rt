@@ -1,16 +1,18 @@
 //! The search through all parts.
 
-ghost use Rattle.std.specs.Prelude.{◌≡◌, ◌+◌, ◌<◌, ◌≤◌, IfOk};
+ghost use Rattle.std.specs.Prelude.{◌≡◌, ◌+◌, ◌<◌, ◌≤◌, IfOk, length};
 ghost use Rattle.dsa_terms.specs.Parts.{offsets_of, parts as parts_of, whole_work};
+ghost use Rattle.lifetime.specs.SectionList.{AreSectionsOf};
 ghost use Rattle.refute_log.specs.Decided.{IfSpent};
-ghost use Rattle.search_core.specs.Meters.{AreSpent};
-ghost use Rattle.search_core.specs.Outcomes.{IsDecided};
+ghost use Rattle.search_core.specs.Meters.{AreMore, AreSpent};
+ghost use Rattle.search_core.specs.Outcomes.{IsDecided, UnlessSpent};
 
 use crate::meter::Meter;
 use crate::part::{Piece, search_part};
 use crate::seats::offset_of;
 use crate::task::Task;
 use dsa_model::{Instance, NoMemory};
+use lifetime::Sections;
 use refute_log::Decided;
 use split_sections::Parts;
 use std::alloc::Global;
@@ -30,9 +32,11 @@ pub(crate) fn search_parts(
     alloc: Global,
     task: &Task,
     meter: &mut Meter,
+    sections: &Sections,
     parts: &Parts,
 ) -> Result<Decided, NoMemory>
-    requires { parts.now ≡ parts_of task.now.instance.now }
+    requires sections { AreSectionsOf task.now.instance.now sections.now }
+    requires parts { parts.now ≡ parts_of task.now.instance.now }
     ensures most { meter.new.most ≡ meter.old.most }
     ensures units { meter.old.used ≤ meter.new.used }
     ensures used { let most = whole_work task.now.instance.now task.now.capacity in
@@ -40,11 +44,13 @@ pub(crate) fn search_parts(
     ensures spent { let most = whole_work task.now.instance.now task.now.capacity in
         IfOk result (λ d.
         IfSpent d (AreSpent meter.new × (meter.new.used < meter.old.used + most))) }
+    ensures taken { 0 < length task.now.instance.now →
+        IfOk result (UnlessSpent (AreMore meter.old meter.new)) }
     ensures decided { IfOk result (IsDecided task.now.instance.now task.now.capacity) }
 {
     let mut seats = Vec::new(alloc);
     for p in 0..parts.count() {
-        match search_part(alloc, task, meter, parts.members(p))? {
+        match search_part(alloc, task, meter, sections, parts.members(p))? {
             Piece::Seats(found) => seats.extend_from_slice(&found)?,
             Piece::Refuted(log) => return Ok(Decided::Refuted(log)),
             Piece::Spent => return Ok(Decided::Spent),

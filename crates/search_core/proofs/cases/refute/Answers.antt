@@ -2,7 +2,7 @@ use Rattle.std.proofs.Common.{map}
 use Rattle.canonical_order.proofs.Entries.{in_range}
 use Rattle.refute_log.specs.Lines.{cite_value}
 use Rattle.search_core.proofs.CasesLines.{cases_legal, cites_own, cites_within}
-use Rattle.search_core.proofs.Descent.{covers_itself, is_instance, low_bounds}
+use Rattle.search_core.proofs.Descent.{covers_itself, is_instance}
 use Rattle.search_core.proofs.cases.refute.Goals as goal
 
 pub invariant_of-view : goal.invariant_of-view
@@ -19,7 +19,7 @@ append-requires-clause-legal c =
 
 pub append-requires-clause-within : goal.append-requires-clause-within
 append-requires-clause-within c = (
-  low_bounds c.args.claim c.requires.low,
+  c.requires.low,
   cites_within c.args.task.now.instance.now c.args.claim c.args.refuted.now
       (map cite_value c.in_ok-cites.cites) c.in_ok-cites.ensures
       c.args.log.now.lines c.requires.stands c.requires.covered,

@@ -1,16 +1,17 @@
 use Rattle.std.proofs.Common.{◌∙◌, refl, arith}
-use Rattle.search_core.proofs.Joining.{all_joined, all_work, is_part, joining_next, part_refuted, part_work}
+use Rattle.search_core.proofs.Joining.{all_joined, all_taken, all_work, is_part, joining_next, part_refuted, part_work}
+use Rattle.search_core.proofs.Taking.{more_after}
 use Rattle.search_core.proofs.whole.search_parts.Goals as goal
 
-pub search_part-requires : goal.search_part-requires
-search_part-requires c =
+pub search_part-requires-clause-part : goal.search_part-requires-clause-part
+search_part-requires-clause-part c =
     rw c.members.ensures.value (is_part c.args.task.now.instance.now c.args.task.now.capacity c.args.parts.now
-    c.loop-p.p c.requires (omega arith))
+    c.loop-p.p c.requires.parts (omega arith))
 
 pub returns-in_err-found-clause-used : goal.returns-in_err-found-clause-used
 returns-in_err-found-clause-used c =
     let n = part_work c.args.task.now.instance.now c.args.task.now.capacity c.args.parts.now c.loop-p.p
-    c.loop-p.seats.items c.args.meter.now c.loop-p.meter c.requires
+    c.loop-p.seats.items c.args.meter.now c.loop-p.meter c.requires.parts
     (omega arith) c.loop-p.invariant in
     let u = rw c.members.ensures.value at c.search_part.ensures.used in
     omega arith
@@ -18,7 +19,7 @@ returns-in_err-found-clause-used c =
 pub returns-in_err-extend_from_slice-in-Seats-clause-used : goal.returns-in_err-extend_from_slice-in-Seats-clause-used
 returns-in_err-extend_from_slice-in-Seats-clause-used c =
     let n = part_work c.args.task.now.instance.now c.args.task.now.capacity c.args.parts.now c.loop-p.p
-    c.loop-p.seats.items c.args.meter.now c.loop-p.meter c.requires
+    c.loop-p.seats.items c.args.meter.now c.loop-p.meter c.requires.parts
     (omega arith) c.loop-p.invariant in
     let u = rw c.members.ensures.value at c.search_part.ensures.used in
     omega arith
@@ -26,7 +27,7 @@ returns-in_err-extend_from_slice-in-Seats-clause-used c =
 pub returns-in-Refuted-clause-used : goal.returns-in-Refuted-clause-used
 returns-in-Refuted-clause-used c =
     let n = part_work c.args.task.now.instance.now c.args.task.now.capacity c.args.parts.now c.loop-p.p
-    c.loop-p.seats.items c.args.meter.now c.loop-p.meter c.requires
+    c.loop-p.seats.items c.args.meter.now c.loop-p.meter c.requires.parts
     (omega arith) c.loop-p.invariant in
     let u = rw c.members.ensures.value at c.search_part.ensures.used in
     omega arith
@@ -34,7 +35,7 @@ returns-in-Refuted-clause-used c =
 pub returns-in-Spent-clause-used : goal.returns-in-Spent-clause-used
 returns-in-Spent-clause-used c =
     let n = part_work c.args.task.now.instance.now c.args.task.now.capacity c.args.parts.now c.loop-p.p
-    c.loop-p.seats.items c.args.meter.now c.loop-p.meter c.requires
+    c.loop-p.seats.items c.args.meter.now c.loop-p.meter c.requires.parts
     (omega arith) c.loop-p.invariant in
     let u = rw c.members.ensures.value at c.search_part.ensures.used in
     omega arith
@@ -42,7 +43,7 @@ returns-in-Spent-clause-used c =
 pub returns-in-Spent-clause-spent : goal.returns-in-Spent-clause-spent
 returns-in-Spent-clause-spent c =
     let n = part_work c.args.task.now.instance.now c.args.task.now.capacity c.args.parts.now c.loop-p.p
-    c.loop-p.seats.items c.args.meter.now c.loop-p.meter c.requires
+    c.loop-p.seats.items c.args.meter.now c.loop-p.meter c.requires.parts
     (omega arith) c.loop-p.invariant in
     let u = rw c.members.ensures.value at c.search_part.ensures.used in
     let s = rw (c.in-Spent.is, c.members.ensures.value) at c.in_ok-found.ensures.spent in
@@ -52,10 +53,16 @@ pub returns-in-Refuted-clause-decided : goal.returns-in-Refuted-clause-decided
 returns-in-Refuted-clause-decided c =
     let found = rw (c.in-Refuted.is, c.members.ensures.value) at c.in_ok-found.ensures.found in (
       part_refuted c.args.task.now.instance.now c.args.task.now.capacity c.args.parts.now c.loop-p.p
-          c.loop-p.seats.items c.args.meter.now c.loop-p.meter c.requires
+          c.loop-p.seats.items c.args.meter.now c.loop-p.meter c.requires.parts
           (omega arith) c.loop-p.invariant found.0,
       found.1,
     )
+
+pub returns-in-Refuted-clause-taken : goal.returns-in-Refuted-clause-taken
+returns-in-Refuted-clause-taken c _ =
+    let j = c.loop-p.invariant in
+    more_after c.args.meter.now c.loop-p.meter c.search_part.new.meter j.most j.units
+    (rw c.in-Refuted.is at c.in_ok-found.ensures.taken)
 
 pub loop-p-preserved : goal.loop-p-preserved
 loop-p-preserved c =
@@ -64,22 +71,28 @@ loop-p-preserved c =
     c.in-Seats.found.items c.extend_from_slice.new.self.items c.args.meter.now
     c.loop-p.meter c.search_part.new.meter (omega arith) c.loop-p.invariant found
     (c.in_ok-extend_from_slice-in-Seats.ensures.items ∙ (rw c.deref.ensures.value refl)) c.search_part.ensures.most
-    c.search_part.ensures.units
+    c.search_part.ensures.units (rw c.in-Seats.is at c.in_ok-found.ensures.taken)
     (rw c.members.ensures.value at c.search_part.ensures.used)
 
 pub returns-in_err-offsets-clause-used : goal.returns-in_err-offsets-clause-used
 returns-in_err-offsets-clause-used c =
     all_work c.args.task.now.instance.now c.args.task.now.capacity c.args.parts.now c.loop-p.p c.loop-p.seats.items
-    c.args.meter.now c.loop-p.meter c.requires c.loop-p.invariant
+    c.args.meter.now c.loop-p.meter c.requires.parts c.loop-p.invariant
 
 pub returns-clause-used : goal.returns-clause-used
 returns-clause-used c =
     all_work c.args.task.now.instance.now c.args.task.now.capacity c.args.parts.now c.loop-p.p c.loop-p.seats.items
-    c.args.meter.now c.loop-p.meter c.requires c.loop-p.invariant
+    c.args.meter.now c.loop-p.meter c.requires.parts c.loop-p.invariant
 
 pub returns-clause-decided : goal.returns-clause-decided
 returns-clause-decided c =
     rw (c.in_ok-offsets.ensures, c.deref-2.ensures.value)
     (all_joined c.args.task.now.instance.now c.args.task.now.capacity c.args.parts.now c.loop-p.p c.loop-p.seats.items
-    c.args.meter.now c.loop-p.meter c.requires
+    c.args.meter.now c.loop-p.meter c.requires.parts
     (omega arith) c.loop-p.invariant)
+
+pub returns-clause-taken : goal.returns-clause-taken
+returns-clause-taken c =
+    all_taken c.args.task.now.instance.now c.args.task.now.capacity c.args.parts.now c.loop-p.p c.loop-p.seats.items
+    c.args.meter.now c.loop-p.meter c.requires.parts
+    (omega arith) c.loop-p.invariant

@@ -1,0 +1,127 @@
+use Rattle.std.proofs.Common.{◌≡◌, ◌∙◌, ◌++◌, ◌∷◌, [], map, length, sym, ap, arith}
+use Rattle.canonical_order.proofs.NumberTests.{equal}
+use Rattle.dsa_terms.specs.Claims.{child}
+use Rattle.canonical_order.specs.Claims.{entry_of}
+use Rattle.skyline.specs.Skies.{last_claim}
+use Rattle.search_core.specs.Descents.{buffer_of}
+use Rattle.search_core.specs.Tries.{chosen_of}
+use Rattle.search_core.proofs.Stacks.{last_of_append, when_ok}
+use Rattle.search_core.proofs.Descent.{is_instance, shorter}
+use Rattle.search_core.proofs.Descending.{ahead_deeper, ahead_refuted}
+use Rattle.search_core.proofs.Lifting.{covered_from_lifted, lifted_covered, lifted_extends, lifted_noted, lifted_stands}
+use Rattle.search_core.proofs.Searching.{all_refuted, chosen_in, each_noted, one_is_left, refuted_in}
+use Rattle.search_core.proofs.walk.advance.Goals as goal
+
+-- ---- no choice is left
+pub refute-requires-clause-stands : goal.refute-requires-clause-stands
+refute-requires-clause-stands c =
+    let I = c.args.task.now.instance.now in
+    let l = last_claim c.args.sky.now.claims in
+    let s = rw (c.instance.ensures.value, c.requires.subject) at c.instance.ensures.stands in
+    let q = rw c.requires.subject at c.in_ok-claim.ensures.value in
+    rw q (lifted_stands I l s (rw q at c.in_ok-claim.ensures.low))
+
+pub refute-requires-clause-low : goal.refute-requires-clause-low
+refute-requires-clause-low c = c.in_ok-claim.ensures.low
+
+pub refute-requires-clause-noted : goal.refute-requires-clause-noted
+refute-requires-clause-noted c =
+    let I = c.args.task.now.instance.now in
+    let C = c.args.task.now.capacity in
+    let l = last_claim c.args.sky.now.claims in
+    let f = c.args.frame in
+    let s = rw (c.instance.ensures.value, c.requires.subject) at c.instance.ensures.stands in
+    let q = rw c.requires.subject at c.in_ok-claim.ensures.value in
+    let done : length f.refuted ≡ length f.order = equal (length f.refuted) (length f.order)
+    (sym c.if-is_done.ensures) in
+    rw (q, c.refuted.ensures)
+    (lifted_noted I l (map buffer_of f.refuted) (is_instance I l s)
+    (each_noted I C l c.args.log.now.lines f c.requires.trying done))
+
+pub refute-requires-clause-covered : goal.refute-requires-clause-covered
+refute-requires-clause-covered c =
+    let I = c.args.task.now.instance.now in
+    let C = c.args.task.now.capacity in
+    let l = last_claim c.args.sky.now.claims in
+    let f = c.args.frame in
+    let lines = c.args.log.now.lines in
+    let s = rw (c.instance.ensures.value, c.requires.subject) at c.instance.ensures.stands in
+    let q = rw c.requires.subject at c.in_ok-claim.ensures.value in
+    rw (q, c.refuted.ensures) (λ r i. lifted_covered I lines l r (is_instance I l s) s.claim.rises
+    (refuted_in I C l lines f c.requires.trying r i) (c.requires.trying.covered r i))
+
+pub returns-then-is_done-clause-grown : goal.returns-then-is_done-clause-grown
+returns-then-is_done-clause-grown c =
+    let q = rw c.requires.subject at c.in_ok-claim.ensures.value in
+    lifted_extends c.args.task.now.instance.now (last_claim c.args.sky.now.claims) c.args.log.now.lines
+    c.refute.new.log.lines (rw q at c.in_ok-refute.ensures.grown)
+
+pub returns-then-is_done-clause-ahead : goal.returns-then-is_done-clause-ahead
+returns-then-is_done-clause-ahead c =
+    let I = c.args.task.now.instance.now in
+    let C = c.args.task.now.capacity in
+    let l = last_claim c.args.sky.now.claims in
+    let f = c.args.frame in
+    let s = rw (c.instance.ensures.value, c.requires.subject) at c.instance.ensures.stands in
+    let q = rw c.requires.subject at c.in_ok-claim.ensures.value in
+    let done : length f.refuted ≡ length f.order = equal (length f.refuted) (length f.order)
+    (sym c.if-is_done.ensures) in
+    ahead_refuted I C l c.args.log.now.lines c.refute.new.log.lines c.args.sky.now c.args.frames.now.items f
+    c.in_ok-refute.field-0 c.requires.subject c.requires.some done (returns-then-is_done-clause-grown c)
+    c.requires.descends (record {
+      none = all_refuted I C l c.args.log.now.lines f c.requires.trying done;
+      covered = covered_from_lifted I c.refute.new.log.lines l c.in_ok-refute.field-0 (is_instance I l s)
+          (rw q at c.in_ok-refute.ensures.covered);
+    })
+
+-- ---- a choice deeper
+pub push-requires : goal.push-requires
+push-requires c =
+    let I = c.args.task.now.instance.now in
+    let l = last_claim c.args.sky.now.claims in
+    let f = c.args.frame in
+    let left = one_is_left I c.args.task.now.capacity l c.args.log.now.lines f c.requires.trying
+    (sym c.if-is_done.ensures) in
+    rw c.chosen.ensures (chosen_in I c.args.task.now.capacity l c.args.log.now.lines f c.requires.trying left)
+
+pub returns-clause-room : goal.returns-clause-room
+returns-clause-room c =
+    let I = c.args.task.now.instance.now in
+    let l = last_claim c.args.sky.now.claims in
+    let f = c.args.frame in
+    let s = rw (c.instance.ensures.value, c.requires.subject) at c.instance.ensures.stands in
+    let left = one_is_left I c.args.task.now.capacity l c.args.log.now.lines f c.requires.trying
+    (sym c.if-is_done.ensures) in
+    let len = shorter I l (chosen_of f) s.claim.rises
+    (chosen_in I c.args.task.now.capacity l c.args.log.now.lines f c.requires.trying left) in
+    let claims = rw (c.chosen.ensures, c.requires.subject) at c.push.ensures.claims in
+    let last : last_claim c.push.new.self.claims ≡ child I l (entry_of l (chosen_of f)) =
+    ap last_claim claims ∙ last_of_append c.args.sky.now.claims (child I l (entry_of l (chosen_of f))) in
+    let n = ap length last in
+    omega (
+      arith,
+      len,
+      n,
+      c.requires.room,
+      c.push-2.ensures.upper_bound,
+      c.push-2.ensures.capacity,
+      c.args.frames.now.ok.0,
+      c.push-2.new.self.ok.0,
+    )
+
+pub returns-clause-ahead : goal.returns-clause-ahead
+returns-clause-ahead c =
+    let I = c.args.task.now.instance.now in
+    let l = last_claim c.args.sky.now.claims in
+    let f = c.args.frame in
+    let s = rw (c.instance.ensures.value, c.requires.subject) at c.instance.ensures.stands in
+    let left = one_is_left I c.args.task.now.capacity l c.args.log.now.lines f c.requires.trying
+    (sym c.if-is_done.ensures) in
+    let len = shorter I l (chosen_of f) s.claim.rises
+    (chosen_in I c.args.task.now.capacity l c.args.log.now.lines f c.requires.trying left) in
+    let claims = rw (c.chosen.ensures, c.requires.subject) at c.push.ensures.claims in
+    ahead_deeper I c.args.task.now.capacity c.args.log.now.lines c.args.sky.now c.push.new.self
+    c.args.frames.now.items c.push-2.new.self.items f c.requires.subject c.requires.some c.requires.trying left
+    c.requires.descends c.push.ensures.instance claims
+    (when_ok c.push-2.result (c.args.frames.now.items ++ f ∷ []) c.args.frames.now.items c.push-2.new.self.items
+    c.push-2.ensures.items (c.push-2.ensures.succeeds (omega (arith, len, c.requires.room, c.args.frames.now.ok.0))))

@@ -1,0 +1,43 @@
+use Rattle.std.proofs.Common.{◌∙◌, arith, inl, inr}
+use Rattle.dsa_terms.specs.Parts.{whole}
+use Rattle.search_core.proofs.Growing.{extends_along}
+use Rattle.search_core.proofs.Taking.{more_after, more_still, unless_along, unless_always}
+use Rattle.search_core.proofs.walk.search.Goals as goal
+
+pub turns-preserved : goal.turns-preserved
+turns-preserved c =
+    let i = c.turns.invariant in
+    let on = rw c.in-On.is at c.in_ok-next.ensures.turned in
+    record {
+      log = c.in_ok-next.ensures.log;
+      grown = extends_along (whole c.args.members.now) (whole c.args.members.now) c.args.log.now.lines c.turns.log.lines
+          c.step.new.log.lines (λ b h. h) i.grown (rw i.root at c.in_ok-next.ensures.grown);
+      place = on.place;
+      root = on.root ∙ i.root;
+      room = rw c.in-On.is at c.in_ok-next.ensures.room;
+      most = c.step.ensures.most ∙ i.most;
+      taken = λ e. elim (i.taken e) [
+        | inl n ↦ inr (more_after c.args.meter.now c.turns.meter c.step.new.meter i.most i.units
+            (rw c.in-On.is at c.in_ok-next.ensures.taken n.0 n.1))
+        | inr m ↦ inr (more_still c.args.meter.now c.turns.meter c.step.new.meter m c.step.ensures.units)
+      ];
+      units = let u = c.step.ensures.units in let v = i.units in omega arith;
+      left = let u = on.units in let v = i.left in omega arith;
+    }
+
+pub returns-in-Done-clause-grown : goal.returns-in-Done-clause-grown
+returns-in-Done-clause-grown c =
+    let i = c.turns.invariant in
+    extends_along (whole c.args.members.now) (whole c.args.members.now) c.args.log.now.lines c.turns.log.lines
+    c.step.new.log.lines (λ b h. h) i.grown (rw i.root at c.in_ok-next.ensures.grown)
+
+pub returns-in-Done-clause-taken : goal.returns-in-Done-clause-taken
+returns-in-Done-clause-taken c e =
+    let i = c.turns.invariant in
+    elim (i.taken e) [
+      | inl n ↦ unless_along c.in-Done.found
+          (more_after c.args.meter.now c.turns.meter c.step.new.meter i.most i.units)
+          (rw c.in-Done.is at c.in_ok-next.ensures.taken n.0 n.1)
+      | inr m ↦ unless_always c.in-Done.found
+          (more_still c.args.meter.now c.turns.meter c.step.new.meter m c.step.ensures.units)
+    ]

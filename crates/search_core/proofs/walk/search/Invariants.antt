@@ -1,0 +1,25 @@
+use Rattle.std.proofs.Common.{◌≡◌, ◌+◌, ◌≤◌, ◌⊎◌, None, [], length, vec_capacity}
+use Rattle.dsa_terms.specs.Parts.{whole}
+use Rattle.dsa_terms.specs.Search.{work}
+use Rattle.skyline.specs.Skies.{last_claim}
+use Rattle.search_core.specs.Descents.{IsPlace, owed, sky_root, turns_left}
+use Rattle.search_core.specs.Logs.{Extends, IsSearchLog}
+use Rattle.search_core.specs.Meters.{AreMore}
+use Rattle.search_core.proofs.walk.search.Given as goal
+
+abbrev pub decreases-turns : goal.decreases-turns
+decreases-turns l = turns_left l.task.instance.now l.task.capacity l.sky l.frames.items l.line
+
+abbrev pub invariant-turns : goal.invariant-turns
+invariant-turns l = record {
+  log : IsSearchLog l.task.instance.now l.task.capacity l.log;
+  grown : Extends (whole l.members) l.fn.log.lines l.log.lines;
+  place : IsPlace l.task.instance.now l.task.capacity l.log.lines l.sky l.frames.items l.line;
+  root : sky_root l.sky ≡ whole l.members;
+  room : length (last_claim l.sky.claims) + length l.frames.items ≤ vec_capacity l.frames;
+  most : l.meter.most ≡ l.fn.meter.most;
+  taken : l.fn.log.lines ≡ [] → ((l.line ≡ None) × (l.log.lines ≡ [])) ⊎ AreMore l.fn.meter l.meter;
+  units : l.fn.meter.used ≤ l.meter.used;
+  left : l.meter.used + owed l.task.instance.now l.task.capacity l.sky l.frames.items l.line ≤
+      l.fn.meter.used + work l.task.instance.now l.task.capacity (whole l.members);
+}

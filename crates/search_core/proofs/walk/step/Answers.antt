@@ -1,0 +1,177 @@
+use Rattle.std.proofs.Common.{ap, arith, length, reverse}
+use Rattle.skyline.specs.Skies.{last_claim}
+use Rattle.search_core.specs.Descents.{above_of}
+use Rattle.search_core.proofs.Descent.{shorter}
+use Rattle.search_core.proofs.Descending.{back_noted, descends_still, is_back}
+use Rattle.search_core.proofs.Growing.{extends_along}
+use Rattle.search_core.proofs.Searching.{chosen_in}
+use Rattle.search_core.proofs.Stepping.{grown_below, known_line, nothing_in, on_back, on_line, root_refuted, some_owed}
+use Rattle.search_core.proofs.walk.step.Goals as goal
+
+-- ---- back
+pub advance-requires-clause-trying : goal.advance-requires-clause-trying
+advance-requires-clause-trying c =
+    let I = c.args.task.now.instance.now in
+    let C = c.args.task.now.capacity in
+    let p = c.requires.place in
+    let f = c.in-Some-pop.frame in
+    let lines = c.args.log.now.lines in
+    let b = is_back I C lines c.args.sky.now c.pop-in-Some-pop.new.self c.args.frames.now.items c.pop.new.self.items f
+    p.subject p.some p.descends c.in-Some-pop.ensures.items c.pop-in-Some-pop.ensures.instance
+    c.pop-in-Some-pop.ensures.claims in
+    rw c.note.ensures (back_noted I C lines c.args.sky.now c.pop-in-Some-pop.new.self c.pop.new.self.items f
+    c.in-Some.k b
+    (known_line I C lines c.args.sky.now c.args.frames.now.items c.args.line p c.in-Some.k c.in-Some.is))
+
+pub advance-requires-clause-room : goal.advance-requires-clause-room
+advance-requires-clause-room c =
+    let I = c.args.task.now.instance.now in
+    let C = c.args.task.now.capacity in
+    let p = c.requires.place in
+    let f = c.in-Some-pop.frame in
+    let lines = c.args.log.now.lines in
+    let b = is_back I C lines c.args.sky.now c.pop-in-Some-pop.new.self c.args.frames.now.items c.pop.new.self.items f
+    p.subject p.some p.descends c.in-Some-pop.ensures.items c.pop-in-Some-pop.ensures.instance
+    c.pop-in-Some-pop.ensures.claims in
+    let above = last_claim c.pop-in-Some-pop.new.self.claims in
+    let s = rw (c.instance-in-Some-pop.ensures.value, b.subject) at c.instance-in-Some-pop.ensures.stands in
+    let has = chosen_in I C above lines f b.trying b.standing.is_left in
+    let len = shorter I above _ s.claim.rises has in
+    let n = ap length b.standing.is_child in
+    omega (
+      arith,
+      len,
+      n,
+      c.requires.room,
+      c.in-Some-pop.ensures.cases,
+      c.in-Some-pop.ensures.capacity,
+      c.args.frames.now.ok.0,
+      c.pop.new.self.ok.0,
+    )
+
+pub returns-in_ok-next-in-Some-pop-clause-grown : goal.returns-in_ok-next-in-Some-pop-clause-grown
+returns-in_ok-next-in-Some-pop-clause-grown c =
+    let I = c.args.task.now.instance.now in
+    let C = c.args.task.now.capacity in
+    let p = c.requires.place in
+    let f = c.in-Some-pop.frame in
+    let lines = c.args.log.now.lines in
+    let b = is_back I C lines c.args.sky.now c.pop-in-Some-pop.new.self c.args.frames.now.items c.pop.new.self.items f
+    p.subject p.some p.descends c.in-Some-pop.ensures.items c.pop-in-Some-pop.ensures.instance
+    c.pop-in-Some-pop.ensures.claims in
+    rw b.root (grown_below I C lines c.advance.new.log.lines c.pop-in-Some-pop.new.self (reverse c.pop.new.self.items)
+    b.descends c.in_ok-next-in-Some-pop.ensures.grown)
+
+pub returns-in_ok-next-in-Some-pop-clause-turned : goal.returns-in_ok-next-in-Some-pop-clause-turned
+returns-in_ok-next-in-Some-pop-clause-turned c =
+    let I = c.args.task.now.instance.now in
+    let C = c.args.task.now.capacity in
+    let p = c.requires.place in
+    let f = c.in-Some-pop.frame in
+    let lines = c.args.log.now.lines in
+    let b = is_back I C lines c.args.sky.now c.pop-in-Some-pop.new.self c.args.frames.now.items c.pop.new.self.items f
+    p.subject p.some p.descends c.in-Some-pop.ensures.items c.pop-in-Some-pop.ensures.instance
+    c.pop-in-Some-pop.ensures.claims in
+    on_back I C lines c.args.sky.now c.args.frames.now.items c.args.line p c.advance.new.log.lines
+    c.pop-in-Some-pop.new.self c.advance.new.sky c.pop.new.self.items c.advance.new.frames.items f c.in-Some.k
+    c.in_ok-next-in-Some-pop.next c.args.meter.now c.in-Some.is c.in-Some-pop.ensures.items b
+    (rw c.note.ensures at c.in_ok-next-in-Some-pop.ensures.ahead)
+
+pub returns-in-None-pop-clause-turned : goal.returns-in-None-pop-clause-turned
+returns-in-None-pop-clause-turned c =
+    let k = c.in-None-pop.ensures.cases in (
+      root_refuted c.args.task.now.instance.now c.args.task.now.capacity c.args.log.now.lines c.args.sky.now
+          c.args.frames.now.items c.args.line c.requires.place c.in-Some.k c.in-Some.is
+          (nothing_in c.args.frames.now.items (omega (arith, k.0, c.args.frames.now.ok.0))),
+      tt,
+    )
+
+-- ---- forth
+pub returns-in_err-k-in-None-clause-used : goal.returns-in_err-k-in-None-clause-used
+returns-in_err-k-in-None-clause-used c =
+    let p = c.requires.place in
+    let s = rw (c.instance.ensures.value, p.subject) at c.instance.ensures.stands in
+    let o = some_owed c.args.task.now.instance.now c.args.task.now.capacity c.args.log.now.lines c.args.sky.now
+    c.args.frames.now.items c.args.line p c.in-None.is s.claim in
+    omega (arith, o, c.open.ensures.one)
+
+pub advance-requires-in-Choices-clause-descends : goal.advance-requires-in-Choices-clause-descends
+advance-requires-in-Choices-clause-descends c =
+    let l = last_claim c.args.sky.now.claims in
+    descends_still c.args.task.now.instance.now c.args.task.now.capacity l c.args.log.now.lines c.open.new.log.lines l
+    (above_of c.args.sky.now.claims) (reverse c.args.frames.now.items) c.in_ok-k-in-None.ensures.grown
+    c.requires.place.descends
+
+pub returns-in_err-seats-in-Empty-clause-used : goal.returns-in_err-seats-in-Empty-clause-used
+returns-in_err-seats-in-Empty-clause-used c =
+    let p = c.requires.place in
+    let s = rw (c.instance.ensures.value, p.subject) at c.instance.ensures.stands in
+    let o = some_owed c.args.task.now.instance.now c.args.task.now.capacity c.args.log.now.lines c.args.sky.now
+    c.args.frames.now.items c.args.line p c.in-None.is s.claim in
+    omega (arith, o, c.open.ensures.one)
+
+pub returns-in-Line-clause-grown : goal.returns-in-Line-clause-grown
+returns-in-Line-clause-grown c =
+    grown_below c.args.task.now.instance.now c.args.task.now.capacity c.args.log.now.lines c.open.new.log.lines
+    c.args.sky.now (reverse c.args.frames.now.items) c.requires.place.descends c.in_ok-k-in-None.ensures.grown
+
+pub returns-in-Line-clause-used : goal.returns-in-Line-clause-used
+returns-in-Line-clause-used c =
+    let p = c.requires.place in
+    let s = rw (c.instance.ensures.value, p.subject) at c.instance.ensures.stands in
+    let o = some_owed c.args.task.now.instance.now c.args.task.now.capacity c.args.log.now.lines c.args.sky.now
+    c.args.frames.now.items c.args.line p c.in-None.is s.claim in
+    omega (arith, o, c.open.ensures.one)
+
+pub returns-in-Line-clause-turned : goal.returns-in-Line-clause-turned
+returns-in-Line-clause-turned c =
+    let p = c.requires.place in
+    let s = rw (c.instance.ensures.value, p.subject) at c.instance.ensures.stands in
+    on_line c.args.task.now.instance.now c.args.task.now.capacity c.args.log.now.lines c.args.sky.now
+    c.args.frames.now.items c.args.line p c.open.new.log.lines c.in-Line.k c.args.meter.now c.open.new.meter
+    c.in-None.is
+    s.claim c.in_ok-k-in-None.ensures.grown (rw c.in-Line.is at c.in_ok-k-in-None.ensures.opened) c.open.ensures.one
+
+pub returns-in_ok-next-in-Choices-clause-grown : goal.returns-in_ok-next-in-Choices-clause-grown
+returns-in_ok-next-in-Choices-clause-grown c =
+    let l = last_claim c.args.sky.now.claims in
+    grown_below c.args.task.now.instance.now c.args.task.now.capacity c.args.log.now.lines
+    c.advance-in-Choices.new.log.lines c.args.sky.now (reverse c.args.frames.now.items) c.requires.place.descends
+    (extends_along l l c.args.log.now.lines c.open.new.log.lines c.advance-in-Choices.new.log.lines (λ b h. h)
+    c.in_ok-k-in-None.ensures.grown c.in_ok-next-in-Choices.ensures.grown)
+
+pub returns-in_ok-seats-in-Empty-clause-grown : goal.returns-in_ok-seats-in-Empty-clause-grown
+returns-in_ok-seats-in-Empty-clause-grown c =
+    grown_below c.args.task.now.instance.now c.args.task.now.capacity c.args.log.now.lines c.open.new.log.lines
+    c.args.sky.now (reverse c.args.frames.now.items) c.requires.place.descends c.in_ok-k-in-None.ensures.grown
+
+pub returns-in_ok-seats-in-Empty-clause-used : goal.returns-in_ok-seats-in-Empty-clause-used
+returns-in_ok-seats-in-Empty-clause-used c =
+    let p = c.requires.place in
+    let s = rw (c.instance.ensures.value, p.subject) at c.instance.ensures.stands in
+    let o = some_owed c.args.task.now.instance.now c.args.task.now.capacity c.args.log.now.lines c.args.sky.now
+    c.args.frames.now.items c.args.line p c.in-None.is s.claim in
+    omega (arith, o, c.open.ensures.one)
+
+pub returns-in-Spent-clause-grown : goal.returns-in-Spent-clause-grown
+returns-in-Spent-clause-grown c =
+    grown_below c.args.task.now.instance.now c.args.task.now.capacity c.args.log.now.lines c.open.new.log.lines
+    c.args.sky.now (reverse c.args.frames.now.items) c.requires.place.descends c.in_ok-k-in-None.ensures.grown
+
+pub returns-in-Spent-clause-turned : goal.returns-in-Spent-clause-turned
+returns-in-Spent-clause-turned c =
+    let p = c.requires.place in
+    let s = rw (c.instance.ensures.value, p.subject) at c.instance.ensures.stands in
+    let o = some_owed c.args.task.now.instance.now c.args.task.now.capacity c.args.log.now.lines c.args.sky.now
+    c.args.frames.now.items c.args.line p c.in-None.is s.claim in
+    let h = rw c.in-Spent.is at c.in_ok-k-in-None.ensures.opened in
+    (tt, (h.0, omega (arith, o, h.1)))
+
+pub returns-in-Line-clause-taken : goal.returns-in-Line-clause-taken
+returns-in-Line-clause-taken c _ e = rw c.in-Line.is at c.in_ok-k-in-None.ensures.taken e
+
+pub returns-in_ok-next-in-Choices-clause-taken : goal.returns-in_ok-next-in-Choices-clause-taken
+returns-in_ok-next-in-Choices-clause-taken c _ e = rw c.in-Choices.is at c.in_ok-k-in-None.ensures.taken e
+
+pub returns-in_ok-seats-in-Empty-clause-taken : goal.returns-in_ok-seats-in-Empty-clause-taken
+returns-in_ok-seats-in-Empty-clause-taken c _ e = rw c.in-Empty.is at c.in_ok-k-in-None.ensures.taken e

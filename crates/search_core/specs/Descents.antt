@@ -1,0 +1,85 @@
+-- Where a search is: the claims that it goes down through, and what it knows of each.
+use Rattle.std.specs.Prelude.{◌≡◌, ℕ, ◌+◌, ◌*◌, ◌<◌, ⊤, Option, is_some, IfSome, None, cond, List, [], ◌∷◌, ◌++◌, length, map, drop, reverse}
+use Rattle.dsa_terms.specs.Buffers.{Instance}
+use Rattle.dsa_terms.specs.Claims.{Claim, Entry, IsIn, child}
+use Rattle.dsa_terms.specs.Logs.{Line}
+use Rattle.dsa_terms.specs.Search.{choices, first, first_some, not_excluded, seated, work, work_through}
+use Rattle.canonical_order.specs.Claims.{entry_of}
+use Rattle.skyline.specs.Skies.{Sky, last_claim}
+use Rattle.search_core.specs.declared.found.Refuted.{Refuted}
+use Rattle.search_core.specs.Cites.{IsChildCovered, IsCoveredBy}
+use Rattle.search_core.specs.Tries.{Tried, IsLeft, chosen_of, later_of, rest_of}
+
+-- the layout of the claim with that entry first
+abbrev pub try_of : Instance → ℕ → Claim → Entry → Option (List Entry)
+try_of I C l e = seated I l e (first I C (child I l e))
+
+-- how many claims the search looks at below the claim, where these entries are its choices
+unfoldable pub through : Instance → ℕ → Claim → List Entry → ℕ
+through I C l es = work_through (λ e. work I C (child I l e)) (λ e. is_some (first I C (child I l e))) es
+
+-- the buffer of a refuted choice
+abbrev pub buffer_of : Refuted → ℕ
+buffer_of r = r.buffer
+
+-- the first choices of the claim are refuted, each by a line, and its first layout is the one that the others give
+pub record IsTrying (I : Instance) (C : ℕ) (lines : List Line) (l : Claim) (f : Tried) : Type 0 where
+  pub order : map (entry_of l) f.order ≡ choices I (not_excluded I) l
+  pub noted : f.order ≡ map buffer_of f.refuted ++ rest_of f
+  pub covered : (r : Refuted) → IsIn r f.refuted → IsChildCovered I lines l r
+  pub left : first I C l ≡ first_some (try_of I C l) (map (entry_of l) (rest_of f))
+
+-- the claim is what is left of p by its first choice that is not refuted
+pub record IsStanding (I : Instance) (p : Claim) (f : Tried) (l : Claim) : Type 0 where
+  pub is_left : IsLeft f
+  pub is_child : l ≡ child I p (entry_of p (chosen_of f))
+
+-- the claim l is reached from those above it, the last one first, by the choices that stand there
+abbrev pub Descends : Instance → ℕ → List Line → Claim → List Claim → List Tried → Type 0
+Descends I C lines l [] [] = ⊤
+Descends I C lines l [] (f ∷ fs) = ⊥
+Descends I C lines l (p ∷ ps) [] = ⊥
+Descends I C lines l (p ∷ ps) (f ∷ fs) = IsStanding I p f l × IsTrying I C lines p f × Descends I C lines p ps fs
+
+-- the first of these claims
+abbrev pub root_of : Claim → List Claim → Claim
+root_of l [] = l
+root_of l (p ∷ ps) = root_of p ps
+
+-- how many claims are left to look at besides l and what is below it
+abbrev pub left_of : Instance → ℕ → Claim → List Claim → List Tried → ℕ
+left_of I C l [] fs = 0
+left_of I C l (p ∷ ps) [] = 0
+left_of I C l (p ∷ ps) (f ∷ fs) =
+    cond (is_some (first I C l)) 0 (through I C p (map (entry_of p) (later_of f))) + left_of I C p ps fs
+
+-- the claims above the last one, the last one of them first
+abbrev pub above_of : List Claim → List Claim
+above_of claims = drop 1 (reverse claims)
+
+-- the first claim of a skyline
+abbrev pub sky_root : Sky → Claim
+sky_root sky = root_of (last_claim sky.claims) (above_of sky.claims)
+
+-- how many claims are left to look at in all; the last one is not, where a line is known that covers it
+abbrev pub owed : Instance → ℕ → Sky → List Tried → Option ℕ → ℕ
+owed I C sky frames line =
+    cond (is_some line) 0 (work I C (last_claim sky.claims))
+    + left_of I C (last_claim sky.claims) (above_of sky.claims) (reverse frames)
+
+-- how many turns are left at most
+abbrev pub turns_left : Instance → ℕ → Sky → List Tried → Option ℕ → ℕ
+turns_left I C sky frames line = 2 * owed I C sky frames line + length frames + cond (is_some line) 1 0
+
+-- the claim has no layout, and the line of that number covers it
+pub record IsKnown (I : Instance) (C : ℕ) (lines : List Line) (l : Claim) (k : ℕ) : Type 0 where
+  pub none : first I C l ≡ None
+  pub covered : IsCoveredBy I lines l k
+
+-- the search is at the last claim of the skyline; where there is a line, it covers that claim
+pub record IsPlace (I : Instance) (C : ℕ) (lines : List Line) (sky : Sky) (frames : List Tried)
+    (line : Option ℕ) : Type 0 where
+  pub subject : sky.instance ≡ I
+  pub some : 0 < length sky.claims
+  pub descends : Descends I C lines (last_claim sky.claims) (above_of sky.claims) (reverse frames)
+  pub known : IfSome line (IsKnown I C lines (last_claim sky.claims))

@@ -1,0 +1,32 @@
+-- What is found where a claim is opened.
+use Rattle.std.specs.Prelude.{◌≡◌, ◌≢◌, ℕ, ◌+◌, ⊤, Some, [], List, map}
+use Rattle.dsa_terms.specs.Buffers.{Instance}
+use Rattle.dsa_terms.specs.Claims.{Claim}
+use Rattle.dsa_terms.specs.Logs.{Line}
+use Rattle.dsa_terms.specs.Search.{first, work}
+use Rattle.canonical_order.specs.Claims.{entry_of}
+use Rattle.search_core.specs.declared.opening.Opened.{Opened}
+use Rattle.search_core.specs.declared.opening.Opened.TheVariants as opened
+use Rattle.search_core.specs.Descents.{IsKnown, IsTrying, through}
+use Rattle.search_core.specs.Meters.{AreSpent, Units}
+use Rattle.search_core.specs.Tries.{Tried, rest_of}
+
+-- the choices of a claim that has some buffers: they decide its layout, and its work but for itself
+pub record AreChoices (I : Instance) (C : ℕ) (lines : List Line) (l : Claim) (f : Tried) : Type 0 where
+  pub not_empty : l ≢ []
+  pub trying : IsTrying I C lines l f
+  pub work : work I C l ≡ 1 + through I C l (map (entry_of l) (rest_of f))
+
+-- a line that covers the claim, its choices, its layout where it has no buffer, or that all units are used
+abbrev pub IsOpened : Instance → ℕ → List Line → Claim → Units → Units → Opened → Type 0
+IsOpened I C lines l before after (opened.Line k) = IsKnown I C lines l k
+IsOpened I C lines l before after (opened.Choices f) = AreChoices I C lines l f
+IsOpened I C lines l before after opened.Empty = first I C l ≡ Some []
+IsOpened I C lines l before after opened.Spent = AreSpent after × (after.used ≡ before.used)
+
+-- the fact holds unless the budget is spent
+abbrev pub UnlessUnopened : Type 0 → Opened → Type 0
+UnlessUnopened P (opened.Line k) = P
+UnlessUnopened P (opened.Choices f) = P
+UnlessUnopened P opened.Empty = P
+UnlessUnopened P opened.Spent = ⊤

@@ -1,0 +1,78 @@
+//! What the search does first at a claim.
+
+ghost use Rattle.std.specs.Prelude.{◌≡◌, ◌+◌, ◌≤◌, [], OnOk, IfOk};
+ghost use Rattle.search_core.specs.Logs.{Extends, IsSearchLog};
+ghost use Rattle.search_core.specs.Meters.{AreMore};
+ghost use Rattle.search_core.specs.Opened.{IsOpened, UnlessUnopened};
+ghost use Rattle.skyline.specs.Skies.{last_claim};
+
+use crate::choice::choices;
+use crate::frame::Frame;
+use crate::learned::covering_line;
+use crate::lifted::lifted;
+use crate::lines::{append, tall_line};
+use crate::meter::Meter;
+use crate::task::Task;
+use canonical_order::{Lows, View, tall};
+use dsa_model::NoMemory;
+use refute_log::Log;
+use skyline::Skyline;
+use std::alloc::Global;
+
+/// What is found where a claim is opened.
+#[derive(Drop)]
+pub(crate) enum Opened {
+    /// The number of a line that covers it: it has no layout.
+    Line(u64),
+    /// Its choices, of which it has to be seen whether one has a layout.
+    Choices(Frame),
+    /// That it has no buffers, and so the empty layout.
+    Empty,
+    /// Nothing, since the budget is spent.
+    Spent,
+}
+
+/// Opens the last claim of the skyline, unless a line covers it. Once it is open, its lows are
+/// written down, so that the rules for choices need not go over sections.
+pub(crate) fn open(
+    alloc: Global,
+    task: &Task,
+    log: &mut Log,
+    meter: &mut Meter,
+    sky: &Skyline,
+) -> Result<Opened, NoMemory>
+    requires subject { sky.now.instance ≡ task.now.instance.now }
+    requires log { IsSearchLog task.now.instance.now task.now.capacity log.old }
+    ensures log { OnOk result (IsSearchLog task.now.instance.now task.now.capacity log.new) }
+    ensures grown { OnOk result (Extends (last_claim sky.now.claims) log.old.lines log.new.lines) }
+    ensures most { meter.new.most ≡ meter.old.most }
+    ensures units { meter.old.used ≤ meter.new.used }
+    ensures one { meter.new.used ≤ meter.old.used + 1 }
+    ensures taken { log.old.lines ≡ [] →
+        IfOk result (UnlessUnopened (AreMore meter.old meter.new)) }
+    ensures opened { let I = task.now.instance.now in
+        let l = last_claim sky.now.claims in
+        IfOk result (IsOpened I task.now.capacity log.new.lines l meter.old meter.new) }
+{
+    let _count = sky.instance().len();
+    if let Some(line) = covering_line(log, sky) {
+        return Ok(Opened::Line(line));
+    }
+    if !meter.take() {
+        return Ok(Opened::Spent);
+    }
+    let claim = lifted(alloc, sky)?;
+    let view = View {
+        instance: task.instance,
+        claim: &claim,
+    };
+    if let Some(b) = tall(&view, task.capacity) {
+        let line = tall_line(alloc, task, b)?;
+        return Ok(Opened::Line(append(task, log, line)?));
+    }
+    if claim.len() == 0 {
+        return Ok(Opened::Empty);
+    }
+    let order = choices(alloc, &view)?;
+    Ok(Opened::Choices(Frame::new(alloc, order)?))
+}

@@ -1,0 +1,84 @@
+-- The bounds of a skyline's claims are low, and its last claim stands for itself.
+use Rattle.std.proofs.Common.{◌≡◌, ℕ, ◌<◌, ◌≤◌, ◌^◌, inl, inr, List, [], ◌∷◌, length, take, reverse, sym, ap, subst, arith, Bool}
+use Rattle.std.specs.List.{All}
+use Rattle.dsa_terms.specs.Buffers.{Instance, buffer}
+use Rattle.dsa_terms.specs.Claims.{Claim, Entry, IsIn, Rises}
+use Rattle.dsa_terms.specs.Parts.{whole}
+use Rattle.dsa_terms.proofs.Lists.{from_append}
+use Rattle.dsa_terms.proofs.Moments.{sound}
+use Rattle.dsa_terms.proofs.Numbers.{next_is_below}
+use Rattle.dsa_search_laws.proofs.Placing.{in_buffers, up_at_or_above}
+use Rattle.dsa_search_laws.proofs.Members.{buffers_of-whole}
+use Rattle.dsa_model.specs.Buffer.{IsBuffer}
+use Rattle.lifetime.specs.SectionList.{SectionList}
+use Rattle.canonical_order.specs.Stands.{Stands}
+use Rattle.skyline.specs.Carried.{claims_of}
+use Rattle.skyline.specs.Skies.{AreLow, Sky, last_claim}
+use Rattle.skyline.specs.Skylines.{IsSkyline}
+use Rattle.skyline.specs.Standing.{IsStack, claim_after, raised}
+use Rattle.skyline.proofs.Carrying.{alignment_limited, has_place, is_whole, last_of_claims, member_in_range, raised_limited, rises_after, stack_in_range}
+use Rattle.skyline.proofs.SectionFacts.{is_instance, members_few}
+use Rattle.skyline.proofs.Standing.{up_is_raised}
+
+-- a bound is at most the up, which is the rounded height to which the standing buffers raise
+pub bound_low : (I : Instance) (members bs : List ℕ) (e : Entry) → All IsBuffer I → length I ≤ 512 →
+    All (λ b. b < length I) members → Rises members → IsStack I (whole members) bs →
+    IsIn e (claim_after I (whole members) bs) → e.1 < 2 ^ 54
+bound_low I members bs e buffers count range rise stack i =
+    let s = is_instance I buffers in
+    let w = is_whole members in
+    let b = in_buffers (claim_after I (whole members) bs) e i in
+    let lt = member_in_range I members bs e.0 range b in
+    let u = up_is_raised I (whole members) bs e s w i in
+    let f = up_at_or_above I e s in
+    let n = next_is_below (raised I (whole members) bs e.0) (buffer I e.0).alignment (sound I e.0 s).1 in
+    let a = alignment_limited I e.0 buffers lt in
+    let r = raised_limited I (whole members) bs e.0 s buffers w stack (stack_in_range I members bs range stack) in
+    let p = has_place I members bs e.0 rise stack b in
+    let q = members_few I members range rise count in
+    omega arith
+
+all_low : (I : Instance) (members bs : List ℕ) → All IsBuffer I → length I ≤ 512 → All (λ b. b < length I) members →
+    Rises members → IsStack I (whole members) bs → AreLow (claims_of I (whole members) bs)
+all_low I members [] buffers count range rise stack l e (inl q) i =
+    bound_low I members [] e buffers count range rise stack (subst (λ (l : Claim). IsIn e l) q i)
+all_low I members [] buffers count range rise stack l e (inr j) i = absurd j
+all_low I members (b ∷ bs) buffers count range rise stack l e j i =
+    elim (from_append (claims_of I (whole members) bs) (claim_after I (whole members) (b ∷ bs) ∷ []) l j) [
+      | inl k ↦ all_low I members bs buffers count range rise stack.1 l e k i
+      | inr k ↦ elim k [
+        | inl q ↦ bound_low I members (b ∷ bs) e buffers count range rise stack (subst (λ (l : Claim). IsIn e l) q i)
+        | inr k ↦ absurd k
+      ]
+    ]
+
+-- as a contract sees it
+pub low_of_view : (I : Instance) (S : SectionList) (members : List ℕ) (n : ℕ) (stack floors hs : List ℕ)
+    (rows : List (List ℕ)) (flags : List Bool) (k : Sky) →
+    record { instance = I; sections = S; claims = claims_of I (whole members) (reverse (take n stack)) } ≡ k →
+    IsSkyline I S members n stack floors hs rows flags → AreLow k.claims
+low_of_view I S members n stack floors hs rows flags k e h =
+    subst AreLow (ap (λ (k : Sky). k.claims) e)
+    (all_low I members (reverse (take n stack)) h.carries.buffers h.carries.count h.carries.in_range h.carries.rise
+    h.carries.stands)
+
+pub stands_of_view : (I : Instance) (S : SectionList) (members : List ℕ) (n : ℕ) (stack floors hs : List ℕ)
+    (rows : List (List ℕ)) (flags : List Bool) (k : Sky) →
+    record { instance = I; sections = S; claims = claims_of I (whole members) (reverse (take n stack)) } ≡ k →
+    IsSkyline I S members n stack floors hs rows flags → Stands k.instance (last_claim k.claims)
+stands_of_view I S members n stack floors hs rows flags k e h =
+    subst (λ (k : Sky). Stands k.instance (last_claim k.claims)) e
+    (subst (Stands I) (sym (last_of_claims I (whole members) (reverse (take n stack)))) (record {
+      claim = record {
+        rises = rises_after I (whole members) (reverse (take n stack))
+            (subst Rises (sym (buffers_of-whole members)) h.carries.rise);
+        in_range = λ e i. member_in_range I members (reverse (take n stack)) e.0 h.carries.in_range
+            (in_buffers (claim_after I (whole members) (reverse (take n stack))) e i);
+      };
+      bounds = λ e i.
+          let b = bound_low I members (reverse (take n stack)) e h.carries.buffers h.carries.count h.carries.in_range
+          h.carries.rise h.carries.stands i in
+          omega arith;
+      buffers = h.carries.buffers;
+      count = h.carries.count;
+    }))

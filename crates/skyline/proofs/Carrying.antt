@@ -1,0 +1,299 @@
+-- What a skyline's fields keep: what they say, and how it changes.
+use Rattle.std.proofs.Common.{◌≡◌, ◌≢◌, ◌⊎◌, inl, inr, ◌+◌, ◌-◌, ◌*◌, ◌<◌, ◌≤◌, ◌^◌, ◌↔◌, ℕ, suc, Bool, true, false, cond, nat_lt, List, [], ◌∷◌, ◌++◌, length, max, slice_index, slice_index_or, set, refl, ap, sym, subst, ◌∙◌, arith, length-append, lit≤}
+use Rattle.std.specs.Int.{next_multiple_of}
+use Rattle.std.specs.List.{All}
+use Rattle.std.proofs.lemmas.List.{length-map, length-set, get_or-set_other, get_or-set_same}
+use Rattle.dsa_terms.specs.Buffers.{Instance, IsInstance, buffer, do_share}
+use Rattle.dsa_terms.specs.Claims.{Claim, Entry, IsIn, IsWhole, Rises, buffers_of, step, child}
+use Rattle.dsa_terms.specs.Logs.{greatest}
+use Rattle.dsa_terms.specs.Parts.{whole}
+use Rattle.dsa_terms.proofs.Lists.{from_map}
+use Rattle.dsa_search_laws.proofs.Placing.{in_buffers, in_child, of_child}
+use Rattle.dsa_search_laws.proofs.Claims.{rises-child, length-child}
+use Rattle.dsa_terms.proofs.Numbers.{next_is_below}
+use Rattle.dsa_terms.proofs.Moments.{sound}
+use Rattle.dsa_search_laws.proofs.Members.{buffers_of-whole}
+use Rattle.dsa_model.specs.Buffer.{IsBuffer}
+use Rattle.lifetime.specs.SectionList.{sections_of, SectionList}
+use Rattle.skyline.specs.Standing.{claim_after, offset_after, IsStack, raised, floor}
+use Rattle.skyline.specs.Places.{set_each, at_places}
+use Rattle.skyline.specs.Carried.{claims_of, offsets_after, heights_after, IsSaved, Carries, floor_at}
+use Rattle.skyline.proofs.Places.{undone}
+use Rattle.skyline.proofs.Standing.{offset_is_raised, up_is_over_tops}
+use Rattle.skyline.proofs.Tops.{AllIn, heights_are_tops}
+use Rattle.canonical_order.specs.Claims.{entry_of, HasBuffer}
+use Rattle.skyline.specs.Skies.{last_claim}
+use Rattle.skyline.proofs.SectionFacts.{is_instance}
+use Rattle.canonical_order.proofs.Entries.{sound_buffer, entry_in}
+
+-- ---- the list of claims
+last_of_append : (ls : List Claim) (l : Claim) → last_claim (ls ++ l ∷ []) ≡ l
+last_of_append [] l = refl
+last_of_append (k ∷ ls) l =
+    let e : length (k ∷ (ls ++ l ∷ [])) - 1 ≡ suc (length (ls ++ l ∷ []) - 1) = let n = length-append ls (l ∷ []) in
+    omega arith in
+    ap (λ i. slice_index_or (k ∷ (ls ++ l ∷ [])) i []) e ∙ last_of_append ls l
+
+pub last_of_claims : (I : Instance) (root : Claim) (bs : List ℕ) →
+    last_claim (claims_of I root bs) ≡ claim_after I root bs
+last_of_claims I root [] = refl
+last_of_claims I root (b ∷ bs) = last_of_append (claims_of I root bs) (claim_after I root (b ∷ bs))
+
+pub length-claims_of : (I : Instance) (root : Claim) (bs : List ℕ) → length (claims_of I root bs) ≡ length bs + 1
+length-claims_of I root [] = refl
+length-claims_of I root (b ∷ bs) =
+    let n = length-append (claims_of I root bs) (claim_after I root (b ∷ bs) ∷ []) in let k =
+    length-claims_of I root bs in omega arith
+
+-- ---- the buffers of a child
+pub of_child_buffers : (I : Instance) (l : Claim) (b c : ℕ) → HasBuffer (child I l (entry_of l b)) c →
+    HasBuffer l c × (c ≢ b)
+of_child_buffers I l b c i =
+    let r = from_map (λ e. e.0) (child I l (entry_of l b)) c i in
+    let f = of_child I l (entry_of l b) r.0 r.1 in
+    let e : c ≡ f.0.0 = r.2 ∙ ap (λ (x : Entry). x.0) f.3 in
+    (subst (λ x. HasBuffer l x) (sym e) (in_buffers l f.0 f.1), (λ q. f.2 (sym e ∙ q)))
+
+pub in_child_buffers : (I : Instance) (l : Claim) (b c : ℕ) → HasBuffer l c → c ≢ b →
+    HasBuffer (child I l (entry_of l b)) c
+in_child_buffers I l b c i ne =
+    in_buffers (child I l (entry_of l b)) _ (in_child I l (entry_of l b) (entry_of l c) (entry_in l c i) ne)
+
+pub in_root : (I : Instance) (root : Claim) (bs : List ℕ) (c : ℕ) → HasBuffer (claim_after I root bs) c →
+    HasBuffer root c
+in_root I root [] c i = i
+in_root I root (b ∷ bs) c i = in_root I root bs c (of_child_buffers I (claim_after I root bs) b c i).0
+
+not_standing : (I : Instance) (root : Claim) (bs : List ℕ) (c : ℕ) → HasBuffer (claim_after I root bs) c → IsIn c bs → ⊥
+not_standing I root [] c i j = j
+not_standing I root (b ∷ bs) c i (inl e) = (of_child_buffers I (claim_after I root bs) b c i).1 e
+not_standing I root (b ∷ bs) c i (inr j) = not_standing I root bs c
+    (of_child_buffers I (claim_after I root bs) b c i).0 j
+
+-- ---- members in range
+in_range_list : (n : ℕ) (xs : List ℕ) (c : ℕ) → All (λ b. b < n) xs → IsIn c xs → c < n
+in_range_list n [] c h i = absurd i
+in_range_list n (x ∷ xs) c h (inl e) = let k = h 0 0 (omega arith) in omega arith
+in_range_list n (x ∷ xs) c h (inr i) = in_range_list n xs c (λ k d lt. h (suc k) d (omega arith)) i
+
+pub member_of : (I : Instance) (members bs : List ℕ) (c : ℕ) → HasBuffer (claim_after I (whole members) bs) c →
+    IsIn c members
+member_of I members bs c i = subst (IsIn c) (buffers_of-whole members) (in_root I (whole members) bs c i)
+
+pub member_in_range : (I : Instance) (members bs : List ℕ) (c : ℕ) → All (λ b. b < length I) members →
+    HasBuffer (claim_after I (whole members) bs) c → c < length I
+member_in_range I members bs c h i =
+    in_range_list (length I) members c h (member_of I members bs c i)
+
+pub stack_in_range : (I : Instance) (members bs : List ℕ) → All (λ b. b < length I) members →
+    IsStack I (whole members) bs → AllIn I bs
+stack_in_range I members [] h s = tt
+stack_in_range I members (b ∷ bs) h s = (member_in_range I members bs b h s.0, stack_in_range I members bs h s.1)
+
+pub is_whole : (members : List ℕ) → IsWhole (whole members)
+is_whole [] e i = absurd i
+is_whole (b ∷ bs) e (inl q) = ap (λ (x : Entry). x.1) q
+is_whole (b ∷ bs) e (inr i) = is_whole bs e i
+
+pub rises_after : (I : Instance) (root : Claim) (bs : List ℕ) → Rises (buffers_of root) →
+    Rises (buffers_of (claim_after I root bs))
+rises_after I root [] r = r
+rises_after I root (b ∷ bs) r = rises-child I (claim_after I root bs) (entry_of (claim_after I root bs) b)
+    (rises_after I root bs r)
+
+-- the standing buffers and those that are left are the members
+stack_room : (I : Instance) (root : Claim) (bs : List ℕ) → Rises (buffers_of root) → IsStack I root bs →
+    length bs + length (claim_after I root bs) ≡ length root
+stack_room I root [] r s = omega arith
+stack_room I root (b ∷ bs) r s =
+    let n = length-child I (claim_after I root bs) (entry_of (claim_after I root bs) b) (rises_after I root bs r)
+    (entry_in (claim_after I root bs) b s.0) in
+    let k = stack_room I root bs r s.1 in omega arith
+
+not_empty : (l : Claim) (b : ℕ) → HasBuffer l b → 0 < length l
+not_empty [] b i = absurd i
+not_empty (e ∷ es) b i = omega arith
+
+length-whole : (members : List ℕ) → length (whole members) ≡ length members
+length-whole [] = refl
+length-whole (b ∷ bs) = ap suc (length-whole bs)
+
+-- a buffer that is left has a place on the stack
+pub has_place : (I : Instance) (members bs : List ℕ) (b : ℕ) → Rises members → IsStack I (whole members) bs →
+    HasBuffer (claim_after I (whole members) bs) b → length bs < length members
+has_place I members bs b r s i =
+    let k = stack_room I (whole members) bs (subst Rises (sym (buffers_of-whole members)) r) s in
+    let n = not_empty (claim_after I (whole members) bs) b i in
+    let m = length-whole members in omega arith
+
+-- ---- the floor by the fields
+pub floor_is : (I : Instance) (root : Claim) (bs ys : List ℕ) (c : ℕ) → ys ≡ offsets_after I root bs →
+    floor_at bs ys c ≡ floor I root bs c
+floor_is I root [] ys c e = refl
+floor_is I root (b ∷ bs) ys c e = ap (λ y. y + cond (nat_lt c b) 1 0) (ap (λ zs. slice_index zs 0) e)
+
+-- ---- what the heights and the floor say
+pub low_is : (I : Instance) (S : SectionList) (members bs ys hs : List ℕ) (rows : List (List ℕ)) (flags : List Bool)
+    (b : ℕ) →
+    Carries I S members bs ys hs rows flags → HasBuffer (claim_after I (whole members) bs) b →
+    offset_after I (whole members) bs b ≡ next_multiple_of (max (greatest (at_places hs (sections_of S b)))
+    (floor_at bs ys b)) (buffer I b).alignment
+low_is I S members bs ys hs rows flags b h i =
+    up_is_over_tops I (whole members) bs (entry_of (claim_after I (whole members) bs) b) (is_instance I h.buffers)
+    (is_whole members) h.stands (entry_in (claim_after I (whole members) bs) b i)
+    ∙ ap (λ t. next_multiple_of (max t (floor I (whole members) bs b)) (buffer I b).alignment)
+    (sym (heights_are_tops I S (whole members) bs b (is_instance I h.buffers) h.belongs (is_whole members) h.stands
+    (stack_in_range I members bs h.in_range h.stands) (member_in_range I members bs b h.in_range i))
+    ∙ ap (λ x. greatest (at_places x (sections_of S b))) (sym h.heights))
+    ∙ ap (λ f. next_multiple_of (max (greatest (at_places hs (sections_of S b))) f) (buffer I b).alignment)
+    (sym (floor_is I (whole members) bs ys b h.offsets))
+
+-- ---- limits
+step_limited : (I : Instance) (b c : ℕ) → All IsBuffer I → b < length I → step I b c ≤ 2 ^ 40
+unfolding step
+step_limited I b c h lt = go (do_share (buffer I b) (buffer I c)) (nat_lt c b)
+  where
+    size : (buffer I b).size ≤ 2 ^ 40
+    size = (sound_buffer I b h lt).within_size
+
+    go : (t u : Bool) → cond t (buffer I b).size (cond u 1 0) ≤ 2 ^ 40
+    go true u = size
+    go false true = lit≤ tt
+    go false false = lit≤ tt
+
+pub alignment_limited : (I : Instance) (b : ℕ) → All IsBuffer I → b < length I → (buffer I b).alignment ≤ 2 ^ 32
+alignment_limited I b h lt = (sound_buffer I b h lt).within_alignment
+
+-- each standing buffer adds at most a size and an alignment
+pub raised_limited : (I : Instance) (root : Claim) (bs : List ℕ) (c : ℕ) → IsInstance I → All IsBuffer I →
+    IsWhole root → IsStack I root bs → AllIn I bs →
+    raised I root bs c ≤ length bs * 1103806595072
+raised_limited I root [] c s h w k r = omega arith
+raised_limited I root (b ∷ bs) c s h w k r =
+    let e = offset_is_raised I root bs b s w k.0 in
+    let n = next_is_below (raised I root bs b) (buffer I b).alignment (sound I b s).1 in
+    let a = alignment_limited I b h r.0 in
+    let x = step_limited I b c h r.0 in
+    let p = raised_limited I root bs b s h w k.1 r.1 in
+    let q = raised_limited I root bs c s h w k.1 r.1 in
+    omega arith
+
+-- ---- one more buffer
+saved_other : (I : Instance) (S : SectionList) (root : Claim) (rows : List (List ℕ)) (bs : List ℕ) (b : ℕ)
+    (row : List ℕ) → (IsIn b bs → ⊥) → IsSaved I S root rows bs → IsSaved I S root (set rows b row) bs
+saved_other I S root rows [] b row out h = tt
+saved_other I S root rows (d ∷ ds) b row out h = (
+  (let ne : d ≢ b = λ e. out (inl (sym e)) in get_or-set_other rows b d row [] ne ∙ h.0),
+  saved_other I S root rows ds b row (λ i. out (inr i)) h.1,
+)
+
+equal : (m n : ℕ) → (m ≡ n) ⊎ (m ≢ n)
+equal m n = grind arith
+
+pub pushed : (I : Instance) (S : SectionList) (members bs ys hs : List ℕ) (rows : List (List ℕ)) (flags : List Bool)
+    (b y : ℕ) (hs' : List ℕ) (row : List ℕ) →
+    Carries I S members bs ys hs rows flags → HasBuffer (claim_after I (whole members) bs) b →
+    y ≡ offset_after I (whole members) bs b → hs' ≡ set_each (λ _. y + (buffer I b).size) (sections_of S b) hs →
+    row ≡ at_places hs (sections_of S b) →
+    Carries I S members (b ∷ bs) (y ∷ ys) hs' (set rows b row) (set flags b false)
+pushed I S members bs ys hs rows flags b y hs' row h i at heights saved = record {
+  buffers = h.buffers;
+  count = h.count;
+  belongs = h.belongs;
+  in_range = h.in_range;
+  rise = h.rise;
+  stands = (i, h.stands);
+  offsets = ap (λ z. z ∷ ys) at ∙ ap (λ zs. offset_after I (whole members) bs b ∷ zs) h.offsets;
+  heights = heights ∙ ap (λ z. set_each (λ _. z + (buffer I b).size) (sections_of S b) hs) at
+      ∙ ap (set_each (λ _. offset_after I (whole members) bs b + (buffer I b).size) (sections_of S b)) h.heights;
+  saved = (
+    get_or-set_same rows b row [] (omega (arith, lt, h.saved_count)) ∙ saved
+        ∙ ap (λ x. at_places x (sections_of S b)) h.heights,
+    saved_other I S (whole members) rows bs b row
+        (not_standing I (whole members) bs b i) h.saved,
+  );
+  saved_count = length-set rows b row ∙ h.saved_count;
+  saved_room = room;
+  free_count = length-set flags b false ∙ h.free_count;
+  free = free;
+}
+  where
+    lt : b < length I
+    lt = member_in_range I members bs b h.in_range i
+
+    room : (c : ℕ) → c < length I → IsIn c members → length (slice_index_or (set rows b row) c []) ≡ length (sections_of S c)
+    room c l m = go (equal c b)
+      where
+        go : (c ≡ b) ⊎ (c ≢ b) → length (slice_index_or (set rows b row) c []) ≡ length (sections_of S c)
+        go (inl e) = ap (λ x. length (slice_index_or (set rows b row) x [])) e
+            ∙ ap length (get_or-set_same rows b row [] (omega (arith, lt, h.saved_count)) ∙ saved)
+            ∙ length-map (sections_of S b) (slice_index hs) ∙ ap (λ x. length (sections_of S x)) (sym e)
+        go (inr ne) = ap length (get_or-set_other rows b c row [] ne) ∙ h.saved_room c l m
+
+    free : (c : ℕ) → c < length I → (slice_index_or (set flags b false) c false ≡ true) ↔ HasBuffer
+        (claim_after I (whole members) (b ∷ bs)) c
+    free c l = (there, back)
+      where
+        there : slice_index_or (set flags b false) c false ≡ true → HasBuffer (claim_after I (whole members) (b ∷ bs)) c
+        there q = go (equal c b)
+          where
+            go : (c ≡ b) ⊎ (c ≢ b) → HasBuffer (claim_after I (whole members) (b ∷ bs)) c
+            go (inl e) = absurd (let r : slice_index_or (set flags b false) c false ≡ false =
+                ap (λ x. slice_index_or (set flags b false) x false) e ∙ get_or-set_same flags b false false
+                (omega (arith, lt, h.free_count)) in cc)
+            go (inr ne) = in_child_buffers I (claim_after I (whole members) bs) b c
+                ((h.free c l).0 (sym (get_or-set_other flags b c false false ne) ∙ q)) ne
+
+        back : HasBuffer (claim_after I (whole members) (b ∷ bs)) c → slice_index_or (set flags b false) c false ≡ true
+        back j = let r = of_child_buffers I (claim_after I (whole members) bs) b c j in
+            get_or-set_other flags b c false false r.1 ∙ (h.free c l).1 r.0
+
+-- ---- the last one taken back
+pub popped : (I : Instance) (S : SectionList) (members bs ys hs : List ℕ) (rows : List (List ℕ)) (flags : List Bool)
+    (b y : ℕ) (hs' : List ℕ) →
+    Carries I S members (b ∷ bs) (y ∷ ys) hs rows flags →
+    ((kept : List ℕ) → slice_index_or rows b [] ≡ at_places kept (sections_of S b) →
+    hs' ≡ set_each (slice_index kept) (sections_of S b) hs) →
+    Carries I S members bs ys hs' rows (set flags b true)
+popped I S members bs ys hs rows flags b y hs' h back = record {
+  buffers = h.buffers;
+  count = h.count;
+  belongs = h.belongs;
+  in_range = h.in_range;
+  rise = h.rise;
+  stands = h.stands.1;
+  offsets = let e = h.offsets in cc;
+  heights = back (heights_after I S (whole members) bs) h.saved.0
+      ∙ ap (set_each (slice_index (heights_after I S (whole members) bs)) (sections_of S b)) h.heights
+      ∙ undone (λ _. offset_after I (whole members) bs b + (buffer I b).size) (heights_after I S (whole members) bs)
+      (sections_of S b);
+  saved = h.saved.1;
+  saved_count = h.saved_count;
+  saved_room = h.saved_room;
+  free_count = length-set flags b true ∙ h.free_count;
+  free = free;
+}
+  where
+    lt : b < length I
+    lt = member_in_range I members bs b h.in_range h.stands.0
+
+    free : (c : ℕ) → c < length I → (slice_index_or (set flags b true) c false ≡ true) ↔ HasBuffer
+        (claim_after I (whole members) bs) c
+    free c l = (there, again)
+      where
+        there : slice_index_or (set flags b true) c false ≡ true → HasBuffer (claim_after I (whole members) bs) c
+        there q = go (equal c b)
+          where
+            go : (c ≡ b) ⊎ (c ≢ b) → HasBuffer (claim_after I (whole members) bs) c
+            go (inl e) = subst (λ x. HasBuffer (claim_after I (whole members) bs) x) (sym e) h.stands.0
+            go (inr ne) = (of_child_buffers I (claim_after I (whole members) bs) b c
+                ((h.free c l).0 (sym (get_or-set_other flags b c true false ne) ∙ q))).0
+
+        again : HasBuffer (claim_after I (whole members) bs) c → slice_index_or (set flags b true) c false ≡ true
+        again j = go (equal c b)
+          where
+            go : (c ≡ b) ⊎ (c ≢ b) → slice_index_or (set flags b true) c false ≡ true
+            go (inl e) = ap (λ x. slice_index_or (set flags b true) x false) e ∙ get_or-set_same flags b true false
+                (omega (arith, lt, h.free_count))
+            go (inr ne) = get_or-set_other flags b c true false ne
+                ∙ (h.free c l).1 (in_child_buffers I (claim_after I (whole members) bs) b c j ne)

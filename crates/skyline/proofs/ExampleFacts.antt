@@ -1,0 +1,123 @@
+-- Worked skylines: lows, bounds that lie above them, and sections that are too full.
+use Rattle.std.proofs.Common.{◌≡◌, ℕ, ◌+◌, List, [], ◌∷◌, Some, None, max, refl}
+use Rattle.dsa_terms.specs.Buffers.{Buffer, Instance, is_live, buffer, do_share, some_before}
+use Rattle.dsa_terms.specs.Claims.{child, number_of, step, up}
+use Rattle.dsa_terms.specs.Parts.{whole}
+use Rattle.lifetime.specs.SectionList.{SectionList, section_with}
+use Rattle.skyline.specs.Carried.{claims_of, floor_at, heights_after, offsets_after}
+use Rattle.skyline.specs.Overloads.{free_load, is_left, least_of, least_up, over, overloaded}
+use Rattle.skyline.specs.Places.{at_places, set_each}
+use Rattle.skyline.specs.Skies.{last_claim}
+use Rattle.skyline.specs.Standing.{claim_after, floor, offset_after, raised, top_under}
+
+abbrev plain : ℕ → ℕ → ℕ → ℕ → Buffer
+plain lower upper size alignment =
+    record { lower = lower; upper = upper; size = size; alignment = alignment; gaps = [] }
+
+abbrev all_three : List ℕ
+all_three = 0 ∷ 1 ∷ 2 ∷ []
+
+-- ---- two buffers of size 1 at even offsets and one of size 2, all live at moment 0
+abbrev together : Instance
+together = plain 0 1 1 2 ∷ plain 0 1 1 2 ∷ plain 0 1 2 1 ∷ []
+
+abbrev one_section : SectionList
+one_section = record {
+  sections = section_with 0 all_three ∷ [];
+  of_buffers = (0 ∷ []) ∷ (0 ∷ []) ∷ (0 ∷ []) ∷ [];
+}
+
+-- buffers 0 and 1 stand at 0 and 2
+claims_are : claims_of together (whole all_three) (1 ∷ 0 ∷ []) ≡
+    ((0, 0) ∷ (1, 0) ∷ (2, 0) ∷ []) ∷ ((1, 1) ∷ (2, 1) ∷ []) ∷ ((2, 3) ∷ []) ∷ []
+unfolding child up step do_share some_before is_live buffer
+claims_are = refl
+
+offsets_are : offsets_after together (whole all_three) (1 ∷ 0 ∷ []) ≡ 2 ∷ 0 ∷ []
+unfolding child up step do_share some_before is_live buffer
+offsets_are = refl
+
+heights_are : heights_after together one_section (whole all_three) (1 ∷ 0 ∷ []) ≡ 3 ∷ []
+unfolding child up step do_share some_before is_live buffer
+heights_are = refl
+
+last_is : last_claim (claims_of together (whole all_three) (1 ∷ 0 ∷ [])) ≡ (2, 3) ∷ []
+unfolding child up step do_share some_before is_live buffer
+last_is = refl
+
+-- buffer 2 at 3 passes 4, and so does buffer 1 at 4 once buffer 2 stands at 1
+too_full_at_3 : overloaded together one_section ((2, 3) ∷ []) 4 ≡ Some (0, 3)
+unfolding overloaded over least_up free_load is_left up buffer
+too_full_at_3 = refl
+
+too_full_at_4 : overloaded together one_section ((1, 3) ∷ []) 4 ≡ Some (0, 4)
+unfolding overloaded over least_up free_load is_left up buffer
+too_full_at_4 = refl
+
+-- buffers 1 and 2 from 1 on just fit, and where nothing is left nothing is too full
+just_fits : overloaded together one_section ((1, 2) ∷ (2, 1) ∷ []) 4 ≡ None
+unfolding overloaded over least_up free_load is_left up buffer
+just_fits = refl
+
+nothing_left : overloaded together one_section [] 0 ≡ None
+unfolding overloaded over least_up free_load is_left up buffer
+nothing_left = refl
+
+-- the earliest section counts: the first one just fits, the second one is too full
+abbrev in_turn : Instance
+in_turn = plain 0 1 3 1 ∷ plain 1 2 5 1 ∷ []
+
+second_is_full : overloaded in_turn
+    (record {
+      sections = section_with 0 (0 ∷ []) ∷ section_with 1 (1 ∷ []) ∷ [];
+      of_buffers =
+          (0 ∷ []) ∷ (1 ∷ []) ∷ [];
+    })
+    ((0, 1) ∷ (1, 0) ∷ []) 4 ≡ Some (1, 0)
+unfolding overloaded over least_up free_load is_left up buffer
+second_is_full = refl
+
+-- ---- the floor
+floor_of_smaller : floor_at (2 ∷ 0 ∷ []) (7 ∷ 5 ∷ []) 1 ≡ 8
+floor_of_smaller = refl
+
+floor_of_greater : floor_at (2 ∷ 0 ∷ []) (7 ∷ 5 ∷ []) 3 ≡ 7
+floor_of_greater = refl
+
+-- ---- heights and the floor give the low of a buffer, and not its bound
+-- buffer 1 has to start at a multiple of 4, and shares a moment with buffer 0 alone
+abbrev rounded_twice : Instance
+rounded_twice = plain 0 2 1 1 ∷ plain 0 1 1 4 ∷ plain 1 2 1 2 ∷ []
+
+-- its bound once the buffers 0 and 2 stand
+bound_is_4 : number_of (claim_after rounded_twice (whole all_three) (2 ∷ 0 ∷ [])) 1 ≡ 4
+unfolding child up step do_share some_before is_live buffer
+bound_is_4 = refl
+
+-- the greatest of the tops and the floor is less
+tops_and_floor_are_3 : max (top_under rounded_twice (whole all_three) (2 ∷ 0 ∷ []) 1)
+    (floor rounded_twice (whole all_three) (2 ∷ 0 ∷ []) 1) ≡ 3
+unfolding child up step do_share some_before is_live buffer
+tops_and_floor_are_3 = refl
+
+raised_is_3 : raised rounded_twice (whole all_three) (2 ∷ 0 ∷ []) 1 ≡ 3
+unfolding child up step do_share some_before is_live buffer
+raised_is_3 = refl
+
+-- and the least multiple is the same
+low_is_4 : offset_after rounded_twice (whole all_three) (2 ∷ 0 ∷ []) 1 ≡ 4
+unfolding child up step do_share some_before is_live buffer
+low_is_4 = refl
+
+-- ---- places
+written : set_each (λ s. s + 10) (0 ∷ 2 ∷ []) (5 ∷ 6 ∷ 7 ∷ []) ≡ 10 ∷ 6 ∷ 12 ∷ []
+written = refl
+
+read : at_places (5 ∷ 6 ∷ 7 ∷ []) (2 ∷ 0 ∷ []) ≡ 7 ∷ 5 ∷ []
+read = refl
+
+least : least_of (4 ∷ 2 ∷ 3 ∷ []) ≡ Some 2
+least = refl
+
+least_of_none : least_of [] ≡ None
+least_of_none = refl

@@ -1,0 +1,14 @@
+pub mod SectionFacts
+pub mod Standing
+pub mod Places
+pub mod Tops
+pub mod Carrying
+pub mod Lefts
+pub mod Steps
+pub mod Marks
+pub mod Loads
+pub mod LoadSteps
+pub mod Overloads
+mod ExampleFacts
+pub mod Bounds
+pub mod Turns

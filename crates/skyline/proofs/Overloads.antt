@@ -1,0 +1,153 @@
+-- The first section that is too full.
+use Rattle.std.specs.Option.{option_or}
+use Rattle.std.proofs.Common.{inl, inr, ◌≡◌, ◌⊎◌, ◌+◌, ◌<◌, ◌≤◌, ℕ, zero, suc, Bool, true, false, cond, List, [], ◌∷◌, ◌++◌, map, length, take, slice_index, min, Option, Some, None, refl, ap, sym, ◌∙◌, arith}
+use Rattle.std.specs.List.{filter, range_with_len}
+use Rattle.std.proofs.lemmas.List.{take_more}
+use Rattle.dsa_terms.specs.Parts.{numbers}
+use Rattle.dsa_terms.specs.Search.{first_some}
+use Rattle.std.specs.Prelude.{is_some, nat_lt, reverse, ◌*◌, ◌^◌}
+use Rattle.std.proofs.lemmas.Bool.Decides.{nat_tests}
+use Rattle.dsa_terms.specs.Buffers.{Instance}
+use Rattle.dsa_terms.specs.Claims.{Claim}
+use Rattle.dsa_terms.specs.Parts.{whole}
+use Rattle.lifetime.specs.SectionList.{count_of, start_of, SectionList}
+use Rattle.skyline.specs.Standing.{claim_after}
+use Rattle.skyline.specs.Carried.{claims_of}
+use Rattle.skyline.specs.Loads.{IsLoaded}
+use Rattle.skyline.proofs.Carrying.{last_of_claims}
+use Rattle.skyline.proofs.Loads.{load_limited}
+use Rattle.skyline.specs.Overloads.{free_load, lower, least_of, least_up, over_at, over, overloaded}
+use Rattle.skyline.specs.Skies.{Sky, last_claim}
+
+lower_twice : (x y : ℕ) (o : Option ℕ) → lower x (lower y o) ≡ lower y (lower x o)
+lower_twice x y None = ap (λ z. Some z) (let e : min x y ≡ min y x = omega arith in e)
+lower_twice x y (Some z) = ap (λ w. Some w) (let e : min x (min y z) ≡ min y (min x z) = omega arith in e)
+
+-- one more item that passes, and one that doesn't
+pub least-more : (f : ℕ → ℕ) (p : ℕ → Bool) (xs : List ℕ) (x : ℕ) → p x ≡ true →
+    least_of (map f (filter p (xs ++ x ∷ []))) ≡ lower (f x) (least_of (map f (filter p xs)))
+least-more f p [] x h = rw h refl
+least-more f p (y ∷ ys) x h = go (least-more f p ys x h) (p y)
+  where
+    go : least_of (map f (filter p (ys ++ x ∷ []))) ≡ lower (f x) (least_of (map f (filter p ys))) → (t : Bool) →
+        least_of (map f (cond t (y ∷ filter p (ys ++ x ∷ [])) (filter p (ys ++ x ∷ [])))) ≡ lower (f x)
+        (least_of (map f (cond t (y ∷ filter p ys) (filter p ys))))
+    go ih true = ap (lower (f y)) ih ∙ lower_twice (f y) (f x) (least_of (map f (filter p ys)))
+    go ih false = ih
+
+pub least-same : (f : ℕ → ℕ) (p : ℕ → Bool) (xs : List ℕ) (x : ℕ) → p x ≡ false →
+    least_of (map f (filter p (xs ++ x ∷ []))) ≡ least_of (map f (filter p xs))
+least-same f p [] x h = rw h refl
+least-same f p (y ∷ ys) x h = go (least-same f p ys x h) (p y)
+  where
+    go : least_of (map f (filter p (ys ++ x ∷ []))) ≡ least_of (map f (filter p ys)) → (t : Bool) →
+        least_of (map f (cond t (y ∷ filter p (ys ++ x ∷ [])) (filter p (ys ++ x ∷ [])))) ≡ least_of
+        (map f (cond t (y ∷ filter p ys) (filter p ys)))
+    go ih true = ap (lower (f y)) ih
+    go ih false = ih
+
+-- ---- the first answer over the numbers
+first_from : {Y : Type 0} (f : ℕ → Option Y) (n a s : ℕ) (y : Y) → a ≤ s → s < a + n →
+    ((k : ℕ) → a ≤ k → k < s → f k ≡ None) → f s ≡ Some y → first_some f (range_with_len a n) ≡ Some y
+first_from f zero a s y le lt h e = absurd (omega arith)
+first_from {Y} f (suc n) a s y le lt h e = go (λ l. first_from f n (a + 1) s y l (omega arith)
+    (λ k p q. h k (omega arith) q) e) (same a s le)
+  where
+    same : (a s : ℕ) → a ≤ s → (s ≡ a) ⊎ (a + 1 ≤ s)
+    same a s le = grind arith
+
+    go : (a + 1 ≤ s → first_some f (range_with_len (a + 1) n) ≡ Some y) → (s ≡ a) ⊎ (a + 1 ≤ s) →
+        option_or (f a) (first_some f (range_with_len (a + 1) n)) ≡ Some y
+    go ih (inl q) = rw (ap f (sym q) ∙ e) refl
+    go ih (inr l) = rw (h a (omega arith) (omega arith)) (ih l)
+
+pub first_is : {Y : Type 0} (f : ℕ → Option Y) (n s : ℕ) (y : Y) → s < n → ((k : ℕ) → k < s → f k ≡ None) →
+    f s ≡ Some y → first_some f (numbers n) ≡ Some y
+first_is f n s y lt h e = first_from f n 0 s y (omega arith) (omega arith) (λ k le l. h k l) e
+
+none_from : {Y : Type 0} (f : ℕ → Option Y) (n a : ℕ) → ((k : ℕ) → a ≤ k → k < a + n → f k ≡ None) →
+    first_some f (range_with_len a n) ≡ None
+none_from f zero a h = refl
+none_from f (suc n) a h = rw (h a (omega arith) (omega arith))
+    (none_from f n (a + 1) (λ k le lt. h k (omega arith) (omega arith)))
+
+pub none_is : {Y : Type 0} (f : ℕ → Option Y) (n : ℕ) → ((k : ℕ) → k < n → f k ≡ None) → first_some f (numbers n) ≡ None
+none_is f n h = none_from f n 0 (λ k le lt. h k (omega arith))
+
+-- one more member, which is left or isn't
+pub least_next : (f : ℕ → ℕ) (p : ℕ → Bool) (xs : List ℕ) (i : ℕ) (o : Option ℕ) (v : ℕ) → i < length xs →
+    o ≡ least_of (map f (filter p (take i xs))) → p (slice_index xs i) ≡ true →
+    Some v ≡ lower (f (slice_index xs i)) o → Some v ≡ least_of (map f (filter p (take (i + 1) xs)))
+least_next f p xs i o v lt e t h =
+    h ∙ ap (lower (f (slice_index xs i))) e ∙ sym (ap (λ ys. least_of (map f (filter p ys))) (take_more xs i 0 lt)
+    ∙ least-more f p (take i xs) (slice_index xs i) t)
+
+pub least_kept : (f : ℕ → ℕ) (p : ℕ → Bool) (xs : List ℕ) (i : ℕ) (o : Option ℕ) → i < length xs →
+    o ≡ least_of (map f (filter p (take i xs))) → p (slice_index xs i) ≡ false →
+    o ≡ least_of (map f (filter p (take (i + 1) xs)))
+least_kept f p xs i o lt e t = e ∙ sym (ap (λ ys. least_of (map f (filter p ys))) (take_more xs i 0 lt)
+    ∙ least-same f p (take i xs) (slice_index xs i) t)
+
+-- ---- a section's answer
+pub over_none : (I : Instance) (S : SectionList) (l : Claim) (C s : ℕ) → least_up I S l s ≡ None → None ≡ over I S l C s
+unfolding over
+over_none I S l C s e = sym (ap (over_at (start_of S s) (free_load I S l s) C) e)
+
+pub over_full : (I : Instance) (S : SectionList) (l : Claim) (C s H load start : ℕ) → least_up I S l s ≡ Some H →
+    load ≡ free_load I S l s → start ≡ start_of S s → C < H + load → Some (start, H) ≡ over I S l C s
+unfolding over
+over_full I S l C s H load start e f g lt =
+    let t : nat_lt C (H + free_load I S l s) ≡ true = test C (H + free_load I S l s) (omega arith) in
+    ap (λ x. Some (x, H)) g ∙ sym (ap (over_at (start_of S s) (free_load I S l s) C) e
+    ∙ ap (λ b. cond b (Some (start_of S s, H)) None) t)
+  where
+    test : (m n : ℕ) → m < n → nat_lt m n ≡ true
+    test m n h = grind (arith, nat_tests)
+
+pub over_fits : (I : Instance) (S : SectionList) (l : Claim) (C s H load : ℕ) → least_up I S l s ≡ Some H →
+    load ≡ free_load I S l s → H + load ≤ C → None ≡ over I S l C s
+unfolding over
+over_fits I S l C s H load e f le =
+    let t : nat_lt C (H + free_load I S l s) ≡ false = test C (H + free_load I S l s) (omega arith) in
+    sym (ap (over_at (start_of S s) (free_load I S l s) C) e ∙ ap (λ b. cond b (Some (start_of S s, H)) None) t)
+  where
+    test : (m n : ℕ) → n ≤ m → nat_lt m n ≡ false
+    test m n h = grind (arith, nat_tests)
+
+-- ---- the answer over all sections
+pub overloaded_found : (I : Instance) (S : SectionList) (l : Claim) (C s : ℕ) (o : Option (ℕ × ℕ)) →
+    is_some o ≡ true → o ≡ over I S l C s → s < count_of S → ((k : ℕ) → k < s → over I S l C k ≡ None) →
+    o ≡ overloaded I S l C
+unfolding overloaded
+overloaded_found I S l C s None t e lt h = absurd cc
+overloaded_found I S l C s (Some y) t e lt h = sym (first_is (over I S l C) (count_of S) s y lt h (sym e))
+
+pub overloaded_none : (I : Instance) (S : SectionList) (l : Claim) (C n : ℕ) → count_of S ≤ n →
+    ((k : ℕ) → k < n → over I S l C k ≡ None) → None ≡ overloaded I S l C
+unfolding overloaded
+overloaded_none I S l C n le h = sym (none_is (over I S l C) (count_of S) (λ k lt. h k (omega arith)))
+
+-- ---- a load, as a contract sees it
+pub load_of_view : (I : Instance) (S : SectionList) (members : List ℕ) (n : ℕ) (stack floors hs : List ℕ)
+    (rows : List (List ℕ)) (flags : List Bool) (ls : List ℕ) (k : Sky) (s : ℕ) →
+    record { instance = I; sections = S; claims = claims_of I (whole members) (reverse (take n stack)) } ≡ k →
+    IsLoaded I S members n stack floors hs rows flags ls → s < count_of k.sections →
+    (s < length ls) × ((slice_index ls s ≡ free_load k.instance k.sections (last_claim k.claims) s) ×
+    (slice_index ls s ≤ 512 * 2 ^ 40))
+load_of_view I S members n stack floors hs rows flags ls k s e h lt = (
+  omega (arith, here, h.loads.count),
+  (
+    same,
+    (let m = load_limited I S (claim_after I (whole members) (reverse (take n stack))) s
+        h.sky.carries.buffers h.sky.carries.count h.sky.carries.belongs here in let d = h.loads.each s here in
+        omega arith),
+  ),
+)
+  where
+    here : s < count_of S
+    here = let q = ap (λ (x : Sky). count_of x.sections) e in omega (arith, q)
+
+    same : slice_index ls s ≡ free_load k.instance k.sections (last_claim k.claims) s
+    same = h.loads.each s here ∙ ap (λ l. free_load I S l s)
+        (sym (last_of_claims I (whole members) (reverse (take n stack))))
+        ∙ ap (λ (x : Sky). free_load x.instance x.sections (last_claim x.claims) s) e

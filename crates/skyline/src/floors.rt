@@ -1,0 +1,35 @@
+//! The floor of the last standing buffer.
+
+ghost use Rattle.std.specs.Prelude.{◌≡◌, ◌-◌, ◌<◌, ◌≤◌, ◌^◌, length, reverse, take, slice_index};
+ghost use Rattle.skyline.specs.Carried.{floor_at};
+ghost use Rattle.skyline.specs.Overloads.{lower};
+
+/// The offset of the last of `depth` standing buffers, and one more for a smaller number; 0 where
+/// none stands.
+pub(crate) fn floor_above(stack: &[u32], floors: &[u64], depth: usize, b: u32) -> u64
+    requires stack { depth ≤ length stack.now }
+    requires floors { depth ≤ length floors.now }
+    requires limit { 0 < depth → slice_index floors.now (depth - 1) < 2 ^ 60 }
+    ensures { result ≡ floor_at (reverse (take depth stack.now)) (reverse (take depth floors.now)) b }
+{
+    if depth == 0 {
+        return 0;
+    }
+    let floor = floors[depth - 1];
+    if b < stack[depth - 1] {
+        floor + 1
+    } else {
+        floor
+    }
+}
+
+/// The lesser of a number and one that may be there.
+pub(crate) fn lesser(low: u64, least: Option<u64>) -> u64
+    ensures value { Some result ≡ lower low least }
+    ensures limit { result ≤ low }
+{
+    match least {
+        None => low,
+        Some(height) => if low < height { low } else { height },
+    }
+}

@@ -1,0 +1,13 @@
+//! A claim that buffers are taken from and put back to, as a list of claims.
+#![tactic(auto)]
+
+mod floors;
+mod lows;
+mod rooms;
+mod rows;
+mod sky;
+
+pub use sky::Skyline;
+
+#[cfg(test)]
+mod tests;

@@ -1,0 +1,234 @@
+//! The skyline.
+
+ghost use Rattle.std.specs.Prelude.{◌≡◌, ◌+◌, ◌<◌, ◌^◌, ◌∷◌, ◌++◌, ◌↔◌, [], IfOk, IfSome, IsTrue, length};
+ghost use Rattle.std.specs.List.{All};
+ghost use Rattle.dsa_terms.specs.Claims.{Rises, child, up};
+ghost use Rattle.lifetime.specs.SectionList.{AreSectionsOf, count_of};
+ghost use Rattle.canonical_order.specs.Claims.{HasBuffer, entry_of};
+ghost use Rattle.canonical_order.specs.Stands.{Stands};
+ghost use Rattle.skyline.specs.Overloads.{least_up, over, overloaded};
+ghost use Rattle.skyline.specs.Skies.{AreLow, at_first, last_claim};
+
+use crate::floors::{floor_above, lesser};
+use crate::rooms::{first_loads, make_rows, mark};
+use crate::rows::{burden, highest, lighten, raise, restore, save};
+use dsa_model::{Instance, NoMemory};
+use lifetime::Sections;
+use std::alloc::Global;
+use std::marker::Model;
+
+/// A list of claims, of which the last one is at hand: the whole claim of some members, and then
+/// the child of the one before by each buffer that was pushed. A buffer that was pushed stands at
+/// its low, and its top is kept as the height of its sections.
+#[derive(Drop)]
+pub struct Skyline<'a> {
+    instance: &'a Instance,
+    sections: &'a Sections,
+    members: Vec<u32>,
+    depth: usize,
+    stack: Vec<u32>,
+    floors: Vec<u64>,
+    heights: Vec<u64>,
+    saved: Vec<Vec<u64>>,
+    free: Vec<bool>,
+    loads: Vec<u64>,
+}
+
+impl<'a> Model for Skyline<'a> {
+    ghost use Rattle.std.specs.Prelude.{map, reverse, take};
+    ghost use Rattle.dsa_terms.specs.Parts.{whole};
+    ghost use Rattle.lifetime.specs.Views.{items_of};
+    ghost use Rattle.skyline.specs.Carried.{claims_of};
+    ghost use Rattle.skyline.specs.Loads.{IsLoaded};
+    ghost use Rattle.skyline.specs.Skies.{Sky};
+
+    ghost Value = { Sky };
+
+    ghost view = { λ s. record {
+      instance = s.instance.now;
+      sections = s.sections.now;
+      claims = claims_of s.instance.now (whole s.members.items)
+          (reverse (take s.depth s.stack.items));
+    } };
+
+    ghost invariant = { λ s. IsLoaded s.instance.now s.sections.now s.members.items s.depth
+        s.stack.items s.floors.items s.heights.items (map items_of s.saved.items) s.free.items
+        s.loads.items };
+}
+
+impl<'a> Skyline<'a> {
+    /// The whole claim of the members alone, with the room for all later calls. The caller owes the
+    /// sections of the instance, and members that rise and are in range.
+    pub fn new(
+        alloc: Global,
+        instance: &'a Instance,
+        sections: &'a Sections,
+        members: &[u32],
+    ) -> Result<Skyline<'a>, NoMemory>
+        requires sections { AreSectionsOf instance.now sections.now }
+        requires rises { Rises members.now }
+        requires in_range { All (λ b. b < length instance.now) members.now }
+        ensures { IfOk result (λ sky. sky ≡ at_first instance.now sections.now members.now) }
+    {
+        let count = instance.len();
+        let heights = vec![in alloc; 0u64; sections.count() as usize]?;
+        let stack = vec![in alloc; 0u32; members.len()]?;
+        let floors = vec![in alloc; 0u64; members.len()]?;
+        let free = mark(alloc, count as usize, members)?;
+        let saved = make_rows(alloc, sections, &free)?;
+        let loads = first_loads(alloc, instance, sections, &free)?;
+        let members = members.to_vec(alloc)?;
+        Ok(Skyline {
+            instance,
+            sections,
+            members,
+            depth: 0,
+            stack,
+            floors,
+            heights,
+            saved,
+            free,
+            loads,
+        })
+    }
+
+    /// How many buffers were pushed and not popped: the number of claims less one.
+    pub fn depth(&self) -> u32
+        ensures value { result + 1 ≡ length self.now.claims }
+        ensures low { AreLow self.now.claims }
+    {
+        self.depth as u32
+    }
+
+    /// Appends the child of the last claim by the buffer, which is in it, and gives the buffer's
+    /// low in bytes, where it stands from now on. It takes no memory. Its cost is in the sections
+    /// of the buffer.
+    pub fn push(&mut self, b: u32) -> u64
+        requires { HasBuffer (last_claim self.old.claims) b }
+        ensures instance { self.new.instance ≡ self.old.instance }
+        ensures sections { self.new.sections ≡ self.old.sections }
+        ensures claims { let l = last_claim self.old.claims in
+            self.new.claims ≡ self.old.claims ++ child self.old.instance l (entry_of l b) ∷ [] }
+        ensures value { let l = last_claim self.old.claims in
+            result ≡ up self.old.instance (entry_of l b) }
+        ensures limit { result < 2 ^ 54 }
+        ensures low { AreLow self.new.claims }
+    {
+        let offset = self.least_offset(b);
+        let size = self.instance.buffer(b).size();
+        let sections = self.sections.sections_of(b);
+        let row = &mut self.saved[b as usize];
+        save(row, &self.heights, sections);
+        raise(&mut self.heights, sections, offset + size);
+        lighten(&mut self.loads, sections, size);
+        self.stack[self.depth] = b;
+        self.floors[self.depth] = offset;
+        self.free[b as usize] = false;
+        self.depth += 1;
+        offset
+    }
+
+    /// Takes the last claim off the list, so that all is as before the push that made it; the
+    /// caller owes a depth above 0. It takes no memory. Its cost is in the sections of the buffer.
+    pub fn pop(&mut self)
+        requires { 1 < length self.old.claims }
+        ensures instance { self.new.instance ≡ self.old.instance }
+        ensures sections { self.new.sections ≡ self.old.sections }
+        ensures claims { self.old.claims ≡ self.new.claims ++ last_claim self.old.claims ∷ [] }
+        ensures low { AreLow self.new.claims }
+    {
+        self.depth -= 1;
+        let b = self.stack[self.depth];
+        let sections = self.sections.sections_of(b);
+        restore(&mut self.heights, sections, &self.saved[b as usize]);
+        let size = self.instance.buffer(b).size();
+        burden(&mut self.loads, sections, size);
+        self.free[b as usize] = true;
+    }
+
+    /// The start and the height in bytes of the earliest section that is too full: some of its
+    /// members are in the last claim, the least low of these is the height, and their sizes on top
+    /// of the height pass the capacity. None exactly where there is no such section.
+    pub fn overloaded(&self, capacity: u64) -> Option<(u64, u64)>
+        ensures value { let l = last_claim self.now.claims in
+            result ≡ overloaded self.now.instance self.now.sections l capacity }
+        ensures limit { IfSome result (λ found. found.1 < 2 ^ 54) }
+    {
+        for s in 0..self.sections.count() {
+            let found = self.over(s, capacity);
+            if found.is_some() {
+                return found;
+            }
+        }
+        None
+    }
+
+    /// The instance.
+    pub(crate) fn lent(&self) -> &Instance
+        ensures value { result.now ≡ self.now.instance }
+        ensures stands { Stands result.now (last_claim self.now.claims) }
+    {
+        self.instance
+    }
+
+    /// Whether the buffer is in the last claim.
+    pub(crate) fn has(&self, b: u32) -> bool
+        ensures value { IsTrue result ↔ HasBuffer (last_claim self.now.claims) b }
+        ensures stands { Stands self.now.instance (last_claim self.now.claims) }
+    {
+        if b as usize >= self.free.len() {
+            return false;
+        }
+        self.free[b as usize]
+    }
+
+    /// The low of the buffer: the least multiple of its alignment at or above the heights of its
+    /// sections and the floor.
+    pub(crate) fn least_offset(&self, b: u32) -> u64
+        requires { HasBuffer (last_claim self.now.claims) b }
+        ensures value { result ≡ up self.now.instance (entry_of (last_claim self.now.claims) b) }
+        ensures limit { result < 2 ^ 54 }
+        ensures stands { Stands self.now.instance (last_claim self.now.claims) }
+    {
+        let top = highest(&self.heights, self.sections.sections_of(b));
+        let floor = floor_above(&self.stack, &self.floors, self.depth, b);
+        let bound = if top < floor { floor } else { top };
+        self.instance.buffer(b).least_offset(bound)
+    }
+
+    /// The least low of the section's members that are in the last claim, where there is one.
+    fn least_low(&self, s: u32) -> Option<u64>
+        requires { s < count_of self.now.sections }
+        ensures value { let l = last_claim self.now.claims in
+            result ≡ least_up self.now.instance self.now.sections l s }
+        ensures limit { IfSome result (λ height. height < 2 ^ 54) }
+    {
+        let members = self.sections.members(s);
+        let mut least = None;
+        for i in 0..members.len() {
+            if self.has(members[i]) {
+                least = Some(lesser(self.least_offset(members[i]), least));
+            }
+        }
+        least
+    }
+
+    /// The start and the height of the section, where it is too full for the capacity.
+    fn over(&self, s: u32, capacity: u64) -> Option<(u64, u64)>
+        requires { s < count_of self.now.sections }
+        ensures value { let l = last_claim self.now.claims in
+            result ≡ over self.now.instance self.now.sections l capacity s }
+        ensures limit { IfSome result (λ found. found.1 < 2 ^ 54) }
+    {
+        match self.least_low(s) {
+            None => None,
+            Some(height) => {
+                if height + self.loads[s as usize] > capacity {
+                    Some((self.sections.start(s), height))
+                } else {
+                    None
+                }
+            }
+        }
+    }
+}
