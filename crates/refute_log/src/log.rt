@@ -111,8 +111,8 @@ impl Log {
         self.count
     }
 
-    /// The capacity at which its claims are refuted.
-    pub(crate) fn capacity(&self) -> u64
+    /// The capacity, in bytes, at which its claims are refuted. It is at most 2^60.
+    pub fn capacity(&self) -> u64
         ensures value { result ≡ self.now.capacity }
         ensures kept { IsKept self.now.capacity self.now.lines }
     {

@@ -1,0 +1,143 @@
+-- Worked lines: how low an Over line may be, lowered claims, and cites of other buffers.
+use Rattle.std.proofs.Common.{◌≡◌, ℕ, inl, inr, [], ◌∷◌, map, List, Some, None, refl, lit≤, arith}
+use Rattle.dsa_terms.specs.Buffers.{Buffer, Instance, is_live, buffer, have_same_moments, some_before}
+use Rattle.dsa_terms.specs.Claims.{Claim, up}
+use Rattle.dsa_terms.specs.Logs.{ByLine, Below, Twin, Cases, Over, Line, ends_below, is_stacked, is_twin, rounded, rounding}
+use Rattle.conflicts.specs.Covering.{IsCoveringLine}
+use Rattle.conflicts.specs.Eased.{cut, eased_cites, eased_over, from_height, least_height, lowered, own_cite, reach}
+use Rattle.conflicts.specs.Easing.{IsOfKind}
+
+abbrev plain : ℕ → ℕ → ℕ → ℕ → Buffer
+plain lower upper size alignment = record {
+  lower = lower;
+  upper = upper;
+  size = size;
+  alignment = alignment;
+  gaps =
+      [];
+}
+
+-- two buffers of size 1 at even offsets and one of size 2, all live at moment 0, and one that is live at moment 1
+abbrev four : Instance
+four = plain 0 1 1 2 ∷ plain 0 1 1 2 ∷ plain 0 1 2 1 ∷ plain 1 2 1 1 ∷ []
+
+-- ---- Over lines
+-- both rounded up to 2, less one rounding
+reach_of_two : reach four 2 ((0, 9) ∷ (1, 10) ∷ []) ≡ 3
+unfolding reach rounded rounding buffer
+reach_of_two = refl
+
+reach_by_ones : reach four 1 ((0, 9) ∷ (1, 10) ∷ []) ≡ 2
+unfolding reach rounded rounding buffer
+reach_by_ones = refl
+
+-- from 2 on they reach 5, and from 0 on they would reach 3
+least_of_two : least_height four 4 2 ((0, 9) ∷ (1, 10) ∷ []) ≡ 2
+unfolding least_height reach rounded rounding buffer
+least_of_two = refl
+
+-- at a multiple of 2, where 1 would do
+least_is_a_multiple : least_height four 3 2 ((0, 9) ∷ (1, 10) ∷ []) ≡ 2
+unfolding least_height reach rounded rounding buffer
+least_is_a_multiple = refl
+
+least_is_zero : least_height four 2 2 ((0, 9) ∷ (1, 10) ∷ []) ≡ 0
+unfolding least_height reach rounded rounding buffer
+least_is_zero = refl
+
+two_from_height : from_height 2 ((0, 9) ∷ (1, 10) ∷ []) ≡ (0, 2) ∷ (1, 2) ∷ []
+two_from_height = refl
+
+-- buffer 2 stands at odd offsets too, and buffer 3 is not live at moment 0
+too_high : eased_over four 4 ((0, 9) ∷ (1, 10) ∷ (2, 10) ∷ (3, 0) ∷ []) 0 10 2 ≡ Over ((0, 2) ∷ (1, 2) ∷ []) 0 2 2
+unfolding least_height reach is_stacked rounded rounding up is_live buffer
+too_high = refl
+
+low_enough : eased_over four 4 ((2, 3) ∷ []) 0 3 1 ≡ Over ((2, 3) ∷ []) 0 3 1
+unfolding least_height reach is_stacked rounded rounding up is_live buffer
+low_enough = refl
+
+-- ---- lowered claims
+-- the bounds 1 and 2 have the low 2, and the bound 3 has the low 4
+lowered_even : lowered four (1, 2) ≡ (1, 1)
+unfolding lowered up buffer
+lowered_even = refl
+
+lowered_odd : lowered four (1, 3) ≡ (1, 3)
+unfolding lowered up buffer
+lowered_odd = refl
+
+lowered_zero : lowered four (0, 0) ≡ (0, 0)
+unfolding lowered up buffer
+lowered_zero = refl
+
+lowered_by_ones : lowered four (2, 7) ≡ (2, 7)
+unfolding lowered up buffer
+lowered_by_ones = refl
+
+-- ---- cites of other buffers
+whole_twin : own_cite four ((0, 0) ∷ (1, 0) ∷ (2, 0) ∷ []) (1, 0) ≡ Some (Twin 0)
+unfolding own_cite ends_below is_twin have_same_moments some_before is_live up buffer
+whole_twin = refl
+
+-- below before twin
+below_first : own_cite four ((0, 0) ∷ (1, 2) ∷ []) (1, 2) ≡ Some (Below 0)
+unfolding own_cite ends_below is_twin have_same_moments some_before is_live up buffer
+below_first = refl
+
+none_own : own_cite four ((1, 1) ∷ (2, 1) ∷ []) (2, 1) ≡ None
+unfolding own_cite ends_below is_twin have_same_moments some_before is_live up buffer
+none_own = refl
+
+-- ---- Cases lines
+lower_bounds : map (lowered four) ((1, 2) ∷ (2, 1) ∷ []) ≡ (1, 1) ∷ (2, 1) ∷ []
+unfolding lowered up buffer
+lower_bounds = refl
+
+-- what is needed of buffer 1 is below its bound, and of buffer 2 above
+cut_bounds : map (cut (0 ∷ 3 ∷ 8 ∷ [])) ((1, 5) ∷ (2, 7) ∷ []) ≡ (1, 3) ∷ (2, 7) ∷ []
+cut_bounds = refl
+
+lines_stay : eased_cites four ((1, 1) ∷ (2, 1) ∷ []) (ByLine 0 ∷ ByLine 1 ∷ []) ≡ ByLine 0 ∷ ByLine 1 ∷ []
+unfolding own_cite ends_below is_twin have_same_moments some_before is_live up buffer
+lines_stay = refl
+
+-- a twin in place of a line, and a line where there is no other cite
+twin_for_line : eased_cites four ((0, 1) ∷ (1, 1) ∷ []) (ByLine 3 ∷ ByLine 5 ∷ []) ≡ ByLine 3 ∷ Twin 0 ∷ []
+unfolding own_cite ends_below is_twin have_same_moments some_before is_live up buffer
+twin_for_line = refl
+
+-- ---- kinds
+over_of_kind : IsOfKind (Over ((2, 9) ∷ []) 0 9 1) (Over ((2, 3) ∷ []) 0 3 1)
+over_of_kind = (refl, refl)
+
+other_moment : IsOfKind (Over ((2, 9) ∷ []) 0 9 1) (Over ((2, 3) ∷ []) 1 3 1) → ⊥
+other_moment k = let q = k.0 in omega arith
+
+other_modulus : IsOfKind (Over ((2, 9) ∷ []) 0 9 1) (Over ((2, 3) ∷ []) 0 3 3) → ⊥
+other_modulus k = let q = k.1 in omega arith
+
+other_kind : IsOfKind (Over ((2, 9) ∷ []) 0 9 1) (Cases ((2, 3) ∷ []) (ByLine 0 ∷ [])) → ⊥
+other_kind k = k
+
+cases_of_kind : IsOfKind (Cases ((2, 3) ∷ []) (ByLine 0 ∷ [])) (Cases ((2, 3) ∷ []) (Below 1 ∷ []))
+cases_of_kind = tt
+
+-- ---- covering lines
+abbrev two_lines : List Line
+two_lines = Over ((2, 3) ∷ []) 0 3 1 ∷ Over ((1, 4) ∷ []) 0 4 1 ∷ []
+
+-- the low of the bound 3 is 4
+covered_by_second : IsCoveringLine four two_lines ((1, 3) ∷ (2, 0) ∷ []) 1
+unfolding up buffer
+covered_by_second = (
+  Over ((1, 4) ∷ []) 0 4 1,
+  refl,
+  λ e i. elim i [
+    | inl q ↦ ((1, 3), inl refl, rw q refl, rw q (lit≤ {m = 4} {n = 4} tt))
+    | inr j ↦ absurd j
+  ],
+)
+
+no_third_line : (l : Claim) → IsCoveringLine four two_lines l 2 → ⊥
+no_third_line l c = let k = c.1 in cc

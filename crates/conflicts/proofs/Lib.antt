@@ -1,0 +1,9 @@
+pub mod Stacking
+pub mod Looking
+pub mod ListSteps
+pub mod LowerClaims
+pub mod LeastBounds
+pub mod Easings
+pub mod OverLines
+pub mod CasesLines
+mod ExampleFacts

@@ -1,0 +1,26 @@
+use Rattle.std.proofs.Common.{◌≡◌, ◌∙◌, map}
+use Rattle.refute_log.proofs.ListTests.{at_in}
+use Rattle.conflicts.specs.Eased.{cut}
+use Rattle.conflicts.proofs.ListSteps.{mapped_all}
+use Rattle.conflicts.proofs.LowerClaims.{cut_lower, lower_bounded, lower_stands}
+use Rattle.conflicts.proofs.needs.cut.Goals as goal
+
+pub bounds-needs-pair : goal.bounds-needs-pair
+bounds-needs-pair c = rw c.requires.each ((c.requires.stands).claim.in_range _
+    (at_in _ _ _ c.pairs-pair-items.ensures.value c.loop-pair-test.true))
+
+all_cut : (c : goal.After-deref) → c.deref.result.now ≡ map (cut c.args.needs.now) c.args.claim.now
+all_cut c = c.deref.ensures.value ∙ mapped_all (cut c.args.needs.now) c.args.claim.now c.loop-pair.pair-index _
+    (rw c.pairs-pair-items.ensures.value at c.loop-pair-test.false) c.loop-pair.invariant
+
+pub from_pairs-requires-clause-rises : goal.from_pairs-requires-clause-rises
+from_pairs-requires-clause-rises c =
+    let l = c.args.claim.now in
+    rw (all_cut c)
+    (lower_stands c.args.instance.now l _ c.requires.stands (cut_lower c.args.needs.now l)).claim.rises
+
+pub from_pairs-requires-clause-bounds : goal.from_pairs-requires-clause-bounds
+from_pairs-requires-clause-bounds c =
+    let l = c.args.claim.now in
+    rw (all_cut c)
+    (lower_bounded c.args.instance.now l _ c.requires.stands (cut_lower c.args.needs.now l) _ c.requires.bounds)

@@ -1,0 +1,7 @@
+use Rattle.std.proofs.Common.{length, ap, arith}
+use Rattle.refute_log.proofs.ListTests.{has_at}
+use Rattle.conflicts.proofs.needs.needs_of.Goals as goal
+
+pub raise_by_cite-requires-clause-b_in : goal.raise_by_cite-requires-clause-b_in
+raise_by_cite-requires-clause-b_in c = has_at c.args.view.now.claim.now _ _ c.pairs-pairs.ensures.value
+    (let e = ap length c.pairs-pairs.ensures.value in omega arith)
