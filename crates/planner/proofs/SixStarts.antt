@@ -1,5 +1,6 @@
 -- Starts by their places: the first that is within a capacity, and the first of least height.
-use Rattle.std.proofs.Common.{◌≡◌, ℕ, ◌<◌, ◌≤◌, List, [], map, length, find, nat_le, slice_index_or, Some, None, refl, sym, ap, ◌∙◌, arith}
+use Rattle.std.proofs.Common.{◌≡◌, ℕ, ◌<◌, ◌≤◌, List, [], map, length, find, nat_le, slice_index_or, Some, None, refl, sym, ap, subst, ◌∙◌, arith}
+use Rattle.std.specs.List.{All}
 use Rattle.std.proofs.Math.ListN.{length-map}
 use Rattle.std.proofs.lemmas.List.{get_or-map}
 use Rattle.dsa_terms.specs.Buffers.{Instance}
@@ -7,9 +8,11 @@ use Rattle.dsa_terms.specs.Orders.{orders}
 use Rattle.dsa_terms.specs.Plans.{layout_height}
 use Rattle.dsa_terms.specs.Starts.{best_start, lowest_place, starts}
 use Rattle.dsa_start_laws.proofs.Planned.{lowest_within}
-use Rattle.planner.specs.FirstStart.{start_within}
+use Rattle.first_fit.specs.Starts.{IsStart, height_in, offsets_in}
+use Rattle.first_fit.specs.declared.start_list.Start.{Start}
+use Rattle.planner.specs.FirstStart.{IsBestStart, start_within}
 
-six_starts : (I : Instance) → length (starts I) ≡ 6
+pub six_starts : (I : Instance) → length (starts I) ≡ 6
 unfolding starts orders
 six_starts I = refl
 
@@ -35,24 +38,28 @@ none_within I C offsets xs e f = rw (← e) (sym f)
 lowest_in : {X : Type 0} (high : X → ℕ) (xs : List X) → 1 ≤ length xs → lowest_place (map high xs) < length xs
 lowest_in high xs some = let l = length-map xs high in rw (← l) (lowest_within (map high xs) (omega arith))
 
-pub best_in_range : {X : Type 0} (I : Instance) (offsets : X → List ℕ) (high : X → ℕ) (xs : List X) (k : ℕ) →
-    map offsets xs ≡ starts I → k ≡ lowest_place (map high xs) → k < length xs
-best_in_range I offsets high xs k e q =
-    let n = are_six I offsets xs e in rw q (lowest_in high xs (omega arith))
+-- the best start stands at its place
+pub best_in_range : (I : Instance) → lowest_place (map (layout_height I) (starts I)) < length (starts I)
+best_in_range I = let n = six_starts I in lowest_in (layout_height I) (starts I) (omega arith)
 
-pub best_height : {X : Type 0} (I : Instance) (offsets : X → List ℕ) (high : X → ℕ) (xs : List X) (k : ℕ) (x : X) →
-    map offsets xs ≡ starts I → map high xs ≡ map (layout_height I) (starts I) → k ≡ lowest_place (map high xs) →
-    x ≡ slice_index_or xs k x → high x ≡ layout_height I (best_start I)
+pub lowest_in_range : (xs : List Start) → 0 < length xs → lowest_place (map height_in xs) < length xs
+lowest_in_range xs some = lowest_in height_in xs (omega arith)
+
+pub best_is : (I : Instance) (ss : List Start) (s : Start) → map offsets_in ss ≡ starts I →
+    map height_in ss ≡ map (layout_height I) (starts I) → All (IsStart I) ss →
+    s ≡ slice_index_or ss (lowest_place (map height_in ss)) s → IsBestStart I s
 unfolding best_start
-best_height I offsets high xs k x e h q is =
-    let lt = best_in_range I offsets high xs k e q in
-    let n = are_six I offsets xs e in
-    let m = six_starts I in
-    let a : high x ≡ high (slice_index_or xs k x) = ap high is in
-    let b : slice_index_or (map high xs) k 0 ≡ high (slice_index_or xs k x) = get_or-map high xs k x 0 lt in
-    let c : slice_index_or (map (layout_height I) (starts I)) k 0 ≡ layout_height I (slice_index_or (starts I) k []) =
-    get_or-map (layout_height I) (starts I) k [] 0 (omega arith) in
-    let d : slice_index_or (map high xs) k 0 ≡ slice_index_or (map (layout_height I) (starts I)) k 0 =
-    ap (λ hs. slice_index_or hs k 0) h in
-    let p : k ≡ lowest_place (map (layout_height I) (starts I)) = q ∙ ap lowest_place h in
-    a ∙ sym b ∙ d ∙ c ∙ ap (λ j. layout_height I (slice_index_or (starts I) j [])) p
+best_is I ss s e h sound is =
+    let n = are_six I offsets_in ss e in
+    let k = lowest_place (map height_in ss) in
+    let lt : k < length ss = lowest_in_range ss (omega arith) in
+    let P : Start → Type 0 = IsStart I in
+    let o : slice_index_or (map offsets_in ss) k [] ≡ offsets_in s =
+    get_or-map offsets_in ss k s [] lt ∙ ap offsets_in (sym is) in
+    let a : slice_index_or (map offsets_in ss) k [] ≡ slice_index_or (starts I) k [] =
+    ap (λ os. slice_index_or os k []) e in
+    let b : k ≡ lowest_place (map (layout_height I) (starts I)) = ap lowest_place h in
+    record {
+      start = subst P (sym is) (sound k s lt);
+      best = sym o ∙ a ∙ ap (λ j. slice_index_or (starts I) j []) b;
+    }

@@ -1,13 +1,10 @@
--- What deciding a capacity comes to.
+-- What deciding a capacity comes to: a layout that is the answer, or a log.
 use Rattle.std.specs.Prelude.{◌≡◌, ℕ, List, Option, Some}
 use Rattle.dsa_terms.specs.Bounds.{bound_modulus, lower_bound, stack, stack_log}
 use Rattle.dsa_terms.specs.Buffers.{Instance}
 use Rattle.dsa_terms.specs.Layouts.{IsLayout, IsInfeasible}
 use Rattle.dsa_terms.specs.Lean.{IsLean}
 use Rattle.dsa_terms.specs.Logs.{Log, IsAccepted}
-use Rattle.dsa_terms.specs.Starts.{planned}
-use Rattle.planner.specs.declared.decision.Decision.{Decision}
-use Rattle.planner.specs.declared.decision.Decision.TheVariants.{Layout, Refuted}
 
 -- the answer is these offsets, and they are a layout
 pub record IsAnswered (answer : Option (List ℕ)) (I : Instance) (C : ℕ) (offsets : List ℕ) : Type 0 where
@@ -31,26 +28,3 @@ pub record IsBoundLog (I : Instance) (C : ℕ) (log : Log) : Type 0 where
 pub record IsStackRefutation (I : Instance) (C : ℕ) (log : Log) : Type 0 where
   pub refutation : IsRefutation I C log
   pub by_bound : IsBoundLog I C log
-
--- a layout that is the answer, or a log by which there is none
-abbrev pub Concludes : Option (List ℕ) → Instance → ℕ → Decision → Type 0
-Concludes answer I C (Layout offsets) = IsAnswered answer I C offsets.items
-Concludes answer I C (Refuted log) = IsRefutation I C log
-
--- the plan, the first start that is within the capacity or else the search's layout; or a log by which there is none
-abbrev pub Decides : Instance → ℕ → Decision → Type 0
-Decides I C decision = Concludes (planned I C) I C decision
-
--- the decision is a layout, or a log
-abbrev pub IsLaidOut : Decision → Type 0
-IsLaidOut (Layout offsets) = Unit {0}
-IsLaidOut (Refuted log) = ⊥
-
-abbrev pub IsRefuted : Decision → Type 0
-IsRefuted (Layout offsets) = ⊥
-IsRefuted (Refuted log) = Unit {0}
-
--- the decision is the bound's log of one line
-abbrev pub IsByBound : Instance → ℕ → Decision → Type 0
-IsByBound I C (Layout offsets) = ⊥
-IsByBound I C (Refuted log) = IsBoundLog I C log

@@ -1,14 +1,23 @@
--- The first start that is within a capacity.
-use Rattle.std.specs.Prelude.{◌≡◌, ℕ, List, nat_le, find, Option, MatchOption, Some, None}
-use Rattle.std.specs.Global.{Vec}
+-- The first start that is within a capacity, and the best start.
+use Rattle.std.specs.Prelude.{◌≡◌, ℕ, List, nat_le, find, Option, Some, None}
 use Rattle.dsa_terms.specs.Buffers.{Instance}
 use Rattle.dsa_terms.specs.Plans.{layout_height}
-use Rattle.dsa_terms.specs.Starts.{starts}
+use Rattle.dsa_terms.specs.Starts.{best_start, starts}
+use Rattle.first_fit.specs.Starts.{IsStart, offsets_in}
+use Rattle.first_fit.specs.declared.start_list.Start.{Start}
+use Rattle.planner.specs.declared.starting.Tried.{Tried}
+use Rattle.planner.specs.declared.starting.Tried.TheVariants.{Within, Past}
 
 -- the first of the six starts whose height is at most C, if there is one
 abbrev pub start_within : Instance → ℕ → Option (List ℕ)
 start_within I C = find (λ offsets. nat_le (layout_height I offsets) C) (starts I)
 
--- these offsets are that start, or there is none
-abbrev pub IsStartWithin : Instance → ℕ → Option (Vec ℕ) → Type 0
-IsStartWithin I C found = MatchOption found (start_within I C ≡ None) (λ offsets. start_within I C ≡ Some offsets.items)
+-- a start, with its height, that is the best one
+pub record IsBestStart (I : Instance) (s : Start) : Type 0 where
+  pub start : IsStart I s
+  pub best : offsets_in s ≡ best_start I
+
+-- these offsets are the first start within the capacity, or there is none and this is the best start
+abbrev pub IsTried : Instance → ℕ → Tried → Type 0
+IsTried I C (Within offsets) = start_within I C ≡ Some offsets.items
+IsTried I C (Past best) = (start_within I C ≡ None) × IsBestStart I best

@@ -1,3 +1,8 @@
 pub mod Decides
+pub mod Openings
+pub mod Decisions
+pub mod LeastCapacity
 pub mod FirstStart
+pub mod FirstBracket
+pub mod Searches
 pub mod InstanceFacts

@@ -5,8 +5,8 @@ ghost use Rattle.dsa_terms.specs.Plans.{layout_height};
 ghost use Rattle.dsa_terms.specs.Starts.{best_start};
 ghost use Rattle.planner.specs.InstanceFacts.{AreFactsOf};
 
+use crate::starting::best_of_starts;
 use dsa_model::{Instance, NoMemory};
-use first_fit::{best_start, starts};
 use layout_report::Facts;
 use lifetime::Sections;
 use load_profile::Profile;
@@ -39,7 +39,6 @@ fn facts_with_best(alloc: Global, instance: &Instance, best: u64) -> Result<Fact
 pub fn facts_of(alloc: Global, instance: &Instance) -> Result<Facts, NoMemory>
     ensures value { IfOk result (AreFactsOf instance.now) }
 {
-    let starts = starts(alloc, instance)?;
-    let best = best_start(&starts) as usize;
-    facts_with_best(alloc, instance, starts[best].height)
+    let best = best_of_starts(alloc, instance)?;
+    facts_with_best(alloc, instance, best.height)
 }

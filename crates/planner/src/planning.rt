@@ -1,36 +1,52 @@
 //! Deciding a capacity.
 
-ghost use Rattle.std.specs.Prelude.{◌<◌, ◌≤◌, ◌^◌, ◌↔◌, IfOk};
+ghost use Rattle.std.specs.Prelude.{◌≡◌, ◌<◌, ◌≤◌, ◌^◌, ◌↔◌, None, IfOk};
 ghost use Rattle.dsa_terms.specs.Bounds.{lower_bound};
 ghost use Rattle.dsa_terms.specs.Layouts.{IsFeasible, IsInfeasible};
-ghost use Rattle.dsa_terms.specs.Parts.{searched};
-ghost use Rattle.planner.specs.Decides.{Concludes, Decides, IsByBound, IsLaidOut, IsRefuted};
+ghost use Rattle.planner.specs.Decisions.{Decides, IsByBound, IsLaidOut, IsRefuted};
+ghost use Rattle.planner.specs.FirstStart.{IsBestStart, start_within};
 
 use crate::Decision;
-use crate::one_stack::stack_refutation;
+use crate::bracketing::first_bracket;
+use crate::one_stack::{bound_of, stack_refutation};
 use crate::searching::search;
-use crate::starting::start_within;
+use crate::starting::{Tried, try_starts};
 use dsa_model::{Instance, NoMemory};
+use first_fit::Start;
 use lifetime::Sections;
+use refute_log::Decided;
 use std::alloc::Global;
 
 /// What is decided where no start is within the capacity: the bound's log where the capacity is
-/// below the bound, and else what the search comes to.
+/// below the bound, and else what the search comes to. Where the steps are used up it is open
+/// between the bound and the best start.
 fn decide_past_starts(
     alloc: Global,
     instance: &Instance,
+    best: Start,
     capacity: u64,
+    steps: Option<u64>,
 ) -> Result<Decision, NoMemory>
-    requires { capacity ≤ 2 ^ 60 }
-    ensures value { IfOk result (λ decision. let answer = searched instance.now capacity in
-        Concludes answer instance.now capacity decision) }
+    requires limit { capacity ≤ 2 ^ 60 }
+    requires none_within { start_within instance.now capacity ≡ None }
+    requires best { IsBestStart instance.now best }
+    ensures value { IfOk result (Decides instance.now capacity steps) }
     ensures bound { capacity < lower_bound instance.now →
         IfOk result (IsByBound instance.now capacity) }
 {
+    let _count = instance.len();
     let sections = Sections::build(alloc, instance)?;
-    match stack_refutation(alloc, instance, &sections, capacity)? {
-        Some(log) => Ok(Decision::Refuted(log)),
-        None => search(alloc, instance, &sections, capacity),
+    let bound = bound_of(alloc, instance, &sections)?;
+    if let Some(log) = stack_refutation(alloc, instance, bound, capacity)? {
+        return Ok(Decision::Refuted(log));
+    }
+    match search(alloc, instance, &sections, capacity, steps)? {
+        Decided::Layout(offsets) => Ok(Decision::Layout(offsets)),
+        Decided::Refuted(log) => Ok(Decision::Refuted(log)),
+        Decided::Spent => {
+            let bracket = first_bracket(alloc, instance, bound, best)?;
+            Ok(Decision::Open(bracket))
+        }
     }
 }
 
@@ -39,20 +55,33 @@ fn decide_past_starts(
 /// capacity is below the lower bound, the log is the bound's of one line, and else that of the
 /// search.
 ///
+/// The search opens at most `steps` claims, if a number is given. Where they are used up before it
+/// has an answer, the capacity stays open between the lower bound and the best start; without a
+/// number that never comes.
+///
 /// The caller owes a capacity of at most 2^60.
-pub fn plan(alloc: Global, instance: &Instance, capacity: u64) -> Result<Decision, NoMemory>
+pub fn plan(
+    alloc: Global,
+    instance: &Instance,
+    capacity: u64,
+    steps: Option<u64>,
+) -> Result<Decision, NoMemory>
     requires { capacity ≤ 2 ^ 60 }
-    ensures value { IfOk result (Decides instance.now capacity) }
-    ensures feasible { IfOk result (λ decision.
+    ensures value { IfOk result (Decides instance.now capacity steps) }
+    ensures fits { IfOk result (λ decision.
+        IsLaidOut decision → IsFeasible instance.now capacity) }
+    ensures refutes { IfOk result (λ decision.
+        IsRefuted decision → IsInfeasible instance.now capacity) }
+    ensures feasible { steps ≡ None → IfOk result (λ decision.
         IsLaidOut decision ↔ IsFeasible instance.now capacity) }
-    ensures infeasible { IfOk result (λ decision.
+    ensures infeasible { steps ≡ None → IfOk result (λ decision.
         IsRefuted decision ↔ IsInfeasible instance.now capacity) }
     ensures bound { capacity < lower_bound instance.now →
         IfOk result (IsByBound instance.now capacity) }
 {
     let _count = instance.len();
-    match start_within(alloc, instance, capacity)? {
-        Some(offsets) => Ok(Decision::Layout(offsets)),
-        None => decide_past_starts(alloc, instance, capacity),
+    match try_starts(alloc, instance, capacity)? {
+        Tried::Within(offsets) => Ok(Decision::Layout(offsets)),
+        Tried::Past(best) => decide_past_starts(alloc, instance, best, capacity, steps),
     }
 }

@@ -1,8 +1,9 @@
-//! Worked instances at chosen capacities.
+//! Worked instances at chosen capacities, and their least capacities.
 
-use crate::{Decision, facts_of, plan};
+use crate::{Decision, facts_of, least_capacity, plan};
 use dsa_model::{BUFFER_LIMIT, Buffer, BufferFault, Fail, Instance};
 use layout_report::Facts;
+use min_capacity::{Bracket, Least};
 use std::alloc::Global;
 
 /// Lower, upper, size and alignment of each buffer.
@@ -35,6 +36,15 @@ enum Want {
     Offsets(&'static [u64]),
     OneLine,
     MoreLines,
+    Open(Ends),
+}
+
+/// The ends of a bracket, and the offsets of its layout.
+#[derive(Clone, Copy)]
+struct Ends {
+    low: u64,
+    high: u64,
+    offsets: &'static [u64],
 }
 
 fn instance_of(alloc: Global, rows: Rows) -> Result<Instance, Fail<BufferFault>> {
@@ -49,14 +59,37 @@ fn instance_of(alloc: Global, rows: Rows) -> Result<Instance, Fail<BufferFault>>
     Ok(instance)
 }
 
-fn plan_at(alloc: Global, rows: Rows, capacity: u32) -> Result<Decision, Fail<BufferFault>> {
+fn plan_at(
+    alloc: Global,
+    rows: Rows,
+    capacity: u32,
+    steps: Option<u64>,
+) -> Result<Decision, Fail<BufferFault>> {
     let instance = instance_of(alloc, rows)?;
-    Ok(plan(alloc, &instance, capacity as u64)?)
+    Ok(plan(alloc, &instance, capacity as u64, steps)?)
+}
+
+fn least_of(alloc: Global, rows: Rows, steps: Option<u64>) -> Result<Least, Fail<BufferFault>> {
+    let instance = instance_of(alloc, rows)?;
+    Ok(least_capacity(alloc, &instance, steps)?)
 }
 
 fn facts_at(alloc: Global, rows: Rows) -> Result<Facts, Fail<BufferFault>> {
     let instance = instance_of(alloc, rows)?;
     Ok(facts_of(alloc, &instance)?)
+}
+
+/// Whether the bracket has these ends and offsets, and a log exactly where the lower end is not 0,
+/// at the capacity below it.
+fn has_ends(bracket: &Bracket, ends: Ends) -> bool {
+    let refuted = match &bracket.log {
+        Some(log) => Some(log.capacity()),
+        None => None,
+    };
+    bracket.low == ends.low
+        && bracket.high == ends.high
+        && bracket.layout.as_slice() == ends.offsets
+        && refuted == ends.low.checked_sub(1)
 }
 
 /// Whether the decision at the capacity is the one that is wanted.
@@ -69,6 +102,7 @@ fn is_wanted(decision: &Decision, capacity: u32, want: Want) -> bool {
         (Decision::Refuted(log), Want::MoreLines) => {
             log.capacity() == capacity as u64 && log.len() > 1
         }
+        (Decision::Open(bracket), Want::Open(ends)) => has_ends(bracket, ends),
         _ => false,
     }
 }
@@ -88,8 +122,66 @@ fn a_capacity_has_a_start_or_the_layout_of_the_search_or_a_log(rt: HostRuntime) 
         (&[], 0, Want::Offsets(&[])),
     ];
     for (rows, capacity, want) in cases {
-        let decision = plan_at(rt.alloc(), rows, capacity).expect(&rt, "memory");
+        let decision = plan_at(rt.alloc(), rows, capacity, None).expect(&rt, "memory");
         assert!(rt; is_wanted(&decision, capacity, want), "at {capacity}");
+    }
+}
+
+#[test]
+fn a_capacity_that_needs_a_search_is_open_without_steps(rt: HostRuntime) {
+    let open = Ends {
+        low: 4,
+        high: 5,
+        offsets: &[0, 4],
+    };
+    let cases = [
+        (BELOW, 4, 4, Want::Offsets(&[1, 0])),
+        (BELOW, 4, 0, Want::Open(open)),
+        (BELOW, 5, 0, Want::Offsets(&[0, 4])),
+        (BELOW, 3, 0, Want::OneLine),
+    ];
+    for (rows, capacity, steps, want) in cases {
+        let decision = plan_at(rt.alloc(), rows, capacity, Some(steps)).expect(&rt, "memory");
+        assert!(rt; is_wanted(&decision, capacity, want), "at {capacity}");
+    }
+}
+
+/// Whether the least capacity is found or stays open as is wanted, with these ends.
+fn is_found(found: &Least, exact: bool, ends: Ends) -> bool {
+    match found {
+        Least::Exact(bracket) => exact && has_ends(bracket, ends),
+        Least::Open(bracket) => !exact && has_ends(bracket, ends),
+    }
+}
+
+/// The offsets of a least capacity.
+fn at(capacity: u64, offsets: &'static [u64]) -> Ends {
+    Ends {
+        low: capacity,
+        high: capacity,
+        offsets,
+    }
+}
+
+#[test]
+fn the_least_capacity_is_found_or_stays_open(rt: HostRuntime) {
+    let open = Ends {
+        low: 4,
+        high: 5,
+        offsets: &[2, 4, 0],
+    };
+    let cases: [(Rows, Option<u64>, bool, Ends); 7] = [
+        (FIVE, None, true, at(12, &[0, 0, 4, 0, 8])),
+        (EVENS, None, true, at(5, &[2, 4, 0])),
+        (EVENS, Some(6), true, at(5, &[2, 4, 0])),
+        (EVENS, Some(0), false, open),
+        (BELOW, None, true, at(4, &[1, 0])),
+        (FOURS, None, true, at(7, &[0, 4])),
+        (&[], None, true, at(0, &[])),
+    ];
+    for (rows, steps, exact, ends) in cases {
+        let found = least_of(rt.alloc(), rows, steps).expect(&rt, "memory");
+        assert!(rt; is_found(&found, exact, ends), "another least capacity");
     }
 }
 

@@ -3,6 +3,6 @@ use Rattle.planner.proofs.one_stack.stack_refutation.Goals as goal
 
 pub returns-clause-refutation : goal.returns-clause-refutation
 returns-clause-refutation c =
-    bound_refutes c.args.instance.now c.args.capacity c.in_ok-bound.bound c.in_ok-log.field-0
-    c.len-count.ensures.buffers c.in_ok-bound.ensures.capacity c.in_ok-bound.ensures.modulus c.in_ok-bound.ensures.bound
-    c.if-bound-capacity.false c.in_ok-log.ensures.value c.in_ok-log.ensures.accepted
+    bound_refutes c.args.instance.now c.args.capacity c.args.bound c.in_ok-log.field-0 c.len-count.ensures.buffers
+    c.requires.capacity c.requires.modulus c.requires.reached c.if-bound-capacity.false c.in_ok-log.ensures.value
+    c.in_ok-log.ensures.accepted

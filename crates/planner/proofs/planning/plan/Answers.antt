@@ -1,30 +1,32 @@
 use Rattle.std.proofs.Common.{arith}
 use Rattle.std.proofs.lemmas.Result.{IfOk-weaker}
 use Rattle.dsa_model.proofs.Instances.{sound_instance}
-use Rattle.planner.proofs.Choosing.{laid_out_exactly, refuted_exactly, search_decides, start_decides, start_is_high}
+use Rattle.planner.proofs.Choosing.{laid_out_exactly, laid_out_fits, refuted_exactly, refuted_refutes, start_decides, start_is_high}
 use Rattle.planner.proofs.planning.plan.Goals as goal
 
-pub returns-in-Some : goal.returns-in-Some
-returns-in-Some c =
-    let I = c.args.instance.now in let C = c.args.capacity in
+pub returns-in-Within : goal.returns-in-Within
+returns-in-Within c =
+    let I = c.args.instance.now in let C = c.args.capacity in let offsets = c.in-Within.offsets.items in
     let s = sound_instance I c.len-count.ensures.buffers in
-    let h = start_decides I C c.in-Some.offsets.items s (rw c.in-Some.is at c.in_ok-offsets.ensures) in
+    let h = start_decides I C offsets s (rw c.in-Within.is at c.in_ok-offsets.ensures) in
     record {
       value = h;
-      feasible = (λ laid. (c.in-Some.offsets.items, h.layout), λ feasible. tt);
-      infeasible = (λ refuted. absurd refuted, λ infeasible. infeasible c.in-Some.offsets.items h.layout);
-      bound = λ lt. let le = start_is_high I C c.in-Some.offsets.items s h in absurd (omega arith);
+      fits = λ laid. (offsets, h.layout);
+      refutes = λ refuted. absurd refuted;
+      feasible = λ none. (λ laid. (offsets, h.layout), λ feasible. tt);
+      infeasible = λ none. (λ refuted. absurd refuted, λ infeasible. infeasible offsets h.layout);
+      bound = λ lt. let le = start_is_high I C offsets s h in absurd (omega arith);
     }
 
-pub returns-in-None : goal.returns-in-None
-returns-in-None c =
-    let I = c.args.instance.now in let C = c.args.capacity in
-    let none = rw c.in-None.is at c.in_ok-offsets.ensures in let past = c.decide_past_starts in
+pub returns-in-Past : goal.returns-in-Past
+returns-in-Past c =
+    let I = c.args.instance.now in let C = c.args.capacity in let steps = c.args.steps in
+    let past = c.decide_past_starts in
     record {
-      value = IfOk-weaker past.result _ _ (λ d h. search_decides I C d none h) past.ensures.value;
-      feasible =
-          IfOk-weaker past.result _ _ (λ d h. laid_out_exactly I C d (search_decides I C d none h)) past.ensures.value;
-      infeasible =
-          IfOk-weaker past.result _ _ (λ d h. refuted_exactly I C d (search_decides I C d none h)) past.ensures.value;
+      value = past.ensures.value;
+      fits = IfOk-weaker past.result _ _ (λ d h. laid_out_fits I C steps d h) past.ensures.value;
+      refutes = IfOk-weaker past.result _ _ (λ d h. refuted_refutes I C steps d h) past.ensures.value;
+      feasible = λ none. IfOk-weaker past.result _ _ (λ d h. laid_out_exactly I C steps d none h) past.ensures.value;
+      infeasible = λ none. IfOk-weaker past.result _ _ (λ d h. refuted_exactly I C steps d none h) past.ensures.value;
       bound = past.ensures.bound;
     }

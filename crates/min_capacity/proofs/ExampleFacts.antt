@@ -1,0 +1,104 @@
+-- Brackets of two buffers aligned to four: 7 is their least capacity.
+use Rattle.std.proofs.Common.{◌≡◌, ℕ, zero, suc, ◌<◌, ◌≤◌, inl, inr, [], ◌∷◌, slice_get, take, Some, None, refl, sym, ap, ◌∙◌, subst, lit<, lit≤, arith}
+use Rattle.dsa_terms.specs.Buffers.{IsInstance, buffer, do_share, have_same_moments, is_live, some_before}
+use Rattle.dsa_terms.specs.Claims.{child, Claim, Entry, IsClaim, IsIn, step, up}
+use Rattle.dsa_terms.specs.Layouts.{IsLayout}
+use Rattle.dsa_terms.specs.Logs.{ends_below, is_stacked, is_twin, IsAccepted, IsLegal, IsOver, Line, Log, Over, rounded, rounding}
+use Rattle.dsa_terms.specs.Parts.{is_cut, last_cut, part_of, parts, searched}
+use Rattle.dsa_terms.specs.Plans.{layout_height}
+use Rattle.dsa_terms.specs.Search.{comes_before, first, is_tall}
+use Rattle.dsa_terms.proofs.Examples.{two_of_four}
+use Rattle.dsa_search_laws.proofs.Parts.{searched_is_layout}
+use Rattle.min_capacity.specs.Brackets.{IsBracket, LayoutComes, Refutes}
+use Rattle.min_capacity.specs.declared.brackets.Bracket.{Bracket}
+
+-- ---- the log of one line at 6
+abbrev both : Claim
+both = (0, 0) ∷ (1, 0) ∷ []
+
+abbrev six : Log
+six = record { count = 2; capacity = 6; lines = Over ((0, 0) ∷ (1, 0) ∷ []) 0 0 4 ∷ []; final = 0 }
+
+over_six : IsOver two_of_four 6 0 0 4 both
+unfolding is_stacked is_live up buffer rounded rounding
+over_six = record { modulus = lit≤ tt; from_multiple = refl; some_stacked = λ e. cc; too_high = lit< tt }
+
+both_claim : IsClaim two_of_four both
+both_claim = record { rises = (above_0, (above_1, tt)); in_range = ranges }
+  where
+    above_0 : (y : ℕ) → IsIn y (1 ∷ []) → 0 < y
+    above_0 y (inl e) = omega arith
+    above_0 y (inr e) = absurd e
+
+    above_1 : (y : ℕ) → IsIn y [] → 1 < y
+    above_1 y e = absurd e
+
+    ranges : (e : Entry) → IsIn e both → e.0 < 2
+    ranges e (inl h) = let k = ap (λ (f : Entry). f.0) h in omega arith
+    ranges e (inr (inl h)) = let k = ap (λ (f : Entry). f.0) h in omega arith
+    ranges e (inr (inr h)) = absurd h
+
+six_accepted : IsAccepted two_of_four six
+six_accepted = record { same_count = refl; legal = legal; whole = (Over both 0 0 4, refl, zeros) }
+  where
+    line_legal : IsLegal two_of_four 6 [] (Over both 0 0 4)
+    line_legal = record { claim = both_claim; not_empty = λ e. cc; reason = over_six }
+
+    legal : (k : ℕ) (line : Line) → slice_get six.lines k ≡ Some line → IsLegal two_of_four 6 (take k six.lines) line
+    legal zero line e = let s : Over both 0 0 4 ≡ line = cc in subst (IsLegal two_of_four 6 []) s line_legal
+    legal (suc k) line e = absurd cc
+
+    zeros : (e : Entry) → IsIn e both → e.1 ≡ 0
+    zeros e (inl h) = ap (λ (f : Entry). f.1) h
+    zeros e (inr (inl h)) = ap (λ (f : Entry). f.1) h
+    zeros e (inr (inr h)) = absurd h
+
+-- it shows the lower end 7 and no other; without a log the lower end is 0
+shows_7 : Refutes two_of_four 7 (Some six)
+shows_7 = (six_accepted, refl)
+
+not_6 : Refutes two_of_four 6 (Some six) → ⊥
+not_6 h = let e = h.1 in omega arith
+
+not_1 : Refutes two_of_four 1 None → ⊥
+not_1 e = omega arith
+
+-- ---- the layout of height 7
+two_sound : IsInstance two_of_four
+two_sound zero d lt = (lit≤ tt, lit≤ tt, lit< tt)
+two_sound (suc zero) d lt = (lit≤ tt, lit≤ tt, lit< tt)
+two_sound (suc (suc k)) d lt = absurd (omega arith)
+
+found_at_7 : searched two_of_four 7 ≡ Some (0 ∷ 4 ∷ [])
+unfolding searched parts part_of is_cut last_cut first is_tall comes_before ends_below is_twin child up step do_share
+    some_before have_same_moments is_live buffer
+found_at_7 = refl
+
+laid_at_7 : IsLayout two_of_four 7 (0 ∷ 4 ∷ [])
+laid_at_7 = searched_is_layout two_of_four 7 (0 ∷ 4 ∷ []) two_sound found_at_7
+
+seven_high : layout_height two_of_four (0 ∷ 4 ∷ []) ≡ 7
+unfolding layout_height buffer
+seven_high = refl
+
+-- ---- brackets
+seven_is_bracket : (b : Bracket) → b.low ≡ 7 → b.high ≡ 7 → b.layout.items ≡ 0 ∷ 4 ∷ [] → b.log ≡ Some six →
+    IsBracket two_of_four b
+seven_is_bracket b low high layout log = record {
+  ordered = omega arith;
+  limit = omega arith;
+  layout = rw (high, layout) laid_at_7;
+  height = ap (layout_height two_of_four) layout ∙ seven_high ∙ sym high;
+  log = rw (low, log) shows_7;
+}
+
+-- an upper end that is above its layout is none, and ends do not cross
+eight_is_none : (b : Bracket) → b.high ≡ 8 → b.layout.items ≡ 0 ∷ 4 ∷ [] → IsBracket two_of_four b → ⊥
+eight_is_none b high layout h =
+    let k = sym h.height ∙ ap (layout_height two_of_four) layout ∙ seven_high in omega arith
+
+-- a layout that is not the start's was given below the start's upper end
+none_from_the_start : (start b : Bracket) → b.layout.items ≡ 0 ∷ 4 ∷ [] → start.layout.items ≡ 4 ∷ 0 ∷ [] →
+    start.high ≤ b.high → LayoutComes (λ C a. Unit {0}) start b → ⊥
+none_from_the_start start b layout other le (inl e) = let k = sym layout ∙ e ∙ other in cc
+none_from_the_start start b layout other le (inr g) = let k = g.1 in let m = g.2 in omega arith

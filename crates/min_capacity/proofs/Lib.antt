@@ -1,0 +1,4 @@
+pub mod Hunts
+pub mod Narrowing
+pub mod Counting
+mod ExampleFacts

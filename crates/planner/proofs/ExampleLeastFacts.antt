@@ -1,0 +1,182 @@
+-- Least capacities of small instances, and what stays open on them.
+use Rattle.std.proofs.Common.{◌≡◌, ℕ, zero, suc, ◌<◌, ◌≤◌, inl, inr, [], ◌∷◌, Some, None, refl, sym, ap, ◌∙◌, subst, lit<, lit≤, arith}
+use Rattle.dsa_terms.specs.Bounds.{bound_modulus, counted, highest_stack, lower_bound, moduli, moments, rounded_size, stack, stack_log}
+use Rattle.dsa_terms.specs.Buffers.{Instance, IsInstance, buffer, do_share, have_same_moments, is_live, some_before}
+use Rattle.dsa_terms.specs.Claims.{child, step, up}
+use Rattle.dsa_terms.specs.Fits.{best_fit, best_place, first_fit, first_passing, first_place, free_ranges, highest, holds, is_free, is_tighter, neighbours, stretches, top}
+use Rattle.dsa_terms.specs.Layouts.{IsLayout, IsLeast}
+use Rattle.dsa_terms.specs.Logs.{ends_below, is_twin}
+use Rattle.dsa_terms.specs.Orders.{falls_by, orders, rises_by}
+use Rattle.dsa_terms.specs.Parts.{is_cut, last_cut, part_of, parts, searched, whole_work}
+use Rattle.dsa_terms.specs.Plans.{hunt, layout_height, plan}
+use Rattle.dsa_terms.specs.Search.{comes_before, first, is_tall, work}
+use Rattle.dsa_terms.specs.Starts.{best_start, lowest_place, planned, starts}
+use Rattle.dsa_terms.proofs.Examples.{evens, small_below, two_of_four}
+use Rattle.dsa_terms.proofs.ExamplePlanFacts.{small_below_plan_at_5, two_of_four_plan_at_6, two_of_four_plan_at_7}
+use Rattle.dsa_search_laws.proofs.Logs.{accepted_is_infeasible}
+use Rattle.dsa_start_laws.proofs.Peaks.{stack_is_lean}
+use Rattle.dsa_start_laws.proofs.Planned.{planned_exactly, planned_is_layout}
+use Rattle.dsa_start_laws.proofs.Stacks.{stack_is_accepted}
+use Rattle.min_capacity.specs.declared.brackets.Bracket.{Bracket}
+use Rattle.planner.specs.Decides.{IsBoundLog, IsRefutation}
+use Rattle.planner.specs.LeastCapacity.{IsExactly, RefutesBelow, work_of_least}
+use Rattle.planner.specs.Openings.{AreTooFew, IsOpen, IsSpentAt}
+
+-- ---- steps
+-- five steps are too few for three buffers, six are enough, and without a number there are never too few
+evens_work : work_of_least evens ≡ 6
+unfolding hunt whole_work work planned plan layout_height starts orders falls_by rises_by first_fit best_fit neighbours
+    first_place first_passing best_place free_ranges stretches holds is_tighter is_free highest top do_share
+    some_before is_live buffer searched parts part_of is_cut last_cut first is_tall comes_before ends_below is_twin
+    child up step have_same_moments lower_bound highest_stack moduli moments stack counted rounded_size best_start
+    lowest_place
+evens_work = refl
+
+five_steps : AreTooFew (Some 5) (work_of_least evens)
+five_steps = record { number = 5; given = refl; below_work = let e = evens_work in omega arith }
+
+six_steps : AreTooFew (Some 6) (work_of_least evens) → ⊥
+six_steps h = let e = evens_work in let g = h.given in let b = h.below_work in let n : h.number ≡ 6 = cc in omega arith
+
+no_number : (work : ℕ) → AreTooFew None work → ⊥
+no_number work h = let g = h.given in cc
+
+-- ---- logs of one line
+line_refutes : (I : Instance) (t G C : ℕ) → IsInstance I → 1 ≤ G → C < stack I t G →
+    IsRefutation I C (stack_log I t G C)
+unfolding stack_log
+line_refutes I t G C s pos lt = record {
+  accepted = stack_is_accepted I t G C pos lt;
+  its_capacity = refl;
+  infeasible = accepted_is_infeasible I (stack_log I t G C) s (stack_is_accepted I t G C pos lt);
+  lean = stack_is_lean I t G C;
+}
+
+two_sound : IsInstance two_of_four
+two_sound zero d lt = (lit≤ tt, lit≤ tt, lit< tt)
+two_sound (suc zero) d lt = (lit≤ tt, lit≤ tt, lit< tt)
+two_sound (suc (suc k)) d lt = absurd (omega arith)
+
+below_sound : IsInstance small_below
+below_sound zero d lt = (lit≤ tt, lit≤ tt, lit< tt)
+below_sound (suc zero) d lt = (lit≤ tt, lit≤ tt, lit< tt)
+below_sound (suc (suc k)) d lt = absurd (omega arith)
+
+seven_stacked : stack two_of_four 0 4 ≡ 7
+unfolding stack counted rounded_size is_live buffer
+seven_stacked = refl
+
+four_stacked : stack small_below 0 1 ≡ 4
+unfolding stack counted rounded_size is_live buffer
+four_stacked = refl
+
+seven_high : layout_height two_of_four (0 ∷ 4 ∷ []) ≡ 7
+unfolding layout_height buffer
+seven_high = refl
+
+-- ---- the least capacity of two buffers aligned to four is 7
+seven_is_exact : (b : Bracket) → b.low ≡ 7 → b.high ≡ 7 → b.layout.items ≡ 0 ∷ 4 ∷ [] →
+    b.log ≡ Some (stack_log two_of_four 0 4 6) → IsExactly two_of_four b
+seven_is_exact b low high layout log = record {
+  ends_met = low ∙ sym high;
+  least = at_seven (λ C. IsLeast two_of_four C)
+      ((0 ∷ 4 ∷ [], laid), inr ((planned_exactly two_of_four 6 two_sound).0 two_of_four_plan_at_6));
+  chosen = at_seven (λ C. planned two_of_four C ≡ Some b.layout.items) (two_of_four_plan_at_7 ∙ ap Some (sym layout));
+  layout = at_seven (λ C. IsLayout two_of_four C b.layout.items) (rw layout laid);
+  its_height = ap (layout_height two_of_four) layout ∙ seven_high ∙ sym high;
+  refuted_below = at_seven (λ C. RefutesBelow two_of_four C b.log) (rw log
+      (lit≤ tt, line_refutes two_of_four 0 4 6 two_sound (lit≤ tt) (let e = seven_stacked in omega arith)));
+  zero_for_none = (λ e. absurd cc, λ e. absurd (omega arith));
+}
+  where
+    at_seven : (P : ℕ → Type 0) → P 7 → P b.high
+    at_seven P p = subst P (sym high) p
+
+    laid : IsLayout two_of_four 7 (0 ∷ 4 ∷ [])
+    laid = planned_is_layout two_of_four 7 (0 ∷ 4 ∷ []) two_sound two_of_four_plan_at_7
+
+-- no buffers need no bytes and have no log, and some buffers need some
+nothing_planned : planned [] 0 ≡ Some []
+unfolding planned plan layout_height starts orders falls_by rises_by first_fit best_fit neighbours first_place
+    first_passing best_place free_ranges stretches holds is_tighter is_free highest top do_share some_before is_live
+    buffer searched parts part_of is_cut last_cut first is_tall comes_before ends_below is_twin child up step
+    have_same_moments
+nothing_planned = refl
+
+zero_is_exact : (b : Bracket) → b.low ≡ 0 → b.high ≡ 0 → b.layout.items ≡ [] → b.log ≡ None → IsExactly [] b
+unfolding layout_height
+zero_is_exact b low high layout log = record {
+  ends_met = low ∙ sym high;
+  least = at_zero (λ C. IsLeast [] C) (([], laid), inl refl);
+  chosen = at_zero (λ C. planned [] C ≡ Some b.layout.items) (nothing_planned ∙ ap Some (sym layout));
+  layout = at_zero (λ C. IsLayout [] C b.layout.items) (rw layout laid);
+  its_height = sym high;
+  refuted_below = rw log high;
+  zero_for_none = (λ e. high, λ e. refl);
+}
+  where
+    at_zero : (P : ℕ → Type 0) → P 0 → P b.high
+    at_zero P p = subst P (sym high) p
+
+    laid : IsLayout [] 0 []
+    laid = planned_is_layout [] 0 [] (λ k d lt. absurd (omega arith)) nothing_planned
+
+zero_for_two : (b : Bracket) → b.high ≡ 0 → IsExactly two_of_four b → ⊥
+zero_for_two b high h = let e = h.zero_for_none.1 high in cc
+
+-- a log is needed above 0
+no_log_at_5 : RefutesBelow evens 5 None → ⊥
+no_log_at_5 e = omega arith
+
+-- ---- the capacity 4 of a small buffer that belongs below is open without steps
+four_is_open : IsOpen small_below 4 5 (0 ∷ 4 ∷ []) (stack_log small_below 0 1 3)
+unfolding layout_height buffer
+four_is_open = record {
+  ends_apart = lit< tt;
+  positive = lit≤ tt;
+  chosen = small_below_plan_at_5;
+  layout = planned_is_layout small_below 5 (0 ∷ 4 ∷ []) below_sound small_below_plan_at_5;
+  its_height = refl;
+  refuted_below = line_refutes small_below 0 1 3 below_sound (lit≤ tt) (let e = four_stacked in omega arith);
+}
+
+four_steps : whole_work small_below 4 ≡ 4
+unfolding whole_work work parts part_of is_cut last_cut first is_tall comes_before ends_below is_twin child up step
+    do_share some_before have_same_moments is_live buffer
+four_steps = refl
+
+below_bound : lower_bound small_below ≡ 4
+unfolding lower_bound highest_stack moduli moments stack counted rounded_size is_live buffer
+below_bound = refl
+
+below_modulus : bound_modulus small_below ≡ 1
+unfolding bound_modulus lower_bound highest_stack moduli moments stack counted rounded_size is_live buffer
+below_modulus = refl
+
+below_best : best_start small_below ≡ 0 ∷ 4 ∷ []
+unfolding best_start lowest_place layout_height starts orders falls_by rises_by first_fit best_fit neighbours
+    first_place first_passing best_place free_ranges stretches holds is_tighter is_free highest top do_share
+    some_before is_live buffer
+below_best = refl
+
+below_log : IsBoundLog small_below 3 (stack_log small_below 0 1 3)
+below_log = record {
+  moment = 0;
+  reached = rw below_modulus (four_stacked ∙ sym below_bound);
+  one_line = rw below_modulus refl;
+}
+
+four_is_spent : (b : Bracket) → b.low ≡ 4 → b.high ≡ 5 → b.layout.items ≡ 0 ∷ 4 ∷ [] →
+    b.log ≡ Some (stack_log small_below 0 1 3) → IsSpentAt small_below 4 (Some 0) b
+four_is_spent b low high layout log = record {
+  bound_log = stack_log small_below 0 1 3;
+  its_log = log;
+  stays_open = rw (low, high, layout) four_is_open;
+  low_is_bound = low ∙ sym below_bound;
+  high_is_best = high ∙ sym (ap (layout_height small_below) below_best ∙ four_is_open.its_height);
+  layout_is_best = layout ∙ sym below_best;
+  by_bound = rw low below_log;
+  from_low = omega arith;
+  below_high = omega arith;
+  too_few = record { number = 0; given = refl; below_work = let e = four_steps in omega arith };
+}

@@ -1,0 +1,32 @@
+-- What is decided of a capacity.
+use Rattle.std.specs.Prelude.{ℕ, Option}
+use Rattle.dsa_terms.specs.Buffers.{Instance}
+use Rattle.dsa_terms.specs.Starts.{planned}
+use Rattle.planner.specs.Decides.{IsAnswered, IsBoundLog, IsRefutation}
+use Rattle.planner.specs.Openings.{IsSpentAt}
+use Rattle.planner.specs.declared.decision.Decision.{Decision}
+use Rattle.planner.specs.declared.decision.Decision.TheVariants.{Layout, Refuted, Open}
+
+-- the plan, the first start within the capacity or else the search's layout; or a log by which there is none; or open
+abbrev pub Decides : Instance → ℕ → Option ℕ → Decision → Type 0
+Decides I C steps (Layout offsets) = IsAnswered (planned I C) I C offsets.items
+Decides I C steps (Refuted log) = IsRefutation I C log
+Decides I C steps (Open b) = IsSpentAt I C steps b
+
+-- the decision is a layout
+abbrev pub IsLaidOut : Decision → Type 0
+IsLaidOut (Layout offsets) = Unit {0}
+IsLaidOut (Refuted log) = ⊥
+IsLaidOut (Open b) = ⊥
+
+-- the decision is a log
+abbrev pub IsRefuted : Decision → Type 0
+IsRefuted (Layout offsets) = ⊥
+IsRefuted (Refuted log) = Unit {0}
+IsRefuted (Open b) = ⊥
+
+-- the decision is the bound's log of one line
+abbrev pub IsByBound : Instance → ℕ → Decision → Type 0
+IsByBound I C (Layout offsets) = ⊥
+IsByBound I C (Refuted log) = IsBoundLog I C log
+IsByBound I C (Open b) = ⊥

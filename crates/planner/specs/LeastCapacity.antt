@@ -1,0 +1,47 @@
+-- What is found of the least capacity.
+use Rattle.std.specs.Prelude.{◌≡◌, ℕ, ◌-◌, ◌≤◌, ◌↔◌, [], Option}
+use Rattle.std.specs.declared.option.Option.TheVariants.{Some, None}
+use Rattle.dsa_terms.specs.Bounds.{lower_bound}
+use Rattle.dsa_terms.specs.Buffers.{Instance}
+use Rattle.dsa_terms.specs.Layouts.{IsLayout, IsLeast}
+use Rattle.dsa_terms.specs.Logs.{Log}
+use Rattle.dsa_terms.specs.Plans.{hunt, layout_height}
+use Rattle.dsa_terms.specs.Starts.{best_start, planned, starts}
+use Rattle.min_capacity.specs.declared.brackets.Bracket.{Bracket}
+use Rattle.min_capacity.specs.declared.brackets.Least.{Least}
+use Rattle.min_capacity.specs.declared.brackets.Least.TheVariants.{Exact, Open}
+use Rattle.planner.specs.Decides.{IsRefutation}
+use Rattle.planner.specs.Openings.{AreTooFew, IsOpen}
+
+-- there is no log for the capacity 0, and else it is one by which no layout fits within one less
+abbrev pub RefutesBelow : Instance → ℕ → Option Log → Type 0
+RefutesBelow I C None = C ≡ 0
+RefutesBelow I C (Some log) = (1 ≤ C) × IsRefutation I (C - 1) log
+
+-- both ends are the least capacity, with the plan at it and the log below it; it is 0 for no buffers alone
+pub record IsExactly (I : Instance) (b : Bracket) : Type 0 where
+  pub ends_met : b.low ≡ b.high
+  pub least : IsLeast I b.high
+  pub chosen : planned I b.high ≡ Some b.layout.items
+  pub layout : IsLayout I b.high b.layout.items
+  pub its_height : layout_height I b.layout.items ≡ b.high
+  pub refuted_below : RefutesBelow I b.high b.log
+  pub zero_for_none : (I ≡ []) ↔ (b.high ≡ 0)
+
+-- the work of halving from the lower bound and the height of the best start on
+abbrev pub work_of_least : Instance → ℕ
+work_of_least I = hunt (starts I) I (lower_bound I) (layout_height I (best_start I))
+
+-- the least capacity is open, and its searches were cut short
+pub record IsOpenAfter (I : Instance) (steps : Option ℕ) (b : Bracket) : Type 0 where
+  pub below_log : Log
+  pub its_log : b.log ≡ Some below_log
+  pub stays_open : IsOpen I b.low b.high b.layout.items below_log
+  pub from_bound : lower_bound I ≤ b.low
+  pub to_best : b.high ≤ layout_height I (best_start I)
+  pub too_few : AreTooFew steps (work_of_least I)
+
+-- the least capacity is found, or stays open
+abbrev pub FindsLeast : Instance → Option ℕ → Least → Type 0
+FindsLeast I steps (Exact b) = IsExactly I b
+FindsLeast I steps (Open b) = IsOpenAfter I steps b

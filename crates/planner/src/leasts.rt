@@ -1,0 +1,40 @@
+//! The least capacity of an instance.
+
+ghost use Rattle.std.specs.Prelude.{IfOk};
+ghost use Rattle.planner.specs.LeastCapacity.{FindsLeast};
+
+use crate::bracketing::first_bracket;
+use crate::one_stack::bound_of;
+use crate::searching::budget_of;
+use crate::starting::best_of_starts;
+use dsa_model::{Instance, NoMemory};
+use lifetime::Sections;
+use min_capacity::{Least, least};
+use search_core::Search;
+use split_sections::parts;
+use std::alloc::Global;
+
+/// The least capacity that has a layout, in bytes, with the layout that is planned for it and a log
+/// by which none fits within one less; there is no log where the capacity is 0.
+///
+/// All searches together open at most `steps` claims, if a number is given. Where they are used up
+/// before the least capacity is known, it stays open between the two ends that are reached; without
+/// a number that never comes.
+pub fn least_capacity(
+    alloc: Global,
+    instance: &Instance,
+    steps: Option<u64>,
+) -> Result<Least, NoMemory>
+    ensures value { IfOk result (FindsLeast instance.now steps) }
+{
+    let _count = instance.len();
+    let best = best_of_starts(alloc, instance)?;
+    let sections = Sections::build(alloc, instance)?;
+    let bound = bound_of(alloc, instance, &sections)?;
+    let start = first_bracket(alloc, instance, bound, best)?;
+    let parts = parts(alloc, instance)?;
+    let mut search = Search::new(alloc, instance, &sections, &parts, budget_of(steps))?;
+    let found = least(instance, start, &mut search)?;
+    let _used = search.used();
+    Ok(found)
+}
