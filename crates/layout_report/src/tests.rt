@@ -1,0 +1,44 @@
+ghost use Rattle.std.specs.Prelude.{◌≤◌, length};
+
+use crate::report;
+use csv_instance::read_instance;
+use dsa_model::judge;
+use std::alloc::Global;
+
+/// The report of the offsets, where the text is an instance and they are a layout of it.
+fn report_of(alloc: Global, instance: &[u8], offsets: &[u64]) -> Option<Vec<u8>>
+    requires { length instance.now ≤ 67108864 }
+{
+    let Ok(table) = read_instance(alloc, instance) else {
+        return None;
+    };
+    if judge(table.instance(), 1 << 60, offsets).is_err() {
+        return None;
+    }
+    report(alloc, &table, offsets).ok()
+}
+
+#[test]
+fn a_report_shows_the_peak_with_its_free_ranges(rt: HostRuntime) {
+    let cases: [(&[u8], &[u64], &str); 3] = [
+        (
+            b"id,lower,upper,size,alignment\nA,0,1,1,2\nB,0,1,1,2\nC,0,1,2,1\n",
+            &[2, 4, 0],
+            "moment 0 load 4 height 5\nplace,size,id\n0,2,C\n2,1,A\n3,1,\n4,1,B\n",
+        ),
+        (
+            b"id,lower,upper,size\n",
+            &[],
+            "moment none load 0 height 0\nplace,size,id\n",
+        ),
+        (
+            b"id,lower,upper,size\n\"A,1\",1,3,3\nB,2,4,2\nC,5,6,1\n",
+            &[1, 6, 9],
+            "moment 2 load 5 height 10\nplace,size,id\n0,1,\n1,3,\"A,1\"\n4,2,\n6,2,B\n8,2,\n",
+        ),
+    ];
+    for (instance, offsets, text) in cases {
+        let report = report_of(rt.alloc(), instance, offsets).expect(&rt, "a report");
+        assert_eq!(rt; report.as_slice(), text.as_bytes());
+    }
+}

@@ -1,0 +1,4 @@
+pub mod Marked
+pub mod Keeping
+pub mod Ended
+mod ExampleFacts

@@ -1,0 +1,88 @@
+-- A line of fields that need no quotes is what the `csv` writer writes of them.
+use Rattle.std.proofs.Common.{◌≡◌, ◌<◌, ◌^◌, ◌++◌, ◌∷◌, ◌∙◌, ◌==◌, ℕ, List, [], true, false, refl, sym, ap, arith}
+use Rattle.std.proofs.lemmas.Bool.Decides.{nat_tests}
+use Rattle.std.proofs.lemmas.Fmt.{digits_decimal}
+use Rattle.std.proofs.lemmas.List.Folds.{list_any-append}
+use Rattle.std.specs.Char.{is_ascii_digit}
+use Rattle.std.specs.Fmt.{decimal}
+use Rattle.std.specs.List.{join_with_byte, list_any}
+use Rattle.std.specs.Prelude.{⊤, Bool, ◌&&◌}
+use Rattle.std.specs.Str.{all_ascii_digits}
+use Rattle.csv.specs.Writing.{default_writer, field_text, fields_text, is_blank, needs_byte, row_text}
+use Rattle.csv_instance.proofs.NumberLemmas.{own}
+use Rattle.csv_instance.specs.Records.{Record}
+use Rattle.make_instance.specs.Made.{line_text, pair_text}
+
+-- the digits of a number
+pub digits_are : (n : ℕ) → n < 2 ^ 64 → all_ascii_digits (decimal n) ≡ true
+digits_are n word = digits_decimal own n word
+
+-- a digit is no other byte
+pub digit_other : (c k : ℕ) → is_ascii_digit c ≡ true → is_ascii_digit k ≡ false → (c == k) ≡ false
+digit_other c k h e = grind (arith, nat_tests)
+
+-- a test that no digit passes, digits do not pass
+pub none_of_digits : (p : ℕ → Bool) → ((c : ℕ) → is_ascii_digit c ≡ true → p c ≡ false) → (ds : List ℕ)
+    → all_ascii_digits ds ≡ true → list_any p ds ≡ false
+none_of_digits p h [] e = refl
+none_of_digits p h (d ∷ ds) e =
+    let (first, rest) = both (is_ascii_digit d) (all_ascii_digits ds) e in
+    rw (h d first) (none_of_digits p h ds rest)
+  where
+    both : (a b : Bool) → (a && b) ≡ true → (a ≡ true) × (b ≡ true)
+    both true b e = (refl, e)
+    both false b e = cc e
+
+none_after : (p : ℕ → Bool) (xs ys : List ℕ) → list_any p xs ≡ false → list_any p ys ≡ false
+    → list_any p (xs ++ ys) ≡ false
+none_after p xs ys h k = rw (list_any-append p xs ys, h) k
+
+-- nor do two numbers with a hyphen between them
+pub none_in_pair : (p : ℕ → Bool) (a b : ℕ) → ((c : ℕ) → is_ascii_digit c ≡ true → p c ≡ false) → p 45 ≡ false
+    → a < 2 ^ 64 → b < 2 ^ 64 → list_any p (pair_text a b) ≡ false
+none_in_pair p a b h e wa wb =
+    none_after p (decimal a ++ (45 ∷ [])) (decimal b)
+    (none_after p (decimal a) (45 ∷ []) (none_of_digits p h (decimal a) (digits_are a wa)) (rw e refl))
+    (none_of_digits p h (decimal b) (digits_are b wb))
+
+-- a digit needs no quotes
+digit_plain : (c : ℕ) → is_ascii_digit c ≡ true → needs_byte default_writer c ≡ false
+digit_plain c h =
+    rw (digit_other c 44 h refl, digit_other c 34 h refl, digit_other c 13 h refl, digit_other c 10 h refl) refl
+
+-- a field needs no quotes
+abbrev pub IsPlain : List ℕ → Type 0
+IsPlain field = list_any (needs_byte default_writer) field ≡ false
+
+pub plain_number : (n : ℕ) → n < 2 ^ 64 → IsPlain (decimal n)
+plain_number n word = none_of_digits (needs_byte default_writer) digit_plain (decimal n) (digits_are n word)
+
+pub plain_pair : (a b : ℕ) → a < 2 ^ 64 → b < 2 ^ 64 → IsPlain (pair_text a b)
+plain_pair a b wa wb = none_in_pair (needs_byte default_writer) a b digit_plain refl wa wb
+
+-- no field needs quotes
+abbrev pub ArePlain : Record → Type 0
+ArePlain [] = ⊤
+ArePlain (f ∷ fs) = IsPlain f × ArePlain fs
+
+nothing_after : (x : List ℕ) → x ++ [] ≡ x
+nothing_after [] = refl
+nothing_after (b ∷ x) = ap (λ (t : List ℕ). b ∷ t) (nothing_after x)
+
+plain_text : (f : List ℕ) → IsPlain f → field_text default_writer f ≡ f
+plain_text f h = rw h refl
+
+joined : (f : List ℕ) (fs : Record) → ArePlain (f ∷ fs)
+    → 44 ∷ join_with_byte 44 (f ∷ fs) ≡ fields_text default_writer (f ∷ fs)
+unfolding fields_text
+joined f [] h = ap (λ (t : List ℕ). 44 ∷ t)
+    (sym (nothing_after f) ∙ ap (λ (t : List ℕ). t ++ []) (sym (plain_text f h.0)))
+joined f (g ∷ gs) h = ap (λ (t : List ℕ). 44 ∷ (f ++ t)) (joined g gs h.1)
+    ∙ ap (λ (t : List ℕ). 44 ∷ (t ++ fields_text default_writer (g ∷ gs))) (sym (plain_text f h.0))
+
+-- two or more such fields
+pub line-row : (f g : List ℕ) (fs : Record) → ArePlain (f ∷ g ∷ fs)
+    → line_text (f ∷ g ∷ fs) ≡ row_text default_writer (f ∷ g ∷ fs)
+unfolding is_blank
+line-row f g fs h = ap (λ (t : List ℕ). (f ++ t) ++ (10 ∷ [])) (joined g fs h.1)
+    ∙ ap (λ (t : List ℕ). (t ++ fields_text default_writer (g ∷ fs)) ++ (10 ∷ [])) (sym (plain_text f h.0))

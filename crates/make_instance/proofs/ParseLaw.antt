@@ -1,0 +1,120 @@
+-- A made text is the text of an instance.
+use Rattle.std.proofs.Common.{◌≡◌, ◌<◌, ◌≤◌, ◌+◌, ◌^◌, ◌++◌, ◌∷◌, ◌∙◌, ◌==◌, ℕ, zero, suc, List, [], Bool, true, false, None, Ok, length, map, nat_lt, position, refl, sym, ap, arith}
+use Rattle.std.proofs.lemmas.Bool.Decides.{nat_tests}
+use Rattle.std.proofs.lemmas.Fmt.{digits_value-decimal, length-decimal-le}
+use Rattle.std.proofs.lemmas.Iterator.Adapters.{position_from-zero}
+use Rattle.std.proofs.lemmas.List.{length-map}
+use Rattle.std.proofs.lemmas.List.FromFn.{length-map-range_with_len, map-range_with_len_more}
+use Rattle.std.proofs.lemmas.Slice.Eq.{bytes_eq-Decides}
+use Rattle.std.specs.Fmt.{decimal}
+use Rattle.std.specs.List.{position_from, range_with_len}
+use Rattle.std.specs.Str.{bytes_eq}
+use Rattle.std.specs.Str.Parse.{digits_value}
+use Rattle.dsa_terms.specs.Buffers.{Buffer}
+use Rattle.dsa_terms.specs.Parts.{numbers}
+use Rattle.csv_instance.specs.Columns.{field_of}
+use Rattle.csv_instance.specs.Parse.{buffer_of, id_fault, id_faults, parse, row_fault, rows_fault}
+use Rattle.csv_instance.specs.Records.{Record, table_of}
+use Rattle.csv_instance.specs.declared.columns.Column.TheVariants.{Id}
+use Rattle.csv_instance.specs.declared.fault.InstanceFault.TheVariants as fault
+use Rattle.csv_instance.proofs.NumberLemmas.{own}
+use Rattle.make_instance.specs.Made.{header, made_record, made_table, made_text}
+use Rattle.make_instance.specs.Rows.{made_row}
+use Rattle.make_instance.proofs.MadeRows.{made}
+use Rattle.make_instance.proofs.RowFaults.{content_good, none_first, none_mapped, none_when}
+use Rattle.make_instance.proofs.TextLemmas.{table-read}
+
+-- ids of other numbers differ
+ids_differ : (i j : ℕ) → i < 2 ^ 64 → j < i → bytes_eq (98 ∷ decimal i) (98 ∷ decimal j) ≡ false
+ids_differ i j word less = differ _ (λ e. no (second (bytes_same e)))
+  where
+    differ : (b : Bool) → (b ≡ true → ⊥) → b ≡ false
+    differ true h = absurd (h refl)
+    differ false h = refl
+
+    bytes_same : bytes_eq (98 ∷ decimal i) (98 ∷ decimal j) ≡ true → (98 ∷ decimal i) ≡ (98 ∷ decimal j)
+    bytes_same e = (bytes_eq-Decides (98 ∷ decimal i) (98 ∷ decimal j)).0 e
+
+    second : (98 ∷ decimal i) ≡ (98 ∷ decimal j) → decimal i ≡ decimal j
+    second e = cc
+
+    no : decimal i ≡ decimal j → ⊥
+    no e =
+        let same : i ≡ j = sym (digits_value-decimal own i word) ∙ ap (digits_value 10) e
+        ∙ digits_value-decimal own j (omega arith) in
+        omega arith
+
+-- no row among these passes
+none_among : (p : Record → Bool) (f : ℕ → Record) (k a n : ℕ) → ((j : ℕ) → j < a + n → p (f j) ≡ false)
+    → position_from p k (map f (range_with_len a n)) ≡ None
+none_among p f k a zero h = refl
+none_among p f k a (suc n) h =
+    rw (h a (omega arith)) (none_among p f (k + 1) (a + 1) n (λ j less. h j (omega arith)))
+
+-- the rows before row a
+abbrev before : (seed count a : ℕ) → List Record
+before seed count a = map (made_record seed count) (range_with_len 0 a)
+
+id_good : (seed count a : ℕ) → a < count → count ≤ 512
+    → id_fault header (before seed count a) (made_record seed count a) ≡ None
+id_good seed count a less few =
+    let rows = before seed count a in
+    let id = 98 ∷ decimal a in
+    let number : length rows ≡ a = length-map-range_with_len (made_record seed count) 0 a in
+    let room : (length rows == 512) ≡ false = not_limit (length rows) (omega arith) in
+    let some : (length id == 0) ≡ false = not_zero (length id) (omega arith) in
+    let long : length (decimal a) ≤ 20 = length-decimal-le 20 a (omega arith) (omega arith) (omega arith) in
+    let short : nat_lt 255 (length id) ≡ false = not_above (length id) (omega arith) in
+    let fresh : position (λ earlier. bytes_eq id (field_of header earlier Id)) rows ≡ None =
+    position_from-zero (λ earlier. bytes_eq id (field_of header earlier Id)) rows
+    ∙ none_among (λ earlier. bytes_eq id (field_of header earlier Id)) (made_record seed count) 0 0 a
+    (λ j smaller. ids_differ a j (omega arith) (omega arith)) in
+    none_first (id_faults header rows (made_record seed count a)) (
+      none_when fault.TooManyBuffers _ room,
+      (
+        refl,
+        (
+          none_when (fault.EmptyId (length rows)) _ some,
+          (
+            none_when (fault.IdTooLong (length rows)) _ short,
+            (none_mapped (fault.DuplicateId (length rows)) _ fresh, tt),
+          ),
+        ),
+      ),
+    )
+  where
+    not_limit : (n : ℕ) → n < 512 → (n == 512) ≡ false
+    not_limit n h = grind (arith, nat_tests)
+
+    not_zero : (n : ℕ) → 0 < n → (n == 0) ≡ false
+    not_zero n h = grind (arith, nat_tests)
+
+    not_above : (n : ℕ) → n ≤ 255 → nat_lt 255 n ≡ false
+    not_above n h = grind (arith, nat_tests)
+
+row_good : (seed count a : ℕ) → a < count → count ≤ 512
+    → row_fault header (before seed count a) (made_record seed count a) ≡ None
+row_good seed count a less few =
+    rw (id_good seed count a less few)
+    (content_good a (length (before seed count a)) (made_row seed count a) (made seed count a less few))
+
+rows_good : (seed count a n : ℕ) → a + n ≤ count → count ≤ 512
+    → rows_fault header (before seed count a) (map (made_record seed count) (range_with_len a n)) ≡ None
+rows_good seed count a zero within few = refl
+rows_good seed count a (suc n) within few =
+    let grown : before seed count (a + 1) ≡ before seed count a ++ made_record seed count a ∷ [] =
+    map-range_with_len_more (made_record seed count) 0 a a (omega arith) in
+    let rest = rows_good seed count (a + 1) n (omega arith) few in
+    rw (row_good seed count a (omega arith) few) (rw (sym grown) rest)
+
+-- the records of a made text have no fault, and tell of as many buffers
+pub parsed : (seed count : ℕ) → count ≤ 512
+    → (I : List Buffer) × (parse (table_of (made_text seed count)) ≡ Ok I) × (length I ≡ count)
+parsed seed count few =
+    let rows = map (made_record seed count) (numbers count) in
+    let good = rows_good seed count 0 count (omega arith) few in
+    let parsed_as : parse (made_table seed count) ≡ Ok (map (buffer_of header) rows) = rw good refl in (
+      map (buffer_of header) rows,
+      ap parse (table-read seed count few) ∙ parsed_as,
+      length-map rows (buffer_of header) ∙ length-map-range_with_len (made_record seed count) 0 count,
+    )

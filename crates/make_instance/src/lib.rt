@@ -1,0 +1,11 @@
+//! Made instances: from a seed and a count the text of an instance file, the same at each call, for
+//! trials of a planner.
+#![tactic(auto)]
+
+mod draws;
+mod made;
+mod row;
+#[cfg(test)]
+mod tests;
+
+pub use made::{MakeFault, make};
