@@ -1,5 +1,5 @@
--- The words of commands and options, and the options of each command.
-use Rattle.std.specs.Prelude.{ℕ, ◌^◌, Bool, true, false, not, ◌&&◌, List, [], ◌∷◌, codes, length, nat_le, Option, Some, None, is_some, if◌then◌else◌, find}
+-- The words of commands and options, and the options that each command needs and takes.
+use Rattle.std.specs.Prelude.{ℕ, ◌^◌, Bool, true, false, not, ◌&&◌, List, [], ◌∷◌, ◌++◌, codes, length, nat_le, Option, Some, None, is_some, if◌then◌else◌, find}
 use Rattle.std.specs.List.{list_all}
 use Rattle.std.specs.Char.{is_ascii_digit}
 use Rattle.std.specs.Str.{bytes_eq}
@@ -8,7 +8,7 @@ use Rattle.dsa_terms.specs.Parts.{is_empty}
 use Rattle.command_words.specs.declared.option.OptionName.{OptionName}
 use Rattle.command_words.specs.declared.option.OptionName.TheVariants.{Capacity, Input, Output, Log, Layout, Steps, Seed, Count}
 use Rattle.command_words.specs.declared.verb.Verb.{Verb}
-use Rattle.command_words.specs.declared.verb.Verb.TheVariants.{Solve, Verify, Refute, Bounds}
+use Rattle.command_words.specs.declared.verb.Verb.TheVariants.{Solve, Least, Verify, Refute, Trim, Bounds, Report, Trial}
 
 -- the bytes of a word
 abbrev pub Word : Type 0
@@ -17,13 +17,17 @@ Word = List ℕ
 -- a command's word
 abbrev pub verb_word : Verb → Word
 verb_word Solve = codes "solve"
+verb_word Least = codes "least"
 verb_word Verify = codes "verify"
 verb_word Refute = codes "refute"
+verb_word Trim = codes "trim"
 verb_word Bounds = codes "bounds"
+verb_word Report = codes "report"
+verb_word Trial = codes "trial"
 
 -- the commands that there are
 abbrev pub verbs : List Verb
-verbs = Solve ∷ Verify ∷ Refute ∷ Bounds ∷ []
+verbs = Solve ∷ Least ∷ Verify ∷ Refute ∷ Trim ∷ Bounds ∷ Report ∷ Trial ∷ []
 
 -- an option's word
 abbrev pub option_word : OptionName → Word
@@ -36,12 +40,26 @@ option_word Steps = codes "--steps"
 option_word Seed = codes "--seed"
 option_word Count = codes "--count"
 
--- the options of a command, in their order; it needs each of them
+-- the options that a command needs, in the order in which they are missed
+abbrev pub needed_by : Verb → List OptionName
+needed_by Solve = Capacity ∷ Input ∷ Output ∷ Log ∷ []
+needed_by Least = Input ∷ Output ∷ Log ∷ []
+needed_by Verify = Capacity ∷ Input ∷ Layout ∷ []
+needed_by Refute = Input ∷ Log ∷ []
+needed_by Trim = Input ∷ Log ∷ Output ∷ []
+needed_by Bounds = Input ∷ []
+needed_by Report = Input ∷ Layout ∷ []
+needed_by Trial = Seed ∷ Count ∷ Steps ∷ []
+
+-- the options that a command can go without
+abbrev pub optional_for : Verb → List OptionName
+optional_for Solve = Steps ∷ []
+optional_for Least = Steps ∷ []
+optional_for other = []
+
+-- the options that a command has
 abbrev pub options_of : Verb → List OptionName
-options_of Solve = Capacity ∷ Input ∷ Output ∷ Log ∷ []
-options_of Verify = Capacity ∷ Input ∷ Layout ∷ []
-options_of Refute = Input ∷ Log ∷ []
-options_of Bounds = Input ∷ []
+options_of verb = needed_by verb ++ optional_for verb
 
 -- the option of the command that has this word
 abbrev pub option_of : Verb → Word → Option OptionName

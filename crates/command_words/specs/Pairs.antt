@@ -4,7 +4,7 @@ use Rattle.std.specs.List.{list_any}
 use Rattle.std.specs.Option.{option_or, option_and_then}
 use Rattle.std.specs.Str.{bytes_eq}
 use Rattle.dsa_terms.specs.Firsts.{when, first_fault}
-use Rattle.command_words.specs.Options.{Word, option_word, options_of, option_of, number_of, is_bad}
+use Rattle.command_words.specs.Options.{Word, option_word, needed_by, option_of, number_of, is_bad}
 use Rattle.command_words.specs.declared.pair.Pair as written
 use Rattle.command_words.specs.declared.option.OptionName.{OptionName}
 use Rattle.command_words.specs.declared.verb.Verb.{Verb}
@@ -57,7 +57,7 @@ value_of pairs option =
 -- the first option that the command needs and the pairs don't give
 abbrev pub missing_fault : Verb → List Pair → Option UsageFault
 missing_fault verb pairs =
-    option_map fault.MissingOption (find (λ o. not (is_some (value_of pairs o))) (options_of verb))
+    option_map fault.MissingOption (find (λ o. not (is_some (value_of pairs o))) (needed_by verb))
 
 -- two of the words are equal
 abbrev pub has_equal : List Word → Bool
@@ -67,6 +67,10 @@ has_equal (word ∷ words) = list_any (bytes_eq word) words || has_equal words
 -- the word that the pairs give an option, and an empty one where they give none
 abbrev pub word_at : List Pair → OptionName → Word
 word_at pairs option = unwrap_or (value_of pairs option) []
+
+-- the number that the pairs give an option, where they give one
+abbrev pub number_given : List Pair → OptionName → Option ℕ
+number_given pairs option = option_and_then number_of (value_of pairs option)
 
 -- the number that the pairs give an option, and 0 where they give none
 abbrev pub number_at : List Pair → OptionName → ℕ

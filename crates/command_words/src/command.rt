@@ -5,18 +5,28 @@ ghost use Rattle.command_words.specs.Pairs.{pairs_of, has_equal};
 ghost use Rattle.command_words.specs.Commands.{command_with, command_value, names_of, IsWithinLimit};
 
 use crate::OptionName;
-use crate::pair::{number_at, word_at};
+use crate::pair::{number_at, number_given, word_at};
 use crate::verb::Verb;
 
 /// A command with the values of its options. Names of files are texts, compared as such.
 #[derive(Clone, Copy, Debug, PartialEq, Eq)]
 pub enum Command<'a> {
-    /// Lay the buffers out within the capacity (in bytes), or prove that they do not fit.
+    /// Lay the buffers out within the capacity (in bytes), or prove that they do not fit; with a
+    /// budget of steps, where one is given.
     Solve {
         capacity: u64,
         input: &'a str,
         output: &'a str,
         log: &'a str,
+        steps: Option<u64>,
+    },
+    /// Lay the buffers out within the least capacity, and prove that they do not fit in less; with
+    /// a budget of steps, where one is given.
+    Least {
+        input: &'a str,
+        output: &'a str,
+        log: &'a str,
+        steps: Option<u64>,
     },
     /// Judge a layout at the capacity (in bytes).
     Verify {
@@ -29,9 +39,27 @@ pub enum Command<'a> {
         input: &'a str,
         log: &'a str,
     },
+    /// Write the log without the lines that its end does not need.
+    Trim {
+        input: &'a str,
+        log: &'a str,
+        output: &'a str,
+    },
     /// Print the facts of the instance.
     Bounds {
         input: &'a str,
+    },
+    /// Print the layout at the instance's peak.
+    Report {
+        input: &'a str,
+        layout: &'a str,
+    },
+    /// Make an instance of so many buffers from the seed, and look for its least capacity within
+    /// the budget of steps.
+    Trial {
+        seed: u64,
+        count: u64,
+        steps: u64,
     },
 }
 
@@ -47,6 +75,13 @@ pub(crate) fn command_with(verb: Verb, words: &[String]) -> Command<'_>
             input: word_at(words, OptionName::Input),
             output: word_at(words, OptionName::Output),
             log: word_at(words, OptionName::Log),
+            steps: number_given(words, OptionName::Steps),
+        },
+        Verb::Least => Command::Least {
+            input: word_at(words, OptionName::Input),
+            output: word_at(words, OptionName::Output),
+            log: word_at(words, OptionName::Log),
+            steps: number_given(words, OptionName::Steps),
         },
         Verb::Verify => Command::Verify {
             capacity: number_at(words, OptionName::Capacity),
@@ -57,8 +92,22 @@ pub(crate) fn command_with(verb: Verb, words: &[String]) -> Command<'_>
             input: word_at(words, OptionName::Input),
             log: word_at(words, OptionName::Log),
         },
+        Verb::Trim => Command::Trim {
+            input: word_at(words, OptionName::Input),
+            log: word_at(words, OptionName::Log),
+            output: word_at(words, OptionName::Output),
+        },
         Verb::Bounds => Command::Bounds {
             input: word_at(words, OptionName::Input),
+        },
+        Verb::Report => Command::Report {
+            input: word_at(words, OptionName::Input),
+            layout: word_at(words, OptionName::Layout),
+        },
+        Verb::Trial => Command::Trial {
+            seed: number_at(words, OptionName::Seed),
+            count: number_at(words, OptionName::Count),
+            steps: number_at(words, OptionName::Steps),
         },
     }
 }
@@ -74,8 +123,16 @@ pub(crate) fn has_same_name(command: &Command<'_>) -> bool
             log,
             ..
         } => input == output || input == log || output == log,
+        Command::Least {
+            input,
+            output,
+            log,
+            ..
+        } => input == output || input == log || output == log,
         Command::Verify { input, layout, .. } => input == layout,
         Command::Refute { input, log } => input == log,
-        Command::Bounds { .. } => false,
+        Command::Trim { input, log, output } => input == log || input == output || log == output,
+        Command::Report { input, layout } => input == layout,
+        Command::Bounds { .. } | Command::Trial { .. } => false,
     }
 }

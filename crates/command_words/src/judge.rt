@@ -1,7 +1,7 @@
 //! The first fault of pairs of words.
 
 ghost use Rattle.std.specs.Prelude.{◌≡◌, ◌<◌, ◌≤◌, ◌^◌, [], map, take, length, string_bytes, find, not, is_some};
-ghost use Rattle.command_words.specs.Options.{options_of};
+ghost use Rattle.command_words.specs.Options.{needed_by};
 ghost use Rattle.command_words.specs.Pairs.{pairs_of, pair_value, place_after, pair_fault, pairs_fault, value_of};
 
 use crate::pair::{Pair, has_option, split_pair, value_of};
@@ -60,9 +60,9 @@ pub(crate) fn pairs_fault(verb: Verb, words: &[String]) -> Option<UsageFault>
 /// The first option that the command needs and the pairs don't give.
 pub(crate) fn first_missing(verb: Verb, words: &[String]) -> Option<OptionName>
     ensures { let pairs = pairs_of (map string_bytes words.now) in
-        result ≡ find (λ o. not (is_some (value_of pairs o))) (options_of verb) }
+        result ≡ find (λ o. not (is_some (value_of pairs o))) (needed_by verb) }
 {
-    verb.options()
+    verb.needed()
         .iter()
         .copied()
         .find(|option| value_of(words, *option).is_none())

@@ -3,7 +3,7 @@
 ghost use Rattle.std.specs.Prelude.{◌≡◌, ◌∷◌, ◌<◌, ◌≤◌, ◌^◌, [], map, take, length, string_bytes, MatchOption, IfSome, option_map, is_some};
 ghost use Rattle.std.specs.List.{list_any};
 ghost use Rattle.std.specs.Str.{bytes_eq};
-ghost use Rattle.command_words.specs.Pairs.{pairs_of, pair_value, value_of, word_at, number_at};
+ghost use Rattle.command_words.specs.Pairs.{pairs_of, pair_value, value_of, word_at, number_at, number_given};
 
 use crate::OptionName;
 use crate::value::number_of;
@@ -80,6 +80,15 @@ pub(crate) fn word_at(words: &[String], option: OptionName) -> &str
     ensures { result.now ≡ word_at (pairs_of (map string_bytes words.now)) option }
 {
     value_of(words, option).unwrap_or("")
+}
+
+/// The number that the pairs give an option, where they give one.
+pub(crate) fn number_given(words: &[String], option: OptionName) -> Option<u64>
+    ensures value { result ≡ number_given (pairs_of (map string_bytes words.now)) option }
+    ensures within { IfSome result (λ number. number ≤ 2 ^ 60) }
+{
+    let word = value_of(words, option)?;
+    number_of(word)
 }
 
 /// The number that the pairs give an option, and 0 where they give none that can be.

@@ -11,10 +11,14 @@ use crate::{Command, UsageFault};
 
 /// The command that the words ask for, or their first fault, in the order of `UsageFault`. The
 /// words are those after the program's name: the command, then its options, in any order, each once
-/// and followed by its value. A value may look like an option. A command needs each of its options:
-/// `solve --capacity C --input I --output O --log L`, `verify --capacity C --input I --layout A`,
-/// `refute --input I --log L`, `bounds --input I`. C is a capacity in bytes of 1 to 20 digits, at
-/// most 2^60; the others are names of files, not empty, no two of them equal.
+/// and followed by its value. A value may look like an option. The commands, each with the options
+/// that it needs, are `solve --capacity C --input I --output O --log L`,
+/// `least --input I --output O --log L`, `verify --capacity C --input I --layout A`,
+/// `refute --input I --log L`, `trim --input I --log L --output O`, `bounds --input I`,
+/// `report --input I --layout A` and `trial --seed S --count N --steps K`; `solve` and `least` may
+/// have `--steps K` too. C is a capacity in bytes, S a seed, N a count of buffers and K a budget in
+/// units, each a number of 1 to 20 digits that is at most 2^60; the others are names of files, not
+/// empty, no two of them equal.
 pub fn read_words(words: &[String]) -> Result<Command<'_>, UsageFault>
     ensures value { MatchResult result
         (λ command. command_of (map string_bytes words.now) ≡ Ok (command_value command))

@@ -14,7 +14,7 @@ fn owned(alloc: Global, words: &[&str]) -> Result<Vec<String>, AllocError> {
 
 #[test]
 fn each_wrong_line_has_its_first_fault(rt: HostRuntime) -> Result<(), Fail> {
-    let cases: [(&[&str], UsageFault); 11] = [
+    let cases: [(&[&str], UsageFault); 15] = [
         (&[], UsageFault::NoCommand),
         (&["plan"], UsageFault::UnknownCommand),
         (&["Bounds", "--input", "i"], UsageFault::UnknownCommand),
@@ -52,6 +52,24 @@ fn each_wrong_line_has_its_first_fault(rt: HostRuntime) -> Result<(), Fail> {
             &["refute", "--log", "i", "--input", "i"],
             UsageFault::SameName,
         ),
+        (
+            &["least", "--steps", "1", "--steps", "1"],
+            UsageFault::RepeatedOption { word: 3 },
+        ),
+        (
+            &["trial", "--seed", "1", "--count", "2"],
+            UsageFault::MissingOption {
+                option: OptionName::Steps,
+            },
+        ),
+        (
+            &["trim", "--input", "i", "--log", "l", "--output", "l"],
+            UsageFault::SameName,
+        ),
+        (
+            &["report", "--input", "i", "--layout", "i"],
+            UsageFault::SameName,
+        ),
     ];
     for (line, want) in cases {
         let words = owned(rt.alloc(), line)?;
@@ -83,8 +101,36 @@ fn options_come_in_any_order_and_their_values_may_look_like_options(
         input: "i",
         output: "o",
         log: "--input",
+        steps: None,
     };
     assert_eq!(rt; read_words(words.as_slice()), Ok(want));
+    Ok(())
+}
+
+#[test]
+fn steps_may_be_left_out_or_given(rt: HostRuntime) -> Result<(), Fail> {
+    let cases: [(&[&str], Option<u64>); 2] = [
+        (
+            &["least", "--input", "i", "--output", "o", "--log", "l"],
+            None,
+        ),
+        (
+            &[
+                "least", "--steps", "0", "--input", "i", "--output", "o", "--log", "l",
+            ],
+            Some(0),
+        ),
+    ];
+    for (line, steps) in cases {
+        let words = owned(rt.alloc(), line)?;
+        let want = Command::Least {
+            input: "i",
+            output: "o",
+            log: "l",
+            steps,
+        };
+        assert_eq!(rt; read_words(words.as_slice()), Ok(want), "{line:?}");
+    }
     Ok(())
 }
 

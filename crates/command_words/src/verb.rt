@@ -1,8 +1,8 @@
-//! The names of the commands, and the options of each.
+//! The names of the commands, and the options that each needs and takes.
 
 ghost use Rattle.std.specs.Prelude.{◌≡◌, find};
 ghost use Rattle.std.specs.Str.{bytes_eq};
-ghost use Rattle.command_words.specs.Options.{verb_word, verbs, options_of, option_of};
+ghost use Rattle.command_words.specs.Options.{verb_word, verbs, needed_by, optional_for, option_of};
 
 use crate::OptionName;
 
@@ -10,13 +10,26 @@ use crate::OptionName;
 #[derive(Clone, Copy, Debug, PartialEq, Eq)]
 pub(crate) enum Verb {
     Solve,
+    Least,
     Verify,
     Refute,
+    Trim,
     Bounds,
+    Report,
+    Trial,
 }
 
 /// The commands that there are.
-const VERBS: [Verb; 4] = [Verb::Solve, Verb::Verify, Verb::Refute, Verb::Bounds];
+const VERBS: [Verb; 8] = [
+    Verb::Solve,
+    Verb::Least,
+    Verb::Verify,
+    Verb::Refute,
+    Verb::Trim,
+    Verb::Bounds,
+    Verb::Report,
+    Verb::Trial,
+];
 
 impl Verb {
     /// The word of the command.
@@ -25,15 +38,19 @@ impl Verb {
     {
         match self {
             Verb::Solve => "solve",
+            Verb::Least => "least",
             Verb::Verify => "verify",
             Verb::Refute => "refute",
+            Verb::Trim => "trim",
             Verb::Bounds => "bounds",
+            Verb::Report => "report",
+            Verb::Trial => "trial",
         }
     }
 
-    /// The options of the command, in the order in which they are missed. It needs each of them.
-    pub(crate) fn options(self) -> &'static [OptionName]
-        ensures { result.now ≡ options_of self }
+    /// The options that the command needs, in the order in which they are missed.
+    pub(crate) fn needed(self) -> &'static [OptionName]
+        ensures { result.now ≡ needed_by self }
     {
         match self {
             Verb::Solve => &[
@@ -42,9 +59,24 @@ impl Verb {
                 OptionName::Output,
                 OptionName::Log,
             ],
+            Verb::Least => &[OptionName::Input, OptionName::Output, OptionName::Log],
             Verb::Verify => &[OptionName::Capacity, OptionName::Input, OptionName::Layout],
             Verb::Refute => &[OptionName::Input, OptionName::Log],
+            Verb::Trim => &[OptionName::Input, OptionName::Log, OptionName::Output],
             Verb::Bounds => &[OptionName::Input],
+            Verb::Report => &[OptionName::Input, OptionName::Layout],
+            Verb::Trial => &[OptionName::Seed, OptionName::Count, OptionName::Steps],
+        }
+    }
+
+    /// The options that the command can go without.
+    fn optional(self) -> &'static [OptionName]
+        ensures { result.now ≡ optional_for self }
+    {
+        match self {
+            Verb::Solve | Verb::Least => &[OptionName::Steps],
+            Verb::Verify | Verb::Refute | Verb::Trim | Verb::Bounds | Verb::Report | Verb::Trial =>
+                &[],
         }
     }
 
@@ -59,8 +91,9 @@ impl Verb {
     pub(crate) fn option_of(self, word: &str) -> Option<OptionName>
         ensures { result ≡ option_of self word.now }
     {
-        self.options()
+        self.needed()
             .iter()
+            .chain(self.optional().iter())
             .copied()
             .find(|option| option.word() == word)
     }
