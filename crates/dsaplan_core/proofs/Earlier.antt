@@ -1,5 +1,5 @@
 -- What a later step found of the files, seen from the start of the run: what they hold stays until the first write.
-use Rattle.std.proofs.Common.{◌≡◌, ℕ, ◌≤◌, ◌⊎◌, inl, inr, List, IsSome, Some, Ok, sym, subst, arith}
+use Rattle.std.proofs.Common.{◌≡◌, ℕ, ◌≤◌, inl, inr, List, IsSome, Some, Ok, sym, subst, arith}
 use Rattle.dsa_terms.specs.Buffers.{Instance}
 use Rattle.dsa_outside.specs.Held.{file_at, IsMissing}
 use Rattle.dsa_outside.specs.Faults.{Rose, NoneFell}

@@ -1,5 +1,5 @@
 -- The second file of a command, as it was read after the input.
-use Rattle.std.proofs.Common.{◌≡◌, ℕ, List, All, Result, Ok, Err, refl, sym, subst}
+use Rattle.std.proofs.Common.{◌≡◌, ℕ, List, All, Some, Result, Ok, Err, refl, sym, subst}
 use Rattle.dsa_model.specs.Fails.{IfFault, UnlessNoMemory}
 use Rattle.dsa_model.specs.declared.fail.Fail.{Fail}
 use Rattle.dsa_model.specs.declared.fail.Fail.TheVariants.{Fault}
@@ -11,32 +11,45 @@ use Rattle.log_text.specs.declared.raw.RawLog.{RawLog}
 use Rattle.dsa_terms.specs.Buffers.{Instance}
 use Rattle.csv_instance.specs.Records.{Record}
 use Rattle.command_words.specs.Options.{Word}
-use Rattle.command_words.specs.Commands.{Verify, Refute, command_of}
+use Rattle.command_words.specs.Commands.{Command, command_of}
 use Rattle.dsaplan_core.specs.Seen.{FilesSeen}
 use Rattle.dsaplan_core.specs.Steps.{table_limit, log_limit, IsWhole, IsInput}
-use Rattle.dsaplan_core.specs.Rows.{ReadsLayout, ReadsLog}
+use Rattle.dsaplan_core.specs.Asked.{IsAsked, checked_log_of, input_of, layout_of}
+use Rattle.dsaplan_core.specs.Judged.{ReadsLayout}
+use Rattle.dsaplan_core.specs.Checked.{ReadsLog}
 use Rattle.dsaplan_core.proofs.Earlier.{whole_since}
 
-pub layout_read : (words : List Word) (old mid : FilesSeen) (C : ℕ) (input layout : Word) (table : List Record)
-    (I : Instance)
-    (seen bytes : List ℕ) → command_of words ≡ Ok (Verify C input layout) → IsInput old input table I →
-    mid.held ≡ old.held →
-    seen ≡ bytes → IsWhole mid layout table_limit bytes → ReadsLayout words old C layout table I seen
-layout_read words old mid C input layout table I seen bytes asked given same value whole = record {
-  input = input;
-  asked = record { words_ask = asked; input = given };
+-- the words ask for this command over the input's instance
+pub asks : (words : List Word) (old : FilesSeen) (command : Command) (input : Word) (table : List Record)
+    (I : Instance) → command_of words ≡ Ok command → input_of command ≡ Some input → IsInput old input table I →
+    IsAsked words old command table I
+asks words old command input table I asked its given = record {
+  words_ask = asked;
+  name = input;
+  its_input = its;
+  input = given;
+}
+
+pub layout_read : (words : List Word) (old mid : FilesSeen) (command : Command) (table : List Record) (I : Instance)
+    (layout : Word) (seen bytes : List ℕ) → IsAsked words old command table I → layout_of command ≡ Some layout →
+    mid.held ≡ old.held → seen ≡ bytes → IsWhole mid layout table_limit bytes →
+    ReadsLayout words old command table I seen
+layout_read words old mid command table I layout seen bytes asked its same value whole = record {
+  layout = layout;
+  asked = asked;
+  its_layout = its;
   whole = subst (λ b. IsWhole old layout table_limit b) (sym value)
       (whole_since old mid layout table_limit bytes same whole);
 }
 
-pub log_read : (words : List Word) (old mid : FilesSeen) (input log : Word) (table : List Record) (I : Instance)
-    (seen bytes : List ℕ) → command_of words ≡ Ok (Refute input log) → IsInput old input table I → mid.held ≡ old.held →
-    seen ≡ bytes → IsWhole mid log log_limit bytes → ReadsLog words old I seen
-log_read words old mid input log table I seen bytes asked given same value whole = record {
-  input = input;
+pub log_read : (words : List Word) (old mid : FilesSeen) (command : Command) (table : List Record) (I : Instance)
+    (log : Word) (seen bytes : List ℕ) → IsAsked words old command table I → checked_log_of command ≡ Some log →
+    mid.held ≡ old.held → seen ≡ bytes → IsWhole mid log log_limit bytes → ReadsLog words old command I seen
+log_read words old mid command table I log seen bytes asked its same value whole = record {
   log = log;
   table = table;
-  asked = record { words_ask = asked; input = given };
+  asked = asked;
+  its_log = its;
   whole = subst (λ b. IsWhole old log log_limit b) (sym value) (whole_since old mid log log_limit bytes same whole);
 }
 
@@ -60,3 +73,8 @@ pub fault_gives : {T E : Type 0} (P : T → Type 0) (Q : E → Type 0) (r : Resu
     UnlessNoMemory r P Q → Q e
 fault_gives P Q r f e is f_is said =
     subst (λ x. IfFault Q x) f_is (subst (λ x. UnlessNoMemory x P Q) is said)
+
+-- what was read of a file is its whole content
+pub whole_read : (files : FilesSeen) (name : Word) (most : ℕ) (seen bytes : List ℕ) → seen ≡ bytes →
+    IsWhole files name most bytes → IsWhole files name most seen
+whole_read files name most seen bytes same whole = subst (λ b. IsWhole files name most b) (sym same) whole

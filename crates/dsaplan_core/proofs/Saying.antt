@@ -9,7 +9,7 @@ use Rattle.dsaplan_core.specs.Answers.{Cause, Says}
 use Rattle.dsaplan_core.specs.Prepares.{Tells, IsSilent, IsRightly, Prepares}
 use Rattle.dsaplan_core.specs.declared.prepared.Said.{Said}
 use Rattle.dsaplan_core.specs.declared.prepared.Prepared.{Prepared}
-use Rattle.dsaplan_core.specs.declared.prepared.Prepared.TheVariants.{Silent, Write}
+use Rattle.dsaplan_core.specs.declared.prepared.Prepared.TheVariants.{Silent, Write, WriteBoth}
 use Rattle.dsaplan_core.specs.declared.status.Status.{Status}
 use Rattle.dsaplan_core.specs.declared.status.Status.TheVariants as status
 
@@ -24,16 +24,20 @@ pub says : (words : List Word) (old new : FilesSeen) (s : Status) (text : List �
     Says words old new s text
 says words old new (status.Feasible capacity) text has cause is = record { cause = cause; its_text = is }
 says words old new (status.Infeasible capacity) text has cause is = record { cause = cause; its_text = is }
+says words old new (status.Least capacity) text has cause is = record { cause = cause; its_text = is }
+says words old new (status.Open low high) text has cause is = record { cause = cause; its_text = is }
 says words old new status.Right text has cause is = record { cause = cause; its_text = is }
 says words old new (status.Wrong why) text has cause is = record { cause = cause; its_text = is }
 says words old new (status.Accepted capacity) text has cause is = record { cause = cause; its_text = is }
 says words old new (status.LogRefused why) text has cause is = record { cause = cause; its_text = is }
+says words old new (status.Trimmed before after) text has cause is = record { cause = cause; its_text = is }
 says words old new status.Shown text has cause is = absurd has
 says words old new (status.Usage fault) text has cause is = record { cause = cause; its_text = is }
 says words old new (status.Malformed fault) text has cause is = record { cause = cause; its_text = is }
 says words old new (status.ReadFault role) text has cause is = record { cause = cause; its_text = is }
 says words old new (status.TooLong role) text has cause is = record { cause = cause; its_text = is }
 says words old new (status.WriteFault role) text has cause is = record { cause = cause; its_text = is }
+says words old new (status.TooMany count) text has cause is = record { cause = cause; its_text = is }
 says words old new status.PrintFault text has cause is = absurd cause
 says words old new status.NoMemory text has cause is = absurd cause
 
@@ -48,7 +52,8 @@ prepared : (words : List Word) (old new : FilesSeen) (s : Status) (p : Prepared)
     IsSilent s p →
     Prepares words old new p
 prepared words old new s (Silent said) has cause tells = rightly words old new s said has cause tells
-prepared words old new s (Write writing) has cause tells = absurd tells
+prepared words old new s (Write file said) has cause tells = absurd tells
+prepared words old new s (WriteBoth first second said) has cause tells = absurd tells
 
 -- a status that is said alone, for whatever words ask for the command
 pub only_said : (old new : FilesSeen) (command : Command) (s : Status) (r : Result Prepared NoMemory) → HasLine s →

@@ -1,7 +1,6 @@
 -- A layout or a log that is to be written, and what is then said.
-use Rattle.std.proofs.Common.{◌≡◌, ◌<◌, ℕ, List, Some, Ok, sym, ap, ◌∙◌, subst}
+use Rattle.std.proofs.Common.{◌≡◌, ◌<◌, ℕ, List, Option, Ok, refl, sym, ap, ◌∙◌, subst}
 use Rattle.dsa_terms.specs.Buffers.{Instance}
-use Rattle.dsa_terms.specs.Layouts.{IsLayout}
 use Rattle.dsa_terms.specs.Bounds.{lower_bound}
 use Rattle.dsa_terms.specs.Logs.{Log}
 use Rattle.dsa_terms.specs.Starts.{planned}
@@ -11,89 +10,104 @@ use Rattle.csv_instance.specs.Records.{Record}
 use Rattle.csv_instance.specs.Layout.{layout_text}
 use Rattle.log_text.specs.Faults.{IsTextOf}
 use Rattle.log_text.specs.Text.{log_text, raw_log_of}
+use Rattle.planner.specs.Decides.{IsAnswered, IsRefutation, IsBoundLog}
 use Rattle.command_words.specs.Options.{Word}
 use Rattle.command_words.specs.Commands.{Solve, command_of}
 use Rattle.dsaplan_core.specs.Seen.{FilesSeen}
 use Rattle.dsaplan_core.specs.Steps.{IsInput}
-use Rattle.planner.specs.Decides.{IsAnswered, IsRefutation, IsBoundLog}
-use Rattle.dsaplan_core.specs.Prepares.{Tells, IsWriting}
+use Rattle.dsaplan_core.specs.Decided.{LaysOut, RefutesCapacity}
+use Rattle.dsaplan_core.specs.Prepares.{Tells, Puts, IsWriting}
+use Rattle.dsaplan_core.specs.declared.prepared.Said.{Said}
 use Rattle.dsaplan_core.specs.declared.prepared.Writing.{Writing}
 use Rattle.dsaplan_core.specs.declared.status.Status.TheVariants as status
+use Rattle.dsaplan_core.specs.declared.status.Role.{Role}
 use Rattle.dsaplan_core.specs.declared.status.Role.TheVariants as role
 use Rattle.dsaplan_core.proofs.Saying.{rightly}
+use Rattle.dsaplan_core.proofs.BothWritings.{left, without_with}
 
--- the plan, which is written to the output
-pub writes_layout : (old : FilesSeen) (C : ℕ) (input output log : Word) (table : List Record) (I : Instance)
-    (offsets : List ℕ)
-    (w : Writing) → IsInput old input table I → IsAnswered (planned I C) I C offsets →
-    w.name.now ≡ output → w.bytes.items ≡ layout_text table offsets →
-    Tells (status.Feasible C) w.written → Tells (status.WriteFault role.Output) w.unwritten →
-    (words : List Word) → command_of words ≡ Ok (Solve C input output log) → IsWriting words old w
-writes_layout old C input output log table I offsets w given plan name bytes told untold words asked = record {
-  written = λ new held. rightly words old new (status.Feasible C) w.written tt (record {
-    input = input;
-    output = output;
-    log = log;
-    table = table;
-    instance = I;
-    offsets = offsets;
-    asked = record { words_ask = asked; input = given };
-    planned = plan.chosen;
-    layout = plan.layout;
-    files = held ∙ ap (λ n. with_file old.held n w.bytes.items) name ∙ ap (with_file old.held output) bytes;
-  }) told;
-  unwritten = λ new rose others. rightly words old new (status.WriteFault role.Output) w.unwritten tt (record {
-    capacity = C;
-    input = input;
-    output = output;
-    log = log;
-    table = table;
-    instance = I;
-    offsets = offsets;
-    asked = record { words_ask = asked; input = given };
-    planned = plan.chosen;
-    cause = subst (λ n. Rose (old.faults n) (new.faults n)) name rose;
-    others = subst (λ n. without_file new.held n ≡ without_file old.held n) name others;
-  }) untold;
-}
+-- what is held once the file is written
+pub held_now : (old : FilesSeen) (name : Word) (bytes : List ℕ) (r : Role) (file : Writing) → Puts name bytes r file →
+    with_file old.held file.name.now file.bytes.items ≡ with_file old.held name bytes
+held_now old name bytes r file puts =
+    ap (λ n. with_file old.held n file.bytes.items) puts.its_name ∙ ap (with_file old.held name) puts.its_bytes
 
--- the log, which is written to its file
-pub writes_log : (old : FilesSeen) (C : ℕ) (input output log : Word) (table : List Record) (I : Instance)
-    (refutation : Log)
-    (w : Writing) → IsInput old input table I → IsRefutation I C refutation →
-    (C < lower_bound I → IsBoundLog I C refutation) →
-    IsTextOf (log_text refutation) (raw_log_of refutation) →
-    w.name.now ≡ log → w.bytes.items ≡ log_text refutation →
-    Tells (status.Infeasible C) w.written → Tells (status.WriteFault role.Log) w.unwritten →
-    (words : List Word) → command_of words ≡ Ok (Solve C input output log) → IsWriting words old w
-writes_log old C input output log table I refutation w given refuted bound readable name bytes told untold words asked =
-    record {
-      written = λ new held. rightly words old new (status.Infeasible C) w.written tt (record {
+module _ (old : FilesSeen) (C : ℕ) (input output log : Word) (steps : Option ℕ) (table : List Record) (I : Instance)
+    (file : Writing) (said : Said) (given : IsInput old input table I) (words : List Word)
+    (asked : command_of words ≡ Ok (Solve C input output log steps)) where
+  -- the plan, which is written to the output
+  pub writes_layout : (offsets : List ℕ) → IsAnswered (planned I C) I C offsets →
+      Puts output (layout_text table offsets) role.Output file → Tells (status.Feasible C) said →
+      IsWriting words old file said
+  writes_layout offsets plan puts told = record {
+    written = λ new held. rightly words old new (status.Feasible C) said tt
+        (lays_out new (held ∙ held_now old output (layout_text table offsets) role.Output file puts)) told;
+    unwritten = λ new rose others. rightly words old new (status.WriteFault role.Output) file.unwritten tt (record {
+      command = Solve C input output log steps;
+      output = output;
+      status = status.Feasible C;
+      meant = left old output (layout_text table offsets);
+      asked = asked;
+      its_output = refl;
+      writes = lays_out (left old output (layout_text table offsets)) refl;
+      cause = subst (λ n. Rose (old.faults n) (new.faults n)) puts.its_name rose;
+      others = subst (λ n. without_file new.held n ≡ without_file old.held n) puts.its_name others;
+    }) puts.its_fault;
+  }
+    where
+      lays_out : (new : FilesSeen) → new.held ≡ with_file old.held output (layout_text table offsets) →
+          LaysOut words old new C
+      lays_out new held = record {
         input = input;
         output = output;
         log = log;
+        steps = steps;
+        table = table;
+        instance = I;
+        offsets = offsets;
+        asked = record { words_ask = asked; name = input; its_input = refl; input = given };
+        planned = plan.chosen;
+        layout = plan.layout;
+        files = held;
+      }
+
+  -- the log, which is written to its file
+  pub writes_log : (refutation : Log) → IsRefutation I C refutation →
+      (C < lower_bound I → IsBoundLog I C refutation) →
+      IsTextOf (log_text refutation) (raw_log_of refutation) →
+      Puts log (log_text refutation) role.Log file → Tells (status.Infeasible C) said → IsWriting words old file said
+  writes_log refutation refuted bound readable puts told = record {
+    written = λ new held. rightly words old new (status.Infeasible C) said tt
+        (refutes new (held ∙ held_now old log (log_text refutation) role.Log file puts)) told;
+    unwritten = λ new rose others. rightly words old new (status.WriteFault role.Log) file.unwritten tt (record {
+      command = Solve C input output log steps;
+      log = log;
+      status = status.Infeasible C;
+      meant = left old log (log_text refutation);
+      asked = asked;
+      its_log = refl;
+      writes = refutes (left old log (log_text refutation)) refl;
+      cause = subst (λ n. Rose (old.faults n) (new.faults n)) puts.its_name rose;
+      others = subst (λ n. without_file new.held n ≡ without_file old.held n) puts.its_name others
+          ∙ sym (without_with old.held log (log_text refutation));
+    }) puts.its_fault;
+  }
+    where
+      refutes : (new : FilesSeen) → new.held ≡ with_file old.held log (log_text refutation) →
+          RefutesCapacity words old new C
+      refutes new held = record {
+        input = input;
+        output = output;
+        log = log;
+        steps = steps;
         table = table;
         instance = I;
         refutation = refutation;
-        asked = record { words_ask = asked; input = given };
+        asked = record { words_ask = asked; name = input; its_input = refl; input = given };
         infeasible = refuted.infeasible;
         accepted = refuted.accepted;
         its_capacity = refuted.its_capacity;
         lean = refuted.lean;
         by_bound = bound;
         readable = readable;
-        files = held ∙ ap (λ n. with_file old.held n w.bytes.items) name ∙ ap (with_file old.held log) bytes;
-      }) told;
-      unwritten = λ new rose others. rightly words old new (status.WriteFault role.Log) w.unwritten tt (record {
-        capacity = C;
-        input = input;
-        output = output;
-        log = log;
-        table = table;
-        instance = I;
-        asked = record { words_ask = asked; input = given };
-        infeasible = refuted.infeasible;
-        cause = subst (λ n. Rose (old.faults n) (new.faults n)) name rose;
-        others = subst (λ n. without_file new.held n ≡ without_file old.held n) name others;
-      }) untold;
-    }
+        files = held;
+      }

@@ -1,14 +1,18 @@
 -- What a run leaves, by its answer.
-use Rattle.std.specs.Prelude.{◌≡◌, ℕ, ◌⊎◌, List, take}
-use Rattle.dsa_outside.specs.Held.{with_text}
+use Rattle.std.specs.Prelude.{◌≡◌, ◌≢◌, ℕ, ◌⊎◌, List, take}
+use Rattle.dsa_outside.specs.Held.{with_file, with_text}
 use Rattle.dsa_outside.specs.Faults.{Rose}
-use Rattle.layout_report.specs.Facts.{bounds_text}
 use Rattle.command_words.specs.Options.{Word}
 use Rattle.dsaplan_core.specs.Seen.{FilesSeen, SinkSeen}
 use Rattle.dsaplan_core.specs.Lines.{line}
-use Rattle.dsaplan_core.specs.Rows.{LaysOut, RefutesCapacity, JudgesRight, JudgesNoOffsets, JudgesNoLayout, AcceptsLog, RefusesText, RefusesLog, ShowsFacts, MisusesWords, HasNoInstance, MissesInput, HasLongInput, MissesLayout, HasLongLayout, MissesLog, HasLongLog, LosesOutput, LosesLog}
+use Rattle.dsaplan_core.specs.Decided.{LaysOut, RefutesCapacity, FindsLeast, LeavesOpen, TrimsLog}
+use Rattle.dsaplan_core.specs.Judged.{JudgesRight, JudgesNoOffsets, JudgesNoLayout, MissesLayout, HasLongLayout}
+use Rattle.dsaplan_core.specs.Checked.{AcceptsLog, RefusesText, RefusesLog, MissesLog, HasLongLog}
+use Rattle.dsaplan_core.specs.Shown.{Shows}
+use Rattle.dsaplan_core.specs.Refused.{MisusesWords, HasTooMany, HasNoInstance, MissesInput, HasLongInput}
+use Rattle.dsaplan_core.specs.Lost.{LosesOutput, LosesLog}
 use Rattle.dsaplan_core.specs.declared.status.Status.{Status}
-use Rattle.dsaplan_core.specs.declared.status.Status.TheVariants.{Feasible, Infeasible, Right, Wrong, Accepted, LogRefused, Shown, Usage, Malformed, ReadFault, TooLong, WriteFault, PrintFault, NoMemory}
+use Rattle.dsaplan_core.specs.declared.status.Status.TheVariants.{Feasible, Infeasible, Least, Open, Right, Wrong, Accepted, LogRefused, Trimmed, Shown, Usage, Malformed, ReadFault, TooLong, WriteFault, PrintFault, TooMany, NoMemory}
 use Rattle.dsaplan_core.specs.declared.status.Role.TheVariants.{Input, Layout, Log, Output}
 use Rattle.dsaplan_core.specs.declared.status.WrongCause.TheVariants as wrong
 use Rattle.dsaplan_core.specs.declared.status.LogCause.TheVariants as refused
@@ -17,13 +21,16 @@ use Rattle.dsaplan_core.specs.declared.status.LogCause.TheVariants as refused
 abbrev pub Cause : List Word → FilesSeen → FilesSeen → Status → Type 0
 Cause words old new (Feasible capacity) = LaysOut words old new capacity
 Cause words old new (Infeasible capacity) = RefutesCapacity words old new capacity
+Cause words old new (Least capacity) = FindsLeast words old new capacity
+Cause words old new (Open low high) = LeavesOpen words old new low high
 Cause words old new Right = JudgesRight words old new
 Cause words old new (Wrong (wrong.Offsets fault)) = JudgesNoOffsets words old new fault
 Cause words old new (Wrong (wrong.Layout fault)) = JudgesNoLayout words old new fault
 Cause words old new (Accepted capacity) = AcceptsLog words old new capacity
 Cause words old new (LogRefused (refused.Text fault)) = RefusesText words old new fault
 Cause words old new (LogRefused (refused.Check fault)) = RefusesLog words old new fault
-Cause words old new Shown = ShowsFacts words old new
+Cause words old new (Trimmed before after) = TrimsLog words old new before after
+Cause words old new Shown = Shows words old new
 Cause words old new (Usage fault) = MisusesWords words old new fault
 Cause words old new (Malformed fault) = HasNoInstance words old new fault
 Cause words old new (ReadFault Input) = MissesInput words old new
@@ -39,12 +46,13 @@ Cause words old new (WriteFault Log) = LosesLog words old new
 Cause words old new (WriteFault Input) = ⊥
 Cause words old new (WriteFault Layout) = ⊥
 Cause words old new PrintFault = ⊥
+Cause words old new (TooMany count) = HasTooMany words old new count
 Cause words old new NoMemory = ⊥
 
--- what is printed for a status: its line, or the report of the facts that are shown
+-- what is printed for a status: its line, or the report that is shown
 abbrev pub printed_text : (words : List Word) (old new : FilesSeen) (status : Status) →
     Cause words old new status → List ℕ
-printed_text words old new Shown cause = bounds_text cause.facts
+printed_text words old new Shown cause = cause.text
 printed_text words old new status cause = line status
 
 -- the status has its cause, and this is its text
@@ -67,9 +75,21 @@ pub record IsUnsaid (words : List Word) (old new : FilesSeen) (before after : Si
   pub taken : ℕ
   pub prefix : after.content ≡ with_text before.content (take taken text)
 
--- memory ran out: nothing is printed, and the files are as before or as a status that has its cause leaves them
+-- the first of the two files of a status that has its cause is written, and the second, of another name, is not
+pub record IsHalfWritten (words : List Word) (old new : FilesSeen) : Type 0 where
+  pub status : Status
+  pub first : Word
+  pub text : List ℕ
+  pub second : Word
+  pub further : List ℕ
+  pub names_differ : first ≢ second
+  pub written : new.held ≡ with_file old.held first text
+  pub cause : Cause words old (record { held = with_file new.held second further; faults = new.faults }) status
+
+-- memory ran out: nothing is printed, and the files are as before, or as a status that has its cause leaves them, or
+-- as it leaves them between its two writes
 pub record IsCutShort (words : List Word) (old new : FilesSeen) (before after : SinkSeen) : Type 0 where
-  pub files : (new.held ≡ old.held) ⊎ ((status : Status) × Cause words old new status)
+  pub files : (new.held ≡ old.held) ⊎ ((status : Status) × Cause words old new status) ⊎ IsHalfWritten words old new
   pub silent : after.content ≡ before.content
 
 -- what a run with these words leaves of the files and the sink when it ends with the status

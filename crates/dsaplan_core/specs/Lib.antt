@@ -4,8 +4,15 @@ pub mod Steps
 pub mod FaultTexts
 pub mod Opens
 pub mod Lines
-pub mod Rows
+pub mod Asked
+pub mod Decided
+pub mod Judged
+pub mod Checked
+pub mod Shown
+pub mod Refused
+pub mod Lost
 pub mod Answers
 pub mod Complete
 pub mod Prepares
+pub mod Reads
 pub mod Theorem

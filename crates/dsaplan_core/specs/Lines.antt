@@ -1,5 +1,5 @@
--- The printed line of each status, without the report of a shown instance.
-use Rattle.std.specs.Prelude.{ℕ, List, [], ◌∷◌, ◌++◌, codes, decimal}
+-- The printed line of each status, without the reports that are shown.
+use Rattle.std.specs.Prelude.{ℕ, List, [], ◌++◌, codes, decimal}
 use Rattle.dsaplan_core.specs.declared.status.Status.{Status}
 use Rattle.dsaplan_core.specs.declared.status.Status.TheVariants as status
 use Rattle.dsaplan_core.specs.declared.status.Role.{Role}
@@ -27,14 +27,18 @@ abbrev pub refused_text : LogCause → List ℕ
 refused_text (refused.Text fault) = text_fault_text fault
 refused_text (refused.Check fault) = check_text fault
 
--- the printed line of a status; a shown instance has its report, and two statuses print nothing
+-- the printed line of a status; a report that is shown has its own text, and two statuses print nothing
 abbrev pub line : Status → List ℕ
 line (status.Feasible capacity) = codes "feasible " ++ decimal capacity ++ codes "\n"
 line (status.Infeasible capacity) = codes "infeasible " ++ decimal capacity ++ codes "\n"
+line (status.Least capacity) = codes "least " ++ decimal capacity ++ codes "\n"
+line (status.Open low high) = codes "open " ++ decimal low ++ codes " " ++ decimal high ++ codes "\n"
 line status.Right = codes "right\n"
 line (status.Wrong cause) = codes "wrong " ++ wrong_text cause ++ codes "\n"
 line (status.Accepted capacity) = codes "accepted " ++ decimal capacity ++ codes "\n"
 line (status.LogRefused cause) = codes "refused " ++ refused_text cause ++ codes "\n"
+line (status.Trimmed before after) =
+    codes "trimmed " ++ decimal before ++ codes " " ++ decimal after ++ codes "\n"
 line status.Shown = []
 line (status.Usage fault) = codes "usage " ++ usage_text fault ++ codes "\n"
 line (status.Malformed fault) = codes "malformed " ++ instance_text fault ++ codes "\n"
@@ -42,4 +46,5 @@ line (status.ReadFault role) = codes "unread " ++ role_text role ++ codes "\n"
 line (status.TooLong role) = codes "too long " ++ role_text role ++ codes "\n"
 line (status.WriteFault role) = codes "unwritten " ++ role_text role ++ codes "\n"
 line status.PrintFault = []
+line (status.TooMany count) = codes "too many " ++ decimal count ++ codes "\n"
 line status.NoMemory = []

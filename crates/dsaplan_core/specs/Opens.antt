@@ -1,7 +1,7 @@
 -- What reading a file comes to: its content, or a status that ends the run.
 use Rattle.std.specs.Prelude.{◌≡◌, ℕ, List, IsSome, Err}
 use Rattle.dsa_terms.specs.Buffers.{Instance}
-use Rattle.csv_instance.specs.Records.{Record, table_of}
+use Rattle.csv_instance.specs.Records.{table_of}
 use Rattle.csv_instance.specs.Parse.{parse}
 use Rattle.csv_instance.specs.declared.fault.InstanceFault.{InstanceFault}
 use Rattle.command_words.specs.Options.{Word}

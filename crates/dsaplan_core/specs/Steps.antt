@@ -1,5 +1,5 @@
 -- What a step of a run found: files that could not be read, files that are too long, and what was read.
-use Rattle.std.specs.Prelude.{◌≡◌, ℕ, ◌^◌, ◌+◌, ◌≤◌, ◌<◌, ◌⊎◌, List, length, Some, IsSome, Ok}
+use Rattle.std.specs.Prelude.{◌≡◌, ℕ, ◌^◌, ◌≤◌, ◌<◌, ◌⊎◌, List, length, Some, IsSome, Ok}
 use Rattle.dsa_terms.specs.Buffers.{Instance}
 use Rattle.dsa_outside.specs.Held.{file_at, IsMissing}
 use Rattle.dsa_outside.specs.Faults.{Rose}

@@ -3,18 +3,25 @@
 #![tactic(auto)]
 
 mod bounds;
+mod checked;
 mod course;
 mod entry;
 mod fault_texts;
+mod file_texts;
+mod judged;
+mod least;
 mod lines;
 mod open;
 mod prepared;
 mod refute;
+mod report;
 mod say;
 mod solve;
 mod status;
 #[cfg(test)]
 mod tests;
+mod trial;
+mod trim;
 mod verify;
 
 pub use command_words::{OptionName, UsageFault};

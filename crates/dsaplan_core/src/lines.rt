@@ -42,6 +42,20 @@ fn refused_line(alloc: Global, cause: LogCause) -> Result<String, NoMemory>
     }
 }
 
+/// The line of a bracket that is left open.
+fn open_line(alloc: Global, low: u64, high: u64) -> Result<String, NoMemory>
+    ensures { IfOk result (λ text. string_bytes text ≡ line (Status.Open low high)) }
+{
+    Ok(format!(in alloc; "open {low} {high}\n")?)
+}
+
+/// The line of a log that was trimmed.
+fn trimmed_line(alloc: Global, before: u64, after: u64) -> Result<String, NoMemory>
+    ensures { IfOk result (λ text. string_bytes text ≡ line (Status.Trimmed before after)) }
+{
+    Ok(format!(in alloc; "trimmed {before} {after}\n")?)
+}
+
 /// The line of a status.
 pub(crate) fn status_line(alloc: Global, status: Status) -> Result<String, NoMemory>
     ensures { IfOk result (λ text. string_bytes text ≡ line status) }
@@ -49,6 +63,10 @@ pub(crate) fn status_line(alloc: Global, status: Status) -> Result<String, NoMem
     match status {
         Status::Feasible { capacity } => Ok(format!(in alloc; "feasible {capacity}\n")?),
         Status::Infeasible { capacity } => Ok(format!(in alloc; "infeasible {capacity}\n")?),
+        Status::Least { capacity } => Ok(format!(in alloc; "least {capacity}\n")?),
+        Status::Open { low, high } => open_line(alloc, low, high),
+        Status::Trimmed { before, after } => trimmed_line(alloc, before, after),
+        Status::TooMany { count } => Ok(format!(in alloc; "too many {count}\n")?),
         Status::Right => Ok(String::from_str(alloc, "right\n")?),
         Status::Accepted { capacity } => Ok(format!(in alloc; "accepted {capacity}\n")?),
         Status::Wrong(cause) => {

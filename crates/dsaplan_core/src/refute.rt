@@ -6,14 +6,13 @@ ghost use Rattle.command_words.specs.Options.{Word};
 ghost use Rattle.command_words.specs.Commands.{Refute, command_of};
 ghost use Rattle.dsaplan_core.specs.Prepares.{Prepares};
 
-use crate::open::{Content, Input, LOG_LIMIT, open_input, read_file};
+use crate::checked::{Checked, read_checked_log};
+use crate::open::{Input, open_input};
 use crate::prepared::Prepared;
 use crate::say::silent;
-use crate::status::{LogCause, Role, Status};
-use dsa_model::{Fail, NoMemory};
+use crate::status::Status;
+use dsa_model::NoMemory;
 use dsa_outside::Files;
-use log_check::check;
-use log_text::read_log;
 use std::alloc::Global;
 
 /// Checks the log in the log's file against the instance of the input.
@@ -34,21 +33,11 @@ pub(crate) fn refute<'a, F: Files>(
         Input::Table(table) => table,
         Input::Missing(status) => return silent(alloc, status),
     };
-    let bytes = match read_file(files, log, LOG_LIMIT, Role::Log)? {
-        Content::Bytes(bytes) => bytes,
-        Content::Unreadable(status) => return silent(alloc, status),
-    };
-    let raw = match read_log(alloc, bytes.as_slice()) {
-        Ok(raw) => raw,
-        Err(Fail::Fault(fault)) => return silent(alloc, Status::LogRefused(LogCause::Text(fault))),
-        Err(Fail::NoMemory) => return Err(NoMemory),
-    };
-    match check(alloc, table.instance(), raw) {
-        Ok(closed) => {
+    match read_checked_log(alloc, files, log, table.instance())? {
+        Checked::Accepted(closed) => {
             let capacity = closed.capacity();
             silent(alloc, Status::Accepted { capacity })
         }
-        Err(Fail::Fault(fault)) => silent(alloc, Status::LogRefused(LogCause::Check(fault))),
-        Err(Fail::NoMemory) => Err(NoMemory),
+        Checked::Unaccepted(status) => silent(alloc, status),
     }
 }

@@ -9,34 +9,53 @@ use std::test::Fail;
 
 const FIVE: &str = "id,lower,upper,size\nb1,0,3,4\nb2,3,9,4\nb3,0,9,4\nb4,9,21,4\nb5,0,21,4\n";
 
-const LAYOUT: &str =
+const FIVE_AT_12: &str =
     "id,lower,upper,size,offset\nb1,0,3,4,0\nb2,3,9,4,0\nb3,0,9,4,4\nb4,9,21,4,0\nb5,0,21,4,8\n";
 
-const LOG: &str = "dsalog 1 5 11\nover 0 0 1 : 0=0 2=0 4=0\nend 0\n";
+const FIVE_OVER_11: &str = "dsalog 1 5 11\nover 0 0 1 : 0=0 2=0 4=0\nend 0\n";
 
-fn words_of(alloc: Global, texts: &[&str]) -> Result<Vec<String>, AllocError> {
+/// The load is 4, and the least capacity is 5.
+const THREE: &str = "id,lower,upper,size,alignment\nA,0,1,1,2\nB,0,1,1,2\nC,0,1,2,1\n";
+
+const THREE_AT_5: &str =
+    "id,lower,upper,size,alignment,offset\nA,0,1,1,2,2\nB,0,1,1,2,4\nC,0,1,2,1,0\n";
+
+const THREE_OVER_3: &str = "dsalog 1 3 3\nover 0 0 1 : 0=0 1=0 2=0\nend 0\n";
+
+const THREE_OVER_4: &str = "dsalog 1 3 4
+over 0 3 1 : 2=3
+over 0 4 1 : 1=4
+case : 1=1 2=1 : 1>0 2>1
+over 0 2 2 : 0=2 1=2
+case : 0=0 1=0 2=0 : 0>2 1~0 2>3
+end 4
+";
+
+/// Line 0 is cited by none.
+const THREE_OVER_4_WITH_WASTE: &str = "dsalog 1 3 4
+over 0 5 1 : 0=5
+over 0 3 1 : 2=3
+over 0 4 1 : 1=4
+case : 1=1 2=1 : 1>1 2>2
+over 0 2 2 : 0=2 1=2
+case : 0=0 1=0 2=0 : 0>3 1~0 2>4
+end 5
+";
+
+const THREE_REPORT: &str = "moment 0 load 4 height 5\nplace,size,id\n0,2,C\n2,1,A\n3,1,\n4,1,B\n";
+
+const MADE_IN_1000: &str = "buffers 2\npeak 2 65\nparts 1\nbound 65 1\nbest 66\nleast 66\n";
+
+const MADE_IN_0: &str = "buffers 2\npeak 2 65\nparts 1\nbound 65 1\nbest 66\nopen 65 66\n";
+
+const LEAST: &str = "least --input i --output o --log l";
+
+fn words_of(alloc: Global, line: &str) -> Result<Vec<String>, AllocError> {
     let mut words = Vec::new(alloc);
-    for text in texts {
-        words.push(String::from_str(alloc, text)?)?;
+    for word in line.split(' ') {
+        words.push(String::from_str(alloc, word)?)?;
     }
     Ok(words)
-}
-
-fn solve(alloc: Global, capacity: &str) -> Result<Vec<String>, AllocError> {
-    words_of(
-        alloc,
-        &[
-            "solve",
-            "--capacity",
-            capacity,
-            "--input",
-            "i",
-            "--output",
-            "o",
-            "--log",
-            "l",
-        ],
-    )
 }
 
 fn holds(bytes: Option<&[u8]>, text: Option<&str>) -> bool {
@@ -48,38 +67,69 @@ fn holds(bytes: Option<&[u8]>, text: Option<&str>) -> bool {
 }
 
 #[test]
-fn solve_writes_a_layout_or_a_log(rt: HostRuntime) -> Result<(), Fail> {
+fn what_is_decided_is_written(rt: HostRuntime) -> Result<(), Fail> {
     let alloc = rt.alloc();
     let cases = [
         (
-            "12",
+            "solve --capacity 12 --input i --output o --log l",
+            FIVE,
             Status::Feasible { capacity: 12 },
             "feasible 12\n",
-            Some(LAYOUT),
+            Some(FIVE_AT_12),
             None,
         ),
         (
-            "11",
+            "solve --capacity 11 --input i --output o --log l",
+            FIVE,
             Status::Infeasible { capacity: 11 },
             "infeasible 11\n",
             None,
-            Some(LOG),
+            Some(FIVE_OVER_11),
         ),
         (
-            "x",
+            "solve --capacity x --input i --output o --log l",
+            FIVE,
             Status::Usage(UsageFault::BadValue { word: 1 }),
             "usage bad value 1\n",
             None,
             None,
         ),
+        (
+            LEAST,
+            FIVE,
+            Status::Least { capacity: 12 },
+            "least 12\n",
+            Some(FIVE_AT_12),
+            Some(FIVE_OVER_11),
+        ),
+        (
+            "least --input i --output o --log l --steps 0",
+            THREE,
+            Status::Open { low: 4, high: 5 },
+            "open 4 5\n",
+            Some(THREE_AT_5),
+            Some(THREE_OVER_3),
+        ),
+        (
+            "trim --input i --log waste --output o",
+            THREE,
+            Status::Trimmed {
+                before: 6,
+                after: 5,
+            },
+            "trimmed 6 5\n",
+            Some(THREE_OVER_4),
+            None,
+        ),
     ];
-    for (capacity, status, line, output, log) in cases {
+    for (line, input, status, printed, output, log) in cases {
         let mut files = SoundFiles::new(alloc);
-        files.insert("i", FIVE.as_bytes())?;
+        files.insert("i", input.as_bytes())?;
+        files.insert("waste", THREE_OVER_4_WITH_WASTE.as_bytes())?;
         let mut out = SoundSink::new(alloc);
-        let words = solve(alloc, capacity)?;
+        let words = words_of(alloc, line)?;
         assert_eq!(rt; run(alloc, words.as_slice(), &mut files, &mut out), status);
-        assert!(rt; out.content() == line.as_bytes());
+        assert!(rt; out.content() == printed.as_bytes());
         assert!(rt; holds(files.get("o"), output));
         assert!(rt; holds(files.get("l"), log));
     }
@@ -94,59 +144,70 @@ fn what_is_read_is_judged(rt: HostRuntime) -> Result<(), Fail> {
         second: 4,
         moment: 0,
     };
-    let cases: [(&[&str], Status, &str); 5] = [
+    let cases = [
         (
-            &[
-                "verify",
-                "--capacity",
-                "12",
-                "--input",
-                "i",
-                "--layout",
-                "right",
-            ],
+            "verify --capacity 12 --input five --layout right",
             Status::Right,
             "right\n",
         ),
         (
-            &[
-                "verify",
-                "--capacity",
-                "12",
-                "--input",
-                "i",
-                "--layout",
-                "wrong",
-            ],
+            "verify --capacity 12 --input five --layout wrong",
             Status::Wrong(WrongCause::Layout(overlap)),
             "wrong overlap 0 4 0\n",
         ),
         (
-            &["refute", "--input", "i", "--log", "log"],
+            "refute --input five --log log",
             Status::Accepted { capacity: 11 },
             "accepted 11\n",
         ),
         (
-            &["refute", "--input", "i", "--log", "i"],
+            "refute --input five --log five",
             Status::Usage(UsageFault::SameName),
             "usage same name\n",
         ),
         (
-            &["refute", "--input", "i", "--log", "right"],
+            "refute --input five --log right",
             Status::LogRefused(LogCause::Text(TextFault::NotLog)),
             "refused not a log\n",
         ),
+        (
+            "report --input three --layout placed",
+            Status::Shown,
+            THREE_REPORT,
+        ),
+        (
+            "report --input five --layout wrong",
+            Status::Wrong(WrongCause::Layout(overlap)),
+            "wrong overlap 0 4 0\n",
+        ),
+        (
+            "trial --seed 1 --count 2 --steps 1000",
+            Status::Shown,
+            MADE_IN_1000,
+        ),
+        (
+            "trial --seed 1 --count 2 --steps 0",
+            Status::Shown,
+            MADE_IN_0,
+        ),
+        (
+            "trial --seed 1 --count 513 --steps 1000",
+            Status::TooMany { count: 513 },
+            "too many 513\n",
+        ),
     ];
-    for (words, status, line) in cases {
+    for (line, status, printed) in cases {
         let mut files = SoundFiles::new(alloc);
-        files.insert("i", FIVE.as_bytes())?;
-        files.insert("right", LAYOUT.as_bytes())?;
+        files.insert("five", FIVE.as_bytes())?;
+        files.insert("right", FIVE_AT_12.as_bytes())?;
         files.insert("wrong", b"id,offset\nb1,0\nb2,0\nb3,4\nb4,0\nb5,3\n")?;
-        files.insert("log", LOG.as_bytes())?;
+        files.insert("log", FIVE_OVER_11.as_bytes())?;
+        files.insert("three", THREE.as_bytes())?;
+        files.insert("placed", THREE_AT_5.as_bytes())?;
         let mut out = SoundSink::new(alloc);
-        let words = words_of(alloc, words)?;
+        let words = words_of(alloc, line)?;
         assert_eq!(rt; run(alloc, words.as_slice(), &mut files, &mut out), status);
-        assert!(rt; out.content() == line.as_bytes());
+        assert!(rt; out.content() == printed.as_bytes());
     }
     Ok(())
 }
@@ -156,31 +217,81 @@ fn faults_outside_are_told(rt: HostRuntime) -> Result<(), Fail> {
     let alloc = rt.alloc();
     let cases = [
         (
+            LEAST,
             0,
             9,
             Status::ReadFault(Role::Input),
             "unread --input\n",
             None,
+            None,
         ),
         (
+            LEAST,
             1,
             9,
             Status::WriteFault(Role::Output),
             "unwritten --output\n",
             None,
+            None,
         ),
-        (9, 0, Status::PrintFault, "", Some(LAYOUT)),
-        (0, 0, Status::PrintFault, "", None),
+        (
+            LEAST,
+            2,
+            9,
+            Status::WriteFault(Role::Log),
+            "unwritten --log\n",
+            Some(FIVE_AT_12),
+            None,
+        ),
+        (
+            LEAST,
+            9,
+            0,
+            Status::PrintFault,
+            "",
+            Some(FIVE_AT_12),
+            Some(FIVE_OVER_11),
+        ),
+        (LEAST, 0, 0, Status::PrintFault, "", None, None),
+        (
+            "refute --input i --log log",
+            1,
+            9,
+            Status::ReadFault(Role::Log),
+            "unread --log\n",
+            None,
+            None,
+        ),
+        (
+            "trim --input i --log log --output o",
+            2,
+            9,
+            Status::WriteFault(Role::Output),
+            "unwritten --output\n",
+            None,
+            None,
+        ),
+        (
+            "verify --capacity 12 --input i --layout right",
+            1,
+            9,
+            Status::ReadFault(Role::Layout),
+            "unread --layout\n",
+            None,
+            None,
+        ),
     ];
-    for (failing_call, failing_put, status, line, output) in cases {
+    for (line, failing_call, failing_put, status, printed, output, log) in cases {
         let mut files = MemoryFiles::new(alloc, vec![in alloc; failing_call]?);
         files.insert("i", FIVE.as_bytes())?;
+        files.insert("log", FIVE_OVER_11.as_bytes())?;
+        files.insert("right", FIVE_AT_12.as_bytes())?;
         let mut out = MemorySink::new(alloc, vec![in alloc; failing_put]?);
-        let words = solve(alloc, "12")?;
+        let words = words_of(alloc, line)?;
         assert_eq!(rt; run(alloc, words.as_slice(), &mut files, &mut out), status);
-        assert!(rt; out.content() == line.as_bytes());
+        assert!(rt; out.content() == printed.as_bytes());
         assert!(rt; holds(files.get("o"), output));
-        assert!(rt; holds(files.get("l"), None));
+        assert!(rt; holds(files.get("l"), log));
     }
     Ok(())
 }

@@ -6,12 +6,12 @@ ghost use Rattle.command_words.specs.Options.{Word};
 ghost use Rattle.command_words.specs.Commands.{Verify, command_of};
 ghost use Rattle.dsaplan_core.specs.Prepares.{Prepares};
 
-use crate::open::{Content, Input, TABLE_LIMIT, open_input, read_file};
+use crate::judged::{Judged, read_judged_layout};
+use crate::open::{Input, open_input};
 use crate::prepared::Prepared;
 use crate::say::silent;
-use crate::status::{Role, Status, WrongCause};
-use csv_instance::read_offsets;
-use dsa_model::{Fail, NoMemory, judge};
+use crate::status::Status;
+use dsa_model::NoMemory;
 use dsa_outside::Files;
 use std::alloc::Global;
 
@@ -34,17 +34,8 @@ pub(crate) fn verify<'a, F: Files>(
         Input::Table(table) => table,
         Input::Missing(status) => return silent(alloc, status),
     };
-    let bytes = match read_file(files, layout, TABLE_LIMIT, Role::Layout)? {
-        Content::Bytes(bytes) => bytes,
-        Content::Unreadable(status) => return silent(alloc, status),
-    };
-    let offsets = match read_offsets(alloc, &table, bytes.as_slice()) {
-        Ok(offsets) => offsets,
-        Err(Fail::Fault(fault)) => return silent(alloc, Status::Wrong(WrongCause::Offsets(fault))),
-        Err(Fail::NoMemory) => return Err(NoMemory),
-    };
-    match judge(table.instance(), capacity, offsets.as_slice()) {
-        Ok(()) => silent(alloc, Status::Right),
-        Err(fault) => silent(alloc, Status::Wrong(WrongCause::Layout(fault))),
+    match read_judged_layout(alloc, files, layout, &table, capacity)? {
+        Judged::Layout(_) => silent(alloc, Status::Right),
+        Judged::NoLayout(status) => silent(alloc, status),
     }
 }
