@@ -1,11 +1,13 @@
 -- Worked lines: how low an Over line may be, lowered claims, and cites of other buffers.
-use Rattle.std.proofs.Common.{◌≡◌, ℕ, inl, inr, [], ◌∷◌, map, List, Some, None, refl, lit≤, arith}
+use Rattle.std.proofs.Common.{◌≡◌, ℕ, false, true, inl, inr, [], ◌∷◌, map, List, Some, None, refl, lit≤, arith}
 use Rattle.dsa_terms.specs.Buffers.{Buffer, Instance, is_live, buffer, have_same_moments, some_before}
 use Rattle.dsa_terms.specs.Claims.{Claim, up}
 use Rattle.dsa_terms.specs.Logs.{ByLine, Below, Twin, Cases, Over, Line, ends_below, is_stacked, is_twin, rounded, rounding}
 use Rattle.conflicts.specs.Covering.{IsCoveringLine}
-use Rattle.conflicts.specs.Eased.{cut, eased_cites, eased_over, from_height, least_height, lowered, own_cite, reach}
+use Rattle.conflicts.specs.Eased.{IsLower, IsLowerCases, IsOwnOf, cut, eased_over, from_height, least_height, lowered, reach}
 use Rattle.conflicts.specs.Easing.{IsOfKind}
+use Rattle.conflicts.specs.LowTables.{AreLevels, IsLeastEnd, end_of}
+use Rattle.conflicts.specs.Walks.{IsWalk}
 
 abbrev plain : ℕ → ℕ → ℕ → ℕ → Buffer
 plain lower upper size alignment = record {
@@ -76,18 +78,50 @@ unfolding lowered up buffer
 lowered_by_ones = refl
 
 -- ---- cites of other buffers
-whole_twin : own_cite four ((0, 0) ∷ (1, 0) ∷ (2, 0) ∷ []) (1, 0) ≡ Some (Twin 0)
-unfolding own_cite ends_below is_twin have_same_moments some_before is_live up buffer
-whole_twin = refl
+whole_twin : IsOwnOf four ((0, 0) ∷ (1, 0) ∷ (2, 0) ∷ []) (1, 0) (Some (Twin 0))
+unfolding is_twin have_same_moments some_before is_live up buffer
+whole_twin = ((0, 0), inl refl, refl, refl)
 
--- below before twin
-below_first : own_cite four ((0, 0) ∷ (1, 2) ∷ []) (1, 2) ≡ Some (Below 0)
-unfolding own_cite ends_below is_twin have_same_moments some_before is_live up buffer
-below_first = refl
+not_without_twin : IsOwnOf four ((0, 0) ∷ (1, 0) ∷ (2, 0) ∷ []) (1, 0) None → ⊥
+unfolding is_twin have_same_moments some_before is_live up buffer
+not_without_twin h = h.twin (0, 0) (inl refl) refl
 
-none_own : own_cite four ((1, 1) ∷ (2, 1) ∷ []) (2, 1) ≡ None
-unfolding own_cite ends_below is_twin have_same_moments some_before is_live up buffer
-none_own = refl
+below_stands : IsOwnOf four ((0, 0) ∷ (1, 2) ∷ []) (1, 2) (Some (Below 0))
+unfolding ends_below up buffer
+below_stands = ((0, 0), inl refl, refl, refl)
+
+none_own : IsOwnOf four ((1, 1) ∷ (2, 1) ∷ []) (2, 1) None
+unfolding ends_below is_twin have_same_moments some_before is_live up buffer
+none_own = record {
+  below = λ f i t. elim i [
+    | inl q ↦ (let k = rw q at t in cc)
+    | inr j ↦ elim j [ inl q ↦ (let k = rw q at t in cc) | inr n ↦ absurd n ]
+  ];
+  twin = λ f i t. elim i [
+    | inl q ↦ (let k = rw q at t in cc)
+    | inr j ↦ elim j [ inl q ↦ (let k = rw q at t in cc) | inr n ↦ absurd n ]
+  ];
+}
+
+-- ---- tables of lows
+-- the lows of the buffers 1 and 2 are 2 and 1
+two_levels : AreLevels four ((1, 1) ∷ (2, 1) ∷ []) (0 ∷ 3 ∷ 2 ∷ 0 ∷ [])
+unfolding up buffer
+two_levels = refl
+
+end_from_low : end_of four (1, 1) ≡ 3
+unfolding end_of up buffer
+end_from_low = refl
+
+lowest_end : IsLeastEnd four ((1, 3) ∷ (2, 1) ∷ []) 2
+unfolding end_of up buffer
+lowest_end = record {
+  is_in = inr (inl refl);
+  least = λ f i. elim i [
+    | inl q ↦ rw q (lit≤ {m = 3} {n = 5} tt)
+    | inr j ↦ elim j [ inl q ↦ rw q (lit≤ {m = 3} {n = 3} tt) | inr n ↦ absurd n ]
+  ];
+}
 
 -- ---- Cases lines
 lower_bounds : map (lowered four) ((1, 2) ∷ (2, 1) ∷ []) ≡ (1, 1) ∷ (2, 1) ∷ []
@@ -98,14 +132,24 @@ lower_bounds = refl
 cut_bounds : map (cut (0 ∷ 3 ∷ 8 ∷ [])) ((1, 5) ∷ (2, 7) ∷ []) ≡ (1, 3) ∷ (2, 7) ∷ []
 cut_bounds = refl
 
-lines_stay : eased_cites four ((1, 1) ∷ (2, 1) ∷ []) (ByLine 0 ∷ ByLine 1 ∷ []) ≡ ByLine 0 ∷ ByLine 1 ∷ []
-unfolding own_cite ends_below is_twin have_same_moments some_before is_live up buffer
-lines_stay = refl
+-- without buffer 1, and with a lower bound
+some_lower : IsLower ((1, 2) ∷ (2, 7) ∷ []) ((2, 3) ∷ [])
+some_lower = record {
+  rises = (λ y i. absurd i, tt);
+  each = λ f i. elim i [
+    | inl q ↦ ((2, 7), inr (inl refl), rw q (refl, lit≤ {m = 3} {n = 7} tt))
+    | inr j ↦ absurd j
+  ];
+}
 
--- a twin in place of a line, and a line where there is no other cite
-twin_for_line : eased_cites four ((0, 1) ∷ (1, 1) ∷ []) (ByLine 3 ∷ ByLine 5 ∷ []) ≡ ByLine 3 ∷ Twin 0 ∷ []
-unfolding own_cite ends_below is_twin have_same_moments some_before is_live up buffer
-twin_for_line = refl
+no_other_buffer : IsLower ((1, 2) ∷ []) ((2, 0) ∷ []) → ⊥
+no_other_buffer h = let q = h.each (2, 0) (inl refl) in elim q.1 [ inl k ↦ (let n = q.2.0 in cc) | inr j ↦ absurd j ]
+
+lower_line_is_cases : (l : Claim) → IsLowerCases four [] l (Over ((2, 3) ∷ []) 0 3 1) → ⊥
+lower_line_is_cases l h = let k = h.is in cc
+
+one_met : IsWalk four ((1, 1) ∷ (2, 1) ∷ []) (false ∷ true ∷ false ∷ false ∷ []) (1 ∷ [])
+one_met = record { count = refl; of_claim = λ k d lt. let q : k ≡ 0 = omega arith in rw q (inl refl) }
 
 -- ---- kinds
 over_of_kind : IsOfKind (Over ((2, 9) ∷ []) 0 9 1) (Over ((2, 3) ∷ []) 0 3 1)

@@ -9,8 +9,9 @@ use Rattle.dsa_terms.proofs.Lists.{into_map}
 use Rattle.dsa_terms.proofs.Numbers.{multiple_steps, next_at_or_above, next_is_below, next_is_least, next_is_multiple}
 use Rattle.canonical_order.specs.Stands.{Stands}
 use Rattle.canonical_order.proofs.Entries.{sound_buffer}
-use Rattle.conflicts.specs.Eased.{IsNoHigher, lowered}
+use Rattle.conflicts.specs.Eased.{IsLower, IsNoHigher, lowered}
 use Rattle.conflicts.proofs.ListSteps.{zip_mapped}
+use Rattle.conflicts.proofs.LowerClaims.{zip_lower}
 
 -- ---- the least bound of an up
 lower_bound : (bound a : ℕ) → 1 ≤ a → next_multiple_of bound a + 1 - a ≤ bound
@@ -91,13 +92,16 @@ module _ (I : Instance) (l : Claim) (s : Stands I l) where
   aligned : (e : Entry) → IsIn e l → 1 ≤ (buffer I e.0).alignment
   aligned e i = (sound_buffer I e.0 s.buffers (s.claim.in_range e i)).sound.1
 
-  pub lowered_lower : AllZip IsNoHigher l (map (lowered I) l)
+  lowered_lower : AllZip IsNoHigher l (map (lowered I) l)
   lowered_lower = go l aligned
     where
       go : (xs : Claim) → ((e : Entry) → IsIn e xs → 1 ≤ (buffer I e.0).alignment) →
           AllZip IsNoHigher xs (map (lowered I) xs)
       go [] h = tt
       go (x ∷ xs) h = ((named I x, bound_lowered I x (h x (inl refl))), go xs (λ e i. h e (inr i)))
+
+  pub lowered_is_lower : IsLower l (map (lowered I) l)
+  lowered_is_lower = zip_lower l (map (lowered I) l) s.claim.rises lowered_lower
 
   -- every cite stays legal
   pub lowered_legal : (earlier : List Line) (cites : List Cite) → AllZip (IsLegalCite I earlier l) l cites →

@@ -1,9 +1,8 @@
 -- Lists whose items go together, and lists that are made item by item.
-use Rattle.std.proofs.Common.{◌≡◌, ℕ, zero, suc, ◌+◌, ◌<◌, ◌≤◌, List, [], ◌∷◌, ◌++◌, drop, length, map, slice_index_or, zip, inl, inr, sym, refl, ap, ◌∙◌, arith}
+use Rattle.std.proofs.Common.{◌≡◌, ℕ, zero, suc, ◌+◌, ◌<◌, ◌≤◌, Bool, List, [], ◌∷◌, ◌++◌, drop, filter, length, map, slice_index_or, inl, inr, sym, refl, ap, subst, ◌∙◌, arith}
 use Rattle.std.proofs.lemmas.List.{append-nil, append_assoc, drop_all}
 use Rattle.std.specs.List.{All, AllZip}
 use Rattle.dsa_terms.specs.Claims.{Claim, Entry, IsIn}
-use Rattle.dsa_terms.specs.Logs.{Cite}
 
 -- ---- one item after another
 pub mapped_next : {A B : Type 0} (f : A → B) (l : List A) (n : ℕ) (x : A) (y : B) (items after : List B) →
@@ -16,32 +15,6 @@ pub mapped_all : {A B : Type 0} (f : A → B) (l : List A) (n : ℕ) (items : Li
     items ++ map f (drop n l) ≡ map f l → items ≡ map f l
 mapped_all f l n items le h = sym (append-nil items) ∙ rw (drop_all n l le) at h
 
-pub zip_at : {A : Type 0} (f : A → Cite) (l : Claim) (cites : List A) (n : ℕ) (d : A) →
-    n < length l → n < length cites →
-    drop n (zip l (map f cites)) ≡ (slice_index_or l n (0, 0), f (slice_index_or cites n d))
-    ∷ drop (n + 1) (zip l (map f cites))
-zip_at {A = A} f l cites n d lt lu = rw (add_one n) (go l cites n lt lu)
-  where
-    add_one : (n : ℕ) → n + 1 ≡ suc n
-    add_one n = omega arith
-
-    none : {X : Type 0} (xs : List X) → xs ≡ drop 0 xs
-    none [] = refl
-    none (x ∷ xs) = refl
-
-    go : (l : Claim) (cites : List A) (n : ℕ) → n < length l → n < length cites →
-        drop n (zip l (map f cites)) ≡ (slice_index_or l n (0, 0), f (slice_index_or cites n d))
-        ∷ drop (suc n) (zip l (map f cites))
-    go [] cites n lt lu = absurd (omega arith)
-    go (x ∷ xs) [] n lt lu = absurd (omega arith)
-    go (x ∷ xs) (y ∷ ys) zero lt lu = ap (λ (ps : List (Entry × Cite)). (x, f y) ∷ ps) (none (zip xs (map f ys)))
-    go (x ∷ xs) (y ∷ ys) (suc n) lt lu = go xs ys n (omega arith) (omega arith)
-
-pub zip_within : {A : Type 0} (f : A → Cite) (l : Claim) (cites : List A) → length (zip l (map f cites)) ≤ length cites
-zip_within f [] cites = omega arith
-zip_within f (x ∷ xs) [] = omega arith
-zip_within f (x ∷ xs) (y ∷ ys) = let k = zip_within f xs ys in omega arith
-
 pub map_next : {A B : Type 0} (f : A → B) (xs after : List A) (x : A) → after ≡ xs ++ x ∷ [] →
     map f after ≡ map f xs ++ f x ∷ []
 map_next {A = A} f xs after x q = rw q (go xs)
@@ -51,13 +24,6 @@ map_next {A = A} f xs after x q = rw q (go xs)
     go (y ∷ ys) = rw (go ys) refl
 
 -- ---- what holds place by place
-pub zip_weaker : {A B : Type 0} (R S : A → B → Type 0) (xs : List A) (ys : List B) → ((x : A) (y : B) → R x y → S x y) →
-    AllZip R xs ys → AllZip S xs ys
-zip_weaker R S [] [] h z = tt
-zip_weaker R S [] (y ∷ ys) h z = absurd z
-zip_weaker R S (x ∷ xs) [] h z = absurd z
-zip_weaker R S (x ∷ xs) (y ∷ ys) h z = (h x y z.0, zip_weaker R S xs ys h z.1)
-
 pub zip_second : {A B : Type 0} (R : A → B → Type 0) (P : B → Type 0) (xs : List A) (ys : List B) →
     ((x : A) (y : B) → R x y → P y) → AllZip R xs ys → All P ys
 zip_second R P [] [] h z k d lt = absurd (omega arith)
@@ -66,19 +32,7 @@ zip_second R P (x ∷ xs) [] h z k d lt = absurd z
 zip_second R P (x ∷ xs) (y ∷ ys) h z zero d lt = h x y z.0
 zip_second R P (x ∷ xs) (y ∷ ys) h z (suc k) d lt = zip_second R P xs ys h z.1 k d (omega arith)
 
--- what holds of the pairs, and of each second item, carries over where the second items change
-pub zip_changed : {A B : Type 0} (f : A × B → B) (P : A → B → Type 0) (Q : B → Type 0) (R : A → B → Type 0)
-    (xs : List A) (ys : List B) → ((x : A) (y : B) → IsIn x xs → P x y → Q y → R x (f (x, y))) →
-    AllZip P xs ys → All Q ys → AllZip R xs (map f (zip xs ys))
-zip_changed f P Q R [] [] h z a = tt
-zip_changed f P Q R [] (y ∷ ys) h z a = absurd z
-zip_changed f P Q R (x ∷ xs) [] h z a = absurd z
-zip_changed f P Q R (x ∷ xs) (y ∷ ys) h z a = (
-  h x y (inl refl) z.0 (a 0 y (omega arith)),
-  zip_changed f P Q R xs ys (λ x y i. h x y (inr i)) z.1 (λ j d m. a (suc j) d (omega arith)),
-)
-
--- and where the first items change
+-- what holds of the pairs carries over where the first items change
 pub zip_mapped : {A B : Type 0} (g : A → A) (P R : A → B → Type 0) (xs : List A) (ys : List B) →
     ((x : A) (y : B) → IsIn x xs → P x y → R (g x) y) → AllZip P xs ys → AllZip R (map g xs) ys
 zip_mapped g P R [] [] h z = tt
@@ -116,3 +70,31 @@ mapped_place {A = A} f xs n d lt = rw (add_one n) (go xs n lt)
 pub mapped_length : {A B : Type 0} (f : A → B) (xs : List A) → length (map f xs) ≡ length xs
 mapped_length f [] = refl
 mapped_length f (x ∷ xs) = ap suc (mapped_length f xs)
+
+-- ---- lists that grow beside the entries of a claim
+-- with whatever belongs to the entries that are left, the list belongs to the claim
+abbrev pub Grows : {B : Type 0} → (Entry → B → Type 0) → Claim → ℕ → List B → Type 0
+Grows {B = B} R l n ys = (rest : List B) → AllZip R (drop n l) rest → AllZip R l (ys ++ rest)
+
+pub grows_next : {A B : Type 0} (R : Entry → B → Type 0) (f : A → B) (l : Claim) (n : ℕ) (e : Entry)
+    (items after : List A) (y : A) →
+    drop n l ≡ e ∷ drop (n + 1) l → after ≡ items ++ y ∷ [] → R e (f y) → Grows R l n (map f items) →
+    Grows R l (n + 1) (map f after)
+grows_next R f l n e items after y at q r h rest z =
+    rw (map_next f items after y q, append_assoc (map f items) (f y ∷ []) rest) (h (f y ∷ rest) (rw at (r, z)))
+
+pub grows_all : {B : Type 0} (R : Entry → B → Type 0) (l : Claim) (n : ℕ) (ys : List B) → length l ≤ n →
+    Grows R l n ys → AllZip R l ys
+grows_all R l n ys le h = subst (λ zs. AllZip R l zs) (append-nil ys) (h [] (rw (drop_all n l le) tt))
+
+pub zip_entry : {A B : Type 0} (R : Entry → B → Type 0) (f : A → B) (l : Claim) (xs : List A) (n : ℕ) (d : A) →
+    n < length l → n < length xs → AllZip R l (map f xs) → R (slice_index_or l n (0, 0)) (f (slice_index_or xs n d))
+zip_entry R f [] xs n d lt lu z = absurd (omega arith)
+zip_entry R f (x ∷ xs) [] n d lt lu z = absurd (omega arith)
+zip_entry R f (x ∷ xs) (y ∷ ys) zero d lt lu z = z.0
+zip_entry R f (x ∷ xs) (y ∷ ys) (suc n) d lt lu z = zip_entry R f xs ys n d (omega arith) (omega arith) z.1
+
+-- ---- the entries that pass a test
+pub filter_all : (p : Entry → Bool) (l : Claim) (n : ℕ) (items : Claim) → length l ≤ n →
+    items ++ filter p (drop n l) ≡ filter p l → items ≡ filter p l
+filter_all p l n items le h = sym (append-nil items) ∙ rw (drop_all n l le) at h

@@ -1,12 +1,11 @@
 -- Eased lines.
-use Rattle.std.specs.Prelude.{◌≡◌, ℕ, ◌+◌, ◌-◌, ◌≤◌, List, map, min, slice_index_or, zip, sum_by, Option, option_map}
+use Rattle.std.specs.Prelude.{◌≡◌, ◌≢◌, ℕ, ◌+◌, ◌-◌, ◌≤◌, true, List, [], map, min, slice_index_or, sum_by, Option, MatchOption}
 use Rattle.std.specs.Int.{next_multiple_of}
 use Rattle.std.specs.List.{AllZip}
-use Rattle.std.specs.Option.{option_or, unwrap_or}
 use Rattle.dsa_terms.specs.Buffers.{Instance, buffer}
-use Rattle.dsa_terms.specs.Claims.{Claim, Entry, up}
-use Rattle.dsa_terms.specs.Logs.{Cite, Below, Twin, Line, Over, Cases, IsLegalCite, rounded, rounding, greatest, ends_below, is_twin}
-use Rattle.canonical_order.specs.Claims.{least_buffer}
+use Rattle.dsa_terms.specs.Claims.{Claim, Entry, IsIn, Rises, buffers_of, up}
+use Rattle.dsa_terms.specs.Lean.{CitesOwn}
+use Rattle.dsa_terms.specs.Logs.{Cite, Line, Over, Cases, IsLegalCite, rounded, rounding, greatest, ends_below, is_twin}
 use Rattle.refute_log.specs.Reasons.{stacked}
 
 -- ---- Over lines
@@ -43,21 +42,26 @@ cut needs e = (e.0, min (slice_index_or needs e.0 0) e.1)
 abbrev pub IsNoHigher : Entry → Entry → Type 0
 IsNoHigher e f = (f.0 ≡ e.0) × (f.1 ≤ e.1)
 
--- the cite of another buffer of the claim that is legal for the entry: below, or else twin
-unfoldable pub own_cite : Instance → Claim → Entry → Option Cite
-own_cite I l e = option_or (option_map Below (least_buffer (λ f. ends_below I f e) l))
-    (option_map Twin (least_buffer (λ f. is_twin I f e) l))
+-- k has some of the buffers of l, each with a bound that is no higher
+pub record IsLower (l k : Claim) : Type 0 where
+  pub rises : Rises (buffers_of k)
+  pub each : (f : Entry) → IsIn f k → (e : Entry) × IsIn e l × IsNoHigher e f
 
--- the cite of another buffer wherever there is one, and else the given cite
-abbrev pub eased_cite : Instance → Claim → Entry × Cite → Cite
-eased_cite I l p = unwrap_or (own_cite I l p.0) p.1
+-- no buffer of the claim ends below the entry, and no twin stands before it
+pub record HasNoOwn (I : Instance) (l : Claim) (e : Entry) : Type 0 where
+  pub below : (f : Entry) → IsIn f l → ends_below I f e ≡ true → ⊥
+  pub twin : (f : Entry) → IsIn f l → is_twin I f e ≡ true → ⊥
 
--- the cites of a claim, each eased
-abbrev pub eased_cites : Instance → Claim → List Cite → List Cite
-eased_cites I l cites = map (eased_cite I l) (zip l cites)
+-- the answer is a legal cite of another buffer for the entry, below or twin, and none only where there is none
+abbrev pub IsOwnOf : Instance → Claim → Entry → Option Cite → Type 0
+IsOwnOf I l e answer = MatchOption answer (HasNoOwn I l e) (IsLegalCite I [] l e)
 
--- the line is a Cases line of the claim l with no higher bounds, in which the cites are legal, and has them eased
-abbrev pub IsLowerCases : Instance → List Line → Claim → List Cite → Line → Type 0
-IsLowerCases I earlier l cites line =
-    (k : Claim) × (line ≡ Cases k (eased_cites I k cites)) × AllZip IsNoHigher l k
-    × AllZip (IsLegalCite I earlier k) k cites
+-- a legal Cases line of some of the buffers of l with no higher bounds, which cites other buffers wherever it can
+pub record IsLowerCases (I : Instance) (earlier : List Line) (l : Claim) (line : Line) : Type 0 where
+  pub claim : Claim
+  pub cites : List Cite
+  pub is : line ≡ Cases claim cites
+  pub some : claim ≢ []
+  pub lower : IsLower l claim
+  pub legal : AllZip (IsLegalCite I earlier claim) claim cites
+  pub own : AllZip (CitesOwn I claim) claim cites

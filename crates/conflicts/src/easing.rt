@@ -1,6 +1,6 @@
 //! Lines made to cover more.
 
-ghost use Rattle.std.specs.Prelude.{◌≡◌, ◌^◌, ◌≤◌, ℕ, IfOk, length, map};
+ghost use Rattle.std.specs.Prelude.{◌≡◌, ◌≢◌, ◌^◌, ◌<◌, ◌≤◌, ℕ, [], IfOk, IfSome, length, map};
 ghost use Rattle.std.specs.List.{AllZip};
 ghost use Rattle.dsa_terms.specs.Claims.{Covers};
 ghost use Rattle.dsa_terms.specs.Lean.{IsLeanLine};
@@ -9,72 +9,125 @@ ghost use Rattle.canonical_order.specs.Claims.{HasBuffer, IsBoundedBy};
 ghost use Rattle.canonical_order.specs.Stands.{Stands};
 ghost use Rattle.refute_log.specs.Lines.{IsWithin, cite_value, line_value};
 ghost use Rattle.refute_log.specs.Logs.{Belongs};
-ghost use Rattle.conflicts.specs.Eased.{IsLowerCases, IsNoHigher};
+ghost use Rattle.conflicts.specs.Eased.{IsLowerCases};
 ghost use Rattle.conflicts.specs.Easing.{IsOfKind};
 
 use crate::cites::eased_cites;
+use crate::low_table::LowTable;
 use crate::lowering::lowered;
 use crate::needs::{are_legal, needed};
+use crate::parts::part_of;
 use crate::stack::ease_over;
-use canonical_order::{Claim, View};
+use canonical_order::Claim;
 use dsa_model::{Instance, NoMemory};
-use refute_log::{Cite, Cites, Line, Log};
+use refute_log::{Cite, Line, Log};
 use std::alloc::Global;
 
-/// The claim with bounds as low as its cites are seen to allow: first the least ones that leave
-/// each low, and then what the cites need, where they stay legal.
-fn lowest(
+/// The Cases line of the claim with cites of other buffers wherever they are legal, and none where
+/// another cite is not legal.
+fn legal_line(
+    alloc: Global,
+    instance: &Instance,
+    log: &Log,
+    claim: Claim,
+    cites: &[Cite],
+) -> Result<Option<Line>, NoMemory>
+    requires stands { Stands instance.now claim }
+    requires some { 0 < length claim }
+    requires bounds { IsBoundedBy (2 ^ 60) claim }
+    requires each { length cites.now ≡ length claim }
+    ensures { IfOk result (λ answer. IfSome answer (λ line.
+        IsLowerCases instance.now log.now.lines claim (line_value line))) }
+{
+    let lows = LowTable::of(alloc, instance, &claim)?;
+    let eased = eased_cites(alloc, &lows, cites)?;
+    let legal = are_legal(log, &lows, eased.as_slice());
+    drop(lows);
+    if legal {
+        Ok(Some(Line::Cases {
+            claim,
+            cites: eased,
+        }))
+    } else {
+        Ok(None)
+    }
+}
+
+/// The line of a part of the claim, with the bounds that its cites need, or else with those that it
+/// has. None where the part turns out to need more.
+fn eased_part(
     alloc: Global,
     instance: &Instance,
     log: &Log,
     claim: &Claim,
     cites: &[Cite],
-) -> Result<Claim, NoMemory>
+) -> Result<Option<Line>, NoMemory>
     requires stands { Stands instance.now claim.now }
+    requires some { 0 < length claim.now }
     requires bounds { IsBoundedBy (2 ^ 60) claim.now }
-    requires legal { let l = claim.now in
-        AllZip (IsLegalCite instance.now log.now.lines l) l (map cite_value cites.now) }
-    ensures lower { IfOk result (λ made. AllZip IsNoHigher claim.now made) }
-    ensures legal { IfOk result (λ made.
-        AllZip (IsLegalCite instance.now log.now.lines made) made (map cite_value cites.now)) }
+    requires each { length cites.now ≡ length claim.now }
+    ensures { IfOk result (λ answer. IfSome answer (λ line.
+        IsLowerCases instance.now log.now.lines claim.now (line_value line))) }
 {
-    let least = lowered(alloc, instance, claim)?;
-    let needed = needed(alloc, instance, log, &least, cites)?;
-    let view = View {
-        instance,
-        claim: &needed,
-    };
-    if are_legal(log, &view, cites) {
-        Ok(needed)
-    } else {
-        Ok(least)
+    let lows = LowTable::of(alloc, instance, claim)?;
+    let part = part_of(alloc, log, &lows, cites)?;
+    if part.claim.len() == 0 {
+        return Ok(None);
+    }
+    let lower = needed(alloc, instance, log, &part.claim, &part.cites)?;
+    match legal_line(alloc, instance, log, lower, &part.cites)? {
+        Some(line) => Ok(Some(line)),
+        None => legal_line(alloc, instance, log, part.claim, &part.cites),
     }
 }
 
-/// The Cases line of the claim with bounds as low as its cites are seen to allow, and with cites of
-/// other buffers wherever they are legal.
+/// The line of the whole claim, whose cites are legal.
+fn eased_whole(
+    alloc: Global,
+    instance: &Instance,
+    log: &Log,
+    claim: Claim,
+    cites: &[Cite],
+) -> Result<Line, NoMemory>
+    requires stands { Stands instance.now claim }
+    requires some { 0 < length claim }
+    requires legal { AllZip (IsLegalCite instance.now log.now.lines claim)
+        claim (map cite_value cites.now) }
+    ensures { IfOk result (λ line.
+        IsLowerCases instance.now log.now.lines claim (line_value line)) }
+{
+    let lows = LowTable::of(alloc, instance, &claim)?;
+    let eased = eased_cites(alloc, &lows, cites)?;
+    drop(lows);
+    Ok(Line::Cases {
+        claim,
+        cites: eased,
+    })
+}
+
+/// A Cases line of the claim or of a part of it with bounds as low as its cites are seen to allow,
+/// and with cites of other buffers wherever they are legal. First come the least bounds that leave
+/// each low.
 fn ease_cases(
     alloc: Global,
     instance: &Instance,
     log: &Log,
     claim: &Claim,
-    cites: &Cites,
+    cites: &[Cite],
 ) -> Result<Line, NoMemory>
     requires stands { Stands instance.now claim.now }
+    requires some { claim.now ≢ [] }
     requires bounds { IsBoundedBy (2 ^ 60) claim.now }
     requires legal { let l = claim.now in
         AllZip (IsLegalCite instance.now log.now.lines l) l (map cite_value cites.now) }
-    ensures { let I = instance.now in
-        IfOk result (λ line.
-        IsLowerCases I log.now.lines claim.now (map cite_value cites.now) (line_value line)) }
+    ensures { IfOk result (λ line.
+        IsLowerCases instance.now log.now.lines claim.now (line_value line)) }
 {
-    let claim = lowest(alloc, instance, log, claim, cites.as_slice())?;
-    let view = View {
-        instance,
-        claim: &claim,
-    };
-    let cites = eased_cites(alloc, &view, cites.as_slice())?;
-    Ok(Line::Cases { claim, cites })
+    let least = lowered(alloc, instance, claim)?;
+    match eased_part(alloc, instance, log, &least, cites)? {
+        Some(line) => Ok(line),
+        None => eased_whole(alloc, instance, log, least, cites),
+    }
 }
 
 /// A legal line whose claim covers the claim of the given line, which is legal after the log. So it
@@ -82,8 +135,8 @@ fn ease_cases(
 ///
 /// An Over line keeps just the buffers that it stacks, all with the height for their bound, and has
 /// the least height, in bytes, from which they reach above the log's capacity; its moment and its
-/// modulus stay. A Cases line keeps its buffers, with bounds that are lower or equal, and has a
-/// below cite or a twin cite wherever one is legal in its claim.
+/// modulus stay. A Cases line keeps a few of its buffers whose cites need no others, with bounds
+/// that are lower or equal, and has a below cite or a twin cite wherever one is legal in its claim.
 ///
 /// The log is of the instance, and the numbers of the line are within the limits of `Log::push`.
 pub fn ease(alloc: Global, instance: &Instance, log: &Log, line: Line) -> Result<Line, NoMemory>
@@ -102,6 +155,7 @@ pub fn ease(alloc: Global, instance: &Instance, log: &Log, line: Line) -> Result
         HasBuffer (claim_of (line_value line)) b) }
 {
     let _count = instance.len();
+    let _lines = log.len();
     match line {
         Line::Over {
             claim,
@@ -112,6 +166,8 @@ pub fn ease(alloc: Global, instance: &Instance, log: &Log, line: Line) -> Result
             let capacity = log.capacity();
             ease_over(alloc, instance, capacity, &claim, moment, height, modulus)
         }
-        Line::Cases { claim, cites } => ease_cases(alloc, instance, log, &claim, &cites),
+        Line::Cases { claim, cites } => {
+            ease_cases(alloc, instance, log, &claim, cites.as_slice())
+        }
     }
 }

@@ -4,8 +4,10 @@
 mod cites;
 mod easing;
 mod lemmas;
+mod low_table;
 mod lowering;
 mod needs;
+mod parts;
 mod stack;
 
 pub use easing::ease;

@@ -6,10 +6,12 @@ ghost use Rattle.dsa_terms.specs.Logs.{IsLegalCite};
 ghost use Rattle.canonical_order.specs.Claims.{HasBuffer, IsBoundedBy, entry_of};
 ghost use Rattle.canonical_order.specs.Stands.{Stands};
 ghost use Rattle.refute_log.specs.Lines.{cite_value};
-ghost use Rattle.conflicts.specs.Eased.{IsNoHigher, cut};
+ghost use Rattle.conflicts.specs.Eased.{IsLower, cut};
 
+use crate::cites::eased_cites;
+use crate::low_table::LowTable;
 use crate::lowering::least_bound;
-use canonical_order::{Claim, Lows, View, covers_child};
+use canonical_order::{Claim, Lows, covers_child};
 use dsa_model::{Instance, NoMemory};
 use prune_rules::{is_below, is_twin};
 use refute_log::{Cite, Log};
@@ -52,72 +54,86 @@ fn raise(needs: &mut [u64], b: u32, need: u64)
 
 /// Raises what a line needs that is cited for b: of b, where another buffer does not come to the
 /// line's bound by itself, and else of the other one, where what is needed of b does not lift it.
-fn raise_by_line(view: &View, b: u32, cited: &Claim, needs: &mut [u64])
-    requires b_in { HasBuffer view.now.claim.now b }
+fn raise_by_line(lows: &LowTable, b: u32, cited: &Claim, needs: &mut [u64])
+    requires b_in { HasBuffer lows.now.claim.now b }
     requires bounds { IsBoundedBy (2 ^ 60) cited.now }
-    requires each { length needs.old ≡ length view.now.instance.now }
+    requires each { length needs.old ≡ length lows.now.instance.now }
     ensures { length needs.new ≡ length needs.old }
 {
     for pair in cited.pairs() {
-        if view.is_free(pair.0) && view.low(pair.0) < pair.1 {
-            raise(needs, b, needed_first(view.instance, b, pair.0, pair.1));
+        if lows.is_free(pair.0) && lows.low(pair.0) < pair.1 {
+            raise(needs, b, needed_first(lows.instance, b, pair.0, pair.1));
         }
     }
     for pair in cited.pairs() {
-        if view.is_free(pair.0) {
-            if needs[b as usize] < needed_first(view.instance, b, pair.0, pair.1) {
+        if lows.is_free(pair.0) {
+            if needs[b as usize] < needed_first(lows.instance, b, pair.0, pair.1) {
                 raise(
                     needs,
                     pair.0,
-                    least_bound(view.instance.buffer(pair.0), pair.1),
+                    least_bound(lows.instance.buffer(pair.0), pair.1),
                 );
             }
         }
     }
 }
 
-/// Raises what the cite of b needs.
-fn raise_by_cite(log: &Log, view: &View, b: u32, cite: Cite, needs: &mut [u64])
-    requires b_in { HasBuffer view.now.claim.now b }
-    requires each { length needs.old ≡ length view.now.instance.now }
+/// Where the buffer starts if it is put as low as what is needed of it allows.
+fn least_start(lows: &LowTable, b: u32, needs: &[u64]) -> u64
+    requires b_in { HasBuffer lows.now.claim.now b }
+    requires each { length needs.now ≡ length lows.now.instance.now }
+    ensures { result ≤ 2 ^ 63 }
+{
+    let least = needs[b as usize].min(lows.low(b));
+    lows.instance.buffer(b).least_offset(least)
+}
+
+/// Raises what the cite of another buffer needs of b, where that one starts as low as it may.
+fn raise_by_other(lows: &LowTable, b: u32, cite: Cite, needs: &mut [u64])
+    requires b_in { HasBuffer lows.now.claim.now b }
+    requires each { length needs.old ≡ length lows.now.instance.now }
     ensures { length needs.new ≡ length needs.old }
 {
     match cite {
-        Cite::Line(k) => {
-            if k < log.len() {
-                raise_by_line(view, b, log.line(k).claim(), needs);
-            }
-        }
+        Cite::Line(_) => {}
         Cite::Below(c) => {
-            if view.is_free(c) {
-                raise(needs, b, view.low(c) + view.instance.buffer(c).size());
+            if lows.is_free(c) {
+                let start = least_start(lows, c, needs);
+                raise(needs, b, start + lows.instance.buffer(c).size());
             }
         }
         Cite::Twin(c) => {
-            if view.is_free(c) {
-                raise(needs, b, view.low(c));
+            if lows.is_free(c) {
+                let start = least_start(lows, c, needs);
+                raise(needs, b, start);
             }
         }
     }
 }
 
-/// How high each buffer of the instance has to start for all cites to stay legal: a guess, which is
-/// tested before it is taken.
-fn needs_of(alloc: Global, log: &Log, view: &View, cites: &[Cite]) -> Result<Vec<u64>, AllocError>
-    requires { length cites.now ≡ length view.now.claim.now }
-    ensures { IfOk result (λ needs. length needs.items ≡ length view.now.instance.now) }
+/// How high each buffer of the instance has to start for all cites to stay legal: first for those
+/// of lines, and then for those of other buffers. It is a guess, which is tested before it is used.
+fn needs_of(
+    alloc: Global,
+    log: &Log,
+    lows: &LowTable,
+    cites: &[Cite],
+) -> Result<Vec<u64>, AllocError>
+    requires { length cites.now ≡ length lows.now.claim.now }
+    ensures { IfOk result (λ needs. length needs.items ≡ length lows.now.instance.now) }
 {
-    let mut needs = vec![in alloc; 0; view.instance.len() as usize]?;
-    let claim = view.claim;
-    let pairs = claim.pairs();
+    let mut needs = vec![in alloc; 0; lows.instance.len() as usize]?;
+    let pairs = lows.claim.pairs();
     for place in 0..cites.len() {
-        raise_by_cite(
-            log,
-            view,
-            pairs[place].0,
-            cites[place],
-            needs.as_mut_slice(),
-        );
+        if let Cite::Line(k) = cites[place] {
+            if k < log.len() {
+                let cited = log.line(k).claim();
+                raise_by_line(lows, pairs[place].0, cited, needs.as_mut_slice());
+            }
+        }
+    }
+    for place in 0..cites.len() {
+        raise_by_other(lows, pairs[place].0, cites[place], needs.as_mut_slice());
     }
     Ok(needs)
 }
@@ -136,7 +152,7 @@ fn cut(alloc: Global, instance: &Instance, claim: &Claim, needs: &[u64]) -> Resu
     Claim::from_pairs(alloc, &pairs)
 }
 
-/// The claim with what its cites need of each buffer for its bound, where that is lower.
+/// The claim with what its cites, eased, need of each buffer for its bound, where that is lower.
 pub(crate) fn needed(
     alloc: Global,
     instance: &Instance,
@@ -145,48 +161,51 @@ pub(crate) fn needed(
     cites: &[Cite],
 ) -> Result<Claim, NoMemory>
     requires stands { Stands instance.now claim.now }
+    requires some { 0 < length claim.now }
     requires bounds { IsBoundedBy (2 ^ 60) claim.now }
     requires each { length cites.now ≡ length claim.now }
-    ensures { IfOk result (λ made. AllZip IsNoHigher claim.now made) }
+    ensures lower { IfOk result (λ made. IsLower claim.now made) }
+    ensures count { IfOk result (λ made. length made ≡ length claim.now) }
 {
-    let view = View { instance, claim };
-    let needs = needs_of(alloc, log, &view, cites)?;
+    let lows = LowTable::of(alloc, instance, claim)?;
+    let eased = eased_cites(alloc, &lows, cites)?;
+    let needs = needs_of(alloc, log, &lows, eased.as_slice())?;
     cut(alloc, instance, claim, &needs)
 }
 
 /// Whether the cite of b is legal.
-fn is_legal(log: &Log, view: &View, b: u32, cite: Cite) -> bool
-    requires b_in { HasBuffer view.now.claim.now b }
-    requires bounds { IsBoundedBy (2 ^ 60) view.now.claim.now }
-    ensures { let l = view.now.claim.now in
+fn is_legal(log: &Log, lows: &LowTable, b: u32, cite: Cite) -> bool
+    requires b_in { HasBuffer lows.now.claim.now b }
+    requires bounds { IsBoundedBy (2 ^ 60) lows.now.claim.now }
+    ensures { let l = lows.now.claim.now in
         IsTrue result →
-        IsLegalCite view.now.instance.now log.now.lines l (entry_of l b) (cite_value cite) }
+        IsLegalCite lows.now.instance.now log.now.lines l (entry_of l b) (cite_value cite) }
 {
     match cite {
         Cite::Line(k) => {
             if k < log.len() {
-                covers_child(log.line(k).claim(), view, b)
+                covers_child(log.line(k).claim(), lows, b)
             } else {
                 false
             }
         }
-        Cite::Below(c) => is_below(view, b, c),
-        Cite::Twin(c) => is_twin(view, b, c),
+        Cite::Below(c) => is_below(lows, b, c),
+        Cite::Twin(c) => is_twin(lows, b, c),
     }
 }
 
 /// Whether all cites of the claim are legal.
-pub(crate) fn are_legal(log: &Log, view: &View, cites: &[Cite]) -> bool
-    requires each { length cites.now ≡ length view.now.claim.now }
-    requires bounds { IsBoundedBy (2 ^ 60) view.now.claim.now }
-    ensures { let l = view.now.claim.now in
+pub(crate) fn are_legal(log: &Log, lows: &LowTable, cites: &[Cite]) -> bool
+    requires each { length cites.now ≡ length lows.now.claim.now }
+    requires bounds { IsBoundedBy (2 ^ 60) lows.now.claim.now }
+    ensures { let l = lows.now.claim.now in
         IsTrue result →
-        AllZip (IsLegalCite view.now.instance.now log.now.lines l) l (map cite_value cites.now) }
+        AllZip (IsLegalCite lows.now.instance.now log.now.lines l) l (map cite_value cites.now) }
 {
-    let claim = view.claim;
+    let claim = lows.claim;
     let pairs = claim.pairs();
     for place in 0..cites.len() {
-        if !is_legal(log, view, pairs[place].0, cites[place]) {
+        if !is_legal(log, lows, pairs[place].0, cites[place]) {
             return false;
         }
     }

@@ -57,6 +57,18 @@ fn both(alloc: Global, bound: u64) -> Result<Line, NoMemory>
     })
 }
 
+/// The line of `both` with the fourth buffer beside, which comes first in vain by line 2.
+fn both_beside(alloc: Global) -> Result<Line, NoMemory>
+    ensures { IfOk result (λ line. IsWithin (line_value line)) }
+{
+    let claim = Claim::from_pairs(alloc, &[(1, 2), (2, 1), (3, 0)])?;
+    let cites = [Cite::Line(0), Cite::Line(1), Cite::Line(2)].to_vec(alloc)?;
+    Ok(Line::Cases {
+        claim,
+        cites: Cites::from_vec(cites),
+    })
+}
+
 /// The line, eased, once the log has taken it.
 fn eased(
     alloc: Global,
@@ -110,6 +122,22 @@ fn a_cases_line_has_no_higher_bounds_than_its_cites_need(rt: HostRuntime) {
     assert_eq!(rt; line.claim().pairs(), [(1, 1), (2, 1)].as_slice());
     let higher = both(alloc, 2).expect(&rt, "memory");
     let line = eased(alloc, &four, &mut log, higher).expect(&rt, "legal");
+    assert_eq!(rt; line.claim().pairs(), [(1, 1), (2, 1)].as_slice());
+}
+
+#[test]
+fn a_cases_line_drops_a_buffer_that_no_cite_needs(rt: HostRuntime) {
+    let alloc = rt.alloc();
+    let four = four(alloc).expect(&rt, "memory");
+    let mut log = Log::new(alloc, &four, 4);
+    let first = over(alloc, &[(2, 3)], 3, 1).expect(&rt, "memory");
+    log.push(&four, first).expect(&rt, "legal");
+    let second = over(alloc, &[(1, 4)], 4, 1).expect(&rt, "memory");
+    log.push(&four, second).expect(&rt, "legal");
+    let third = both(alloc, 1).expect(&rt, "memory");
+    log.push(&four, third).expect(&rt, "legal");
+    let beside = both_beside(alloc).expect(&rt, "memory");
+    let line = eased(alloc, &four, &mut log, beside).expect(&rt, "legal");
     assert_eq!(rt; line.claim().pairs(), [(1, 1), (2, 1)].as_slice());
 }
 

@@ -1,11 +1,17 @@
-use Rattle.std.proofs.Common.{◌≡◌, ◌++◌, map, drop, zip}
+use Rattle.std.proofs.Common.{List, map}
+use Rattle.std.specs.List.{AllZip}
+use Rattle.dsa_terms.specs.Lean.{CitesOwn}
+use Rattle.dsa_terms.specs.Logs.{IsLegalCite, Line}
 use Rattle.refute_log.specs.Lines.{cite_value}
-use Rattle.conflicts.specs.Eased.{eased_cite, eased_cites}
+use Rattle.conflicts.proofs.ListSteps.{Grows}
 use Rattle.conflicts.proofs.cites.eased_cites.Given as goal
 
 abbrev pub invariant-loop-place : goal.invariant-loop-place
 invariant-loop-place l =
-    map cite_value l.eased.items
-    ++ map (eased_cite l.view.instance.now l.view.claim.now)
-    (drop l.place (zip l.view.claim.now (map cite_value l.cites)))
-    ≡ eased_cites l.view.instance.now l.view.claim.now (map cite_value l.cites)
+    let I = l.lows.instance.now in
+    let k = l.lows.claim.now in
+    record {
+      own : Grows (CitesOwn I k) k l.place (map cite_value l.eased.items);
+      legal : (earlier : List Line) → AllZip (IsLegalCite I earlier k) k (map cite_value l.cites) →
+          Grows (IsLegalCite I earlier k) k l.place (map cite_value l.eased.items);
+    }

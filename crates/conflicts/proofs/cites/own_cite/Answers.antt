@@ -1,15 +1,9 @@
-use Rattle.std.proofs.Common.{refl}
-use Rattle.conflicts.specs.Eased.{own_cite}
+use Rattle.conflicts.proofs.OwnCites.{none_ends_below}
 use Rattle.conflicts.proofs.cites.own_cite.Goals as goal
 
-pub returns-in-Some : goal.returns-in-Some
-unfolding own_cite
-returns-in-Some c = rw (← c.in-Some.ensures.value) refl
-
-pub returns-in-Some-twin_before : goal.returns-in-Some-twin_before
-unfolding own_cite
-returns-in-Some-twin_before c = rw (← c.in_default.ensures.value, ← c.in-Some-twin_before.ensures.value) refl
-
 pub returns-in-None : goal.returns-in-None
-unfolding own_cite
-returns-in-None c = rw (← c.in_default.ensures.value, ← c.in-None.ensures.value) refl
+returns-in-None c = record {
+  below = none_ends_below c.args.lows.now.instance.now c.args.lows.now.claim.now c.args.least c.args.b c.requires.stands
+      c.requires.least c.requires.b_in (λ h. let k = c.is_below.ensures.1 h in absurd cc);
+  twin = c.in-None.ensures;
+}

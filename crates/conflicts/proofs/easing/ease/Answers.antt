@@ -18,7 +18,8 @@ ease_cases-requires-clause-stands c =
     stands_within _ _ legal.claim within.0 c.len-count.ensures.buffers c.len-count.ensures.limit
 
 pub ease_cases-requires-clause-legal : goal.ease_cases-requires-clause-legal
-ease_cases-requires-clause-legal c = let legal = rw c.in-Cases.is at c.requires.legal in legal.reason
+ease_cases-requires-clause-legal c =
+    let legal = rw c.in-Cases.is at c.requires.legal in rw c.as_slice.ensures legal.reason
 
 over_whole : (c : goal.After-drop-claim-inside) →
     IfOk c.ease_over.result (λ x. IsEased c.args.instance.now c.args.log.now.capacity c.args.log.now.lines
@@ -42,9 +43,9 @@ cases_whole c =
     let within = rw c.in-Cases.is at c.requires.within in
     let s = stands_within c.args.instance.now c.in-Cases.claim legal.claim within.0 c.len-count.ensures.buffers
     c.len-count.ensures.limit in
+    let few = rw c.len-lines.ensures.value at c.len-lines.ensures.limit in
     rw c.in-Cases.is (if_lower line_value c.ease_cases.result c.args.instance.now c.args.log.now.capacity
-    c.args.log.now.lines c.in-Cases.claim (map cite_value c.in-Cases.cites) s within legal.not_empty
-    c.ease_cases.ensures)
+    c.args.log.now.lines c.in-Cases.claim (map cite_value c.in-Cases.cites) s within.0 few c.ease_cases.ensures)
 
 pub returns-in-Over-clause-legal : goal.returns-in-Over-clause-legal
 returns-in-Over-clause-legal c = legal_of line_value _ _ _ _ _ (over_whole c)

@@ -1,7 +1,7 @@
 use Rattle.std.proofs.Common.{◌≡◌, ◌∙◌, map, slice_index_or}
 use Rattle.refute_log.proofs.ListTests.{at_in}
 use Rattle.conflicts.specs.Eased.{lowered}
-use Rattle.conflicts.proofs.LeastBounds.{lowered_is, lowered_lower}
+use Rattle.conflicts.proofs.LeastBounds.{lowered_is, lowered_is_lower}
 use Rattle.conflicts.proofs.ListSteps.{mapped_all, mapped_next}
 use Rattle.conflicts.proofs.LowerClaims.{lower_bounded, lower_stands}
 use Rattle.conflicts.proofs.Stacking.{at_place}
@@ -33,11 +33,11 @@ pub from_pairs-requires-clause-rises : goal.from_pairs-requires-clause-rises
 from_pairs-requires-clause-rises c =
     let I = c.args.instance.now in
     let l = c.args.claim.now in
-    rw (all_mapped c) (lower_stands I l _ c.requires.stands (lowered_lower I l c.requires.stands)).claim.rises
+    rw (all_mapped c) (lower_stands I l _ c.requires.stands (lowered_is_lower I l c.requires.stands)).claim.rises
 
 pub from_pairs-requires-clause-bounds : goal.from_pairs-requires-clause-bounds
 from_pairs-requires-clause-bounds c =
     let I = c.args.instance.now in
     let l = c.args.claim.now in
     rw (all_mapped c)
-    (lower_bounded I l _ c.requires.stands (lowered_lower I l c.requires.stands) _ c.requires.bounds)
+    (lower_bounded I l _ c.requires.stands (lowered_is_lower I l c.requires.stands) _ c.requires.bounds)

@@ -9,13 +9,13 @@ use Rattle.conflicts.proofs.Stacking.{at_place}
 use Rattle.conflicts.proofs.needs.are_legal.Goals as goal
 
 pub is_legal-requires-clause-b_in : goal.is_legal-requires-clause-b_in
-is_legal-requires-clause-b_in c = has_at c.args.view.now.claim.now _ _ c.pairs-pairs.ensures.value
+is_legal-requires-clause-b_in c = has_at c.args.lows.now.claim.now _ _ c.pairs-pairs.ensures.value
     (let e = ap length c.pairs-pairs.ensures.value in omega arith)
 
 pub loop-place-preserved : goal.loop-place-preserved
 loop-place-preserved c =
-    let I = c.args.view.now.instance.now in
-    let l = c.args.view.now.claim.now in
+    let I = c.args.lows.now.instance.now in
+    let l = c.args.lows.now.claim.now in
     let n = c.loop-place.place in
     let R = IsLegalCite I c.args.log.now.lines l in
     let cite = cite_value (slice_index_or c.args.cites.now n (Line 0)) in
@@ -31,10 +31,10 @@ loop-place-preserved c =
 
 pub returns : goal.returns
 returns c t =
-    let l = c.args.view.now.claim.now in
+    let l = c.args.lows.now.claim.now in
     let q = c.requires.each in
     let p : length l ≤ c.loop-place.place = omega arith in
     let r = mapped_length cite_value c.args.cites.now in
     let s : length (map cite_value c.args.cites.now) ≤ c.loop-place.place = omega arith in
-    zip_done (IsLegalCite c.args.view.now.instance.now c.args.log.now.lines l) l (map cite_value c.args.cites.now)
+    zip_done (IsLegalCite c.args.lows.now.instance.now c.args.log.now.lines l) l (map cite_value c.args.cites.now)
     c.loop-place.place p s c.loop-place.invariant

@@ -6,7 +6,7 @@ use Rattle.conflicts.proofs.needs.are_legal.Given as goal
 
 abbrev pub invariant-loop-place : goal.invariant-loop-place
 invariant-loop-place l =
-    let I = l.view.instance.now in
-    let k = l.view.claim.now in
+    let I = l.lows.instance.now in
+    let k = l.lows.claim.now in
     AllZip (IsLegalCite I l.log.lines k) (drop l.place k) (drop l.place (map cite_value l.cites)) →
     AllZip (IsLegalCite I l.log.lines k) k (map cite_value l.cites)

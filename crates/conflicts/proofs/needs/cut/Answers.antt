@@ -2,7 +2,7 @@ use Rattle.std.proofs.Common.{◌≡◌, ◌∙◌, map}
 use Rattle.refute_log.proofs.ListTests.{at_in}
 use Rattle.conflicts.specs.Eased.{cut}
 use Rattle.conflicts.proofs.ListSteps.{mapped_all}
-use Rattle.conflicts.proofs.LowerClaims.{cut_lower, lower_bounded, lower_stands}
+use Rattle.conflicts.proofs.LowerClaims.{cut_is_lower, lower_bounded}
 use Rattle.conflicts.proofs.needs.cut.Goals as goal
 
 pub bounds-needs-pair : goal.bounds-needs-pair
@@ -16,11 +16,10 @@ all_cut c = c.deref.ensures.value ∙ mapped_all (cut c.args.needs.now) c.args.c
 pub from_pairs-requires-clause-rises : goal.from_pairs-requires-clause-rises
 from_pairs-requires-clause-rises c =
     let l = c.args.claim.now in
-    rw (all_cut c)
-    (lower_stands c.args.instance.now l _ c.requires.stands (cut_lower c.args.needs.now l)).claim.rises
+    rw (all_cut c) (cut_is_lower c.args.needs.now l (c.requires.stands).claim.rises).rises
 
 pub from_pairs-requires-clause-bounds : goal.from_pairs-requires-clause-bounds
 from_pairs-requires-clause-bounds c =
     let l = c.args.claim.now in
-    rw (all_cut c)
-    (lower_bounded c.args.instance.now l _ c.requires.stands (cut_lower c.args.needs.now l) _ c.requires.bounds)
+    let low = cut_is_lower c.args.needs.now l (c.requires.stands).claim.rises in
+    rw (all_cut c) (lower_bounded c.args.instance.now l _ c.requires.stands low _ c.requires.bounds)

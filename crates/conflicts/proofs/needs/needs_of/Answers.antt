@@ -2,6 +2,10 @@ use Rattle.std.proofs.Common.{length, ap, arith}
 use Rattle.refute_log.proofs.ListTests.{has_at}
 use Rattle.conflicts.proofs.needs.needs_of.Goals as goal
 
-pub raise_by_cite-requires-clause-b_in : goal.raise_by_cite-requires-clause-b_in
-raise_by_cite-requires-clause-b_in c = has_at c.args.view.now.claim.now _ _ c.pairs-pairs.ensures.value
+pub raise_by_other-requires-clause-b_in : goal.raise_by_other-requires-clause-b_in
+raise_by_other-requires-clause-b_in c = has_at c.args.lows.now.claim.now _ _ c.pairs-pairs.ensures.value
+    (let e = ap length c.pairs-pairs.ensures.value in omega arith)
+
+pub raise_by_line-requires-clause-b_in : goal.raise_by_line-requires-clause-b_in
+raise_by_line-requires-clause-b_in c = has_at c.args.lows.now.claim.now _ _ c.pairs-pairs.ensures.value
     (let e = ap length c.pairs-pairs.ensures.value in omega arith)
