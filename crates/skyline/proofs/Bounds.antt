@@ -10,7 +10,7 @@ use Rattle.dsa_terms.proofs.Numbers.{next_is_below}
 use Rattle.dsa_search_laws.proofs.Placing.{in_buffers, up_at_or_above}
 use Rattle.dsa_search_laws.proofs.Members.{buffers_of-whole}
 use Rattle.dsa_model.specs.Buffer.{IsBuffer}
-use Rattle.lifetime.specs.SectionList.{SectionList}
+use Rattle.lifetime.specs.SectionList.{AreSectionsOf, SectionList}
 use Rattle.canonical_order.specs.Stands.{Stands}
 use Rattle.skyline.specs.Carried.{claims_of}
 use Rattle.skyline.specs.Skies.{AreLow, Sky, last_claim}
@@ -61,6 +61,13 @@ low_of_view I S members n stack floors hs rows flags k e h =
     subst AreLow (ap (λ (k : Sky). k.claims) e)
     (all_low I members (reverse (take n stack)) h.carries.buffers h.carries.count h.carries.in_range h.carries.rise
     h.carries.stands)
+
+pub belongs_of_view : (I : Instance) (S : SectionList) (members : List ℕ) (n : ℕ) (stack floors hs : List ℕ)
+    (rows : List (List ℕ)) (flags : List Bool) (k : Sky) →
+    record { instance = I; sections = S; claims = claims_of I (whole members) (reverse (take n stack)) } ≡ k →
+    IsSkyline I S members n stack floors hs rows flags → AreSectionsOf k.instance k.sections
+belongs_of_view I S members n stack floors hs rows flags k e h =
+    subst (λ (k : Sky). AreSectionsOf k.instance k.sections) e h.carries.belongs
 
 pub stands_of_view : (I : Instance) (S : SectionList) (members : List ℕ) (n : ℕ) (stack floors hs : List ℕ)
     (rows : List (List ℕ)) (flags : List Bool) (k : Sky) →

@@ -5,18 +5,20 @@ use Rattle.std.specs.List.{filter, range_with_len}
 use Rattle.std.proofs.lemmas.List.{take_more}
 use Rattle.dsa_terms.specs.Parts.{numbers}
 use Rattle.dsa_terms.specs.Search.{first_some}
-use Rattle.std.specs.Prelude.{is_some, nat_lt, reverse, ◌*◌, ◌^◌}
+use Rattle.std.specs.Prelude.{IfNone, IfSome, is_some, nat_lt, reverse, ◌*◌, ◌^◌}
 use Rattle.std.proofs.lemmas.Bool.Decides.{nat_tests}
 use Rattle.dsa_terms.specs.Buffers.{Instance}
-use Rattle.dsa_terms.specs.Claims.{Claim}
+use Rattle.dsa_terms.specs.Claims.{Claim, IsIn, up}
+use Rattle.dsa_terms.proofs.Lists.{into_filter, into_map}
 use Rattle.dsa_terms.specs.Parts.{whole}
-use Rattle.lifetime.specs.SectionList.{count_of, start_of, SectionList}
+use Rattle.lifetime.specs.SectionList.{count_of, start_of, members_of, SectionList}
+use Rattle.canonical_order.specs.Claims.{HasBuffer, entry_of}
 use Rattle.skyline.specs.Standing.{claim_after}
 use Rattle.skyline.specs.Carried.{claims_of}
 use Rattle.skyline.specs.Loads.{IsLoaded}
 use Rattle.skyline.proofs.Carrying.{last_of_claims}
-use Rattle.skyline.proofs.Loads.{load_limited}
-use Rattle.skyline.specs.Overloads.{free_load, lower, least_of, least_up, over_at, over, overloaded}
+use Rattle.skyline.proofs.Loads.{gives_left, load_limited}
+use Rattle.skyline.specs.Overloads.{FitsFrom, free_load, is_left, lower, least_of, least_up, over_at, over, overloaded}
 use Rattle.skyline.specs.Skies.{Sky, last_claim}
 
 lower_twice : (x y : ℕ) (o : Option ℕ) → lower x (lower y o) ≡ lower y (lower x o)
@@ -45,6 +47,66 @@ least-same f p (y ∷ ys) x h = go (least-same f p ys x h) (p y)
         (map f (cond t (y ∷ filter p ys) (filter p ys)))
     go ih true = ap (lower (f y)) ih
     go ih false = ih
+
+-- the least of some numbers is at most each of them
+some_least : (ys : List ℕ) (x : ℕ) → IsIn x ys → least_of ys ≡ None → ⊥
+some_least [] x i q = i
+some_least (y ∷ ys) x i q = go (least_of ys) q
+  where
+    go : (o : Option ℕ) → lower y o ≡ None → ⊥
+    go None e = let k : Some y ≡ None = e in cc
+    go (Some z) e = let k : Some (min y z) ≡ None = e in cc
+
+pub least_is_least : (xs : List ℕ) (h x : ℕ) → least_of xs ≡ Some h → IsIn x xs → h ≤ x
+least_is_least [] h x e i = absurd i
+least_is_least (y ∷ ys) h x e i = go (least_of ys) refl (λ m q j. least_is_least ys m x q j) e i
+  where
+    go : (o : Option ℕ) → least_of ys ≡ o → ((m : ℕ) → o ≡ Some m → IsIn x ys → m ≤ x) → lower y o ≡ Some h →
+        IsIn x (y ∷ ys) → h ≤ x
+    go None q ih e (inl p) = let k : Some y ≡ Some h = e in let z : y ≡ h = cc in omega arith
+    go None q ih e (inr j) = absurd (some_least ys x j q)
+    go (Some m) q ih e (inl p) = let k : Some (min y m) ≡ Some h = e in let z : min y m ≡ h = cc in omega arith
+    go (Some m) q ih e (inr j) =
+        let k : Some (min y m) ≡ Some h = e in
+        let z : min y m ≡ h = cc in
+        let le = ih m refl j in
+        omega arith
+
+-- the lesser of two from which a load passes
+pub lesser_over : (low : ℕ) (o : Option ℕ) (r load C : ℕ) → Some r ≡ lower low o → C < low + load →
+    IfSome o (λ h. C < h + load) → C < r + load
+lesser_over low None r load C e h k = let q : Some r ≡ Some low = e in let z : r ≡ low = cc in omega arith
+lesser_over low (Some m) r load C e h k =
+    let q : Some r ≡ Some (min low m) = e in
+    let z : r ≡ min low m = cc in
+    omega arith
+
+pub some_of : (o p : Option ℕ) → p ≡ o → IfSome o (λ h. p ≡ Some h)
+some_of None p e = tt
+some_of (Some h) p e = e
+
+-- a load that fits from one of the ups fits from the least one
+pub fits_from : (I : Instance) (S : SectionList) (l : Claim) (s b load C : ℕ) → IsIn b (members_of S s) →
+    HasBuffer l b → up I (entry_of l b) + load ≤ C → FitsFrom load C (least_up I S l s)
+unfolding least_up
+fits_from I S l s b load C i has le = go (least_of (map f (filter (is_left l) (members_of S s)))) refl
+  where
+    f : ℕ → ℕ
+    f b = up I (entry_of l b)
+
+    j : IsIn (f b) (map f (filter (is_left l) (members_of S s)))
+    j = into_map f (filter (is_left l) (members_of S s)) b
+        (into_filter (is_left l) (members_of S s) b i (gives_left l b has))
+
+    go : (o : Option ℕ) → least_of (map f (filter (is_left l) (members_of S s))) ≡ o → FitsFrom load C o
+    go None e = tt
+    go (Some h) e =
+        let k = least_is_least (map f (filter (is_left l) (members_of S s))) h (f b) e j in
+        omega arith
+
+pub none_of : (load C : ℕ) (o p : Option ℕ) → p ≡ o → IfNone o (FitsFrom load C p)
+none_of load C None p e = rw e tt
+none_of load C (Some h) p e = tt
 
 -- ---- the first answer over the numbers
 first_from : {Y : Type 0} (f : ℕ → Option Y) (n a s : ℕ) (y : Y) → a ≤ s → s < a + n →
@@ -113,6 +175,14 @@ over_fits I S l C s H load e f le =
   where
     test : (m n : ℕ) → n ≤ m → nat_lt m n ≡ false
     test m n h = grind (arith, nat_tests)
+
+pub over_from : (I : Instance) (S : SectionList) (l : Claim) (C s load : ℕ) → load ≡ free_load I S l s →
+    FitsFrom load C (least_up I S l s) → None ≡ over I S l C s
+over_from I S l C s load e h = go (least_up I S l s) refl h
+  where
+    go : (o : Option ℕ) → least_up I S l s ≡ o → FitsFrom load C o → None ≡ over I S l C s
+    go None q h = over_none I S l C s q
+    go (Some height) q h = over_fits I S l C s height load q e h
 
 -- ---- the answer over all sections
 pub overloaded_found : (I : Instance) (S : SectionList) (l : Claim) (C s : ℕ) (o : Option (ℕ × ℕ)) →

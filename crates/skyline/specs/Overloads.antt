@@ -1,5 +1,5 @@
 -- Sections that are too full.
-use Rattle.std.specs.Prelude.{ℕ, ◌+◌, ◌==◌, Bool, cond, nat_lt, min, List, [], ◌∷◌, map, Option}
+use Rattle.std.specs.Prelude.{ℕ, ◌+◌, ◌≤◌, ◌==◌, Bool, cond, nat_lt, min, List, [], ◌∷◌, map, Option}
 use Rattle.std.specs.declared.option.Option.TheVariants.{Some, None}
 use Rattle.std.specs.List.{filter, list_any, sum_by}
 use Rattle.dsa_terms.specs.Buffers.{Instance, buffer}
@@ -35,6 +35,11 @@ least_up I S l s = least_of (map (λ b. up I (entry_of l b)) (filter (is_left l)
 abbrev pub over_at : ℕ → ℕ → ℕ → Option ℕ → Option (ℕ × ℕ)
 over_at start load C None = None
 over_at start load C (Some H) = cond (nat_lt C (H + load)) (Some (start, H)) None
+
+-- where there is a height, the load on top of it does not pass C
+abbrev pub FitsFrom : ℕ → ℕ → Option ℕ → Type 0
+FitsFrom load C None = Unit {0}
+FitsFrom load C (Some H) = H + load ≤ C
 
 -- the start of section s and the least up of its members that are in the claim, where their sizes on top of it pass C
 unfoldable pub over : Instance → SectionList → Claim → ℕ → ℕ → Option (ℕ × ℕ)

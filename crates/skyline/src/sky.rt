@@ -1,12 +1,12 @@
 //! The skyline.
 
-ghost use Rattle.std.specs.Prelude.{◌≡◌, ◌+◌, ◌<◌, ◌^◌, ◌∷◌, ◌++◌, ◌↔◌, [], IfOk, IfSome, IsTrue, length};
+ghost use Rattle.std.specs.Prelude.{◌≡◌, ◌+◌, ◌<◌, ◌^◌, ◌∷◌, ◌++◌, ◌↔◌, [], ◌≤◌, IfNone, IfOk, IfSome, IsTrue, Some, length};
 ghost use Rattle.std.specs.List.{All};
 ghost use Rattle.dsa_terms.specs.Claims.{Rises, child, up};
 ghost use Rattle.lifetime.specs.SectionList.{AreSectionsOf, count_of};
 ghost use Rattle.canonical_order.specs.Claims.{HasBuffer, entry_of};
 ghost use Rattle.canonical_order.specs.Stands.{Stands};
-ghost use Rattle.skyline.specs.Overloads.{least_up, over, overloaded};
+ghost use Rattle.skyline.specs.Overloads.{FitsFrom, least_up, over, overloaded};
 ghost use Rattle.skyline.specs.Skies.{AreLow, at_first, last_claim};
 
 use crate::floors::{floor_above, lesser};
@@ -153,6 +153,7 @@ impl<'a> Skyline<'a> {
         ensures value { let l = last_claim self.now.claims in
             result ≡ overloaded self.now.instance self.now.sections l capacity }
         ensures limit { IfSome result (λ found. found.1 < 2 ^ 54) }
+        ensures belongs { AreSectionsOf self.now.instance self.now.sections }
     {
         for s in 0..self.sections.count() {
             let found = self.over(s, capacity);
@@ -196,18 +197,30 @@ impl<'a> Skyline<'a> {
         self.instance.buffer(b).least_offset(bound)
     }
 
-    /// The least low of the section's members that are in the last claim, where there is one.
-    fn least_low(&self, s: u32) -> Option<u64>
-        requires { s < count_of self.now.sections }
-        ensures value { let l = last_claim self.now.claims in
-            result ≡ least_up self.now.instance self.now.sections l s }
+    /// The least low of the section's members that are in the last claim, where there is one and
+    /// the load on top of it passes the capacity. The first low from which the load fits decides
+    /// that it does not.
+    fn least_low(&self, s: u32, load: u64, capacity: u64) -> Option<u64>
+        requires section { s < count_of self.now.sections }
+        requires load { load ≤ 2 ^ 60 }
+        ensures some { let l = last_claim self.now.claims in
+            IfSome result (λ height.
+            least_up self.now.instance self.now.sections l s ≡ Some height) }
+        ensures over { IfSome result (λ height. capacity < height + load) }
+        ensures none { let l = last_claim self.now.claims in
+            IfNone result (FitsFrom load capacity
+            (least_up self.now.instance self.now.sections l s)) }
         ensures limit { IfSome result (λ height. height < 2 ^ 54) }
     {
         let members = self.sections.members(s);
         let mut least = None;
         for i in 0..members.len() {
             if self.has(members[i]) {
-                least = Some(lesser(self.least_offset(members[i]), least));
+                let low = self.least_offset(members[i]);
+                if low + load <= capacity {
+                    return None;
+                }
+                least = Some(lesser(low, least));
             }
         }
         least
@@ -220,15 +233,9 @@ impl<'a> Skyline<'a> {
             result ≡ over self.now.instance self.now.sections l capacity s }
         ensures limit { IfSome result (λ found. found.1 < 2 ^ 54) }
     {
-        match self.least_low(s) {
+        match self.least_low(s, self.loads[s as usize], capacity) {
             None => None,
-            Some(height) => {
-                if height + self.loads[s as usize] > capacity {
-                    Some((self.sections.start(s), height))
-                } else {
-                    None
-                }
-            }
+            Some(height) => Some((self.sections.start(s), height)),
         }
     }
 }

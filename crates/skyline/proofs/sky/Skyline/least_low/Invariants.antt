@@ -1,4 +1,4 @@
-use Rattle.std.proofs.Common.{◌≡◌, ◌<◌, ◌^◌, map, take}
+use Rattle.std.proofs.Common.{◌≡◌, ◌<◌, ◌^◌, ◌+◌, map, take}
 use Rattle.std.specs.Prelude.{IfSome}
 use Rattle.std.specs.List.{filter}
 use Rattle.dsa_terms.specs.Claims.{up}
@@ -12,4 +12,5 @@ invariant-loop-i l = record {
   value : l.least ≡ least_of (map (λ b. up l.self.instance (entry_of (last_claim l.self.claims) b))
       (filter (is_left (last_claim l.self.claims)) (take l.i l.members)));
   limit : IfSome l.least (λ h. h < 2 ^ 54);
+  over : IfSome l.least (λ h. l.capacity < h + l.load);
 }
