@@ -1,10 +1,9 @@
 -- The Cases line of a claim each of whose choices is refuted.
-use Rattle.std.proofs.Common.{◌≡◌, ◌≢◌, ℕ, Bool, true, false, not, ◌||◌, List, [], ◌∷◌, zero, suc, sym, refl, ap, ◌∙◌, subst, inl, inr, arith}
-use Rattle.std.specs.List.{All, AllZip, list_any}
+use Rattle.std.proofs.Common.{◌≡◌, ◌≢◌, ℕ, List, [], ◌∷◌, zero, suc, sym, refl, ap, ◌∙◌, subst, inl, inr, arith}
+use Rattle.std.specs.List.{All, AllZip}
 use Rattle.dsa_terms.specs.Buffers.{Instance}
 use Rattle.dsa_terms.specs.Claims.{Claim, Entry, IsIn, child, Covers}
-use Rattle.dsa_terms.specs.Lean.{CitesOwn}
-use Rattle.dsa_terms.specs.Logs.{Cite, ByLine, Below, Twin, Line, Cases, claim_of, IsLegal, IsLegalCite, ends_below, is_twin}
+use Rattle.dsa_terms.specs.Logs.{Cite, ByLine, Below, Twin, Line, Cases, claim_of, IsLegal, IsLegalCite}
 use Rattle.canonical_order.specs.Claims.{entry_of}
 use Rattle.canonical_order.specs.Stands.{Stands}
 use Rattle.canonical_order.proofs.Entries.{is_entry}
@@ -39,17 +38,6 @@ legal_cite I l lines refuted s h e (ByLine k) i c =
 legal_cite I l lines refuted s h e (Below b) i c = c
 legal_cite I l lines refuted s h e (Twin b) i c = c
 
-own_cite : (I : Instance) (l : Claim) (refuted : List Refuted) (e : Entry) (cite : Cite) →
-    IsCiteFor I l refuted e cite → CitesOwn I l e cite
-own_cite I l refuted e (ByLine k) c t = taken_or_not
-    (list_any (λ f. ends_below I f e) l || list_any (λ f. is_twin I f e) l) t c.0
-  where
-    taken_or_not : (b : Bool) → b ≡ true → not b ≡ true → ⊥
-    taken_or_not true p q = cc
-    taken_or_not false p q = cc
-own_cite I l refuted e (Below b) c t = tt
-own_cite I l refuted e (Twin b) c t = tt
-
 cite_within : (I : Instance) (l : Claim) (lines : List Line) (refuted : List Refuted) → Stands I l →
     ((r : Refuted) → IsIn r refuted → IsChildCovered I lines l r) →
     (e : Entry) (cite : Cite) → IsIn e l → IsCiteFor I l refuted e cite → IsCiteWithin cite
@@ -72,6 +60,3 @@ module _ (I : Instance) (l : Claim) (refuted : List Refuted) (cites : List Cite)
   pub cites_within : (lines : List Line) → Stands I l →
       ((r : Refuted) → IsIn r refuted → IsChildCovered I lines l r) → All IsCiteWithin cites
   cites_within lines s h = zip_second (IsCiteFor I l refuted) IsCiteWithin l cites (cite_within I l lines refuted s h) z
-
-  pub cites_own : AllZip (CitesOwn I l) l cites
-  cites_own = zip_along (IsCiteFor I l refuted) (CitesOwn I l) l cites (λ e cite i c. own_cite I l refuted e cite c) z

@@ -6,15 +6,15 @@ use Rattle.dsa_terms.specs.Logs.{Line}
 use Rattle.dsa_terms.specs.Search.{first, seated, work}
 use Rattle.canonical_order.specs.Claims.{HasBuffer, entry_of}
 use Rattle.skyline.specs.Skies.{Sky, last_claim}
-use Rattle.search_core.specs.Descents.{Descends, IsKnown, IsStanding, IsTrying, above_of, left_of, owed, root_of, sky_root, through}
-use Rattle.search_core.specs.Logs.{Extends}
+use Rattle.search_core.specs.Descents.{Descends, IsAbove, IsKnown, IsStanding, IsTrying, above_of, left_of, owed, root_of, sky_root, through}
+use Rattle.search_core.specs.Logs.{Extends, NoneCovers, NoneCoversFirst}
 use Rattle.search_core.specs.Tries.{IsLeft, Tried, chosen_of, later_of, noted_by, rest_of}
 use Rattle.search_core.specs.Turns.{IsAhead, debt_of}
 use Rattle.search_core.proofs.Descent.{child_within}
 use Rattle.search_core.proofs.Growing.{covered_still}
-use Rattle.search_core.proofs.Searching.{choice_refuted, chosen_in, layout_found, next_choice, none_is_left, rest_of_noted, trying_still}
+use Rattle.search_core.proofs.Searching.{choice_refuted, chosen_in, layout_found, next_choice, rest_of_noted, trying_still}
 use Rattle.search_core.proofs.Stacks.{above_pushed, count_above, last_of_append, reverse_push}
-use Rattle.search_core.proofs.Working.{through_next, through_none}
+use Rattle.search_core.proofs.Working.{through_next}
 
 -- what holds of three things holds of their equals
 carried : {X Y Z : Type 0} (P : X → Y → Z → Type 0) {a x : X} {b y : Y} {c z : Z} → a ≡ x → b ≡ y → c ≡ z → P x y z →
@@ -59,25 +59,38 @@ module _ (I : Instance) (C : ℕ) where
   no_above lines l [] d = refl
   no_above lines l (p ∷ ps) d = absurd d
 
+  -- what the last frame knows of the claim above the last one
+  pub is_above : (lines : List Line) (l : Claim) (ps : List Claim) (f : Tried) (fs : List Tried) →
+      Descends I C lines l ps (f ∷ fs) → NoneCoversFirst I lines ps → IsAbove I lines l f
+  is_above lines l [] f fs d fresh = absurd d
+  is_above lines l (p ∷ ps) f fs d fresh = record {
+    claim = p;
+    levels = d.1.levels;
+    has = λ b h. child_within I p (chosen_of f) b (subst (λ (k : Claim). HasBuffer k b) d.0.is_child h);
+    fresh = fresh;
+  }
+
   -- ---- a choice deeper
   pub ahead_deeper : (lines : List Line) (sky new : Sky) (frames after : List Tried) (f : Tried) →
       sky.instance ≡ I → 0 < length sky.claims → IsTrying I C lines (last_claim sky.claims) f → IsLeft f →
+      NoneCovers I lines (last_claim sky.claims) →
       Descends I C lines (last_claim sky.claims) (above_of sky.claims) (reverse frames) →
       new.instance ≡ sky.instance →
       new.claims ≡ sky.claims
       ++ child I (last_claim sky.claims) (entry_of (last_claim sky.claims) (chosen_of f)) ∷ [] →
       after ≡ frames ++ f ∷ [] →
       IsAhead I C lines (sky_root sky) (debt_of I C sky f frames) (length frames) new after None
-  ahead_deeper lines sky new frames after f same some trying lt d i claims pushed = record {
+  ahead_deeper lines sky new frames after f same some trying lt fresh d i claims pushed = record {
     place = record {
       subject = i ∙ same;
       some = let n = ap length claims in let k = length-append sky.claims (x ∷ []) in omega arith;
       descends = carried (λ (l : Claim) (ps : List Claim) (fs : List Tried). Descends I C lines l ps fs) last above rest
           (record { is_left = lt; is_child = refl }, trying, d);
       known = tt;
+      fresh = subst (NoneCoversFirst I lines) (sym above) fresh;
     };
     root = ap (λ (l : Claim). root_of l (above_of new.claims)) last ∙ ap (root_of x) above;
-    owed = debt;
+    owed = omega (arith, debt);
     turns =
         let n : length after ≡ length frames + 1 = ap length pushed ∙ length-append frames (f ∷ []) in
         omega (arith, debt);
@@ -112,27 +125,24 @@ module _ (I : Instance) (C : ℕ) where
           ≡ debt_of I C sky f frames) last above rest
           (let s = split in omega arith)
 
-  -- ---- the last claim is refuted
-  pub ahead_refuted : (k : Claim) (lines after : List Line) (sky : Sky) (frames : List Tried) (f : Tried) (n : ℕ) →
-      sky.instance ≡ I → 0 < length sky.claims → length f.refuted ≡ length f.order → Extends k lines after →
+  -- ---- a line covers the last claim
+  pub ahead_covered : (k : Claim) (lines after : List Line) (sky : Sky) (frames : List Tried) (f : Tried) (n : ℕ) →
+      sky.instance ≡ I → 0 < length sky.claims → Extends k lines after →
       Descends I C lines (last_claim sky.claims) (above_of sky.claims) (reverse frames) →
       IsKnown I C after (last_claim sky.claims) n →
       IsAhead I C after (sky_root sky) (debt_of I C sky f frames) (length frames) sky frames (Some n)
-  ahead_refuted k lines after sky frames f n same some done grown d known = record {
+  ahead_covered k lines after sky frames f n same some grown d known = record {
     place = record {
       subject = same;
       some = some;
       descends = descends_still k lines after (last_claim sky.claims) (above_of sky.claims) (reverse frames) grown d;
       known = known;
+      fresh = tt;
     };
     root = refl;
-    owed = let z = nothing in omega arith;
-    turns = let z = nothing in omega arith;
+    owed = omega arith;
+    turns = omega arith;
   }
-    where
-      nothing : through I C (last_claim sky.claims) (map (entry_of (last_claim sky.claims)) (rest_of f)) ≡ 0
-      nothing = ap (λ (bs : List ℕ). through I C (last_claim sky.claims) (map (entry_of (last_claim sky.claims)) bs))
-          (none_is_left f done) ∙ through_none I C (last_claim sky.claims)
 
   -- ---- back
   -- what is known of the claim above the last one

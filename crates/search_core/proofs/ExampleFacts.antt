@@ -16,7 +16,7 @@ use Rattle.search_core.specs.Decisions.{IsGiven, allowance_of, turn_of}
 use Rattle.skyline.specs.Skies.{Sky}
 use Rattle.search_core.specs.Descents.{above_of, owed, root_of, through}
 use Rattle.search_core.specs.Lifted.{lifted}
-use Rattle.search_core.specs.Tries.{Tried, chosen_of, later_of, noted_by, rest_of}
+use Rattle.search_core.specs.Tries.{Tried, chosen_of, later_of, noted_by, rest_of, untried}
 use Rattle.search_core.specs.Keys.{key_of}
 use Rattle.search_core.specs.Logs.{AreUncovered, Extends, NoneCovers}
 use Rattle.search_core.specs.Meters.{AreMore, AreSpent, AreWithin, HasUnit, counted}
@@ -117,7 +117,7 @@ extends_by_one = record { more = tall ∷ []; is = refl; among = among }
 
 -- ---- choices
 abbrev one_refuted : Tried
-one_refuted = record { order = 2 ∷ 0 ∷ 1 ∷ []; refuted = record { buffer = 2; line = 7 } ∷ [] }
+one_refuted = record { order = 2 ∷ 0 ∷ 1 ∷ []; refuted = record { buffer = 2; line = 7 } ∷ []; levels = []; asked = 9 }
 
 rest_after_one : rest_of one_refuted ≡ 0 ∷ 1 ∷ []
 rest_after_one = refl
@@ -131,6 +131,8 @@ later_after_one = refl
 two_refuted : noted_by one_refuted 8 ≡ record {
   order = 2 ∷ 0 ∷ 1 ∷ [];
   refuted = record { buffer = 2; line = 7 } ∷ record { buffer = 0; line = 8 } ∷ [];
+  levels = [];
+  asked = 9;
 }
 two_refuted = refl
 
@@ -158,14 +160,14 @@ unfolding work first is_tall comes_before ends_below is_twin have_same_moments c
 four_owed = refl
 
 three_owed : owed two 4 (sky_of (((0, 0) ∷ (1, 0) ∷ []) ∷ ((1, 3) ∷ []) ∷ []))
-    (record { order = 0 ∷ 1 ∷ []; refuted = [] } ∷ []) None ≡ 3
+    (untried (0 ∷ 1 ∷ []) [] 0 ∷ []) None ≡ 3
 unfolding work through first is_tall comes_before ends_below is_twin have_same_moments child step do_share some_before
     is_live up buffer
 three_owed = refl
 
 -- once a line covers what is left of it, the other choice is owed
 two_owed : owed two 4 (sky_of (((0, 0) ∷ (1, 0) ∷ []) ∷ ((1, 3) ∷ []) ∷ []))
-    (record { order = 0 ∷ 1 ∷ []; refuted = [] } ∷ []) (Some 0) ≡ 2
+    (untried (0 ∷ 1 ∷ []) [] 0 ∷ []) (Some 0) ≡ 2
 unfolding work through first is_tall comes_before ends_below is_twin have_same_moments child step do_share some_before
     is_live up buffer
 two_owed = refl

@@ -5,7 +5,7 @@ use Rattle.std.specs.Int.{next_multiple_of}
 use Rattle.std.specs.List.{list_any}
 use Rattle.dsa_terms.specs.Buffers.{Instance, IsInstance, buffer}
 use Rattle.dsa_terms.specs.Claims.{Claim, Covers, Entry, IsIn, Rises, buffers_of, child, step, up}
-use Rattle.dsa_terms.specs.Logs.{Line, ends_below, is_twin}
+use Rattle.dsa_terms.specs.Logs.{Line, claim_of, ends_below, is_twin}
 use Rattle.dsa_terms.specs.Search.{not_excluded}
 use Rattle.dsa_terms.proofs.Lists.{from_append, from_map, into_map}
 use Rattle.dsa_terms.proofs.Moments.{sound}
@@ -17,7 +17,7 @@ use Rattle.canonical_order.proofs.Entries.{entry_in, is_entry}
 use Rattle.search_core.specs.declared.found.Refuted.{Refuted}
 use Rattle.search_core.specs.Cites.{IsChildCovered, IsCoveredBy}
 use Rattle.search_core.specs.Lifted.{lift, lifted}
-use Rattle.search_core.specs.Logs.{Extends}
+use Rattle.search_core.specs.Logs.{Extends, NoneCovers}
 use Rattle.search_core.proofs.Growing.{extends_along, extends_none}
 
 -- ---- the up of an up is the same
@@ -43,7 +43,7 @@ lifted_has I l b h = subst (IsIn b) (sym (buffers_of-lifted I l)) h
 pub lifted_rises : (I : Instance) (l : Claim) → Rises (buffers_of l) → Rises (buffers_of (lifted I l))
 lifted_rises I l r = subst Rises (sym (buffers_of-lifted I l)) r
 
-lifted_entry : (I : Instance) (l : Claim) (b : ℕ) → Rises (buffers_of l) → HasBuffer l b →
+pub lifted_entry : (I : Instance) (l : Claim) (b : ℕ) → Rises (buffers_of l) → HasBuffer l b →
     lift I (entry_of l b) ≡ entry_of (lifted I l) b
 lifted_entry I l b r h =
     is_entry (lifted I l) (lift I (entry_of l b)) (lifted_rises I l r) (into_map (lift I) l (entry_of l b)
@@ -138,6 +138,10 @@ covers_from_lifted I k l s h e i =
       (let u : up I c.0 ≡ up I r.0 = ap (up I) r.2 ∙ up_of_lift I r.0 s in let le : e.1 ≤ up I c.0 = c.3 in
           omega arith),
     )
+
+pub lifted_fresh : (I : Instance) (lines : List Line) (l : Claim) → IsInstance I → NoneCovers I lines l →
+    NoneCovers I lines (lifted I l)
+lifted_fresh I lines l s h k line at covers = h k line at (covers_from_lifted I (claim_of line) l s covers)
 
 pub covered_from_lifted : (I : Instance) (lines : List Line) (l : Claim) (k : ℕ) → IsInstance I →
     IsCoveredBy I lines (lifted I l) k → IsCoveredBy I lines l k

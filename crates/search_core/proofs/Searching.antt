@@ -4,11 +4,10 @@ use Rattle.std.proofs.lemmas.Bool.Decides.{nat_tests}
 use Rattle.std.proofs.lemmas.List.{append-nil, length-map, map-append}
 use Rattle.std.proofs.Math.ListN.{drop_of_length-le}
 use Rattle.std.proofs.Math.Seq.{drop-cons}
-use Rattle.std.specs.List.{list_any}
 use Rattle.dsa_terms.specs.Buffers.{Instance, buffer}
 use Rattle.dsa_terms.specs.Claims.{Claim, Entry, IsIn, IsClaim, Covers, child, up}
 use Rattle.dsa_terms.specs.Search.{choices, first, is_tall, not_excluded, seated}
-use Rattle.dsa_terms.proofs.Lists.{any_from, into_map, from_append, from_map, left_append}
+use Rattle.dsa_terms.proofs.Lists.{into_map, from_append, from_map, left_append}
 use Rattle.dsa_search_laws.proofs.Complete.{from_choices, into_choices, tall_is}
 use Rattle.dsa_search_laws.proofs.Placing.{in_buffers}
 use Rattle.dsa_search_laws.proofs.Search.{first_equation, first_empty}
@@ -17,22 +16,17 @@ use Rattle.canonical_order.proofs.CoverLemmas.{in_at}
 use Rattle.dsa_terms.specs.Logs.{Line}
 use Rattle.search_core.specs.declared.found.Refuted.{Refuted}
 use Rattle.search_core.specs.Cites.{IsChildCovered}
-use Rattle.search_core.specs.Logs.{Extends}
+use Rattle.search_core.specs.Levels.{AreLevels}
+use Rattle.search_core.specs.Logs.{AreAsked, Extends, NoneCovers}
 use Rattle.search_core.specs.Descents.{IsKnown, IsTrying, buffer_of}
-use Rattle.search_core.specs.Tries.{IsLeft, Tried, chosen_of, later_of, noted_by, rest_of, untried}
-use Rattle.search_core.proofs.Growing.{covered_still}
+use Rattle.search_core.specs.Tries.{IsLeft, Tried, asked_to, chosen_of, later_of, noted_by, rest_of, untried}
+use Rattle.search_core.proofs.Growing.{asked_still, covered_still}
 use Rattle.search_core.specs.Opened.{AreChoices}
 use Rattle.search_core.proofs.Least.{least_passes, none_least}
+use Rattle.search_core.proofs.Uncovered.{all_asked}
 use Rattle.search_core.proofs.Working.{work_is}
 
 -- ---- a claim with a tall buffer, and one with none
-pub tall_has_none : (I : Instance) (C : ℕ) (l : Claim) (b : ℕ) → IsClaim I l → Some b ≡ least_buffer (is_tall I C) l →
-    first I C l ≡ None
-tall_has_none I C l b c h =
-    let r = least_passes (is_tall I C) l b h in
-    let t : list_any (is_tall I C) l ≡ true = any_from (is_tall I C) l r.0 r.1 r.3 in
-    first_equation I C l c (λ q. subst (IsIn r.0) q r.1) ∙ (rw t refl)
-
 pub tall_covers : (I : Instance) (C : ℕ) (l k : Claim) (b : ℕ) → Some b ≡ least_buffer (is_tall I C) l →
     k ≡ (b, C + 1 - (buffer I b).size) ∷ [] → Covers I k l
 tall_covers I C l k b h q e i =
@@ -86,14 +80,16 @@ pub none_is_left : (f : Tried) → length f.refuted ≡ length f.order → rest_
 none_is_left f e = drop_of_length-le f.order (omega arith)
 
 module _ (I : Instance) (C : ℕ) (l : Claim) where
-  pub trying_start : (lines : List Line) (order : List ℕ) → IsClaim I l → l ≢ [] →
+  pub trying_start : (lines : List Line) (order levels : List ℕ) (n : ℕ) → IsClaim I l → l ≢ [] →
       None ≡ least_buffer (is_tall I C) l → map (entry_of l) order ≡ choices I (not_excluded I) l →
-      IsTrying I C lines l (untried order)
-  trying_start lines order c ne none q = record {
+      AreLevels I l levels → AreAsked I lines l n → IsTrying I C lines l (untried order levels n)
+  trying_start lines order levels n c ne none q are_levels asked = record {
     order = q;
     noted = sym (drop_zero order);
     covered = λ r i. absurd i;
     left = first_equation I C l c ne ∙ (rw (none_least (is_tall I C) l none, ← q, drop_zero order) refl);
+    levels = are_levels;
+    asked = asked;
   }
 
   -- each choice is in the claim
@@ -133,6 +129,20 @@ module _ (I : Instance) (C : ℕ) (l : Claim) where
       ]
     ];
     left = t.left ∙ (rw (next_choice f lt, known.none, rest_of_noted f k) refl);
+    levels = t.levels;
+    asked = t.asked;
+  }
+
+  -- more lines are asked
+  pub trying_asked : (lines : List Line) (f : Tried) (n : ℕ) → IsTrying I C lines l f → AreAsked I lines l n →
+      IsTrying I C lines l (asked_to f n)
+  trying_asked lines f n t asked = record {
+    order = t.order;
+    noted = t.noted;
+    covered = t.covered;
+    left = t.left;
+    levels = t.levels;
+    asked = asked;
   }
 
   -- a log that grows keeps what is known
@@ -143,6 +153,8 @@ module _ (I : Instance) (C : ℕ) (l : Claim) where
     noted = t.noted;
     covered = λ r i. covered_still I k (child I l (entry_of l r.buffer)) r.line lines after grown (t.covered r i);
     left = t.left;
+    levels = t.levels;
+    asked = asked_still I k l f.asked lines after grown t.asked;
   }
 
   -- no choice is left
@@ -172,10 +184,13 @@ module _ (I : Instance) (C : ℕ) (l : Claim) where
       less m n le h = grind (arith, nat_tests)
 
   -- the choices of a claim that has some buffers, none of which is tall
-  pub are_choices : (lines : List Line) (order : List ℕ) → IsClaim I l → l ≢ [] → None ≡ least_buffer (is_tall I C) l →
-      map (entry_of l) order ≡ choices I (not_excluded I) l → AreChoices I C lines l (untried order)
-  are_choices lines order c ne none q = record {
+  pub are_choices : (lines : List Line) (order levels : List ℕ) (n : ℕ) → IsClaim I l → l ≢ [] →
+      None ≡ least_buffer (is_tall I C) l → map (entry_of l) order ≡ choices I (not_excluded I) l →
+      AreLevels I l levels → NoneCovers I lines l → n ≡ length lines →
+      AreChoices I C lines l (untried order levels n)
+  are_choices lines order levels n c ne none q are_levels fresh e = record {
     not_empty = ne;
-    trying = trying_start lines order c ne none q;
+    fresh = fresh;
+    trying = trying_start lines order levels n c ne none q are_levels (all_asked I lines l n fresh e);
     work = work_is I C l c ne none ∙ (rw (drop_zero order, q) refl);
   }

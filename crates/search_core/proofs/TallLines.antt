@@ -1,12 +1,11 @@
 -- The Over line of one buffer at the least height at which it ends above the capacity.
-use Rattle.std.proofs.Common.{◌≡◌, ℕ, ◌+◌, ◌-◌, ◌%◌, ◌<◌, ◌≤◌, ◌≢◌, ◌⊎◌, inl, inr, Bool, true, false, cond, ◌==◌, nat_le, List, [], ◌∷◌, map, filter, length, sym, refl, ◌∙◌, arith}
+use Rattle.std.proofs.Common.{◌≡◌, ℕ, ◌+◌, ◌-◌, ◌%◌, ◌<◌, ◌≤◌, inl, inr, Bool, true, false, ◌==◌, nat_le, List, [], ◌∷◌, map, filter, length, sym, refl, ◌∙◌, arith}
 use Rattle.std.proofs.lemmas.Bool.Decides.{nat_tests}
 use Rattle.std.specs.List.{sum_by}
 use Rattle.std.specs.Int.{next_multiple_of}
 use Rattle.dsa_terms.specs.Buffers.{Buffer, Instance, buffer, do_share, is_live}
 use Rattle.dsa_terms.specs.Claims.{Claim, Entry, IsClaim, up}
-use Rattle.dsa_terms.specs.Lean.{IsLeanOver}
-use Rattle.dsa_terms.specs.Logs.{Line, Over, IsLegal, IsOver, is_stacked, rounded, rounding, greatest}
+use Rattle.dsa_terms.specs.Logs.{Line, Over, IsLegal, is_stacked, rounded, rounding, greatest}
 use Rattle.dsa_terms.proofs.Numbers.{next_at_or_above, next_is_below}
 use Rattle.dsa_terms.proofs.Moments.{do_share-false}
 use Rattle.dsa_model.specs.Buffer.{IsBuffer}
@@ -15,11 +14,11 @@ next_of_one : (x : ℕ) → next_multiple_of x 1 ≡ x
 next_of_one x = let a : x ≤ next_multiple_of x 1 = next_at_or_above x 1 (omega arith) in
     let b : next_multiple_of x 1 < x + 1 = next_is_below x 1 (omega arith) in omega arith
 
-rounded_is : (I : Instance) (e : Entry) → rounded I 1 e ≡ (buffer I e.0).size
+pub rounded_is : (I : Instance) (e : Entry) → rounded I 1 e ≡ (buffer I e.0).size
 unfolding rounded
 rounded_is I e = next_of_one (buffer I e.0).size
 
-rounding_is : (I : Instance) (e : Entry) → rounding I 1 e ≡ 0
+pub rounding_is : (I : Instance) (e : Entry) → rounding I 1 e ≡ 0
 unfolding rounding
 rounding_is I e = let k = rounded_is I e in omega arith
 
@@ -30,11 +29,6 @@ Alone b H = (b, H) ∷ []
 -- how high the stacked ones reach
 reach : Instance → ℕ → List Entry → ℕ
 reach I H es = H + sum_by (rounded I 1) es - greatest (map (rounding I 1) es)
-
-reach_is : (I : Instance) (H : ℕ) (es : List Entry) →
-    reach I H es ≡ H + sum_by (rounded I 1) es - greatest (map (rounding I 1) es)
-unfolding reach
-reach_is I H es = refl
 
 one_reaches : (I : Instance) (b H : ℕ) → reach I H (Alone b H) ≡ H + (buffer I b).size
 unfolding reach
@@ -81,32 +75,6 @@ tall_is_legal I C b T earlier s h live = record {
 
     stacked : filter (is_stacked I T H 1) (Alone b H) ≡ Alone b H
     stacked = stacked_alone I b T H s live
-
--- at a height from which the buffer ends at the capacity the line is not over
-not_over : (I : Instance) (C b T H : ℕ) → H + (buffer I b).size ≡ C → IsOver I C T H 1 (Alone b H) → ⊥
-not_over I C b T H q over = go (is_stacked I T H 1 (b, H)) over.some_stacked over.too_high
-  where
-    go : (t : Bool) → cond t (Alone b H) [] ≢ [] →
-        C < H + sum_by (rounded I 1) (cond t (Alone b H) []) - greatest (map (rounding I 1) (cond t (Alone b H) [])) → ⊥
-    go true some high = let k = one_reaches I b H in let h = reach_is I H (Alone b H) in omega arith
-    go false some high = some refl
-
-pub tall_is_lean : (I : Instance) (C b T : ℕ) (earlier : List Line) → is_live (buffer I b) T ≡ true →
-    IsLeanOver I C earlier (Alone b (C + 1 - (buffer I b).size)) T (C + 1 - (buffer I b).size) 1
-tall_is_lean I C b T earlier live = record {
-  live = λ e i. elim i [ inl q ↦ rw q live | inr j ↦ absurd j ];
-  bounds = λ e i. elim i [ inl q ↦ rw q refl | inr j ↦ absurd j ];
-  lowest = go (fits_or_not (buffer I b).size C);
-}
-  where
-    fits_or_not : (s C : ℕ) → (C + 1 - s ≡ 0) ⊎ (C + 1 - s - 1 + s ≡ C)
-    fits_or_not s C = grind arith
-
-    go : (C + 1 - (buffer I b).size ≡ 0) ⊎ (C + 1 - (buffer I b).size - 1 + (buffer I b).size ≡ C) →
-        (C + 1 - (buffer I b).size ≡ 0) ⊎ (IsLegal I C earlier
-        (Over (Alone b (C + 1 - (buffer I b).size - 1)) T (C + 1 - (buffer I b).size - 1) 1) → ⊥)
-    go (inl q) = inl q
-    go (inr q) = inr (λ k. not_over I C b T (C + 1 - (buffer I b).size - 1) q k.reason)
 
 -- ---- a buffer shares a moment with itself
 pub shares_with_itself : (b : Buffer) → IsBuffer b → do_share b b ≡ true

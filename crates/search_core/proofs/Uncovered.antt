@@ -2,7 +2,7 @@
 use Rattle.std.proofs.Common.{◌≡◌, ℕ, zero, suc, ◌+◌, ◌<◌, ◌≤◌, ◌⊎◌, inl, inr, List, [], ◌∷◌, ◌++◌, length, slice_get, take, Some, None, sym, ◌∙◌, subst, arith}
 use Rattle.std.proofs.lemmas.Option.{slice_get_within}
 use Rattle.dsa_terms.specs.Buffers.{Instance, IsInstance}
-use Rattle.dsa_terms.specs.Claims.{Claim, Covers, IsRefuted}
+use Rattle.dsa_terms.specs.Claims.{Claim, Covers, IsClaim, IsRefuted}
 use Rattle.dsa_terms.specs.Logs.{Line, claim_of}
 use Rattle.dsa_terms.specs.Search.{first}
 use Rattle.dsa_search_laws.proofs.First.{first_exactly}
@@ -10,7 +10,7 @@ use Rattle.dsa_search_laws.proofs.Logs.{covered_is_refuted, covers_along, from_t
 use Rattle.canonical_order.specs.Stands.{Stands}
 use Rattle.refute_log.specs.Logs.{Belongs, OpenLog}
 use Rattle.search_core.specs.Cites.{IsCoveredBy}
-use Rattle.search_core.specs.Logs.{AreUncovered, IsSearchLog, NoneCovers}
+use Rattle.search_core.specs.Logs.{AreAsked, AreUncovered, IsSearchLog, NoneCovers}
 use Rattle.search_core.proofs.Descent.{is_instance}
 use Rattle.search_core.proofs.Growing.{get_before, get_last}
 
@@ -25,13 +25,16 @@ lines_refuted I log s b (suc n) k line lt h = go (lines_refuted I log s b n)
     go ih = legal_is_refuted I log.capacity (take k log.lines) line s
         (λ j m q. (let r = from_take log.lines k j m q in ih j m (let z = r.1 in omega arith) r.0)) (b.legal k line h)
 
+pub none_where_covered : (I : Instance) (C : ℕ) (l : Claim) (log : OpenLog) (k : ℕ) → IsInstance I → IsClaim I l →
+    IsSearchLog I C log → IsCoveredBy I log.lines l k → first I C l ≡ None
+none_where_covered I C l log k i claim h c =
+    let r = lines_refuted I log i h.belongs (suc k) k c.line (omega arith) c.stands in
+    (first_exactly I C l i claim).1 (covered_is_refuted I C (claim_of c.line) l i c.covers
+    (subst (λ (C : ℕ). IsRefuted I C (claim_of c.line)) h.capacity r))
+
 pub covered_has_none : (I : Instance) (C : ℕ) (l : Claim) (log : OpenLog) (k : ℕ) → Stands I l → IsSearchLog I C log →
     IsCoveredBy I log.lines l k → first I C l ≡ None
-covered_has_none I C l log k s h c =
-    let i = is_instance I l s in
-    let r = lines_refuted I log i h.belongs (suc k) k c.line (omega arith) c.stands in
-    (first_exactly I C l i s.claim).1 (covered_is_refuted I C (claim_of c.line) l i c.covers
-    (subst (λ (C : ℕ). IsRefuted I C (claim_of c.line)) h.capacity r))
+covered_has_none I C l log k s h c = none_where_covered I C l log k (is_instance I l s) s.claim h c
 
 -- ---- lines that none covers
 pub covers_less : (I : Instance) (lines : List Line) (k l : Claim) → IsInstance I → Covers I k l →
@@ -55,27 +58,42 @@ uncovered_next I lines after line q h none j k earlier x lt at_j at_k covers = e
     old n x below at = sym (get_before lines (line ∷ []) n below) ∙ subst
         (λ (xs : List Line). slice_get xs n ≡ Some x) q at
 
--- ---- the loop over the lines
--- none of the first n lines covers the claim
-abbrev pub NoneCoversBelow : Instance → List Line → Claim → ℕ → Type 0
-NoneCoversBelow I lines l n = (k : ℕ) (line : Line) → k < n → slice_get lines k ≡ Some line →
+-- ---- the loop over the lines, from the last one back
+-- no line from n on covers the claim
+abbrev pub NoneCoversFrom : Instance → List Line → Claim → ℕ → Type 0
+NoneCoversFrom I lines l n = (k : ℕ) (line : Line) → n ≤ k → slice_get lines k ≡ Some line →
     Covers I (claim_of line) l → ⊥
 
-pub none_below_next : (I : Instance) (lines : List Line) (l : Claim) (n : ℕ) (line : Line) →
-    NoneCoversBelow I lines l n → slice_get lines n ≡ Some line → (Covers I (claim_of line) l → ⊥) →
-    NoneCoversBelow I lines l (n + 1)
-none_below_next I lines l n line h at not k x lt at_k covers = elim (below_or_last k n lt) [
-  | inl below ↦ h k x below at_k covers
-  | inr last ↦ not (subst (λ (x : Line). Covers I (claim_of x) l)
-      (same (sym (subst (λ (k : ℕ). slice_get lines k ≡ Some x) last at_k) ∙ at)) covers)
+pub none_from_end : (I : Instance) (lines : List Line) (l : Claim) (n : ℕ) → length lines ≤ n →
+    NoneCoversFrom I lines l n
+none_from_end I lines l n le k line from at covers = absurd (let lt = slice_get_within lines k line at in omega arith)
+
+pub none_from_before : (I : Instance) (lines : List Line) (l : Claim) (n m : ℕ) (line : Line) → n ≡ m + 1 →
+    NoneCoversFrom I lines l n → slice_get lines m ≡ Some line → (Covers I (claim_of line) l → ⊥) →
+    NoneCoversFrom I lines l m
+none_from_before I lines l n m line q h at not k x from at_k covers = elim (later_or_this k m from) [
+  | inl later ↦ h k x (omega arith) at_k covers
+  | inr this ↦ not (subst (λ (x : Line). Covers I (claim_of x) l)
+      (same (sym (subst (λ (k : ℕ). slice_get lines k ≡ Some x) this at_k) ∙ at)) covers)
 ]
   where
-    below_or_last : (k n : ℕ) → k < n + 1 → (k < n) ⊎ (k ≡ n)
-    below_or_last k n lt = grind arith
+    later_or_this : (k m : ℕ) → m ≤ k → (m + 1 ≤ k) ⊎ (k ≡ m)
+    later_or_this k m le = grind arith
 
     same : {x y : Line} → Some x ≡ Some y → x ≡ y
     same q = cc
 
-pub none_below_all : (I : Instance) (lines : List Line) (l : Claim) (n : ℕ) → length lines ≤ n →
-    NoneCoversBelow I lines l n → NoneCovers I lines l
-none_below_all I lines l n le h k line at = h k line (let lt = slice_get_within lines k line at in omega arith) at
+pub none_in_all : (I : Instance) (lines : List Line) (l : Claim) (n asked : ℕ) → AreAsked I lines l asked → n ≤ asked →
+    NoneCoversFrom I lines l n → NoneCovers I lines l
+none_in_all I lines l n asked a le h k line at covers = elim (below_or_from k asked) [
+  | inl below ↦ a.none k line below at covers
+  | inr from ↦ h k line (omega arith) at covers
+]
+  where
+    below_or_from : (s t : ℕ) → (s < t) ⊎ (t ≤ s)
+    below_or_from s t = grind arith
+
+-- ---- lines that were asked
+pub all_asked : (I : Instance) (lines : List Line) (l : Claim) (n : ℕ) → NoneCovers I lines l → n ≡ length lines →
+    AreAsked I lines l n
+all_asked I lines l n h q = record { within = omega arith; none = λ k line lt at. h k line at }

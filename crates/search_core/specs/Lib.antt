@@ -1,7 +1,9 @@
 pub mod Keys
+pub mod Endings
 pub mod Cites
 pub mod Found
 pub mod Lifted
+pub mod Overs
 pub mod Tries
 pub mod Descents
 pub mod Opened
@@ -12,3 +14,6 @@ pub mod Decisions
 pub mod Pieces
 pub mod Outcomes
 pub mod Courses
+pub mod Levels
+pub mod Indexes
+pub mod TwinMarks

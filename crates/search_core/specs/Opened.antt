@@ -8,12 +8,14 @@ use Rattle.canonical_order.specs.Claims.{entry_of}
 use Rattle.search_core.specs.declared.opening.Opened.{Opened}
 use Rattle.search_core.specs.declared.opening.Opened.TheVariants as opened
 use Rattle.search_core.specs.Descents.{IsKnown, IsTrying, through}
+use Rattle.search_core.specs.Logs.{NoneCovers}
 use Rattle.search_core.specs.Meters.{AreSpent, Units}
 use Rattle.search_core.specs.Tries.{Tried, rest_of}
 
--- the choices of a claim that has some buffers: they decide its layout, and its work but for itself
+-- the choices of a claim that has some buffers: they decide its layout, and its work but for itself; no line covers it
 pub record AreChoices (I : Instance) (C : ℕ) (lines : List Line) (l : Claim) (f : Tried) : Type 0 where
   pub not_empty : l ≢ []
+  pub fresh : NoneCovers I lines l
   pub trying : IsTrying I C lines l f
   pub work : work I C l ≡ 1 + through I C l (map (entry_of l) (rest_of f))
 

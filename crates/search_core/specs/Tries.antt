@@ -2,14 +2,17 @@
 use Rattle.std.specs.Prelude.{ℕ, ◌+◌, ◌<◌, List, [], ◌∷◌, ◌++◌, length, drop, slice_index}
 use Rattle.search_core.specs.declared.found.Refuted.{Refuted}
 
--- the choices of a claim in order, and the first ones of them with the lines by which they are refuted
+-- the choices of a claim in order, the first ones of them with the lines by which they are refuted, the levels of the
+-- claim, and up to which line it was asked whether one covers the claim
 pub record Tried : Type 0 where
   pub order : List ℕ
   pub refuted : List Refuted
+  pub levels : List ℕ
+  pub asked : ℕ
 
--- none of these choices is refuted
-abbrev pub untried : List ℕ → Tried
-untried order = record { order = order; refuted = [] }
+-- none of these choices is refuted, and the first n lines were asked
+abbrev pub untried : List ℕ → List ℕ → ℕ → Tried
+untried order levels n = record { order = order; refuted = []; levels = levels; asked = n }
 
 -- a choice is left that is not refuted
 abbrev pub IsLeft : Tried → Type 0
@@ -29,4 +32,13 @@ later_of f = drop (length f.refuted + 1) f.order
 
 -- the same choices, with the first that was not refuted noted as refuted by the line of that number
 abbrev pub noted_by : Tried → ℕ → Tried
-noted_by f k = record { order = f.order; refuted = f.refuted ++ record { buffer = chosen_of f; line = k } ∷ [] }
+noted_by f k = record {
+  order = f.order;
+  refuted = f.refuted ++ record { buffer = chosen_of f; line = k } ∷ [];
+  levels = f.levels;
+  asked = f.asked;
+}
+
+-- the same, with the first n lines asked
+abbrev pub asked_to : Tried → ℕ → Tried
+asked_to f n = record { order = f.order; refuted = f.refuted; levels = f.levels; asked = n }

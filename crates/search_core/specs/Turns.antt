@@ -18,13 +18,13 @@ debt_of I C sky f frames =
     through I C (last_claim sky.claims) (map (entry_of (last_claim sky.claims)) (rest_of f))
     + left_of I C (last_claim sky.claims) (above_of sky.claims) (reverse frames)
 
--- the search is at a claim below that root, with so much left to do
+-- the search is at a claim below that root, with so much left to do at most
 pub record IsAhead (I : Instance) (C : ℕ) (lines : List Line) (top : Claim) (debt count : ℕ) (sky : Sky)
     (frames : List Tried) (line : Option ℕ) : Type 0 where
   pub place : IsPlace I C lines sky frames line
   pub root : sky_root sky ≡ top
-  pub owed : owed I C sky frames line ≡ debt
-  pub turns : turns_left I C sky frames line ≡ 2 * debt + count + 1
+  pub owed : owed I C sky frames line ≤ debt
+  pub turns : turns_left I C sky frames line ≤ 2 * debt + count + 1
 
 -- the search goes on below the same root: no more units are used and left than before, and fewer turns are left
 pub record IsOn (I : Instance) (C : ℕ) (lines : List Line) (before after : Units) (old : Sky) (frames : List Tried)

@@ -7,27 +7,31 @@ ghost use Rattle.canonical_order.specs.Claims.{IsBoundedBy};
 ghost use Rattle.canonical_order.specs.Stands.{Stands};
 ghost use Rattle.search_core.specs.declared.found.Refuted.{Refuted as RefutedTerm};
 ghost use Rattle.search_core.specs.Cites.{IsChildCovered, IsCoveredBy};
-ghost use Rattle.search_core.specs.Logs.{Extends, IsSearchLog};
+ghost use Rattle.search_core.specs.Levels.{AreLevels};
+ghost use Rattle.search_core.specs.Logs.{Extends, IsSearchLog, NoneCovers};
 
 use crate::cites::cites;
 use crate::found::Refuted;
-use crate::learned::covering_line;
+use crate::learned::Learned;
+use crate::leveled::Leveled;
+use crate::levels::Levels;
 use crate::lines::append;
 use crate::task::Task;
-use canonical_order::{Claim, View};
+use canonical_order::Claim;
 use dsa_model::NoMemory;
-use refute_log::{Line, Log};
+use refute_log::Line;
 use std::alloc::Global;
 
-/// The number of a line that covers the claim: one of the log, or else its Cases line, which is
-/// appended.
+/// Appends the Cases line of the claim, which no line covers, and gives its number.
 pub(crate) fn refute(
     alloc: Global,
     task: &Task,
-    log: &mut Log,
+    log: &mut Learned,
     claim: Claim,
+    levels: &Levels,
     refuted: &[Refuted],
 ) -> Result<u64, NoMemory>
+    requires levels { AreLevels task.now.instance.now claim levels.now }
     requires stands { Stands task.now.instance.now claim }
     requires low { IsBoundedBy (2 ^ 60) claim }
     requires not_empty { claim ≢ [] }
@@ -37,17 +41,16 @@ pub(crate) fn refute(
     requires covered { (r : RefutedTerm) → IsIn r refuted.now →
         IsChildCovered task.now.instance.now log.old.lines claim r }
     requires log { IsSearchLog task.now.instance.now task.now.capacity log.old }
+    requires fresh { NoneCovers task.now.instance.now log.old.lines claim }
     ensures log { OnOk result (IsSearchLog task.now.instance.now task.now.capacity log.new) }
     ensures grown { OnOk result (Extends claim log.old.lines log.new.lines) }
     ensures covered { IfOk result (IsCoveredBy task.now.instance.now log.new.lines claim) }
 {
-    let view = View {
+    let view = Leveled {
         instance: task.instance,
         claim: &claim,
+        levels,
     };
-    if let Some(line) = covering_line(log, &view) {
-        return Ok(line);
-    }
-    let cites = cites(alloc, &view, refuted)?;
-    append(task, log, Line::Cases { claim, cites })
+    let cites = cites(alloc, &view, task.twins, refuted)?;
+    append(alloc, task, log, Line::Cases { claim, cites })
 }

@@ -1,6 +1,6 @@
 //! The cites of a claim each of whose choices is refuted.
 
-ghost use Rattle.std.specs.Prelude.{◌≡◌, map, true, IfOk};
+ghost use Rattle.std.specs.Prelude.{◌≡◌, length, map, true, IfOk};
 ghost use Rattle.std.specs.List.{AllZip};
 ghost use Rattle.dsa_terms.specs.Claims.{Entry, IsIn};
 ghost use Rattle.dsa_terms.specs.Search.{not_excluded};
@@ -8,9 +8,13 @@ ghost use Rattle.canonical_order.specs.Claims.{HasBuffer, entry_of};
 ghost use Rattle.refute_log.specs.Lines.{cite_value};
 ghost use Rattle.search_core.specs.declared.found.Refuted.{Refuted as RefutedTerm};
 ghost use Rattle.search_core.specs.Cites.{IsCiteFor};
+ghost use Rattle.search_core.specs.Endings.{IsLeastEnd};
+ghost use Rattle.search_core.specs.TwinMarks.{AreTwinMarks};
 
 use crate::choice::own_cite;
+use crate::ending::{Ending, least_end};
 use crate::found::Refuted;
+use crate::twin_marks::TwinMarks;
 use canonical_order::Lows;
 use dsa_model::NoMemory;
 use refute_log::{Cite, Cites};
@@ -30,15 +34,24 @@ fn line_of(refuted: &[Refuted], b: u32) -> u64
 }
 
 /// The cite of a buffer of the claim.
-fn cite_for<L: Lows>(lows: &L, b: u32, refuted: &[Refuted]) -> Cite
+fn cite_for<L: Lows>(
+    lows: &L,
+    twins: &TwinMarks,
+    least: Ending,
+    b: u32,
+    refuted: &[Refuted],
+) -> Cite
+    requires twins { AreTwinMarks (L.subject lows.now) twins.now }
     requires b_in { HasBuffer (L.claim lows.now) b }
+    requires least { let I = L.subject lows.now in
+        IsLeastEnd I (L.claim lows.now) (length I) least }
     requires noted { let l = L.claim lows.now in
         not_excluded (L.subject lows.now) l (entry_of l b) ≡ true →
         IsIn b (map (λ (r : RefutedTerm). r.buffer) refuted.now) }
     ensures { let l = L.claim lows.now in
         IsCiteFor (L.subject lows.now) l refuted.now (entry_of l b) (cite_value result) }
 {
-    match own_cite(lows, b) {
+    match own_cite(lows, twins, least, b) {
         Some(cite) => cite,
         None => Cite::Line(line_of(refuted, b)),
     }
@@ -48,8 +61,10 @@ fn cite_for<L: Lows>(lows: &L, b: u32, refuted: &[Refuted]) -> Cite
 pub(crate) fn cites<L: Lows>(
     alloc: Global,
     lows: &L,
+    twins: &TwinMarks,
     refuted: &[Refuted],
 ) -> Result<Cites, NoMemory>
+    requires twins { AreTwinMarks (L.subject lows.now) twins.now }
     requires noted { let l = L.claim lows.now in
         (e : Entry) → IsIn e l → not_excluded (L.subject lows.now) l e ≡ true →
         IsIn e.0 (map (λ (r : RefutedTerm). r.buffer) refuted.now) }
@@ -57,10 +72,11 @@ pub(crate) fn cites<L: Lows>(
         IfOk result (λ cites.
         AllZip (IsCiteFor (L.subject lows.now) l refuted.now) l (map cite_value cites)) }
 {
+    let least = least_end(lows);
     let mut cites = Vec::new(alloc);
     for b in 0..lows.instance().len() {
         if lows.is_free(b) {
-            cites.push(cite_for(lows, b, refuted))?;
+            cites.push(cite_for(lows, twins, least, b, refuted))?;
         }
     }
     Ok(Cites::from_vec(cites))

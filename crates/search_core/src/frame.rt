@@ -1,19 +1,23 @@
 //! The choices of a claim, taken one after another.
 
 ghost use Rattle.std.specs.Prelude.{◌≡◌, IfOk, length, ◌==◌};
-ghost use Rattle.search_core.specs.Tries.{IsLeft, chosen_of, noted_by, untried};
+ghost use Rattle.search_core.specs.Tries.{IsLeft, asked_to, chosen_of, noted_by, untried};
 
 use crate::found::Refuted;
+use crate::levels::Levels;
 use dsa_model::NoMemory;
 use std::alloc::Global;
 use std::marker::Model;
 
 /// The choices of a claim in order, and for the first ones of them the lines by which they are
-/// refuted, with room for a line for each.
+/// refuted, with room for a line for each; and the levels of the claim. Below the number `asked` no
+/// line of the log covers the claim.
 #[derive(Drop)]
 pub(crate) struct Frame {
     order: Vec<u32>,
     refuted: Vec<Refuted>,
+    levels: Levels,
+    asked: u64,
 }
 
 impl Model for Frame {
@@ -22,18 +26,55 @@ impl Model for Frame {
 
     ghost Value = { Tried };
 
-    ghost view = { λ f. record { order = f.order.items; refuted = f.refuted.items } };
+    ghost view = { λ f. record {
+      order = f.order.items;
+      refuted = f.refuted.items;
+      levels = f.levels;
+      asked = f.asked;
+    } };
 
     ghost invariant = { λ f. length f.order.items ≤ vec_capacity f.refuted };
 }
 
 impl Frame {
-    /// These choices, none of them refuted.
-    pub(crate) fn new(alloc: Global, order: Vec<u32>) -> Result<Frame, NoMemory>
-        ensures { IfOk result (λ frame. frame ≡ untried order.items) }
+    /// These choices of the claim of the levels, none of them refuted. The first `asked` lines do
+    /// not cover the claim.
+    pub(crate) fn new(
+        alloc: Global,
+        order: Vec<u32>,
+        levels: Levels,
+        asked: u64,
+    ) -> Result<Frame, NoMemory>
+        ensures { IfOk result (λ frame. frame ≡ untried order.items levels asked) }
     {
         let refuted = Vec::with_capacity(alloc, order.len())?;
-        Ok(Frame { order, refuted })
+        Ok(Frame {
+            order,
+            refuted,
+            levels,
+            asked,
+        })
+    }
+
+    /// The levels of the claim.
+    pub(crate) fn levels(&self) -> &Levels
+        ensures { result.now ≡ self.now.levels }
+    {
+        &self.levels
+    }
+
+    /// How many lines need not be asked again whether they cover the claim.
+    pub(crate) fn asked(&self) -> u64
+        ensures { result ≡ self.now.asked }
+    {
+        self.asked
+    }
+
+    /// Notes that so many lines were asked.
+    pub(crate) fn ask_to(&mut self, asked: u64)
+        ensures { self.new ≡ asked_to self.old asked }
+    {
+        self.asked = asked;
     }
 
     /// Whether all choices are refuted.

@@ -4,21 +4,32 @@
 
 mod budget;
 mod cases;
+mod child_cover;
 mod choice;
 mod cites;
+mod ending;
 mod found;
 mod frame;
+mod gather;
+mod index;
+#[cfg(test)]
+mod index_tests;
 mod learned;
-mod lifted;
+mod leveled;
+mod levels;
 mod lines;
 mod meter;
 mod opening;
+mod over;
 mod part;
+mod recent;
+mod row;
 mod search;
 mod seats;
 mod task;
 #[cfg(test)]
 mod tests;
+mod twin_marks;
 mod walk;
 mod whole;
 

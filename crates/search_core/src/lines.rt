@@ -3,16 +3,17 @@
 ghost use Rattle.std.specs.Prelude.{◌≡◌, ◌+◌, ◌-◌, ◌^◌, ◌<◌, ◌≤◌, [], ◌∷◌, List, length, IfOk, OnOk};
 ghost use Rattle.dsa_terms.specs.Buffers.{IsLive, buffer as buffer_of};
 ghost use Rattle.dsa_terms.specs.Claims.{Claim as ClaimTerm, Covers};
-ghost use Rattle.dsa_terms.specs.Lean.{IsLeanLine};
 ghost use Rattle.dsa_terms.specs.Logs.{IsLegal, Line as LineTerm, claim_of};
 ghost use Rattle.refute_log.specs.Lines.{IsWithin, line_value};
 ghost use Rattle.search_core.specs.Cites.{IsCoveredBy};
 ghost use Rattle.search_core.specs.Logs.{Extends, IsSearchLog, NoneCovers};
 
+use crate::learned::Learned;
 use crate::task::Task;
 use canonical_order::Claim;
-use dsa_model::{Buffer, Fail, NoMemory};
-use refute_log::{Line, Log};
+use conflicts::ease;
+use dsa_model::{Buffer, NoMemory};
+use refute_log::Line;
 use std::alloc::Global;
 
 /// The first moment at which the buffer is live.
@@ -32,8 +33,6 @@ pub(crate) fn tall_line(alloc: Global, task: &Task, b: u32) -> Result<Line, NoMe
     ensures legal { IfOk result (λ line. (earlier : List LineTerm) →
         IsLegal task.now.instance.now task.now.capacity earlier (line_value line)) }
     ensures within { IfOk result (λ line. IsWithin (line_value line)) }
-    ensures lean { IfOk result (λ line. (earlier : List LineTerm) →
-        IsLeanLine task.now.instance.now task.now.capacity earlier (line_value line)) }
 {
     let buffer = task.instance.buffer(b);
     let height = (task.capacity + 1).saturating_sub(buffer.size());
@@ -48,14 +47,17 @@ pub(crate) fn tall_line(alloc: Global, task: &Task, b: u32) -> Result<Line, NoMe
     })
 }
 
-/// Appends a line that is legal and that no line covers, and gives its number.
-pub(crate) fn append(task: &Task, log: &mut Log, line: Line) -> Result<u64, NoMemory>
+/// Appends a line that is legal and whose claim no line covers, eased, and gives its number.
+pub(crate) fn append(
+    alloc: Global,
+    task: &Task,
+    log: &mut Learned,
+    line: Line,
+) -> Result<u64, NoMemory>
     requires log { IsSearchLog task.now.instance.now task.now.capacity log.old }
     requires legal { let I = task.now.instance.now in
         IsLegal I task.now.capacity log.old.lines (line_value line) }
     requires within { IsWithin (line_value line) }
-    requires lean { let I = task.now.instance.now in
-        IsLeanLine I task.now.capacity log.old.lines (line_value line) }
     requires fresh { NoneCovers task.now.instance.now log.old.lines (claim_of (line_value line)) }
     ensures log { OnOk result (IsSearchLog task.now.instance.now task.now.capacity log.new) }
     ensures grown { (l : ClaimTerm) → Covers task.now.instance.now (claim_of (line_value line)) l →
@@ -64,10 +66,9 @@ pub(crate) fn append(task: &Task, log: &mut Log, line: Line) -> Result<u64, NoMe
         Covers task.now.instance.now (claim_of (line_value line)) l →
         IfOk result (λ k. IsCoveredBy task.now.instance.now log.new.lines l k) }
 {
-    let _number = log.len();
-    match log.push(task.instance, line) {
-        Ok(k) => Ok(k),
-        Err(Fail::NoMemory) => Err(NoMemory),
-        Err(Fail::Fault(_)) => unreachable!(),
-    }
+    let _count = task.instance.len();
+    let _number = log.log().len();
+    let eased = ease(alloc, task.instance, log.log(), line)?;
+    let number = log.push(task.instance, eased)?;
+    Ok(number)
 }

@@ -9,6 +9,7 @@ ghost use Rattle.search_core.specs.Meters.{AreWithin};
 use crate::Budget;
 use crate::meter::Meter;
 use crate::task::Task;
+use crate::twin_marks::TwinMarks;
 use crate::whole::search_parts;
 use dsa_model::{Instance, NoMemory};
 use lifetime::Sections;
@@ -24,6 +25,7 @@ pub struct Search<'a> {
     instance: &'a Instance,
     sections: &'a Sections,
     parts: &'a Parts,
+    twins: TwinMarks,
     meter: Meter,
     spends: u64,
 }
@@ -33,13 +35,14 @@ impl<'a> Model for Search<'a> {
     ghost use Rattle.dsa_terms.specs.Parts.{parts as parts_of};
     ghost use Rattle.lifetime.specs.SectionList.{AreSectionsOf};
     ghost use Rattle.search_core.specs.Courses.{Course};
+    ghost use Rattle.search_core.specs.TwinMarks.{AreTwinMarks};
 
     ghost Value = { Course };
 
     ghost view = { λ s. record { subject = s.instance.now; units = s.meter; spends = s.spends } };
 
     ghost invariant = { λ s. let I = s.instance.now in
-        (s.parts.now ≡ parts_of I) × AreSectionsOf I s.sections.now };
+        (s.parts.now ≡ parts_of I) × AreSectionsOf I s.sections.now × AreTwinMarks I s.twins };
 }
 
 impl<'a> Search<'a> {
@@ -56,11 +59,13 @@ impl<'a> Search<'a> {
         requires parts { parts.now ≡ parts_of instance.now }
         ensures { IfOk result (λ search. search ≡ at_start instance.now budget) }
     {
+        let twins = TwinMarks::of(alloc, instance)?;
         Ok(Search {
             alloc,
             instance,
             sections,
             parts,
+            twins,
             meter: Meter::new(budget.most()),
             spends: 0,
         })
@@ -127,6 +132,7 @@ impl<'a> Decider for Search<'a> {
         let _count = self.instance.len();
         let task = Task {
             instance: self.instance,
+            twins: &self.twins,
             capacity,
         };
         let meter = &mut self.meter;

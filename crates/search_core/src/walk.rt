@@ -1,31 +1,33 @@
 //! The search through the claims of one part, down by a choice and back.
 
-ghost use Rattle.std.specs.Prelude.{◌≡◌, ◌≢◌, ◌+◌, ◌<◌, ◌≤◌, [], List, Some, None, OnOk, IfOk, length, reverse, vec_capacity};
+ghost use Rattle.std.specs.Prelude.{◌≡◌, ◌≢◌, ◌+◌, ◌<◌, ◌≤◌, [], List, Some, None, OnOk, IfOk, length, map, reverse, vec_capacity};
 ghost use Rattle.std.specs.List.{All};
 ghost use Rattle.dsa_terms.specs.Claims.{Rises};
 ghost use Rattle.dsa_terms.specs.Logs.{Line};
 ghost use Rattle.dsa_terms.specs.Parts.{whole};
 ghost use Rattle.dsa_terms.specs.Search.{first, work};
+ghost use Rattle.canonical_order.specs.Claims.{entry_of};
 ghost use Rattle.lifetime.specs.SectionList.{AreSectionsOf};
-ghost use Rattle.search_core.specs.Descents.{Descends, IsPlace, IsTrying, above_of, owed, sky_root};
+ghost use Rattle.search_core.specs.Descents.{Descends, IsPlace, IsTrying, above_of, owed, sky_root, through};
 ghost use Rattle.search_core.specs.Found.{IfSpent, IsFound, UnlessSpent};
-ghost use Rattle.search_core.specs.Logs.{Extends, IsSearchLog};
+ghost use Rattle.search_core.specs.Logs.{Extends, IsSearchLog, NoneCovers};
 ghost use Rattle.search_core.specs.Meters.{AreMore, AreSpent};
+ghost use Rattle.search_core.specs.Tries.{rest_of};
 ghost use Rattle.search_core.specs.Turns.{IfOn, IsAhead, IsTurned, UnlessTurnSpent, debt_of};
 ghost use Rattle.skyline.specs.Skies.{last_claim};
 
 use crate::cases::refute;
 use crate::found::Found;
 use crate::frame::Frame;
-use crate::lifted::lifted;
+use crate::gather::seats;
+use crate::learned::Learned;
 use crate::meter::Meter;
 use crate::opening::{Opened, open};
-use crate::seats::seated;
+use crate::recent::Recent;
 use crate::task::Task;
 use canonical_order::Lows;
 use dsa_model::NoMemory;
 use lifetime::Sections;
-use refute_log::Log;
 use skyline::Skyline;
 use std::alloc::Global;
 
@@ -38,15 +40,116 @@ enum Turn {
     Done(Found),
 }
 
-/// Takes the next choice of the last claim, whose choices are those of the frame; where none is
-/// left the claim is refuted, and the number of a line that covers it is given.
+/// Takes the next choice of the last claim, which no line covers and whose choices are those of the
+/// frame; where none is left the claim is refuted, and the number of its line is given.
 fn advance(
     alloc: Global,
     task: &Task,
-    log: &mut Log,
+    log: &mut Learned,
     sky: &mut Skyline,
     frames: &mut Vec<Frame>,
     frame: Frame,
+) -> Result<Option<u64>, NoMemory>
+    requires subject { sky.old.instance ≡ task.now.instance.now }
+    requires some { 0 < length sky.old.claims }
+    requires not_empty { last_claim sky.old.claims ≢ [] }
+    requires log { IsSearchLog task.now.instance.now task.now.capacity log.old }
+    requires trying { IsTrying task.now.instance.now task.now.capacity log.old.lines
+        (last_claim sky.old.claims) frame }
+    requires fresh { NoneCovers task.now.instance.now log.old.lines (last_claim sky.old.claims) }
+    requires descends { let l = last_claim sky.old.claims in
+        Descends task.now.instance.now task.now.capacity log.old.lines l
+        (above_of sky.old.claims) (reverse frames.old.items) }
+    requires room { length (last_claim sky.old.claims) + length frames.old.items ≤
+        vec_capacity frames.old }
+    ensures log { OnOk result (IsSearchLog task.now.instance.now task.now.capacity log.new) }
+    ensures grown { OnOk result (Extends (last_claim sky.old.claims) log.old.lines log.new.lines) }
+    ensures room { OnOk result (length (last_claim sky.new.claims) + length frames.new.items ≤
+        vec_capacity frames.new) }
+    ensures ahead { let I = task.now.instance.now in let C = task.now.capacity in
+        IfOk result (IsAhead I C log.new.lines (sky_root sky.old)
+        (debt_of I C sky.old frame frames.old.items) (length frames.old.items)
+        sky.new frames.new.items) }
+{
+    let _count = sky.instance().len();
+    if frame.is_done() {
+        let claim = frame.levels().lifted(alloc)?;
+        return Ok(Some(refute(alloc, task, log, claim, frame.levels(), frame.refuted())?));
+    }
+    sky.push(frame.chosen());
+    frames.push(frame).unwrap();
+    Ok(None)
+}
+
+/// Notes lines for the next choices of the frame, as long as one is at hand that covers the child.
+/// So these children need not be made. The frame is that of the last claim.
+fn pass_over(task: &Task, log: &Learned, recent: &Recent, sky: &Skyline, frame: &mut Frame)
+    requires subject { sky.now.instance ≡ task.now.instance.now }
+    requires log { IsSearchLog task.now.instance.now task.now.capacity log.now }
+    requires trying { IsTrying task.now.instance.now task.now.capacity log.now.lines
+        (last_claim sky.now.claims) frame.old }
+    ensures trying { IsTrying task.now.instance.now task.now.capacity log.now.lines
+        (last_claim sky.now.claims) frame.new }
+    ensures less { let I = task.now.instance.now in let C = task.now.capacity in
+        let l = last_claim sky.now.claims in
+        through I C l (map (entry_of l) (rest_of frame.new))
+        ≤ through I C l (map (entry_of l) (rest_of frame.old)) }
+{
+    let _count = sky.instance().len();
+    'choices: while !frame.is_done() {
+        match recent.find(log.log(), task.instance, frame.levels(), frame.chosen()) {
+            Some(line) => frame.note(line),
+            None => return,
+        }
+    }
+}
+
+/// Takes the next choice of the last claim for which no line is at hand, as `advance` does.
+fn proceed(
+    alloc: Global,
+    task: &Task,
+    log: &mut Learned,
+    recent: &Recent,
+    sky: &mut Skyline,
+    frames: &mut Vec<Frame>,
+    mut frame: Frame,
+) -> Result<Option<u64>, NoMemory>
+    requires subject { sky.old.instance ≡ task.now.instance.now }
+    requires some { 0 < length sky.old.claims }
+    requires not_empty { last_claim sky.old.claims ≢ [] }
+    requires log { IsSearchLog task.now.instance.now task.now.capacity log.old }
+    requires trying { IsTrying task.now.instance.now task.now.capacity log.old.lines
+        (last_claim sky.old.claims) frame }
+    requires fresh { NoneCovers task.now.instance.now log.old.lines (last_claim sky.old.claims) }
+    requires descends { let l = last_claim sky.old.claims in
+        Descends task.now.instance.now task.now.capacity log.old.lines l
+        (above_of sky.old.claims) (reverse frames.old.items) }
+    requires room { length (last_claim sky.old.claims) + length frames.old.items ≤
+        vec_capacity frames.old }
+    ensures log { OnOk result (IsSearchLog task.now.instance.now task.now.capacity log.new) }
+    ensures grown { OnOk result (Extends (last_claim sky.old.claims) log.old.lines log.new.lines) }
+    ensures room { OnOk result (length (last_claim sky.new.claims) + length frames.new.items ≤
+        vec_capacity frames.new) }
+    ensures ahead { let I = task.now.instance.now in let C = task.now.capacity in
+        IfOk result (IsAhead I C log.new.lines (sky_root sky.old)
+        (debt_of I C sky.old frame frames.old.items) (length frames.old.items)
+        sky.new frames.new.items) }
+{
+    pass_over(task, log, recent, sky, &mut frame);
+    let next = advance(alloc, task, log, sky, frames, frame)?;
+    Ok(next)
+}
+
+/// Goes on at the last claim, to which the search has returned: by a line that covers it, which was
+/// made since it was asked for one, or else by its next choice.
+fn resume(
+    alloc: Global,
+    task: &Task,
+    log: &mut Learned,
+    recent: &Recent,
+    sky: &mut Skyline,
+    frames: &mut Vec<Frame>,
+    mut frame: Frame,
 ) -> Result<Option<u64>, NoMemory>
     requires subject { sky.old.instance ≡ task.now.instance.now }
     requires some { 0 < length sky.old.claims }
@@ -69,42 +172,19 @@ fn advance(
         sky.new frames.new.items) }
 {
     let _count = sky.instance().len();
-    if frame.is_done() {
-        let claim = lifted(alloc, sky)?;
-        return Ok(Some(refute(alloc, task, log, claim, frame.refuted())?));
+    if let Some(line) = log.find_later(frame.levels(), frame.asked()) {
+        return Ok(Some(line));
     }
-    sky.push(frame.chosen());
-    frames.push(frame).unwrap();
-    Ok(None)
-}
-
-/// The first layout of the first claim, from the empty one of the last claim.
-fn seats(
-    alloc: Global,
-    task: &Task,
-    sky: &mut Skyline,
-    frames: &mut Vec<Frame>,
-) -> Result<Vec<(u32, u64)>, NoMemory>
-    requires place { let I = task.now.instance.now in
-        (lines : List Line) × IsPlace I task.now.capacity lines sky.old frames.old.items None }
-    requires found { let I = task.now.instance.now in
-        first I task.now.capacity (last_claim sky.old.claims) ≡ Some [] }
-    ensures { let I = task.now.instance.now in
-        IfOk result (λ v. first I task.now.capacity (sky_root sky.old) ≡ Some v.items) }
-{
-    let mut seats = Vec::new(alloc);
-    while let Some(frame) = frames.pop() {
-        sky.pop();
-        seats = seated(alloc, sky, frame.chosen(), &seats)?;
-    }
-    Ok(seats)
+    frame.ask_to(log.log().len());
+    proceed(alloc, task, log, recent, sky, frames, frame)
 }
 
 /// One step: down from the last claim, or back from it where a line is known that covers it.
 fn step(
     alloc: Global,
     task: &Task,
-    log: &mut Log,
+    log: &mut Learned,
+    recent: &mut Recent,
     meter: &mut Meter,
     sky: &mut Skyline,
     frames: &mut Vec<Frame>,
@@ -135,16 +215,17 @@ fn step(
             Some(mut frame) => {
                 sky.pop();
                 let _count = sky.instance().len();
+                recent.note(frame.chosen(), k);
                 frame.note(k);
-                let next = advance(alloc, task, log, sky, frames, frame)?;
+                let next = resume(alloc, task, log, recent, sky, frames, frame)?;
                 Ok(Turn::On(next))
             }
             None => Ok(Turn::Done(Found::Line(k))),
         },
-        None => match open(alloc, task, log, meter, sky)? {
+        None => match open(alloc, task, log, meter, sky, frames.as_slice())? {
             Opened::Line(k) => Ok(Turn::On(Some(k))),
             Opened::Choices(frame) => {
-                let next = advance(alloc, task, log, sky, frames, frame)?;
+                let next = proceed(alloc, task, log, recent, sky, frames, frame)?;
                 Ok(Turn::On(next))
             }
             Opened::Empty => Ok(Turn::Done(Found::Seats(seats(alloc, task, sky, frames)?))),
@@ -158,7 +239,7 @@ fn step(
 pub(crate) fn search(
     alloc: Global,
     task: &Task,
-    log: &mut Log,
+    log: &mut Learned,
     meter: &mut Meter,
     sections: &Sections,
     members: &[u32],
@@ -182,9 +263,19 @@ pub(crate) fn search(
 {
     let mut sky = Skyline::new(alloc, task.instance, sections, members)?;
     let mut frames = Vec::with_capacity(alloc, members.len())?;
+    let mut recent = Recent::new(alloc, task.instance.len())?;
     let mut line = None;
     'turns: loop {
-        match step(alloc, task, log, meter, &mut sky, &mut frames, line)? {
+        match step(
+            alloc,
+            task,
+            log,
+            &mut recent,
+            meter,
+            &mut sky,
+            &mut frames,
+            line,
+        )? {
             Turn::On(next) => line = next,
             Turn::Done(found) => return Ok(found),
         }

@@ -1,14 +1,16 @@
 use Rattle.std.proofs.Common.{map}
-use Rattle.canonical_order.proofs.Entries.{in_range}
 use Rattle.refute_log.specs.Lines.{cite_value}
-use Rattle.search_core.proofs.CasesLines.{cases_legal, cites_own, cites_within}
+use Rattle.search_core.proofs.CasesLines.{cases_legal, cites_within}
 use Rattle.search_core.proofs.Descent.{covers_itself, is_instance}
+use Rattle.search_core.proofs.Leveling.{levels_in_range}
+use Rattle.search_core.proofs.Meeting.{level_inside, level_outside}
 use Rattle.search_core.proofs.cases.refute.Goals as goal
 
 pub invariant_of-view : goal.invariant_of-view
 invariant_of-view c = record {
-  in_range = λ b h. in_range c.args.task.now.instance.now c.args.claim b c.requires.stands
-      h;
+  in_range = levels_in_range c.args.task.now.instance.now c.args.claim c.args.levels.now c.requires.levels;
+  inside = level_inside c.args.task.now.instance.now c.args.claim c.args.levels.now c.requires.levels;
+  outside = level_outside c.args.task.now.instance.now c.args.claim c.args.levels.now c.requires.levels;
 }
 
 pub append-requires-clause-legal : goal.append-requires-clause-legal
@@ -24,11 +26,6 @@ append-requires-clause-within c = (
       (map cite_value c.in_ok-cites.cites) c.in_ok-cites.ensures
       c.args.log.now.lines c.requires.stands c.requires.covered,
 )
-
-pub append-requires-clause-lean : goal.append-requires-clause-lean
-append-requires-clause-lean c =
-    cites_own c.args.task.now.instance.now c.args.claim c.args.refuted.now
-    (map cite_value c.in_ok-cites.cites) c.in_ok-cites.ensures
 
 pub returns-clause-grown : goal.returns-clause-grown
 returns-clause-grown c =

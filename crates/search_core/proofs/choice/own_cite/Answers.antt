@@ -1,42 +1,63 @@
-use Rattle.std.proofs.Common.{◌∙◌, sym}
-use Rattle.dsa_terms.specs.Logs.{ends_below, is_twin}
+use Rattle.std.proofs.Common.{◌∙◌, arith, refl, sym}
+use Rattle.dsa_terms.specs.Logs.{is_twin}
 use Rattle.canonical_order.specs.Claims.{entry_of}
+use Rattle.search_core.proofs.Ends.{least_is_below, none_is_below}
 use Rattle.search_core.proofs.Least.{least_passes, none_least, below_excludes, twin_excludes, no_rule_excludes}
+use Rattle.search_core.proofs.TwinMarking.{no_twin}
 use Rattle.search_core.proofs.choice.own_cite.Goals as goal
+
+pub returns-then-least-low-clause-legal : goal.returns-then-least-low-clause-legal
+returns-then-least-low-clause-legal g c =
+    let I = g.L.Lows.subject c.args.lows.now in
+    let l = g.L.Lows.claim c.args.lows.now in
+    let v = c.low.ensures.value in
+    let t = c.if-least-low.true in
+    let k = c.low.ensures.limit in
+    least_is_below I l c.args.least c.args.b c.low.ensures.stands c.requires.b_in c.requires.least (omega arith)
+    (omega arith)
+
+pub returns-then-least-low-clause-none : goal.returns-then-least-low-clause-none
+returns-then-least-low-clause-none g c =
+    let l = g.L.Lows.claim c.args.lows.now in
+    let r = returns-then-least-low-clause-legal g c in
+    below_excludes (g.L.Lows.subject c.args.lows.now) l (entry_of l c.args.b) r.0 r.1 r.3
+
+pub returns-in-Some-clause-legal : goal.returns-in-Some-clause-legal
+returns-in-Some-clause-legal g c =
+    let I = g.L.Lows.subject c.args.lows.now in
+    let l = g.L.Lows.claim c.args.lows.now in
+    least_passes (λ f. is_twin I f (entry_of l c.args.b)) l c.in-Some.c c.in-Some.ensures.value
 
 pub returns-in-Some-clause-none : goal.returns-in-Some-clause-none
 returns-in-Some-clause-none g c =
     let I = g.L.Lows.subject c.args.lows.now in
     let l = g.L.Lows.claim c.args.lows.now in
     let e = entry_of l c.args.b in
-    let r = least_passes (λ f. ends_below I f e) l c.in-Some.c c.in-Some.ensures.value in
-    below_excludes I l e r.0 r.1 r.3
-
-pub returns-in-Some-clause-legal : goal.returns-in-Some-clause-legal
-returns-in-Some-clause-legal g c =
-    let I = g.L.Lows.subject c.args.lows.now in
-    let l = g.L.Lows.claim c.args.lows.now in
-    least_passes (λ f. ends_below I f (entry_of l c.args.b)) l c.in-Some.c c.in-Some.ensures.value
-
-pub returns-in-Some-twin_before-clause-none : goal.returns-in-Some-twin_before-clause-none
-returns-in-Some-twin_before-clause-none g c =
-    let I = g.L.Lows.subject c.args.lows.now in
-    let l = g.L.Lows.claim c.args.lows.now in
-    let e = entry_of l c.args.b in
-    let r = least_passes (λ f. is_twin I f e) l c.in-Some-twin_before.c c.in-Some-twin_before.ensures.value in
-    twin_excludes I l e r.0 (none_least (λ f. ends_below I f e) l (sym c.in_default.is ∙ c.dominated.ensures.value)) r.1
+    let r = least_passes (λ f. is_twin I f e) l c.in-Some.c c.in-Some.ensures.value in
+    let v = c.low.ensures.value in
+    let t = c.if-least-low.false in
+    twin_excludes I l e r.0
+    (none_is_below I l c.args.least c.args.b c.low.ensures.stands c.requires.b_in c.requires.least (omega arith)) r.1
     r.3
-
-pub returns-in-Some-twin_before-clause-legal : goal.returns-in-Some-twin_before-clause-legal
-returns-in-Some-twin_before-clause-legal g c =
-    let I = g.L.Lows.subject c.args.lows.now in
-    let l = g.L.Lows.claim c.args.lows.now in
-    least_passes (λ f. is_twin I f (entry_of l c.args.b)) l c.in-Some-twin_before.c c.in-Some-twin_before.ensures.value
 
 pub returns-in-None-clause-none : goal.returns-in-None-clause-none
 returns-in-None-clause-none g c =
     let I = g.L.Lows.subject c.args.lows.now in
     let l = g.L.Lows.claim c.args.lows.now in
     let e = entry_of l c.args.b in
-    no_rule_excludes I l e (none_least (λ f. ends_below I f e) l (sym c.in_default.is ∙ c.dominated.ensures.value))
+    let v = c.low.ensures.value in
+    let t = c.if-least-low.false in
+    no_rule_excludes I l e
+    (none_is_below I l c.args.least c.args.b c.low.ensures.stands c.requires.b_in c.requires.least (omega arith))
     (none_least (λ f. is_twin I f e) l c.in-None.ensures.value)
+
+pub returns-then-not-may_have-clause-none : goal.returns-then-not-may_have-clause-none
+returns-then-not-may_have-clause-none g c =
+    let I = g.L.Lows.subject c.args.lows.now in
+    let l = g.L.Lows.claim c.args.lows.now in
+    let e = entry_of l c.args.b in
+    let v = c.low.ensures.value in
+    let t = c.if-least-low.false in
+    no_rule_excludes I l e
+    (none_is_below I l c.args.least c.args.b c.low.ensures.stands c.requires.b_in c.requires.least (omega arith))
+    (no_twin I l c.args.b e refl (c.requires.twins c.args.b (sym c.may_have.ensures ∙ c.if-not-may_have.true)))

@@ -1,6 +1,6 @@
 use Rattle.std.proofs.Common.{◌≡◌, ◌+◌, ◌-◌, ◌≤◌, ◌^◌, ◌∙◌, inl, inr, refl, arith}
 use Rattle.dsa_terms.specs.Buffers.{buffer}
-use Rattle.search_core.proofs.TallLines.{tall_is_legal, tall_is_lean}
+use Rattle.search_core.proofs.TallLines.{tall_is_legal}
 use Rattle.search_core.proofs.lines.tall_line.Goals as goal
 
 height_is : (c : goal.In_ok-claim) →
@@ -28,9 +28,3 @@ returns-clause-within c =
       h,
       omega arith,
     )
-
-pub returns-clause-lean : goal.returns-clause-lean
-returns-clause-lean c earlier =
-    rw (c.in_ok-claim.ensures, height_is c)
-    (tall_is_lean c.args.task.now.instance.now c.args.task.now.capacity c.args.b c.first_moment-moment.result earlier
-    (rw c.buffer-buffer.ensures.value at c.first_moment-moment.ensures.live))

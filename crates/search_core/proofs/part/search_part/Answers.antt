@@ -15,7 +15,7 @@ search-requires-clause-in_range c = part_in_range c.args.task.now.instance.now c
 pub close-requires-clause-in_log : goal.close-requires-clause-in_log
 close-requires-clause-in_log c =
     let found = rw c.in-Line.is at c.in_ok-seats.ensures.found in
-    slice_get_within c.search.new.log.lines c.in-Line.end found.1.line found.1.stands
+    rw c.into_log.ensures (slice_get_within c.search.new.log.lines c.in-Line.end found.1.line found.1.stands)
 
 pub unreachable-requires : goal.unreachable-requires
 unreachable-requires c =
@@ -25,7 +25,7 @@ unreachable-requires c =
     let end = whole_end I c.search.new.log.lines p c.in-Line.end
     (is_instance I (whole p) (stands_part I p c.len-count.ensures.buffers c.len-count.ensures.limit c.requires.part))
     found.1 in
-    c.in-Err.ensures.whole end.0 end.1 end.2
+    c.in-Err.ensures.whole end.0 (rw c.into_log.ensures end.1) end.2
 
 pub returns-in-Ok-clause-found : goal.returns-in-Ok-clause-found
 returns-in-Ok-clause-found c =
@@ -33,6 +33,6 @@ returns-in-Ok-clause-found c =
       found.0,
       refutes_part c.args.task.now.instance.now c.args.task.now.capacity c.args.members.now c.search.new.log
           c.in-Ok.closed c.in-Line.end c.requires.part c.in_ok-seats.ensures.log
-          (rw (ap (λ (log : OpenLog). log.lines) c.new-log.ensures.value)
-          at c.in_ok-seats.ensures.grown) c.in-Ok.ensures.closed c.in-Ok.ensures.accepted,
+          (rw (ap (λ (log : OpenLog). log.lines) c.in_ok-log.ensures.value)
+          at c.in_ok-seats.ensures.grown) (rw c.into_log.ensures at c.in-Ok.ensures.closed) c.in-Ok.ensures.accepted,
     )

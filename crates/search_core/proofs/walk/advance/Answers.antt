@@ -7,19 +7,38 @@ use Rattle.search_core.specs.Descents.{buffer_of}
 use Rattle.search_core.specs.Tries.{chosen_of}
 use Rattle.search_core.proofs.Stacks.{last_of_append, when_ok}
 use Rattle.search_core.proofs.Descent.{is_instance, shorter}
-use Rattle.search_core.proofs.Descending.{ahead_deeper, ahead_refuted}
-use Rattle.search_core.proofs.Lifting.{covered_from_lifted, lifted_covered, lifted_extends, lifted_noted, lifted_stands}
+use Rattle.search_core.proofs.Descending.{ahead_covered, ahead_deeper}
+use Rattle.search_core.proofs.Leveling.{lifted_levels}
+use Rattle.search_core.proofs.LiftedChoices.{lifted_nothing}
+use Rattle.search_core.proofs.Lifting.{covered_from_lifted, lifted_covered, lifted_extends, lifted_fresh, lifted_noted, lifted_stands}
 use Rattle.search_core.proofs.Searching.{all_refuted, chosen_in, each_noted, one_is_left, refuted_in}
 use Rattle.search_core.proofs.walk.advance.Goals as goal
 
 -- ---- no choice is left
+pub refute-requires-clause-levels : goal.refute-requires-clause-levels
+refute-requires-clause-levels c =
+    let I = c.args.task.now.instance.now in
+    let l = last_claim c.args.sky.now.claims in
+    let s = rw (c.instance.ensures.value, c.requires.subject) at c.instance.ensures.stands in
+    let q = c.in_ok-claim.ensures.value I l (rw c.levels.ensures c.requires.trying.levels) in
+    rw (q, c.levels-then-is_done.ensures)
+    (lifted_levels I l c.args.frame.levels (is_instance I l s) c.requires.trying.levels)
+
 pub refute-requires-clause-stands : goal.refute-requires-clause-stands
 refute-requires-clause-stands c =
     let I = c.args.task.now.instance.now in
     let l = last_claim c.args.sky.now.claims in
     let s = rw (c.instance.ensures.value, c.requires.subject) at c.instance.ensures.stands in
-    let q = rw c.requires.subject at c.in_ok-claim.ensures.value in
+    let q = c.in_ok-claim.ensures.value c.args.task.now.instance.now (last_claim c.args.sky.now.claims)
+    (rw c.levels.ensures c.requires.trying.levels) in
     rw q (lifted_stands I l s (rw q at c.in_ok-claim.ensures.low))
+
+pub refute-requires-clause-not_empty : goal.refute-requires-clause-not_empty
+refute-requires-clause-not_empty c e =
+    let I = c.args.task.now.instance.now in
+    let l = last_claim c.args.sky.now.claims in
+    let q = c.in_ok-claim.ensures.value I l (rw c.levels.ensures c.requires.trying.levels) in
+    c.requires.not_empty (lifted_nothing I l (sym (ap length q) ∙ ap length e))
 
 pub refute-requires-clause-low : goal.refute-requires-clause-low
 refute-requires-clause-low c = c.in_ok-claim.ensures.low
@@ -31,7 +50,8 @@ refute-requires-clause-noted c =
     let l = last_claim c.args.sky.now.claims in
     let f = c.args.frame in
     let s = rw (c.instance.ensures.value, c.requires.subject) at c.instance.ensures.stands in
-    let q = rw c.requires.subject at c.in_ok-claim.ensures.value in
+    let q = c.in_ok-claim.ensures.value c.args.task.now.instance.now (last_claim c.args.sky.now.claims)
+    (rw c.levels.ensures c.requires.trying.levels) in
     let done : length f.refuted ≡ length f.order = equal (length f.refuted) (length f.order)
     (sym c.if-is_done.ensures) in
     rw (q, c.refuted.ensures)
@@ -46,13 +66,24 @@ refute-requires-clause-covered c =
     let f = c.args.frame in
     let lines = c.args.log.now.lines in
     let s = rw (c.instance.ensures.value, c.requires.subject) at c.instance.ensures.stands in
-    let q = rw c.requires.subject at c.in_ok-claim.ensures.value in
+    let q = c.in_ok-claim.ensures.value c.args.task.now.instance.now (last_claim c.args.sky.now.claims)
+    (rw c.levels.ensures c.requires.trying.levels) in
     rw (q, c.refuted.ensures) (λ r i. lifted_covered I lines l r (is_instance I l s) s.claim.rises
     (refuted_in I C l lines f c.requires.trying r i) (c.requires.trying.covered r i))
 
+pub refute-requires-clause-fresh : goal.refute-requires-clause-fresh
+refute-requires-clause-fresh c =
+    let I = c.args.task.now.instance.now in
+    let l = last_claim c.args.sky.now.claims in
+    let s = rw (c.instance.ensures.value, c.requires.subject) at c.instance.ensures.stands in
+    let q = c.in_ok-claim.ensures.value c.args.task.now.instance.now (last_claim c.args.sky.now.claims)
+    (rw c.levels.ensures c.requires.trying.levels) in
+    rw q (lifted_fresh I c.args.log.now.lines l (is_instance I l s) c.requires.fresh)
+
 pub returns-then-is_done-clause-grown : goal.returns-then-is_done-clause-grown
 returns-then-is_done-clause-grown c =
-    let q = rw c.requires.subject at c.in_ok-claim.ensures.value in
+    let q = c.in_ok-claim.ensures.value c.args.task.now.instance.now (last_claim c.args.sky.now.claims)
+    (rw c.levels.ensures c.requires.trying.levels) in
     lifted_extends c.args.task.now.instance.now (last_claim c.args.sky.now.claims) c.args.log.now.lines
     c.refute.new.log.lines (rw q at c.in_ok-refute.ensures.grown)
 
@@ -63,11 +94,12 @@ returns-then-is_done-clause-ahead c =
     let l = last_claim c.args.sky.now.claims in
     let f = c.args.frame in
     let s = rw (c.instance.ensures.value, c.requires.subject) at c.instance.ensures.stands in
-    let q = rw c.requires.subject at c.in_ok-claim.ensures.value in
+    let q = c.in_ok-claim.ensures.value c.args.task.now.instance.now (last_claim c.args.sky.now.claims)
+    (rw c.levels.ensures c.requires.trying.levels) in
     let done : length f.refuted ≡ length f.order = equal (length f.refuted) (length f.order)
     (sym c.if-is_done.ensures) in
-    ahead_refuted I C l c.args.log.now.lines c.refute.new.log.lines c.args.sky.now c.args.frames.now.items f
-    c.in_ok-refute.field-0 c.requires.subject c.requires.some done (returns-then-is_done-clause-grown c)
+    ahead_covered I C l c.args.log.now.lines c.refute.new.log.lines c.args.sky.now c.args.frames.now.items f
+    c.in_ok-refute.field-0 c.requires.subject c.requires.some (returns-then-is_done-clause-grown c)
     c.requires.descends (record {
       none = all_refuted I C l c.args.log.now.lines f c.requires.trying done;
       covered = covered_from_lifted I c.refute.new.log.lines l c.in_ok-refute.field-0 (is_instance I l s)
@@ -122,6 +154,6 @@ returns-clause-ahead c =
     let claims = rw (c.chosen.ensures, c.requires.subject) at c.push.ensures.claims in
     ahead_deeper I c.args.task.now.capacity c.args.log.now.lines c.args.sky.now c.push.new.self
     c.args.frames.now.items c.push-2.new.self.items f c.requires.subject c.requires.some c.requires.trying left
-    c.requires.descends c.push.ensures.instance claims
+    c.requires.fresh c.requires.descends c.push.ensures.instance claims
     (when_ok c.push-2.result (c.args.frames.now.items ++ f ∷ []) c.args.frames.now.items c.push-2.new.self.items
     c.push-2.ensures.items (c.push-2.ensures.succeeds (omega (arith, len, c.requires.room, c.args.frames.now.ok.0))))

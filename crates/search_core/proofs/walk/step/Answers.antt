@@ -5,12 +5,20 @@ use Rattle.search_core.proofs.Descent.{shorter}
 use Rattle.search_core.proofs.Descending.{back_noted, descends_still, is_back}
 use Rattle.search_core.proofs.Growing.{extends_along}
 use Rattle.search_core.proofs.Searching.{chosen_in}
-use Rattle.search_core.proofs.Stepping.{grown_below, known_line, nothing_in, on_back, on_line, root_refuted, some_owed}
+use Rattle.search_core.proofs.Stepping.{are_above, grown_below, known_line, nothing_in, on_back, on_line, root_refuted, some_owed}
 use Rattle.search_core.proofs.walk.step.Goals as goal
 
 -- ---- back
-pub advance-requires-clause-trying : goal.advance-requires-clause-trying
-advance-requires-clause-trying c =
+pub chosen-requires : goal.chosen-requires
+chosen-requires c =
+    let p = c.requires.place in
+    let b = is_back c.args.task.now.instance.now c.args.task.now.capacity c.args.log.now.lines c.args.sky.now
+    c.pop-in-Some-pop.new.self c.args.frames.now.items c.pop.new.self.items c.in-Some-pop.frame p.subject p.some
+    p.descends c.in-Some-pop.ensures.items c.pop-in-Some-pop.ensures.instance c.pop-in-Some-pop.ensures.claims in
+    b.standing.is_left
+
+pub resume-requires-clause-trying : goal.resume-requires-clause-trying
+resume-requires-clause-trying c =
     let I = c.args.task.now.instance.now in
     let C = c.args.task.now.capacity in
     let p = c.requires.place in
@@ -19,12 +27,12 @@ advance-requires-clause-trying c =
     let b = is_back I C lines c.args.sky.now c.pop-in-Some-pop.new.self c.args.frames.now.items c.pop.new.self.items f
     p.subject p.some p.descends c.in-Some-pop.ensures.items c.pop-in-Some-pop.ensures.instance
     c.pop-in-Some-pop.ensures.claims in
-    rw c.note.ensures (back_noted I C lines c.args.sky.now c.pop-in-Some-pop.new.self c.pop.new.self.items f
+    rw c.note-in-Some-pop.ensures (back_noted I C lines c.args.sky.now c.pop-in-Some-pop.new.self c.pop.new.self.items f
     c.in-Some.k b
     (known_line I C lines c.args.sky.now c.args.frames.now.items c.args.line p c.in-Some.k c.in-Some.is))
 
-pub advance-requires-clause-room : goal.advance-requires-clause-room
-advance-requires-clause-room c =
+pub resume-requires-clause-room : goal.resume-requires-clause-room
+resume-requires-clause-room c =
     let I = c.args.task.now.instance.now in
     let C = c.args.task.now.capacity in
     let p = c.requires.place in
@@ -59,7 +67,7 @@ returns-in_ok-next-in-Some-pop-clause-grown c =
     let b = is_back I C lines c.args.sky.now c.pop-in-Some-pop.new.self c.args.frames.now.items c.pop.new.self.items f
     p.subject p.some p.descends c.in-Some-pop.ensures.items c.pop-in-Some-pop.ensures.instance
     c.pop-in-Some-pop.ensures.claims in
-    rw b.root (grown_below I C lines c.advance.new.log.lines c.pop-in-Some-pop.new.self (reverse c.pop.new.self.items)
+    rw b.root (grown_below I C lines c.resume.new.log.lines c.pop-in-Some-pop.new.self (reverse c.pop.new.self.items)
     b.descends c.in_ok-next-in-Some-pop.ensures.grown)
 
 pub returns-in_ok-next-in-Some-pop-clause-turned : goal.returns-in_ok-next-in-Some-pop-clause-turned
@@ -72,10 +80,10 @@ returns-in_ok-next-in-Some-pop-clause-turned c =
     let b = is_back I C lines c.args.sky.now c.pop-in-Some-pop.new.self c.args.frames.now.items c.pop.new.self.items f
     p.subject p.some p.descends c.in-Some-pop.ensures.items c.pop-in-Some-pop.ensures.instance
     c.pop-in-Some-pop.ensures.claims in
-    on_back I C lines c.args.sky.now c.args.frames.now.items c.args.line p c.advance.new.log.lines
-    c.pop-in-Some-pop.new.self c.advance.new.sky c.pop.new.self.items c.advance.new.frames.items f c.in-Some.k
+    on_back I C lines c.args.sky.now c.args.frames.now.items c.args.line p c.resume.new.log.lines
+    c.pop-in-Some-pop.new.self c.resume.new.sky c.pop.new.self.items c.resume.new.frames.items f c.in-Some.k
     c.in_ok-next-in-Some-pop.next c.args.meter.now c.in-Some.is c.in-Some-pop.ensures.items b
-    (rw c.note.ensures at c.in_ok-next-in-Some-pop.ensures.ahead)
+    (rw c.note-in-Some-pop.ensures at c.in_ok-next-in-Some-pop.ensures.ahead)
 
 pub returns-in-None-pop-clause-turned : goal.returns-in-None-pop-clause-turned
 returns-in-None-pop-clause-turned c =
@@ -87,6 +95,12 @@ returns-in-None-pop-clause-turned c =
     )
 
 -- ---- forth
+pub open-requires-clause-above : goal.open-requires-clause-above
+open-requires-clause-above c =
+    rw c.as_slice.ensures.value
+    (are_above c.args.task.now.instance.now c.args.task.now.capacity c.args.log.now.lines c.args.sky.now
+    c.args.frames.now.items c.args.line c.requires.place c.in-None.is)
+
 pub returns-in_err-k-in-None-clause-used : goal.returns-in_err-k-in-None-clause-used
 returns-in_err-k-in-None-clause-used c =
     let p = c.requires.place in
@@ -95,8 +109,8 @@ returns-in_err-k-in-None-clause-used c =
     c.args.frames.now.items c.args.line p c.in-None.is s.claim in
     omega (arith, o, c.open.ensures.one)
 
-pub advance-requires-in-Choices-clause-descends : goal.advance-requires-in-Choices-clause-descends
-advance-requires-in-Choices-clause-descends c =
+pub proceed-requires-clause-descends : goal.proceed-requires-clause-descends
+proceed-requires-clause-descends c =
     let l = last_claim c.args.sky.now.claims in
     descends_still c.args.task.now.instance.now c.args.task.now.capacity l c.args.log.now.lines c.open.new.log.lines l
     (above_of c.args.sky.now.claims) (reverse c.args.frames.now.items) c.in_ok-k-in-None.ensures.grown
@@ -136,8 +150,8 @@ pub returns-in_ok-next-in-Choices-clause-grown : goal.returns-in_ok-next-in-Choi
 returns-in_ok-next-in-Choices-clause-grown c =
     let l = last_claim c.args.sky.now.claims in
     grown_below c.args.task.now.instance.now c.args.task.now.capacity c.args.log.now.lines
-    c.advance-in-Choices.new.log.lines c.args.sky.now (reverse c.args.frames.now.items) c.requires.place.descends
-    (extends_along l l c.args.log.now.lines c.open.new.log.lines c.advance-in-Choices.new.log.lines (λ b h. h)
+    c.proceed.new.log.lines c.args.sky.now (reverse c.args.frames.now.items) c.requires.place.descends
+    (extends_along l l c.args.log.now.lines c.open.new.log.lines c.proceed.new.log.lines (λ b h. h)
     c.in_ok-k-in-None.ensures.grown c.in_ok-next-in-Choices.ensures.grown)
 
 pub returns-in_ok-seats-in-Empty-clause-grown : goal.returns-in_ok-seats-in-Empty-clause-grown

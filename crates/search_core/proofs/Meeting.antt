@@ -1,0 +1,117 @@
+-- What the levels of a claim say of bounds: the claim meets a bound exactly where it is below the buffer's level.
+use Rattle.std.proofs.Common.{◌≡◌, ℕ, ◌+◌, ◌-◌, ◌<◌, ◌≤◌, ◌⊎◌, inl, inr, List, [], ◌∷◌, ◌++◌, length, slice_index, slice_index_or, Option, Some, None, refl, sym, ap, subst, arith}
+use Rattle.std.proofs.lemmas.List.{get_or_past, get_or_read, map-append}
+use Rattle.dsa_terms.specs.Buffers.{Instance}
+use Rattle.dsa_terms.specs.Claims.{Claim, Entry, IsIn, Rises, buffers_of, up}
+use Rattle.dsa_terms.proofs.Lists.{from_append, from_map}
+use Rattle.canonical_order.specs.Claims.{CoversEntry, HasBuffer, bound_of, entry_of}
+use Rattle.canonical_order.proofs.CoverLemmas.{covers_entry, from_covered}
+use Rattle.canonical_order.proofs.Entries.{bound_none, bound_some, entry_in}
+use Rattle.search_core.specs.Levels.{AreLevels}
+use Rattle.search_core.specs.Lifted.{lift}
+
+pub below_or_from : (s t : ℕ) → (s < t) ⊎ (t ≤ s)
+below_or_from s t = grind arith
+
+pub has_or_not : (l : Claim) (b : ℕ) → HasBuffer l b ⊎ (HasBuffer l b → ⊥)
+has_or_not l b = go (bound_of l b) refl
+  where
+    go : (o : Option ℕ) → o ≡ bound_of l b → HasBuffer l b ⊎ (HasBuffer l b → ⊥)
+    go None e = inr (bound_none l b e)
+    go (Some x) e = inl (bound_some l b x e).0
+
+-- ---- the level of one buffer
+module _ (I : Instance) (l : Claim) (levels : List ℕ) (h : AreLevels I l levels) where
+  pub level_inside : (b : ℕ) → HasBuffer l b → slice_index levels b ≡ up I (entry_of l b) + 1
+  level_inside b i = (h.each b (h.claim.in_range (entry_of l b) (entry_in l b i))).inside i
+
+  pub level_outside : (b : ℕ) → (HasBuffer l b → ⊥) → slice_index levels b ≡ 0
+  level_outside b n = elim (below_or_from b (length I)) [
+    | inl lt ↦ (h.each b lt).outside n
+    | inr le ↦ get_or_past levels b 0 (let k = h.count in omega arith)
+  ]
+
+  pub has_level : (b : ℕ) → 0 < slice_index levels b → HasBuffer l b
+  has_level b lt = elim (has_or_not l b) [
+    | inl i ↦ i
+    | inr n ↦ absurd (let k : slice_index levels b ≡ 0 = level_outside b n in omega arith)
+  ]
+
+  pub meets : (e : Entry) → e.1 < slice_index levels e.0 → CoversEntry I l e
+  meets e lt =
+      let i : HasBuffer l e.0 = has_level e.0 (omega arith) in
+      covers_entry I l e i
+      (let k : slice_index levels e.0 ≡ up I (entry_of l e.0) + 1 = level_inside e.0 i in omega arith)
+
+  pub is_met : (e : Entry) → CoversEntry I l e → e.1 < slice_index levels e.0
+  is_met e c =
+      let r = from_covered I l e h.claim.rises c in
+      let k : slice_index levels e.0 ≡ up I (entry_of l e.0) + 1 = level_inside e.0 r.0 in
+      let q : e.1 ≤ up I (entry_of l e.0) = r.1 in
+      omega arith
+
+  -- the same where the level was read
+  pub meets_at : (e : Entry) (level : ℕ) → level ≡ slice_index levels e.0 → e.1 < level → CoversEntry I l e
+  meets_at e level q lt = meets e (omega arith)
+
+  pub not_met_at : (e : Entry) (level : ℕ) → level ≡ slice_index levels e.0 → level ≤ e.1 → CoversEntry I l e → ⊥
+  not_met_at e level q le c = let k : e.1 < slice_index levels e.0 = is_met e c in omega arith
+
+  pub lifted_at : (b level : ℕ) → level ≡ slice_index levels b → 0 < level →
+      HasBuffer l b × (◌≡◌ {A = Entry} (b, level - 1) (lift I (entry_of l b)))
+  lifted_at b level q lt =
+      let i : HasBuffer l b = has_level b (omega arith) in
+      let k : slice_index levels b ≡ up I (entry_of l b) + 1 = level_inside b i in
+      (i, ap (λ (n : ℕ). let e : Entry = (b, n) in e) (let p : level - 1 ≡ up I (entry_of l b) = omega arith in p))
+
+  pub absent_at : (b level : ℕ) → level ≡ slice_index levels b → level ≤ 0 → HasBuffer l b → ⊥
+  absent_at b level q z i =
+      let k : slice_index levels b ≡ up I (entry_of l b) + 1 = level_inside b i in omega arith
+
+pub level_read : (numbers levels : List ℕ) (b level : ℕ) → numbers ≡ levels → b < length numbers →
+    level ≡ slice_index_or numbers b level → level ≡ slice_index levels b
+level_read numbers levels b level q lt e =
+    subst (λ (xs : List ℕ). level ≡ slice_index xs b) q (get_or_read numbers b level lt e 0)
+
+-- some bound is not met, or all are
+pub met_or_not : (levels : List ℕ) (k : Claim) → ((e : Entry) → IsIn e k → e.1 < slice_index levels e.0)
+    ⊎ ((e : Entry) × IsIn e k × (slice_index levels e.0 ≤ e.1))
+met_or_not levels [] = inl (λ e i. absurd i)
+met_or_not levels (x ∷ xs) = go (below_or_from x.1 (slice_index levels x.0)) (met_or_not levels xs)
+  where
+    go : (x.1 < slice_index levels x.0) ⊎ (slice_index levels x.0 ≤ x.1) →
+        ((e : Entry) → IsIn e xs → e.1 < slice_index levels e.0)
+        ⊎ ((e : Entry) × IsIn e xs × (slice_index levels e.0 ≤ e.1)) →
+        ((e : Entry) → IsIn e (x ∷ xs) → e.1 < slice_index levels e.0)
+        ⊎ ((e : Entry) × IsIn e (x ∷ xs) × (slice_index levels e.0 ≤ e.1))
+    go (inr le) r = inr (x, inl refl, le)
+    go (inl lt) (inr r) = inr (r.0, inr r.1, r.2)
+    go (inl lt) (inl h) = inl (λ e i. elim i [
+      | inl q ↦ subst (λ (e : Entry). e.1 < slice_index levels e.0) (sym q) lt
+      | inr j ↦ h e j
+    ])
+
+-- ---- a claim with one entry more
+pub rises_next : (xs : List ℕ) (y : ℕ) → Rises xs → ((x : ℕ) → IsIn x xs → x < y) → Rises (xs ++ y ∷ [])
+rises_next [] y r h = (λ x i. absurd i, tt)
+rises_next (x ∷ xs) y r h = (
+  λ z i. elim (from_append xs (y ∷ []) z i) [
+    | inl j ↦ r.0 z j
+    | inr j ↦ elim j [ inl q ↦ (let k : x < y = h x (inl refl) in omega arith) | inr j ↦ absurd j ]
+  ],
+  rises_next xs y r.1 (λ z i. h z (inr i)),
+)
+
+pub entries_rise : (l after : Claim) (e : Entry) → after ≡ l ++ e ∷ [] → Rises (buffers_of l) →
+    ((f : Entry) → IsIn f l → f.0 < e.0) → Rises (buffers_of after)
+entries_rise l after e q r h =
+    rw (q, map-append (λ (e : Entry). e.0) l (e ∷ [])) (rises_next (buffers_of l) e.0 r (λ x i.
+    let f = from_map (λ (e : Entry). e.0) l x i in
+    let k : f.0.0 < e.0 = h f.0 f.1 in let p : x ≡ f.0.0 = f.2 in omega arith))
+
+pub all_below_next : (l after : Claim) (e : Entry) → after ≡ l ++ e ∷ [] → ((f : Entry) → IsIn f l → f.0 < e.0) →
+    (f : Entry) → IsIn f after → f.0 < e.0 + 1
+all_below_next l after e q h f i = elim (from_append l (e ∷ []) f (subst (IsIn f) q i)) [
+  | inl j ↦ (let k : f.0 < e.0 = h f j in omega arith)
+  | inr j ↦ elim j [ inl p ↦ (let k : f.0 ≡ e.0 = ap (λ (e : Entry). e.0) p in omega arith) | inr j ↦ absurd j ]
+]

@@ -1,0 +1,80 @@
+-- Choices whose children lines are known to cover.
+use Rattle.std.proofs.Common.{◌≡◌, ℕ, ◌+◌, ◌-◌, ◌<◌, ◌≤◌, cond, List, ◌∷◌, [], length, map, slice_index, Option, Some, None, is_some, ap, ◌∙◌, arith, length-append}
+use Rattle.dsa_terms.specs.Buffers.{Instance}
+use Rattle.dsa_terms.specs.Claims.{Claim, Entry, child}
+use Rattle.dsa_terms.specs.Logs.{Line}
+use Rattle.dsa_terms.specs.Search.{first, work}
+use Rattle.dsa_search_laws.proofs.Claims.{claim-child}
+use Rattle.canonical_order.specs.Claims.{HasBuffer, entry_of}
+use Rattle.canonical_order.specs.Stands.{Stands}
+use Rattle.refute_log.specs.Logs.{OpenLog}
+use Rattle.skyline.specs.Skies.{Sky}
+use Rattle.search_core.specs.Cites.{IsCoveredBy}
+use Rattle.search_core.specs.Descents.{IsTrying, through}
+use Rattle.search_core.specs.Levels.{AreLevels}
+use Rattle.search_core.specs.Logs.{IsSearchLog}
+use Rattle.search_core.specs.Tries.{IsLeft, Tried, chosen_of, later_of, noted_by, rest_of}
+use Rattle.search_core.specs.Turns.{IsAhead}
+use Rattle.search_core.proofs.Descent.{is_instance}
+use Rattle.search_core.proofs.Searching.{choice_refuted, next_choice, rest_of_noted}
+use Rattle.search_core.proofs.Uncovered.{none_where_covered}
+use Rattle.search_core.proofs.Working.{through_next}
+
+-- how much is left to do below the claim
+abbrev pub left_below : Instance → ℕ → Claim → Tried → ℕ
+left_below I C l f = through I C l (map (entry_of l) (rest_of f))
+
+-- the choices from here on are those of the first frame but for some that are refuted
+pub record IsPassing (I : Instance) (C : ℕ) (lines : List Line) (l : Claim) (old f : Tried) : Type 0 where
+  pub trying : IsTrying I C lines l f
+  pub less : left_below I C l f ≤ left_below I C l old
+
+-- a level of a buffer of the claim is above 0
+pub some_level : (I : Instance) (l : Claim) (levels : List ℕ) (b : ℕ) → AreLevels I l levels → HasBuffer l b →
+    b < length I → 0 < slice_index levels b
+some_level I l levels b a h lt = let k = (a.each b lt).inside h in omega arith
+
+module _ (I : Instance) (C : ℕ) (l : Claim) (log : OpenLog) (f : Tried) (k : ℕ) (s : Stands I l)
+    (h : IsSearchLog I C log) (t : IsTrying I C log.lines l f) (lt : IsLeft f)
+    (c : IsCoveredBy I log.lines (child I l (entry_of l (chosen_of f))) k) where
+  none_there : first I C (child I l (entry_of l (chosen_of f))) ≡ None
+  none_there = none_where_covered I C (child I l (entry_of l (chosen_of f))) log k (is_instance I l s)
+      (claim-child I l (entry_of l (chosen_of f)) s.claim) h c
+
+  pub passed_trying : IsTrying I C log.lines l (noted_by f k)
+  passed_trying = choice_refuted I C l log.lines f k t lt (record { none = none_there; covered = c })
+
+  pub passed_less : left_below I C l (noted_by f k) ≤ left_below I C l f
+  passed_less =
+      let e = entry_of l (chosen_of f) in
+      let later = through I C l (map (entry_of l) (later_of f)) in
+      let a : left_below I C l (noted_by f k) ≡ later =
+      ap (λ (bs : List ℕ). through I C l (map (entry_of l) bs)) (rest_of_noted f k) in
+      let b : left_below I C l f ≡ work I C (child I l e) + cond (is_some (first I C (child I l e))) 0 later =
+      ap (λ (bs : List ℕ). through I C l (map (entry_of l) bs)) (next_choice f lt)
+      ∙ through_next I C l e (map (entry_of l) (later_of f)) in
+      at_most (first I C (child I l e)) none_there (work I C (child I l e)) later (left_below I C l f)
+      (left_below I C l (noted_by f k)) a b
+    where
+      at_most : (o : Option (List Entry)) → o ≡ None → (w later before after : ℕ) → after ≡ later →
+          before ≡ w + cond (is_some o) 0 later → after ≤ before
+      at_most None q w later before after a b = omega arith
+      at_most (Some seats) q w later before after a b = absurd cc
+
+  -- and one choice less is left
+  pub passed_one : length f.order - length (noted_by f k).refuted < length f.order - length f.refuted
+  passed_one =
+      let n = length-append f.refuted (record { buffer = chosen_of f; line = k } ∷ []) in
+      let m = lt in
+      omega arith
+
+-- what is ahead of less is ahead of more
+pub ahead_of_less : (I : Instance) (C : ℕ) (lines : List Line) (top : Claim) (less most count : ℕ)
+    (sky : Sky) (frames : List Tried) (line : Option ℕ) → less ≤ most →
+    IsAhead I C lines top less count sky frames line → IsAhead I C lines top most count sky frames line
+ahead_of_less I C lines top less most count sky frames line le a = record {
+  place = a.place;
+  root = a.root;
+  owed = let k = a.owed in omega arith;
+  turns = let k = a.turns in omega arith;
+}

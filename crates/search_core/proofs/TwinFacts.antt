@@ -1,0 +1,26 @@
+-- Worked facts: three buffers, of which the first two are alike and the third has another alignment.
+use Rattle.std.proofs.Common.{◌≡◌, ℕ, true, false, [], ◌∷◌, refl}
+use Rattle.dsa_terms.specs.Buffers.{Buffer, Instance, buffer, have_same_moments, is_live, some_before}
+use Rattle.dsa_terms.specs.Claims.{up}
+use Rattle.dsa_terms.specs.Logs.{is_twin}
+use Rattle.search_core.specs.TwinMarks.{AreTwinMarks, are_alike}
+
+abbrev aligned : ℕ → Buffer
+aligned alignment = record { lower = 0; upper = 1; size = 3; alignment = alignment; gaps = [] }
+
+abbrev three : Instance
+three = aligned 2 ∷ aligned 2 ∷ aligned 4 ∷ []
+
+first_two_are_alike : are_alike (aligned 2) (aligned 2) ≡ true
+unfolding have_same_moments some_before is_live
+first_two_are_alike = refl
+
+last_two_are_not : are_alike (aligned 2) (aligned 4) ≡ false
+last_two_are_not = refl
+
+a_twin_is_marked : AreTwinMarks three (false ∷ false ∷ false ∷ []) → ⊥
+unfolding have_same_moments some_before is_twin up is_live buffer
+a_twin_is_marked h = let k : true ≡ false = h 1 refl (0, 0) (1, 0) refl in absurd cc
+
+none_need_be_told : AreTwinMarks three []
+none_need_be_told b h = absurd cc

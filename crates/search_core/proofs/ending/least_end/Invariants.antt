@@ -1,0 +1,5 @@
+use Rattle.search_core.specs.Endings.{IsLeastEnd}
+use Rattle.search_core.proofs.ending.least_end.Given as goal
+
+abbrev pub invariant-loop-b : goal.invariant-loop-b
+invariant-loop-b g l = IsLeastEnd (g.L.Lows.subject l.lows) (g.L.Lows.claim l.lows) l.b l.least

@@ -1,0 +1,12 @@
+use Rattle.std.proofs.Common.{List, vec_len}
+use Rattle.dsa_terms.specs.Logs.{Line}
+use Rattle.search_core.specs.Descents.{sky_root}
+use Rattle.search_core.proofs.Descending.{IsSeated}
+use Rattle.search_core.proofs.gather.seats.Given as goal
+
+abbrev pub decreases-loop-frame : goal.decreases-loop-frame
+decreases-loop-frame l = vec_len l.frames
+
+abbrev pub invariant-loop-frame : goal.invariant-loop-frame
+invariant-loop-frame l = (lines : List Line) ×
+    IsSeated l.task.instance.now l.task.capacity (sky_root l.fn.sky) lines l.sky l.frames.items l.seats.items

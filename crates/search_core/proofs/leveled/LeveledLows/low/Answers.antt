@@ -1,0 +1,23 @@
+use Rattle.std.proofs.Common.{◌^◌, arith}
+use Rattle.canonical_order.proofs.Entries.{stands, up_limit}
+use Rattle.search_core.proofs.leveled.LeveledLows.low.Goals as goal
+
+pub returns-clause-value : goal.returns-clause-value
+returns-clause-value c =
+    let k = c.args.self.now.inside c.args.b c.requires in
+    let e = c.at.ensures in
+    let s = c.saturating_sub.ensures in
+    omega arith
+
+pub returns-clause-stands : goal.returns-clause-stands
+returns-clause-stands c =
+    stands _ _ c.len-pairs.ensures.kept c.args.self.now.in_range c.len-count.ensures.buffers
+    c.len-count.ensures.limit
+
+pub returns-clause-limit : goal.returns-clause-limit
+returns-clause-limit c =
+    let I = c.args.self.now.instance.now in
+    let l = c.args.self.now.claim.now in
+    let v = returns-clause-value c in
+    let k = up_limit I l c.args.b (2 ^ 61) (returns-clause-stands c) c.len-pairs.ensures.kept.bounds c.requires in
+    omega arith

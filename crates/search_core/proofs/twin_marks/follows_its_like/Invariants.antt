@@ -1,0 +1,7 @@
+use Rattle.std.proofs.Common.{◌≡◌, ℕ, ◌<◌, false}
+use Rattle.dsa_terms.specs.Buffers.{buffer}
+use Rattle.search_core.specs.TwinMarks.{are_alike}
+use Rattle.search_core.proofs.twin_marks.follows_its_like.Given as goal
+
+abbrev pub invariant-loop-c : goal.invariant-loop-c
+invariant-loop-c l = (d : ℕ) → d < l.c → are_alike (buffer l.instance d) (buffer l.instance l.b) ≡ false

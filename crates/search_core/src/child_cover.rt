@@ -1,0 +1,94 @@
+//! Whether a claim covers a child that is not made.
+
+ghost use Rattle.std.specs.Prelude.{◌≡◌, ◌≢◌, ◌+◌, ◌^◌, ◌<◌, ◌≤◌, true, length, max, slice_index};
+ghost use Rattle.dsa_terms.specs.Claims.{Claim as ClaimTerm, Covers, up};
+ghost use Rattle.dsa_terms.specs.Claims.{child as child_of, step as step_of};
+ghost use Rattle.canonical_order.specs.Claims.{CoversEntry, entry_of};
+ghost use Rattle.search_core.specs.Levels.{AreLevels};
+
+use crate::levels::Levels;
+use canonical_order::Claim;
+use dsa_model::Instance;
+
+/// How far above b, which comes first, c has to start, in bytes.
+fn step(instance: &Instance, b: u32, c: u32) -> u64
+    requires b_in { b < length instance.now }
+    requires c_in { c < length instance.now }
+    ensures value { result ≡ step_of instance.now b c }
+    ensures limit { result ≤ 2 ^ 40 }
+{
+    let first = instance.buffer(b);
+    let size = first.size();
+    if first.first_common(instance.buffer(c)).is_some() {
+        size
+    } else if c < b {
+        1
+    } else {
+        0
+    }
+}
+
+/// The bound of c in the child by b, in bytes. Both are in the claim of the levels.
+fn raised(instance: &Instance, levels: &Levels, b: u32, c: u32) -> u64
+    requires count { length levels.now ≡ length instance.now }
+    requires b_in { 0 < slice_index levels.now b }
+    requires c_in { 0 < slice_index levels.now c }
+    ensures value { let I = instance.now in (l : ClaimTerm) → AreLevels I l levels.now →
+        result ≡ max (up I (entry_of l c)) (up I (entry_of l b) + step_of I b c) }
+    ensures limit { result ≤ 2 ^ 55 }
+{
+    let low = levels.at(c as usize) - 1;
+    let least = levels.at(b as usize) - 1 + step(instance, b, c);
+    if low < least { least } else { low }
+}
+
+/// The low of c in the child by b, in bytes.
+fn low_in_child(instance: &Instance, levels: &Levels, b: u32, c: u32) -> u64
+    requires count { length levels.now ≡ length instance.now }
+    requires b_in { 0 < slice_index levels.now b }
+    requires c_in { 0 < slice_index levels.now c }
+    requires other { c ≢ b }
+    ensures { let I = instance.now in (l : ClaimTerm) → AreLevels I l levels.now →
+        result ≡ up I (entry_of (child_of I l (entry_of l b)) c) }
+{
+    let bound = raised(instance, levels, b, c);
+    instance.buffer(c).least_offset(bound)
+}
+
+/// Whether the child by b meets the bound of c. No low falls, so that a bound which the claim itself
+/// meets needs no look at the buffers.
+fn meets_in_child(instance: &Instance, levels: &Levels, b: u32, c: u32, bound: u64) -> bool
+    requires count { length levels.now ≡ length instance.now }
+    requires b_in { 0 < slice_index levels.now b }
+    ensures { let I = instance.now in (l : ClaimTerm) → AreLevels I l levels.now → result ≡ true →
+        CoversEntry I (child_of I l (entry_of l b)) (c, bound) }
+{
+    let _count = instance.len();
+    if c == b {
+        return false;
+    }
+    let level = levels.at(c as usize);
+    if level == 0 {
+        return false;
+    }
+    if bound < level {
+        return true;
+    }
+    bound <= low_in_child(instance, levels, b, c)
+}
+
+/// Whether k covers the child by b of the claim of the levels, which has b. The child is not made,
+/// and no memory is taken.
+pub(crate) fn covers_child(instance: &Instance, levels: &Levels, k: &Claim, b: u32) -> bool
+    requires count { length levels.now ≡ length instance.now }
+    requires b_in { 0 < slice_index levels.now b }
+    ensures { let I = instance.now in (l : ClaimTerm) → AreLevels I l levels.now → result ≡ true →
+        Covers I k.now (child_of I l (entry_of l b)) }
+{
+    for pair in k.pairs() {
+        if !meets_in_child(instance, levels, b, pair.0, pair.1) {
+            return false;
+        }
+    }
+    true
+}

@@ -1,0 +1,63 @@
+//! Claims that one Over line refutes.
+
+ghost use Rattle.std.specs.Prelude.{◌≡◌, ◌^◌, None, IfNone, IfOk, IfSome};
+ghost use Rattle.dsa_terms.specs.Search.{is_tall};
+ghost use Rattle.canonical_order.specs.Claims.{IsBoundedBy, least_buffer};
+ghost use Rattle.refute_log.specs.Lines.{line_value};
+ghost use Rattle.search_core.specs.Levels.{AreLevels};
+ghost use Rattle.search_core.specs.Lifted.{lifted};
+ghost use Rattle.search_core.specs.Overs.{RefutesAtOnce};
+ghost use Rattle.skyline.specs.Skies.{last_claim};
+
+use crate::leveled::Leveled;
+use crate::levels::Levels;
+use crate::lines::tall_line;
+use crate::task::Task;
+use canonical_order::{Claim, Lows, tall};
+use dsa_model::NoMemory;
+use refute_log::Line;
+use skyline::Skyline;
+use std::alloc::Global;
+
+/// The Over line of a tall buffer of the last claim, or else of its buffers at the start of a
+/// section that is too full; none where no buffer is tall and no section is too full. The claim is
+/// the last one with its lows as bounds, and the levels are those of both.
+pub(crate) fn over_line(
+    alloc: Global,
+    task: &Task,
+    sky: &Skyline,
+    claim: &Claim,
+    levels: &Levels,
+) -> Result<Option<Line>, NoMemory>
+    requires subject { sky.now.instance ≡ task.now.instance.now }
+    requires lifted { claim.now ≡ lifted task.now.instance.now (last_claim sky.now.claims) }
+    requires levels { AreLevels task.now.instance.now claim.now levels.now }
+    requires low { IsBoundedBy (2 ^ 60) claim.now }
+    ensures none { let I = task.now.instance.now in let l = last_claim sky.now.claims in
+        IfOk result (λ o. IfNone o (None ≡ least_buffer (is_tall I task.now.capacity) l)) }
+    ensures some { let I = task.now.instance.now in let l = last_claim sky.now.claims in
+        IfOk result (λ o. IfSome o (λ line.
+        RefutesAtOnce I task.now.capacity l (line_value line))) }
+{
+    let _count = sky.instance().len();
+    let view = Leveled {
+        instance: task.instance,
+        claim,
+        levels,
+    };
+    if let Some(b) = tall(&view, task.capacity) {
+        return Ok(Some(tall_line(alloc, task, b)?));
+    }
+    match sky.overloaded(task.capacity) {
+        None => Ok(None),
+        Some((moment, height)) => {
+            let claim = claim.copy(alloc)?;
+            Ok(Some(Line::Over {
+                claim,
+                moment,
+                height,
+                modulus: 1,
+            }))
+        }
+    }
+}

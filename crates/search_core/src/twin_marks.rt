@@ -1,0 +1,66 @@
+//! Which buffers may have a twin at all, whatever the claim.
+
+ghost use Rattle.std.specs.Prelude.{◌≡◌, ◌<◌, true, false, IfOk, length, slice_index_or};
+ghost use Rattle.search_core.specs.TwinMarks.{AreTwinMarks, HasNoTwin, are_alike};
+
+use dsa_model::{Buffer, Instance, NoMemory};
+use std::alloc::Global;
+use std::marker::Model;
+
+/// Whether the two have the same size, alignment and moments.
+fn are_alike(c: &Buffer, b: &Buffer) -> bool
+    ensures { result ≡ are_alike c.now b.now }
+{
+    c.size() == b.size() && c.alignment() == b.alignment() && c.same_times(b)
+}
+
+/// Whether a buffer of smaller number is like this one.
+fn follows_its_like(instance: &Instance, b: u32) -> bool
+    requires { b < length instance.now }
+    ensures { result ≡ false → HasNoTwin instance.now b }
+{
+    for c in 0..b {
+        if are_alike(instance.buffer(c), instance.buffer(b)) {
+            return true;
+        }
+    }
+    false
+}
+
+/// For each buffer of an instance whether one of smaller number has its size, alignment and
+/// moments: no other buffer has a twin, at whatever lows. Contracts see the marks by buffer.
+#[derive(Drop)]
+pub(crate) struct TwinMarks {
+    marks: Vec<bool>,
+}
+
+impl Model for TwinMarks {
+    ghost use Rattle.std.specs.Prelude.{Bool, List};
+
+    ghost Value = { List Bool };
+
+    ghost view = { λ twins. twins.marks.items };
+}
+
+impl TwinMarks {
+    /// The marks of the instance.
+    pub(crate) fn of(alloc: Global, instance: &Instance) -> Result<TwinMarks, NoMemory>
+        ensures { IfOk result (AreTwinMarks instance.now) }
+    {
+        let mut marks = Vec::new(alloc);
+        for b in 0..instance.len() {
+            marks.push(follows_its_like(instance, b))?;
+        }
+        Ok(TwinMarks { marks })
+    }
+
+    /// Whether the buffer may have a twin.
+    pub(crate) fn may_have(&self, b: u32) -> bool
+        ensures { result ≡ slice_index_or self.now b true }
+    {
+        match self.marks.get(b as usize) {
+            Some(mark) => *mark,
+            None => true,
+        }
+    }
+}
