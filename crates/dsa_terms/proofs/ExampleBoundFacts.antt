@@ -1,10 +1,11 @@
 -- What loads and lower bounds come to on small instances.
-use Rattle.std.proofs.Common.{◌≡◌, [], ◌∷◌, map, refl}
-use Rattle.dsa_terms.specs.Buffers.{is_live, buffer}
+use Rattle.std.proofs.Common.{◌≡◌, ℕ, zero, suc, ◌<◌, inl, inr, true, false, [], ◌∷◌, map, sym, refl, ap, ◌∙◌, arith}
+use Rattle.dsa_terms.specs.Buffers.{is_live, IsLive, buffer}
+use Rattle.dsa_terms.specs.Claims.{IsIn}
 use Rattle.dsa_terms.specs.Parts.{numbers}
 use Rattle.dsa_terms.specs.Plans.{load}
 use Rattle.dsa_terms.specs.Logs.{Over}
-use Rattle.dsa_terms.specs.Bounds.{stack_log, counted, rounded_size, stack, moduli, moments, highest_stack, lower_bound, bound_modulus, bound_moment}
+use Rattle.dsa_terms.specs.Bounds.{stack_log, counted, rounded_size, stack, moduli, moments, highest_stack, lower_bound, IsReached, bound_modulus, bound_moment, HasSections}
 use Rattle.dsa_terms.proofs.Examples.{five, two_of_four, evens, filled, overrun, two_parts, small_below, made}
 
 -- ---- loads, moment by moment
@@ -122,6 +123,44 @@ none_modulus = refl
 none_moment : bound_moment [] [] ≡ 0
 unfolding bound_moment bound_modulus lower_bound highest_stack stack counted moduli moments
 none_moment = refl
+
+-- ---- what reaches a bound: two sizes of 3 by the modulus 4, which is an alignment, at moment 0
+two_of_four_reached : IsReached two_of_four 7
+unfolding moduli stack counted rounded_size is_live buffer
+two_of_four_reached = record { modulus = 4; moment = 0; among = inr (inl refl); reached = refl }
+
+-- past the gap two sizes of 4 by the modulus 1
+overrun_reached : IsReached overrun 8
+unfolding moduli stack counted rounded_size is_live buffer
+overrun_reached = record { modulus = 1; moment = 6; among = inl refl; reached = refl }
+
+-- no buffers have no stack
+none_reaches_1 : IsReached [] 1 → ⊥
+unfolding stack counted
+none_reaches_1 r = let h = r.reached in cc
+
+-- ---- sections: both are live at 6, and at each of 0 and 4 one of them alone
+overrun_sections : HasSections overrun (6 ∷ [])
+unfolding is_live buffer
+overrun_sections t b lt live = (6, inl refl, λ c below live. at_6 c below)
+  where
+    at_6 : (c : ℕ) → c < 2 → IsLive (buffer overrun c) 6
+    at_6 zero lt = refl
+    at_6 (suc zero) lt = refl
+    at_6 (suc (suc c)) lt = absurd (omega arith)
+
+overrun_missed : HasSections overrun (0 ∷ 4 ∷ []) → ⊥
+unfolding is_live buffer
+overrun_missed h = close (h 6 0 (omega arith) refl)
+  where
+    close :
+        (s : ℕ) × IsIn s (0 ∷ 4 ∷ []) × ((c : ℕ) → c < 2 → IsLive (buffer overrun c) 6 → IsLive (buffer overrun c) s)
+        → ⊥
+    close (s, inl q, all) =
+        let k : false ≡ true = ap (is_live (buffer overrun 1)) (sym q) ∙ all 1 (omega arith) refl in cc
+    close (s, inr (inl q), all) =
+        let k : false ≡ true = ap (is_live (buffer overrun 0)) (sym q) ∙ all 0 (omega arith) refl in cc
+    close (s, inr (inr i), all) = i
 
 -- ---- the log of the bound
 five_bound_log :

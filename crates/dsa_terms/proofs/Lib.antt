@@ -6,4 +6,10 @@ mod ExampleFacts
 mod ExampleSearchFacts
 mod ExampleBoundFacts
 mod ExampleStartFacts
+mod LayoutFacts
+mod ClaimFacts
+mod PartFacts
+mod FitFacts
+mod SearchFacts
+mod LogFacts
 pub mod ExamplePlanFacts
