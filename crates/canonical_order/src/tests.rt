@@ -1,6 +1,6 @@
 //! Each call that takes memory, with memory.
 
-use crate::{Claim, View, child};
+use crate::{Claim, LowTable, Lows, View, child};
 use dsa_model::{Buffer, Instance};
 
 #[test]
@@ -21,6 +21,8 @@ fn the_child_of_a_whole_claim_is_made(rt: HostRuntime) {
         claim: &claim,
     };
     let left = child(alloc, &view, 2).expect(&rt, "memory");
+    let table = LowTable::of(alloc, view.instance(), &claim).expect(&rt, "memory");
+    assert!(rt; table.is_free(2));
     let copied = left.copy(alloc).expect(&rt, "memory");
     assert_eq!(rt; copied.pairs(), [(0, 2), (1, 2)].as_slice());
 }

@@ -6,7 +6,7 @@ use Rattle.dsa_terms.specs.Logs.{ByLine, Below, Twin, Cases, Over, Line, ends_be
 use Rattle.conflicts.specs.Covering.{IsCoveringLine}
 use Rattle.conflicts.specs.Eased.{IsLower, IsLowerCases, IsOwnOf, cut, eased_over, from_height, least_height, lowered, reach}
 use Rattle.conflicts.specs.Easing.{IsOfKind}
-use Rattle.conflicts.specs.LowTables.{AreLevels, IsLeastEnd, end_of}
+use Rattle.conflicts.specs.Ends.{IsLeastEnd, end_of}
 use Rattle.conflicts.specs.Walks.{IsWalk}
 
 abbrev plain : ℕ → ℕ → ℕ → ℕ → Buffer
@@ -103,12 +103,7 @@ none_own = record {
   ];
 }
 
--- ---- tables of lows
--- the lows of the buffers 1 and 2 are 2 and 1
-two_levels : AreLevels four ((1, 1) ∷ (2, 1) ∷ []) (0 ∷ 3 ∷ 2 ∷ 0 ∷ [])
-unfolding up buffer
-two_levels = refl
-
+-- ---- ends
 end_from_low : end_of four (1, 1) ≡ 3
 unfolding end_of up buffer
 end_from_low = refl

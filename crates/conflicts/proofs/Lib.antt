@@ -3,7 +3,6 @@ pub mod Looking
 pub mod ListSteps
 pub mod LowerClaims
 pub mod LeastBounds
-pub mod LowTabling
 pub mod OwnCites
 pub mod Walking
 pub mod Easings

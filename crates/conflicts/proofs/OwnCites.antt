@@ -2,7 +2,7 @@
 use Rattle.std.proofs.Common.{◌≡◌, ◌≢◌, ℕ, ◌+◌, ◌<◌, ◌≤◌, ◌⊎◌, ◌||◌, not, inl, inr, Bool, true, false, [], ◌∷◌, drop, length, refl, subst, ap, arith}
 use Rattle.std.proofs.lemmas.List.{drop_all}
 use Rattle.std.specs.List.{list_any}
-use Rattle.dsa_terms.specs.Buffers.{Instance, buffer}
+use Rattle.dsa_terms.specs.Buffers.{Buffer, Instance, buffer}
 use Rattle.dsa_terms.specs.Claims.{Claim, Entry, IsIn, up}
 use Rattle.dsa_terms.specs.Lean.{CitesOwn}
 use Rattle.dsa_terms.specs.Logs.{Cite, Below, Twin, IsLegalCite, ends_below, is_twin}
@@ -13,7 +13,7 @@ use Rattle.canonical_order.specs.Stands.{Stands}
 use Rattle.canonical_order.proofs.Entries.{entry_in, in_range, sound_buffer}
 use Rattle.canonical_order.proofs.NumberTests.{apart, at_most, is_at_most}
 use Rattle.conflicts.specs.Eased.{HasNoOwn}
-use Rattle.conflicts.specs.LowTables.{IsLeastEnd, end_of}
+use Rattle.conflicts.specs.Ends.{IsLeastEnd, end_of}
 
 -- ---- what holds of each entry but for those that are left
 abbrev pub HoldsBut : (Entry → Type 0) → Claim → ℕ → Type 0
@@ -40,6 +40,12 @@ but_none P l n le h f i = go (rw (drop_all n l le) at (h f i))
     go (inr p) = p
 
 -- ---- the least end
+-- an end, as the code makes it
+pub end_is : (I : Instance) (e : Entry) (b : Buffer) (low size : ℕ) → low ≡ up I e → b ≡ buffer I e.0 → size ≡ b.size →
+    low + size ≡ end_of I e
+unfolding end_of
+end_is I e b low size p q r = rw (p, r, q) refl
+
 -- the entry ends no lower than the buffer
 abbrev pub EndsFrom : Instance → Claim → ℕ → Entry → Type 0
 EndsFrom I l b f = end_of I (entry_of l b) ≤ end_of I f

@@ -19,10 +19,6 @@ pub record Gathered (I : Instance) (l : Claim) (T H G n : ℕ) (members : List �
   pub limit : sum ≤ n * 2 ^ 41
 
 -- ---- one entry, as the code reads it
-pub at_place : (l items : Claim) (n : ℕ) → items ≡ l → n < length items →
-    drop n l ≡ slice_index_or items n (0, 0) ∷ drop (n + 1) l
-at_place l items n q lt = rw (← q) (drop_more items n (0, 0) lt)
-
 pub stacked_test : (I : Instance) (T H G : ℕ) (e : Entry) (b : Buffer) → b ≡ buffer I e.0 →
     is_stacked I T H G e ≡ stacks b e.1 T H G
 unfolding is_stacked up

@@ -1,5 +1,5 @@
 pub mod Covering
 pub mod Easing
 pub mod Eased
-pub mod LowTables
+pub mod Ends
 pub mod Walks

@@ -9,10 +9,9 @@ ghost use Rattle.canonical_order.specs.Claims.{HasBuffer, entry_of};
 ghost use Rattle.canonical_order.specs.Stands.{Stands};
 ghost use Rattle.refute_log.specs.Lines.{cite_value};
 ghost use Rattle.conflicts.specs.Eased.{IsOwnOf};
-ghost use Rattle.conflicts.specs.LowTables.{IsLeastEnd, end_of};
+ghost use Rattle.conflicts.specs.Ends.{IsLeastEnd, end_of};
 
-use crate::low_table::LowTable;
-use canonical_order::Lows;
+use canonical_order::{LowTable, Lows};
 use dsa_model::NoMemory;
 use prune_rules::{is_below, is_twin};
 use refute_log::{Cite, Cites};

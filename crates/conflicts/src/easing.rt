@@ -13,12 +13,11 @@ ghost use Rattle.conflicts.specs.Eased.{IsLowerCases};
 ghost use Rattle.conflicts.specs.Easing.{IsOfKind};
 
 use crate::cites::eased_cites;
-use crate::low_table::LowTable;
 use crate::lowering::lowered;
 use crate::needs::{are_legal, needed};
 use crate::parts::part_of;
 use crate::stack::ease_over;
-use canonical_order::Claim;
+use canonical_order::{Claim, LowTable};
 use dsa_model::{Instance, NoMemory};
 use refute_log::{Cite, Line, Log};
 use std::alloc::Global;

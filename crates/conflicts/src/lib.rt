@@ -4,7 +4,6 @@
 mod cites;
 mod easing;
 mod lemmas;
-mod low_table;
 mod lowering;
 mod needs;
 mod parts;

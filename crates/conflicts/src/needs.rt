@@ -9,9 +9,8 @@ ghost use Rattle.refute_log.specs.Lines.{cite_value};
 ghost use Rattle.conflicts.specs.Eased.{IsLower, cut};
 
 use crate::cites::eased_cites;
-use crate::low_table::LowTable;
 use crate::lowering::least_bound;
-use canonical_order::{Claim, Lows, covers_child};
+use canonical_order::{Claim, LowTable, Lows, covers_child};
 use dsa_model::{Instance, NoMemory};
 use prune_rules::{is_below, is_twin};
 use refute_log::{Cite, Log};

@@ -6,8 +6,7 @@ ghost use Rattle.conflicts.specs.Eased.{IsLower};
 ghost use Rattle.conflicts.specs.Walks.{IsWalk};
 
 use crate::cites::end;
-use crate::low_table::LowTable;
-use canonical_order::{Claim, Lows};
+use canonical_order::{Claim, LowTable, Lows};
 use dsa_model::NoMemory;
 use refute_log::{Cite, Log};
 use std::alloc::{AllocError, Global};

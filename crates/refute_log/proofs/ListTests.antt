@@ -3,11 +3,7 @@ use Rattle.std.proofs.Common.{◌≡◌, ℕ, zero, suc, ◌+◌, ◌<◌, inl, 
 use Rattle.std.specs.Option.{option_or}
 use Rattle.std.specs.List.{list_any, list_all}
 use Rattle.dsa_terms.specs.Buffers.{Instance}
-use Rattle.dsa_terms.specs.Claims.{Claim, Entry, IsIn, Rises, buffers_of, up, child, Covers, IsWhole}
-use Rattle.dsa_search_laws.proofs.Placing.{in_buffers}
-use Rattle.canonical_order.specs.Claims.{HasBuffer, entry_of}
-use Rattle.canonical_order.proofs.Entries.{is_entry}
-use Rattle.canonical_order.proofs.CoverLemmas.{in_at}
+use Rattle.dsa_terms.specs.Claims.{Claim, Entry, IsIn, up, child, Covers, IsWhole}
 use Rattle.canonical_order.proofs.NumberTests.{equal, same, at_most, is_at_most}
 use Rattle.dsa_terms.specs.Logs.{Line, claim_of, Cite}
 use Rattle.dsa_terms.proofs.Lists.{any_gives, any_from}
@@ -93,17 +89,6 @@ drop_none [] = refl
 drop_none (x ∷ xs) = refl
 
 -- ---- what stands at a place
-pub at_in : (l items : Claim) (n : ℕ) → items ≡ l → n < length items → IsIn (slice_index_or items n (0, 0)) l
-at_in l items n e lt = subst (λ l. IsIn (slice_index_or items n (0, 0)) l) e (in_at items n (0, 0) lt)
-
-pub has_at : (l items : Claim) (n : ℕ) → items ≡ l → n < length items → HasBuffer l (slice_index_or items n (0, 0)).0
-has_at l items n e lt = in_buffers l (slice_index_or items n (0, 0)) (at_in l items n e lt)
-
-pub entry_at : (l items : Claim) (n : ℕ) → Rises (buffers_of l) → items ≡ l → n < length items →
-    entry_of l (slice_index_or items n (0, 0)).0 ≡ slice_index_or l n (0, 0)
-entry_at l items n r e lt = sym (is_entry l (slice_index_or items n (0, 0)) r (at_in l items n e lt)) ∙ ap
-    (λ (l : Claim). slice_index_or l n (0, 0)) e
-
 pub holds_at : {X Y : Type 0} (P : Y → Type 0) (f : X → Y) (xs : List X) (ys : List Y) (k : ℕ) (x : X) → map f xs ≡ ys →
     All P (map f xs) → k < length ys → x ≡ slice_index_or xs k x → P (f x)
 holds_at P f xs ys k x e h lt q = go P f xs k x h (subst (λ ys. k < length ys) (sym e) lt) q

@@ -21,6 +21,7 @@ use std::marker::Model;
 /// capacity and its lines.
 #[derive(Drop)]
 pub struct Log {
+    alloc: Global,
     count: u32,
     capacity: u64,
     lines: Vec<Line>,
@@ -48,6 +49,7 @@ impl Log {
         ensures belongs { Belongs instance.now result }
     {
         Log {
+            alloc,
             count: instance.len(),
             capacity,
             lines: Vec::new(alloc),
@@ -74,7 +76,9 @@ impl Log {
         ensures belongs { Belongs instance.now self.new }
         ensures unchanged { OnErr result (self.new ≡ self.old) }
     {
-        if let Some(reason) = first_reason(instance, self.capacity, self.lines.as_slice(), &line) {
+        let lines = self.lines.as_slice();
+        let fault = first_reason(self.alloc, instance, self.capacity, lines, &line)?;
+        if let Some(reason) = fault {
             return Err(Fail::Fault(reason));
         }
         let number = self.lines.len() as u64;

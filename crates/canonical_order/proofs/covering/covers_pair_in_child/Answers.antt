@@ -1,18 +1,35 @@
+use Rattle.std.proofs.Common.{◌≤◌, arith}
+use Rattle.dsa_terms.specs.Claims.{child, up}
 use Rattle.dsa_search_laws.proofs.Claims.{rises-child}
-use Rattle.canonical_order.proofs.CoverLemmas.{covers_test, from_covered, covered_has, from_child, in_child_by}
+use Rattle.canonical_order.specs.Claims.{entry_of}
+use Rattle.canonical_order.proofs.CoverLemmas.{covers_entry, covers_test, covered_has, from_child, in_child_by, low_stays}
+use Rattle.canonical_order.proofs.NumberTests.{is_at_most}
 use Rattle.canonical_order.proofs.covering.covers_pair_in_child.Goals as goal
-
-pub returns-then-is_free : goal.returns-then-is_free
-returns-then-is_free g c = covers_test _ _ _ _ _ (rises-child _ _ _ (c.is_free.ensures.stands).claim.rises)
-    (in_child_by _ _ _ _ (c.is_free.ensures.value.0 c.if-is_free.true) c.if-c-b.false) c.low_in_child.ensures
-
-pub returns-else-is_free : goal.returns-else-is_free
-returns-else-is_free g c = (
-  λ h. absurd cc,
-  λ h. let k = c.is_free.ensures.value.1
-      (from_child _ _ _ _ (from_covered _ _ _ (rises-child _ _ _ (c.is_free.ensures.stands).claim.rises) h).0).0 in
-      absurd cc,
-)
+use Rattle.canonical_order.proofs.covering.covers_pair_in_child.Goals.{then-c-b-via-then-c-b, then-c-b-via-else-c-b+then-not-is_free}
 
 pub returns-then-c-b : goal.returns-then-c-b
-returns-then-c-b g c = (λ h. absurd cc, λ h. absurd ((from_child _ _ _ _ (covered_has _ _ _ h)).1 c.if-c-b.true))
+returns-then-c-b g c = (
+  λ h. absurd cc,
+  λ h. elim c.then-c-b.branch [
+    | then-c-b-via-then-c-b w ↦ absurd ((from_child _ _ _ _ (covered_has _ _ _ h)).1 w.if-c-b.true)
+    | then-c-b-via-else-c-b+then-not-is_free w ↦
+        let k = w.is_free.ensures.value.1 (from_child _ _ _ _ (covered_has _ _ _ h)).0 in absurd cc
+  ],
+)
+
+pub returns-then-bound-low : goal.returns-then-bound-low
+returns-then-bound-low g c =
+    let I = g.L.Lows.subject c.args.lows.now in
+    let l = g.L.Lows.claim c.args.lows.now in
+    let h = c.is_free.ensures.value.0 c.if-not-is_free.false in
+    let k : up I (entry_of l c.args.c) ≤ up I (entry_of (child I l (entry_of l c.args.b)) c.args.c) =
+    low_stays I l c.args.b c.args.c c.low.ensures.stands h c.if-c-b.false in
+    let e = c.low.ensures.value in
+    let t = c.if-bound-low.true in (
+      λ _. covers_entry _ _ _ (in_child_by _ _ _ _ h c.if-c-b.false) (omega arith),
+      λ _. is_at_most _ _ t,
+    )
+
+pub returns-else-bound-low : goal.returns-else-bound-low
+returns-else-bound-low g c = covers_test _ _ _ _ _ (rises-child _ _ _ (c.is_free.ensures.stands).claim.rises)
+    (in_child_by _ _ _ _ (c.is_free.ensures.value.0 c.if-not-is_free.false) c.if-c-b.false) c.low_in_child.ensures

@@ -3,11 +3,10 @@ use Rattle.dsa_terms.specs.Claims.{Entry}
 use Rattle.dsa_terms.specs.Lean.{CitesOwn}
 use Rattle.dsa_terms.specs.Logs.{IsLegalCite}
 use Rattle.canonical_order.proofs.Entries.{is_entry}
-use Rattle.refute_log.proofs.ListTests.{at_in, entry_at, has_at}
+use Rattle.canonical_order.proofs.Places.{at_in, entry_at, has_at, at_place}
 use Rattle.refute_log.specs.Lines.{cite_value}
 use Rattle.refute_log.specs.declared.line.Cite.TheVariants.{Line}
 use Rattle.conflicts.proofs.ListSteps.{grows_all, grows_next, zip_entry}
-use Rattle.conflicts.proofs.Stacking.{at_place}
 use Rattle.conflicts.proofs.cites.eased_cites.Goals as goal
 
 pub eased_cite-requires-clause-b_in : goal.eased_cite-requires-clause-b_in

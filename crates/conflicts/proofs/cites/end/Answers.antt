@@ -1,5 +1,5 @@
 use Rattle.canonical_order.specs.Claims.{entry_of}
-use Rattle.conflicts.proofs.LowTabling.{end_is}
+use Rattle.conflicts.proofs.OwnCites.{end_is}
 use Rattle.conflicts.proofs.cites.end.Goals as goal
 
 pub buffer-requires : goal.buffer-requires

@@ -1,8 +1,7 @@
 use Rattle.std.proofs.Common.{slice_index_or, sym}
 use Rattle.canonical_order.proofs.Entries.{is_entry}
-use Rattle.refute_log.proofs.ListTests.{at_in, has_at}
+use Rattle.canonical_order.proofs.Places.{at_in, has_at, at_place}
 use Rattle.conflicts.proofs.OwnCites.{least_kept, least_taken}
-use Rattle.conflicts.proofs.Stacking.{at_place}
 use Rattle.conflicts.proofs.cites.least_end.Goals as goal
 use Rattle.conflicts.proofs.cites.least_end.Goals.{then-other-lowest, else-other-lowest}
 

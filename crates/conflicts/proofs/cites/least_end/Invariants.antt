@@ -1,6 +1,6 @@
 use Rattle.std.proofs.Common.{◌≡◌}
 use Rattle.canonical_order.specs.Claims.{entry_of}
-use Rattle.conflicts.specs.LowTables.{end_of}
+use Rattle.conflicts.specs.Ends.{end_of}
 use Rattle.conflicts.proofs.OwnCites.{IsLeastBut}
 use Rattle.conflicts.proofs.cites.least_end.Given as goal
 

@@ -1,8 +1,7 @@
 use Rattle.std.proofs.Common.{slice_index_or}
 use Rattle.canonical_order.specs.Claims.{entry_of}
-use Rattle.refute_log.proofs.ListTests.{at_in}
+use Rattle.canonical_order.proofs.Places.{at_in, at_place}
 use Rattle.conflicts.proofs.OwnCites.{IsNoTwin, but_none, no_twin_next}
-use Rattle.conflicts.proofs.Stacking.{at_place}
 use Rattle.conflicts.proofs.cites.twin_of.Goals as goal
 
 pub loop-pair-preserved : goal.loop-pair-preserved

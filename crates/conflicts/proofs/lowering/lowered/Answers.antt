@@ -1,10 +1,9 @@
 use Rattle.std.proofs.Common.{◌≡◌, ◌∙◌, map, slice_index_or}
-use Rattle.refute_log.proofs.ListTests.{at_in}
 use Rattle.conflicts.specs.Eased.{lowered}
 use Rattle.conflicts.proofs.LeastBounds.{lowered_is, lowered_is_lower}
 use Rattle.conflicts.proofs.ListSteps.{mapped_all, mapped_next}
 use Rattle.conflicts.proofs.LowerClaims.{lower_bounded, lower_stands}
-use Rattle.conflicts.proofs.Stacking.{at_place}
+use Rattle.canonical_order.proofs.Places.{at_in, at_place}
 use Rattle.conflicts.proofs.lowering.lowered.Goals as goal
 
 pub buffer-requires : goal.buffer-requires

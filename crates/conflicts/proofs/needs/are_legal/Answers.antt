@@ -1,11 +1,10 @@
 use Rattle.std.proofs.Common.{◌<◌, ◌≤◌, ◌∙◌, length, map, slice_index_or, ap, sym, subst, arith}
 use Rattle.dsa_terms.specs.Claims.{Entry}
 use Rattle.dsa_terms.specs.Logs.{IsLegalCite}
-use Rattle.refute_log.proofs.ListTests.{entry_at, has_at}
 use Rattle.refute_log.specs.Lines.{cite_value}
 use Rattle.refute_log.specs.declared.line.Cite.TheVariants.{Line}
 use Rattle.conflicts.proofs.ListSteps.{mapped_length, mapped_place, zip_done, zip_left}
-use Rattle.conflicts.proofs.Stacking.{at_place}
+use Rattle.canonical_order.proofs.Places.{entry_at, has_at, at_place}
 use Rattle.conflicts.proofs.needs.are_legal.Goals as goal
 
 pub is_legal-requires-clause-b_in : goal.is_legal-requires-clause-b_in

@@ -1,8 +1,8 @@
 use Rattle.std.proofs.Common.{◌≡◌, ◌∙◌, map}
-use Rattle.refute_log.proofs.ListTests.{at_in}
 use Rattle.conflicts.specs.Eased.{cut}
 use Rattle.conflicts.proofs.ListSteps.{mapped_all}
 use Rattle.conflicts.proofs.LowerClaims.{cut_is_lower, lower_bounded}
+use Rattle.canonical_order.proofs.Places.{at_in}
 use Rattle.conflicts.proofs.needs.cut.Goals as goal
 
 pub bounds-needs-pair : goal.bounds-needs-pair

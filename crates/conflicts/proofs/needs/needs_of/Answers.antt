@@ -1,5 +1,5 @@
 use Rattle.std.proofs.Common.{length, ap, arith}
-use Rattle.refute_log.proofs.ListTests.{has_at}
+use Rattle.canonical_order.proofs.Places.{has_at}
 use Rattle.conflicts.proofs.needs.needs_of.Goals as goal
 
 pub raise_by_other-requires-clause-b_in : goal.raise_by_other-requires-clause-b_in

@@ -1,4 +1,4 @@
-use Rattle.refute_log.proofs.ListTests.{at_in}
+use Rattle.canonical_order.proofs.Places.{at_in}
 use Rattle.conflicts.proofs.needs.raise_by_line.Goals as goal
 
 pub needed_first-requires-clause-b_in : goal.needed_first-requires-clause-b_in

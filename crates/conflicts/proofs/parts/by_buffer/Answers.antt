@@ -1,5 +1,5 @@
 use Rattle.std.proofs.Common.{◌<◌, length, slice_index_or, ap, arith}
-use Rattle.refute_log.proofs.ListTests.{has_at}
+use Rattle.canonical_order.proofs.Places.{has_at}
 use Rattle.conflicts.proofs.parts.by_buffer.Goals as goal
 
 pub index_mut-requires : goal.index_mut-requires

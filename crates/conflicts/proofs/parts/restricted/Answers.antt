@@ -1,9 +1,9 @@
 use Rattle.std.proofs.Common.{◌≡◌, ◌≤◌, ◌∙◌, false, filter, length, slice_index_or, ap, arith}
 use Rattle.dsa_terms.specs.Claims.{Entry}
 use Rattle.dsa_terms.proofs.Lists.{from_filter, length-filter_le}
-use Rattle.refute_log.proofs.ListTests.{has_at}
 use Rattle.conflicts.proofs.ListSteps.{filter_all}
 use Rattle.conflicts.proofs.LowerClaims.{lower_filter}
+use Rattle.canonical_order.proofs.Places.{has_at}
 use Rattle.conflicts.proofs.parts.restricted.Goals as goal
 
 pub bounds-marks-all : goal.bounds-marks-all

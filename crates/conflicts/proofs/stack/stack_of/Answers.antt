@@ -1,7 +1,7 @@
 use Rattle.std.proofs.Common.{◌^◌, ◌≤◌, ◌∙◌, length, slice_index_or, sym, refl, ap, arith}
-use Rattle.refute_log.proofs.ListTests.{at_in}
 use Rattle.refute_log.proofs.Stacking.{few, rounded_limit}
-use Rattle.conflicts.proofs.Stacking.{at_place, gather_skip, gather_take, rounded_of, rounding_of, stacked_test}
+use Rattle.conflicts.proofs.Stacking.{gather_skip, gather_take, rounded_of, rounding_of, stacked_test}
+use Rattle.canonical_order.proofs.Places.{at_in, at_place}
 use Rattle.conflicts.proofs.stack.stack_of.Goals as goal
 use Rattle.conflicts.proofs.stack.stack_of.Goals.{then-stacks+in_ok-push, else-stacks}
 

@@ -2,8 +2,8 @@ use Rattle.std.proofs.Common.{◌<◌, ◌+◌, ◌^◌, arith}
 use Rattle.dsa_terms.specs.Claims.{up}
 use Rattle.canonical_order.specs.Claims.{entry_of}
 use Rattle.canonical_order.proofs.Entries.{stands, up_limit}
-use Rattle.conflicts.proofs.LowTabling.{read_level, table_length}
-use Rattle.conflicts.proofs.low_table.LowTableLows.low.Goals as goal
+use Rattle.canonical_order.proofs.LowTabling.{read_level, table_length}
+use Rattle.canonical_order.proofs.low_table.LowTableLows.low.Goals as goal
 
 pub index-requires : goal.index-requires
 index-requires c =

@@ -1,6 +1,6 @@
 use Rattle.std.proofs.Common.{◌≡◌, drop, length, replicate}
-use Rattle.conflicts.specs.LowTables.{filled}
-use Rattle.conflicts.proofs.low_table.LowTable.of.Given as goal
+use Rattle.canonical_order.specs.LowTables.{filled}
+use Rattle.canonical_order.proofs.low_table.LowTable.of.Given as goal
 
 abbrev pub invariant-loop-pair : goal.invariant-loop-pair
 invariant-loop-pair l =

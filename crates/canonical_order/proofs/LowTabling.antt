@@ -9,7 +9,7 @@ use Rattle.dsa_terms.specs.Claims.{Claim, Entry, Rises, buffers_of, number_of, u
 use Rattle.canonical_order.specs.Claims.{HasBuffer, bound_of, entry_of}
 use Rattle.canonical_order.proofs.Entries.{bound_none, bound_some}
 use Rattle.canonical_order.proofs.NumberTests.{below_or_from}
-use Rattle.conflicts.specs.LowTables.{AreLevels, end_of, filled}
+use Rattle.canonical_order.specs.LowTables.{AreLevels, filled}
 
 module _ (I : Instance) where
   pub filled_length : (l : Claim) (levels : List ℕ) → length (filled I l levels) ≡ length levels
@@ -99,8 +99,3 @@ pub level_is : (I : Instance) (e : Entry) (b : Buffer) (low : ℕ) → b ≡ buf
     low ≡ next_multiple_of e.1 b.alignment → low + 1 ≡ up I e + 1
 unfolding up
 level_is I e b low q p = rw (p, q) refl
-
-pub end_is : (I : Instance) (e : Entry) (b : Buffer) (low size : ℕ) → low ≡ up I e → b ≡ buffer I e.0 → size ≡ b.size →
-    low + size ≡ end_of I e
-unfolding end_of
-end_is I e b low size p q r = rw (p, r, q) refl

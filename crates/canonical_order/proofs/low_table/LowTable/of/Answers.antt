@@ -2,10 +2,9 @@ use Rattle.std.proofs.Common.{◌<◌, ◌≤◌, ◌+◌, ◌^◌, ◌∙◌, l
 use Rattle.std.proofs.lemmas.List.{length-set}
 use Rattle.dsa_terms.proofs.Numbers.{next_is_below}
 use Rattle.canonical_order.proofs.Entries.{in_range}
-use Rattle.refute_log.proofs.ListTests.{at_in}
-use Rattle.conflicts.proofs.LowTabling.{filled_all, filled_next, level_is}
-use Rattle.conflicts.proofs.Stacking.{at_place}
-use Rattle.conflicts.proofs.low_table.LowTable.of.Goals as goal
+use Rattle.canonical_order.proofs.Places.{at_in, at_place}
+use Rattle.canonical_order.proofs.LowTabling.{filled_all, filled_next, level_is}
+use Rattle.canonical_order.proofs.low_table.LowTable.of.Goals as goal
 
 pub buffer-requires : goal.buffer-requires
 buffer-requires c = c.requires.claim.in_range _ (at_in _ _ _ c.pairs-pair-items.ensures.value c.loop-pair-test.true)

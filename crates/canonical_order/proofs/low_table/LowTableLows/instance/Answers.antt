@@ -1,5 +1,5 @@
 use Rattle.canonical_order.proofs.Entries.{stands}
-use Rattle.conflicts.proofs.low_table.LowTableLows.instance.Goals as goal
+use Rattle.canonical_order.proofs.low_table.LowTableLows.instance.Goals as goal
 
 pub returns-clause-stands : goal.returns-clause-stands
 returns-clause-stands c =

@@ -2,32 +2,33 @@
 
 ghost use Rattle.std.specs.Prelude.{◌≡◌, ◌<◌, ℕ, IfOk, length};
 ghost use Rattle.canonical_order.specs.Claims.{HasBuffer};
+ghost use Rattle.canonical_order.specs.LowTables.{AreLevels};
 ghost use Rattle.canonical_order.specs.Stands.{Stands};
-ghost use Rattle.conflicts.specs.LowTables.{AreLevels};
 
-use canonical_order::{Claim, Lows};
-use dsa_model::Instance;
-use std::alloc::{AllocError, Global};
+use crate::{Claim, Lows};
+use dsa_model::{Instance, NoMemory};
+use std::alloc::Global;
 
-/// A claim beside its instance, with a table of its lows: to find one takes no search in the claim.
+/// A claim beside its instance, with its lows written down, so that to find one takes no search in
+/// the claim.
 #[derive(Drop)]
-pub(crate) struct LowTable<'a> {
+pub struct LowTable<'a> {
     /// The instance.
-    pub(crate) instance: &'a Instance,
+    pub instance: &'a Instance,
     /// A claim of it.
-    pub(crate) claim: &'a Claim,
+    pub claim: &'a Claim,
     levels: Vec<u64>,
     ghost in_range: { (b : ℕ) → HasBuffer claim.now b → b < length instance.now },
     ghost filled: { AreLevels instance.now claim.now levels.items },
 }
 
 impl<'a> LowTable<'a> {
-    /// The table of the claim.
-    pub(crate) fn of(
+    /// The table of a claim of the instance, with a place for each of the instance's buffers.
+    pub fn of(
         alloc: Global,
         instance: &'a Instance,
         claim: &'a Claim,
-    ) -> Result<LowTable<'a>, AllocError>
+    ) -> Result<LowTable<'a>, NoMemory>
         requires { Stands instance.now claim.now }
         ensures instance { IfOk result (λ lows. lows.instance.now ≡ instance.now) }
         ensures claim { IfOk result (λ lows. lows.claim.now ≡ claim.now) }

@@ -1,7 +1,7 @@
 use Rattle.std.proofs.Common.{◌<◌, length, arith}
 use Rattle.canonical_order.proofs.Entries.{stands}
-use Rattle.conflicts.proofs.LowTabling.{free_by_level, not_zero, one_more, read_level, table_length}
-use Rattle.conflicts.proofs.low_table.LowTableLows.is_free.Goals as goal
+use Rattle.canonical_order.proofs.LowTabling.{free_by_level, not_zero, one_more, read_level, table_length}
+use Rattle.canonical_order.proofs.low_table.LowTableLows.is_free.Goals as goal
 
 pub returns-then-place-len-clause-value : goal.returns-then-place-len-clause-value
 returns-then-place-len-clause-value c =
