@@ -4,6 +4,7 @@ use Rattle.dsa_terms.specs.Buffers.{Buffer, Instance, is_live, buffer, do_share,
 use Rattle.dsa_terms.specs.Claims.{Entry, IsIn, Covers, up, step, child}
 use Rattle.dsa_terms.specs.Search.{is_tall}
 use Rattle.canonical_order.specs.Claims.{bound_of, entries_below, entry_of, least_buffer}
+use Rattle.canonical_order.specs.LowTables.{AreLevels}
 
 abbrev plain : ℕ → ℕ → ℕ → ℕ → Buffer
 plain lower upper size alignment = record {
@@ -35,6 +36,17 @@ entry_there = refl
 
 below_two : entries_below 2 ((0, 5) ∷ (1, 6) ∷ (2, 7) ∷ []) ≡ (0, 5) ∷ (1, 6) ∷ []
 below_two = refl
+
+-- ---- tables of lows
+-- the lows of the buffers 1 and 2 are 2 and 1, and buffer 0 is not in the claim
+two_levels : AreLevels three ((1, 1) ∷ (2, 1) ∷ []) (0 ∷ 3 ∷ 2 ∷ [])
+unfolding up buffer
+two_levels = refl
+
+-- a low of 0 is written down too
+level_of_zero : AreLevels three ((0, 0) ∷ []) (1 ∷ 0 ∷ 0 ∷ [])
+unfolding up buffer
+level_of_zero = refl
 
 -- ---- children
 -- past the size of the first, which each other one shares a moment with

@@ -36,10 +36,11 @@ overlap_after I offsets b = first_some (overlap I offsets b) (range_with_len (b 
 unfoldable pub first_overlap : Instance → List ℕ → Option LayoutFault
 first_overlap I offsets = first_some (overlap_after I offsets) (numbers (length I))
 
--- the least buffer whose offset is not aligned, and the least one that ends above the capacity
+-- the least buffer whose offset is not aligned
 unfoldable pub first_unaligned : Instance → List ℕ → Option ℕ
 first_unaligned I offsets = find (λ b. is_unaligned (buffer I b) (slice_index offsets b)) (numbers (length I))
 
+-- the least buffer that ends above the capacity
 unfoldable pub first_above : Instance → ℕ → List ℕ → Option ℕ
 first_above I C offsets = find (λ b. is_above C (buffer I b) (slice_index offsets b)) (numbers (length I))
 
