@@ -1,5 +1,5 @@
 -- Fits and orders: clear places, free ranges, the tightest of them, buffers placed in turn, and lists in order.
-use Rattle.std.proofs.Common.{◌≡◌, ◌≢◌, ℕ, zero, suc, ◌+◌, ◌≤◌, ◌⊎◌, inl, inr, Bool, true, false, nat_lt, nat_le, List, [], ◌∷◌, map, Some, None, refl, ap, ap₂, arith}
+use Rattle.std.proofs.Common.{◌≡◌, ◌≢◌, ℕ, zero, suc, ◌+◌, ◌==◌, ◌≤◌, ◌⊎◌, inl, inr, Bool, true, false, nat_lt, nat_le, List, [], ◌∷◌, map, Some, None, refl, ap, ap₂, arith}
 use Rattle.std.proofs.lemmas.Bool.Decides.{nat_tests}
 use Rattle.dsa_terms.specs.Buffers.{Buffer, Instance, is_live, buffer, do_share, some_before}
 use Rattle.dsa_terms.specs.Claims.{Entry, IsIn}
@@ -186,10 +186,14 @@ is_ordered = (after_two, (after_zero, ((λ c i. absurd i), tt)))
     after_zero c (inl q) = rw q refl
     after_zero c (inr i) = absurd i
 
--- each of two neighbours may be in order, and the first not before the last
-is_not_ordered : IsOrdered by_size (0 ∷ 1 ∷ 2 ∷ []) → ⊥
+-- 1 comes after the larger 2
+is_not_ordered : IsOrdered by_size (1 ∷ 2 ∷ []) → ⊥
 unfolding by_size falls_by buffer
-is_not_ordered o = let h = o.0 2 (inr (inl refl)) in cc
+is_not_ordered o = let h = o.0 2 (inl refl) in cc
+
+-- where each comes before the next number alone, the first does not come before the last
+next_alone : IsOrdered (λ b c. b + 1 == c) (0 ∷ 1 ∷ 2 ∷ []) → ⊥
+next_alone o = let h = o.0 2 (inr (inl refl)) in cc
 
 -- 'below' is an order of the numbers, and 'at or below' is none, since 0 would come before itself
 below_is_order : IsOrder nat_lt

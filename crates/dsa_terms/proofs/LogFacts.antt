@@ -100,9 +100,9 @@ case_all_reason = ((case_12, refl, by_case), (((0, 0), inl refl, refl, refl), ((
     by_over e (inr (inl q)) = rw q ((1, 2), inr (inl refl), refl, omega arith)
     by_over e (inr (inr i)) = absurd i
 
--- and none for the third
-two_cites : IsLegalReason evens 4 (over_2 ∷ over_1 ∷ []) (Cases from_one (ByLine 0 ∷ [])) → ⊥
-two_cites r = r.1
+-- one cite for two buffers
+one_cite : IsLegalReason evens 4 (over_2 ∷ over_1 ∷ []) (Cases from_one (ByLine 0 ∷ [])) → ⊥
+one_cite r = r.1
 
 -- ---- lean lines
 own_cites : IsOwnCite (Below 1) × IsOwnCite (Twin 0)
@@ -198,7 +198,7 @@ needed_by_three : needed_from 3 0 (over_2 ∷ over_1 ∷ case_12 ∷ over_01 ∷
 unfolding with_cited has
 needed_by_three = refl
 
--- of lines 2 to 4 alone
+-- of lines 2 to 4, and of line 4 alone
 needed_from_two : needed_from 3 2 (case_12 ∷ over_01 ∷ case_all ∷ []) ≡ 3 ∷ []
 unfolding with_cited has
 needed_from_two = refl
