@@ -7,10 +7,12 @@ use Rattle.std.specs.List.{list_any, position_from}
 use Rattle.std.specs.Option.{option_or}
 use Rattle.std.specs.Str.{bytes_eq}
 use Rattle.csv_instance.specs.Columns.{field_of}
-use Rattle.csv_instance.specs.Parse.{id_fault, id_faults}
+use Rattle.csv_instance.specs.Parse.{buffer_limit, id_fault, id_faults, id_limit}
+use Rattle.csv_instance.specs.Row.{length_fault}
+use Rattle.csv_instance.specs.declared.fault.InstanceFault.{InstanceFault}
 use Rattle.csv_instance.specs.declared.fault.InstanceFault.TheVariants as fault
 use Rattle.dsa_model.specs.Buffer.{first_fault, when}
-use Rattle.std.specs.Prelude.{⊤, IfOk, Result, Ok, Err}
+use Rattle.std.specs.Prelude.{⊤, IfOk, Result, Ok, Err, ◌==◌, not, nat_lt}
 use Rattle.std.specs.Result.{is_ok}
 use Rattle.csv_instance.specs.Records.{Record}
 use Rattle.csv_instance.specs.declared.columns.Column.TheVariants.{Id}
@@ -36,6 +38,31 @@ pub same-place : {K R E B : Type 0} (p : B → Bool) (g : K → B) (f : E → B)
 same-place p g f h keys rows e =
     position-map p g keys ∙ ap (λ (t : List _). position p t) (e ∙ map-map f h rows)
     ∙ sym (position-map p f (map h rows))
+
+-- the first of five is the first of four, or else the last
+first_of_five : {A : Type 0} (a b c d e : Option A)
+    → first_fault (a ∷ b ∷ c ∷ d ∷ e ∷ []) ≡ option_or (first_fault (a ∷ b ∷ c ∷ d ∷ [])) e
+first_of_five (Some x) b c d e = refl
+first_of_five None (Some x) c d e = refl
+first_of_five None None (Some x) d e = refl
+first_of_five None None None (Some x) e = refl
+first_of_five None None None None (Some x) = refl
+first_of_five None None None None None = refl
+
+-- a row's fault is one of its lengths, or else an earlier row has its id
+pub id_fault_by : (header : Record) (before : List Record) (row : Record) (number : ℕ) (id : List ℕ)
+    (lengths : Option InstanceFault) (earlier : Option ℕ)
+    → number ≡ length before → id ≡ field_of header row Id
+    → lengths ≡ length_fault number (length header) (length row) (length id)
+    → position (λ e. bytes_eq id (field_of header e Id)) before ≡ earlier
+    → option_or lengths (option_map (fault.DuplicateId number) earlier) ≡ id_fault header before row
+id_fault_by header before row number id lengths earlier n i l p =
+    rw (l, ← p, n, i) (sym (first_of_five (when (length before == buffer_limit) fault.TooManyBuffers)
+    (when (not (length row == length header)) (fault.FieldCount (length before)))
+    (when (length (field_of header row Id) == 0) (fault.EmptyId (length before)))
+    (when (nat_lt id_limit (length (field_of header row Id))) (fault.IdTooLong (length before)))
+    (option_map (fault.DuplicateId (length before))
+    (position (λ e. bytes_eq (field_of header row Id) (field_of header e Id)) before))))
 
 pub or_none : {A : Type 0} (a b : Option A) → option_or a b ≡ None → (a ≡ None) × (b ≡ None)
 or_none None b e = (refl, e)

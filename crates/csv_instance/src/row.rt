@@ -8,7 +8,7 @@ ghost use Rattle.csv_instance.specs.Places.{places_of};
 ghost use Rattle.csv_instance.specs.Records.{IsShort, Record};
 ghost use Rattle.csv_instance.specs.Numbers.{time_limit};
 ghost use Rattle.csv_instance.specs.Parse.{alignment_of, bad_column, buffer_of, content_fault, id_fault};
-ghost use Rattle.csv_instance.specs.Row.{AreNumbers};
+ghost use Rattle.csv_instance.specs.Row.{AreNumbers, length_fault};
 ghost use Rattle.std.specs.Option.{option_map_or};
 ghost use Rattle.csv_instance.specs.declared.columns.Column.TheVariants.{Id};
 
@@ -23,6 +23,24 @@ use std::alloc::Global;
 
 /// The greatest length of an id, in bytes.
 const ID_LIMIT: usize = 255;
+
+/// The first fault of a row's number, of how many fields it has beside the columns, and of how many
+/// bytes its id has.
+fn check_lengths(number: u32, columns: usize, fields: usize, id: usize) -> Option<InstanceFault>
+    ensures { result ≡ length_fault number columns fields id }
+{
+    if number == BUFFER_LIMIT {
+        Some(InstanceFault::TooManyBuffers)
+    } else if fields != columns {
+        Some(InstanceFault::FieldCount { row: number })
+    } else if id == 0 {
+        Some(InstanceFault::EmptyId { row: number })
+    } else if id > ID_LIMIT {
+        Some(InstanceFault::IdTooLong { row: number })
+    } else {
+        None
+    }
+}
 
 /// The first fault of a row's length and id.
 pub(crate) fn check_id(
@@ -40,18 +58,11 @@ pub(crate) fn check_id(
         ≡ id_fault (fields_of header.now) (map fields_of rows.now.items) (fields_of row.now) }
 {
     let number = rows.len() as u32;
-    if number == BUFFER_LIMIT {
-        return Some(InstanceFault::TooManyBuffers);
-    }
-    if row.len() != header.len() {
-        return Some(InstanceFault::FieldCount { row: number });
-    }
     let id = field_under(row, places.id);
-    if id.is_empty() {
-        return Some(InstanceFault::EmptyId { row: number });
-    }
-    if id.len() > ID_LIMIT {
-        return Some(InstanceFault::IdTooLong { row: number });
+    let columns = header.len();
+    let fields = row.len();
+    if let Some(fault) = check_lengths(number, columns, fields, id.len()) {
+        return Some(fault);
     }
     match ids.get_index_of(id) {
         Some(earlier) => Some(InstanceFault::DuplicateId {

@@ -1,35 +1,48 @@
-use Rattle.std.proofs.Common.{◌≡◌, ◌∙◌, List, ℕ, Some, None, map, position, sym, ap, arith}
-use Rattle.std.proofs.lemmas.Grind.{common_steps}
+use Rattle.std.proofs.Common.{◌≡◌, ◌∙◌, arith, length, map, refl, sym}
+use Rattle.std.proofs.lemmas.List.{length-map}
 use Rattle.std.specs.Str.{bytes_eq}
 use Rattle.csv.specs.Records.{fields_of}
 use Rattle.csv_instance.specs.Columns.{field_of}
 use Rattle.csv_instance.specs.Records.{Record}
 use Rattle.csv_instance.specs.declared.columns.Column.TheVariants.{Id}
-use Rattle.csv_instance.proofs.IdLemmas.{same-place}
+use Rattle.csv_instance.proofs.IdLemmas.{id_fault_by, same-place}
 use Rattle.csv_instance.proofs.row.check_id.Goals as goal
 
 pub returns-in-Some : goal.returns-in-Some
 returns-in-Some c =
     let h = fields_of c.args.header.now in
-    let id_is : c.field_under-id.result.now ≡ field_of h (fields_of c.args.row.now) Id =
-    rw c.requires.places at c.field_under-id.ensures in
-    let same = same-place (bytes_eq c.field_under-id.result.now) (λ k. k.items)
-    (λ (e : Record). field_of h e Id) fields_of c.args.ids.now.keys c.args.rows.now.items c.requires.ids in
-    let found : position (λ earlier. bytes_eq (field_of h (fields_of c.args.row.now) Id) (field_of h earlier Id))
-    (map fields_of c.args.rows.now.items) ≡ Some c.in-Some.earlier =
-    ap (λ (id : List ℕ). position (λ earlier. bytes_eq id (field_of h earlier Id))
-    (map fields_of c.args.rows.now.items)) (sym id_is) ∙ sym same ∙ sym c.in-Some.ensures.index in
-    grind (arith, common_steps, found)
+    let id = c.field_under-id.result.now in
+    let number : c.len-number.result ≡ length (map fields_of c.args.rows.now.items) =
+    (let same = length-map c.args.rows.now.items fields_of in let count = c.len-number.ensures in
+    omega (arith, c.args.rows.now.ok.0)) in
+    let id_is : id ≡ field_of h (fields_of c.args.row.now) Id = rw c.requires.places at c.field_under-id.ensures in
+    id_fault_by h (map fields_of c.args.rows.now.items) (fields_of c.args.row.now) _ id _ _ number id_is
+    (rw (c.len-columns.ensures, c.len-fields.ensures) at (sym c.in-Some.is ∙ c.check_lengths.ensures)) refl
+
+pub returns-in-Some-get_index_of : goal.returns-in-Some-get_index_of
+returns-in-Some-get_index_of c =
+    let h = fields_of c.args.header.now in
+    let id = c.field_under-id.result.now in
+    let number : c.len-number.result ≡ length (map fields_of c.args.rows.now.items) =
+    (let same = length-map c.args.rows.now.items fields_of in let count = c.len-number.ensures in
+    omega (arith, c.args.rows.now.ok.0)) in
+    let id_is : id ≡ field_of h (fields_of c.args.row.now) Id = rw c.requires.places at c.field_under-id.ensures in
+    let same = same-place (bytes_eq id) (λ k. k.items) (λ (e : Record). field_of h e Id) fields_of
+    c.args.ids.now.keys c.args.rows.now.items c.requires.ids in
+    id_fault_by h (map fields_of c.args.rows.now.items) (fields_of c.args.row.now) _ id _ _ number id_is
+    (rw (c.len-columns.ensures, c.len-fields.ensures) at (sym c.in_default.is ∙ c.check_lengths.ensures))
+    (sym same ∙ sym c.in-Some-get_index_of.ensures.index)
 
 pub returns-in-None : goal.returns-in-None
 returns-in-None c =
     let h = fields_of c.args.header.now in
-    let id_is : c.field_under-id.result.now ≡ field_of h (fields_of c.args.row.now) Id =
-    rw c.requires.places at c.field_under-id.ensures in
-    let same = same-place (bytes_eq c.field_under-id.result.now) (λ k. k.items)
-    (λ (e : Record). field_of h e Id) fields_of c.args.ids.now.keys c.args.rows.now.items c.requires.ids in
-    let none : position (λ earlier. bytes_eq (field_of h (fields_of c.args.row.now) Id) (field_of h earlier Id))
-    (map fields_of c.args.rows.now.items) ≡ None =
-    ap (λ (id : List ℕ). position (λ earlier. bytes_eq id (field_of h earlier Id))
-    (map fields_of c.args.rows.now.items)) (sym id_is) ∙ sym same ∙ sym c.in-None.ensures.index in
-    grind (arith, common_steps, none)
+    let id = c.field_under-id.result.now in
+    let number : c.len-number.result ≡ length (map fields_of c.args.rows.now.items) =
+    (let same = length-map c.args.rows.now.items fields_of in let count = c.len-number.ensures in
+    omega (arith, c.args.rows.now.ok.0)) in
+    let id_is : id ≡ field_of h (fields_of c.args.row.now) Id = rw c.requires.places at c.field_under-id.ensures in
+    let same = same-place (bytes_eq id) (λ k. k.items) (λ (e : Record). field_of h e Id) fields_of
+    c.args.ids.now.keys c.args.rows.now.items c.requires.ids in
+    id_fault_by h (map fields_of c.args.rows.now.items) (fields_of c.args.row.now) _ id _ _ number id_is
+    (rw (c.len-columns.ensures, c.len-fields.ensures) at (sym c.in_default.is ∙ c.check_lengths.ensures))
+    (sym same ∙ sym c.in-None.ensures.index)
