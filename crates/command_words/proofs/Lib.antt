@@ -1,3 +1,4 @@
+mod CommandFacts
 mod ExampleFacts
 pub mod NumberLemmas
 pub mod PairLemmas

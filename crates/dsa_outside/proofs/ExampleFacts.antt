@@ -1,9 +1,9 @@
 -- Worked rows: what the definitions say of small files and sinks.
-use Rattle.std.proofs.Common.{◌≡◌, ◌-◌, ◌^◌, ℕ, true, false, [], ◌∷◌, None, Some, take, refl, ap, arith, rules}
+use Rattle.std.proofs.Common.{◌≡◌, ◌-◌, ◌^◌, ℕ, true, false, [], ◌∷◌, length, None, Some, take, refl, ap, arith, rules}
 use Rattle.std.specs.Option.{option_map}
 use Rattle.std.specs.FinMap.{empty, gets, insert}
 use Rattle.dsa_outside.specs.Held.{FileMap, file_at, with_file, without_file, with_text, IsMissing, IsReadOf}
-use Rattle.dsa_outside.specs.Faults.{one_more, Rose}
+use Rattle.dsa_outside.specs.Faults.{AllStay, NoneFell, one_more, Rose}
 use Rattle.dsa_outside.specs.Calls.{CallState, after_call, is_due}
 
 -- the name 'i' holds three bytes
@@ -67,3 +67,18 @@ one_is_a_rise = omega arith
 
 none_is_no_rise : Rose 0 0 → ⊥
 none_is_no_rise rose = omega (arith, rose)
+
+-- ---- the numbers of all names: here a name's number is none, or the length of the name
+none_fell : NoneFell (λ name. 0) length
+none_fell name = omega arith
+
+-- the number of a name of two letters falls
+one_fell : NoneFell length (λ name. 1) → ⊥
+one_fell h = let k = h (105 ∷ 105 ∷ []) in omega arith
+
+all_stay : AllStay length length
+all_stay name = refl
+
+-- the number of the empty name stays, and that of a name of one letter rises
+one_rises : AllStay (λ name. 0) length → ⊥
+one_rises h = let k = h (105 ∷ []) in omega arith

@@ -8,3 +8,4 @@ pub mod Keys
 pub mod Ordering
 pub mod Starting
 mod ExampleFacts
+mod StartFacts

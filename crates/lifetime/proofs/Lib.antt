@@ -14,3 +14,4 @@ pub mod Standing
 pub mod Belonging
 pub mod Members
 mod ExampleFacts
+mod RunFacts

@@ -169,13 +169,14 @@ one_newline_more = (
   ),
 )
 
-a_word_of_no_row : IsFirstFault (codes "dsalog 1 3 4\nx\n") (BadLine 0)
-a_word_of_no_row = ([], codes "x\n", begun _, (refl, λ e. cc, none))
-  where
-    differs : (a b : ℕ) (xs ys zs : List ℕ) → b < a → a ∷ xs ≡ zs → zs ≡ b ∷ ys → ⊥
-    differs a b xs ys zs l e q = let n : a ≡ b = head_of a b xs ys (e ∙ q) in omega arith
+differs : (a b : ℕ) (xs ys zs : List ℕ) → b < a → a ∷ xs ≡ zs → zs ≡ b ∷ ys → ⊥
+differs a b xs ys zs l e q = let n : a ≡ b = head_of a b xs ys (e ∙ q) in omega arith
 
-    none : HasNoRow (codes "x\n")
-    none (LineRow (raw_line.Over T H G l)) more p e = differs 120 111 _ _ _ (omega arith) e (over_form T H G l more)
-    none (LineRow (raw_line.Cases l cites)) more p e = differs 120 99 _ _ _ (omega arith) e (cases_form l cites more)
-    none (EndRow k) more p e = differs 120 101 _ _ _ (omega arith) e (end_form k more)
+-- no row begins with an x
+pub no_row : HasNoRow (codes "x\n")
+no_row (LineRow (raw_line.Over T H G l)) more p e = differs 120 111 _ _ _ (omega arith) e (over_form T H G l more)
+no_row (LineRow (raw_line.Cases l cites)) more p e = differs 120 99 _ _ _ (omega arith) e (cases_form l cites more)
+no_row (EndRow k) more p e = differs 120 101 _ _ _ (omega arith) e (end_form k more)
+
+a_word_of_no_row : IsFirstFault (codes "dsalog 1 3 4\nx\n") (BadLine 0)
+a_word_of_no_row = ([], codes "x\n", begun _, (refl, λ e. cc, no_row))

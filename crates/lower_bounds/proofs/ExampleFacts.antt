@@ -1,9 +1,9 @@
 -- The definitions at two buffers of size 3 at multiples of four, and one of size 2.
-use Rattle.std.proofs.Common.{◌≡◌, ℕ, true, false, [], ◌∷◌, refl}
+use Rattle.std.proofs.Common.{◌≡◌, ℕ, inl, inr, true, false, [], ◌∷◌, refl, lit≤, arith}
 use Rattle.dsa_terms.specs.Bounds.{counted, rounded_size, stack}
 use Rattle.dsa_terms.specs.Buffers.{Buffer, Instance, buffer, is_live}
 use Rattle.lifetime.specs.SectionList.{SectionList}
-use Rattle.lower_bounds.specs.Best.{stack_at}
+use Rattle.lower_bounds.specs.Best.{IsBoundOf, no_bound, stack_at}
 use Rattle.lower_bounds.specs.Stacks.{counts_at, is_counted, rounding_of, spare_of, stack_of, total_of}
 
 abbrev sized : ℕ → ℕ → Buffer
@@ -54,3 +54,31 @@ one = record { sections = record { start = 0; members = 0 ∷ 1 ∷ 2 ∷ [] } �
 stack_at_start : stack_at three one 4 0 ≡ 7
 unfolding stack counted rounded_size buffer is_live
 stack_at_start = refl
+
+-- ---- a bound with its moment and its modulus
+seven_by_four : IsBoundOf three (record { capacity = 7; moment = 0; modulus = 4 })
+unfolding stack counted rounded_size buffer is_live
+seven_by_four = inr (lit≤ tt, refl)
+
+zero_is_always : IsBoundOf three no_bound
+zero_is_always = inl refl
+
+six_by_four : IsBoundOf three (record { capacity = 6; moment = 0; modulus = 4 }) → ⊥
+unfolding stack counted rounded_size buffer is_live
+six_by_four (inl e) = omega arith
+six_by_four (inr h) = let e : 6 ≡ 7 = h.1 in omega arith
+
+eight_by_four : IsBoundOf three (record { capacity = 8; moment = 0; modulus = 4 }) → ⊥
+unfolding stack counted rounded_size buffer is_live
+eight_by_four (inl e) = omega arith
+eight_by_four (inr h) = let e : 8 ≡ 7 = h.1 in omega arith
+
+-- nothing is live at 1
+seven_later : IsBoundOf three (record { capacity = 7; moment = 1; modulus = 4 }) → ⊥
+unfolding stack counted rounded_size buffer is_live
+seven_later (inl e) = omega arith
+seven_later (inr h) = let e : 7 ≡ 0 = h.1 in omega arith
+
+eight_by_no_modulus : IsBoundOf three (record { capacity = 8; moment = 0; modulus = 0 }) → ⊥
+eight_by_no_modulus (inl e) = omega arith
+eight_by_no_modulus (inr h) = let k = h.0 in omega arith

@@ -12,3 +12,4 @@ pub mod Overloads
 mod ExampleFacts
 pub mod Bounds
 pub mod Turns
+mod ClaimFacts

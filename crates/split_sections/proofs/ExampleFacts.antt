@@ -1,8 +1,11 @@
 -- The definitions at small instances.
-use Rattle.std.proofs.Common.{◌≡◌, ℕ, zero, suc, ◌<◌, ◌≤◌, [], ◌∷◌, List, refl, arith}
+use Rattle.std.proofs.Common.{◌≡◌, ℕ, zero, suc, ◌<◌, ◌≤◌, inl, inr, [], ◌∷◌, List, refl, arith}
 use Rattle.dsa_terms.specs.Buffers.{Buffer, Instance, buffer}
+use Rattle.dsa_terms.specs.Claims.{IsIn}
 use Rattle.dsa_terms.specs.Parts.{is_cut, last_cut, part_of, parts}
+use Rattle.split_sections.specs.PartList.{AreInRange, IsPart}
 use Rattle.split_sections.specs.Sweep.{BeginsAt, IsRun, entry_at, lower_entry}
+use Rattle.split_sections.proofs.Kept.{in_range_at}
 
 abbrev lives : ℕ → ℕ → Buffer
 lives lower upper = record { lower = lower; upper = upper; size = 1; alignment = 1; gaps = [] }
@@ -38,3 +41,27 @@ first_is_run = record { some = omega arith; within = omega arith; same = same; e
     same : (k : ℕ) → 0 ≤ k → k < 1 → part_of three (entry_at order k).1 ≡ (entry_at order 0).0
     same zero le lt = refl
     same (suc k) le lt = absurd (omega arith)
+
+-- ---- parts
+rising_part : IsPart (0 ∷ 2 ∷ [])
+rising_part = record { rises = (above, ((λ y i. absurd i), tt)); not_empty = λ e. cc }
+  where
+    above : (y : ℕ) → IsIn y (2 ∷ []) → 0 < y
+    above y (inl e) = omega arith
+    above y (inr i) = absurd i
+
+not_falling : IsPart (2 ∷ 0 ∷ []) → ⊥
+not_falling p = let k = p.rises.0 0 (inl refl) in omega arith
+
+not_twice : IsPart (1 ∷ 1 ∷ []) → ⊥
+not_twice p = let k = p.rises.0 1 (inl refl) in omega arith
+
+not_empty : IsPart [] → ⊥
+not_empty p = p.not_empty refl
+
+-- the last part is that of buffer 0, and there is no buffer 3
+last_in_range : AreInRange (parts three) (0 ∷ [])
+last_in_range I e = in_range_at (parts three) 2 (0 ∷ []) (rw three_parts (omega arith)) (rw three_parts refl) I e
+
+none_out_of_range : AreInRange (parts three) (3 ∷ []) → ⊥
+none_out_of_range h = let k = h three refl 0 0 (omega arith) in omega arith
