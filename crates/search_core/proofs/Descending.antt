@@ -1,19 +1,24 @@
 -- Steps of the search: a choice deeper, and back.
-use Rattle.std.proofs.Common.{◌≡◌, ◌≢◌, ℕ, ◌+◌, ◌<◌, cond, List, [], ◌∷◌, ◌++◌, length, map, reverse, Option, Some, None, is_some, refl, sym, ap, ◌∙◌, subst, arith, length-append}
-use Rattle.dsa_terms.specs.Buffers.{Instance}
+use Rattle.std.proofs.Common.{◌≡◌, ◌≢◌, ℕ, ◌+◌, ◌-◌, ◌<◌, cond, List, [], ◌∷◌, ◌++◌, length, map, reverse, Option, Some, None, IfSome, slice_get, is_some, refl, sym, ap, ◌∙◌, subst, arith, length-append}
+use Rattle.std.proofs.lemmas.List.Elements.{All-cons, All-nil, All-weaker}
+use Rattle.dsa_terms.specs.Buffers.{Instance, IsInstance}
 use Rattle.dsa_terms.specs.Claims.{Claim, Entry, child}
 use Rattle.dsa_terms.specs.Logs.{Line}
 use Rattle.dsa_terms.specs.Search.{first, seated, work}
 use Rattle.canonical_order.specs.Claims.{HasBuffer, entry_of}
 use Rattle.skyline.specs.Skies.{Sky, last_claim}
-use Rattle.search_core.specs.Descents.{Descends, IsAbove, IsKnown, IsStanding, IsTrying, above_of, left_of, owed, root_of, sky_root, through}
-use Rattle.search_core.specs.Logs.{Extends, NoneCovers, NoneCoversFirst}
+use Rattle.search_core.specs.Descents.{Descends, HasAskedAll, IsKnown, IsStanding, IsTrying, above_of, left_of, owed, root_of, sky_root, through}
+use Rattle.search_core.specs.Levels.{AreLevels}
+use Rattle.search_core.specs.Logs.{Extends}
 use Rattle.search_core.specs.Tries.{IsLeft, Tried, chosen_of, later_of, noted_by, rest_of}
 use Rattle.search_core.specs.Turns.{IsAhead, debt_of}
+use Rattle.search_core.specs.Watches.{AreRaised, AreRaisedFrom}
 use Rattle.search_core.proofs.Descent.{child_within}
-use Rattle.search_core.proofs.Growing.{covered_still}
+use Rattle.search_core.proofs.Growing.{covered_still, get_new}
+use Rattle.search_core.proofs.Rising.{child_raised}
 use Rattle.search_core.proofs.Searching.{choice_refuted, chosen_in, layout_found, next_choice, rest_of_noted, trying_still}
-use Rattle.search_core.proofs.Stacks.{above_pushed, count_above, last_of_append, reverse_push}
+use Rattle.search_core.proofs.Stacks.{above_pushed, all_reversed, count_above, last_of_append, reverse_push}
+use Rattle.search_core.proofs.WatchLemmas.{raised_trans}
 use Rattle.search_core.proofs.Working.{through_next}
 
 -- what holds of three things holds of their equals
@@ -21,6 +26,14 @@ carried : {X Y Z : Type 0} (P : X → Y → Z → Type 0) {a x : X} {b y : Y} {c
     P a b c
 carried P {a = a} {x = x} {b = b} {y = y} {c = c} {z = z} e f g h =
     subst (λ s. P s b c) (sym e) (subst (λ t. P x t c) (sym f) (subst (λ u. P x y u) (sym g) h))
+
+-- the frame that was put last is the last one
+last_asked : (lines : List Line) (frames : List Tried) (f : Tried) → f.asked ≡ length lines →
+    HasAskedAll lines (frames ++ f ∷ [])
+last_asked lines frames f e =
+    let n : length (frames ++ f ∷ []) - 1 ≡ length frames = let k = length-append frames (f ∷ []) in omega arith in
+    subst (λ (o : Option Tried). IfSome o (λ (f : Tried). f.asked ≡ length lines))
+    (sym (ap (slice_get (frames ++ f ∷ [])) n ∙ get_new frames f)) e
 
 module _ (I : Instance) (C : ℕ) where
   -- a log that grows keeps what is known of all claims
@@ -59,35 +72,44 @@ module _ (I : Instance) (C : ℕ) where
   no_above lines l [] d = refl
   no_above lines l (p ∷ ps) d = absurd d
 
-  -- what the last frame knows of the claim above the last one
-  pub is_above : (lines : List Line) (l : Claim) (ps : List Claim) (f : Tried) (fs : List Tried) →
-      Descends I C lines l ps (f ∷ fs) → NoneCoversFirst I lines ps → IsAbove I lines l f
-  is_above lines l [] f fs d fresh = absurd d
-  is_above lines l (p ∷ ps) f fs d fresh = record {
-    claim = p;
-    levels = d.1.levels;
-    has = λ b h. child_within I p (chosen_of f) b (subst (λ (k : Claim). HasBuffer k b) d.0.is_child h);
-    fresh = fresh;
-  }
+  -- no low falls on the way down
+  raised_down : (lines : List Line) (l : Claim) (levels : List ℕ) (ps : List Claim) (fs : List Tried) → IsInstance I →
+      Descends I C lines l ps fs → AreLevels I l levels → AreRaisedFrom fs levels
+  raised_down lines l levels [] [] s d a = All-nil (λ (f : Tried). AreRaised f.levels levels)
+  raised_down lines l levels [] (f ∷ fs) s d a = absurd d
+  raised_down lines l levels (p ∷ ps) [] s d a = absurd d
+  raised_down lines l levels (p ∷ ps) (f ∷ fs) s d a =
+      let r : AreRaised f.levels levels =
+      child_raised I p (chosen_of f) f.levels levels s d.1.levels
+      (subst (λ (k : Claim). AreLevels I k levels) d.0.is_child a) in
+      All-cons (λ (f : Tried). AreRaised f.levels levels) f fs r
+      (All-weaker (λ (g : Tried). AreRaised g.levels f.levels) (λ (g : Tried). AreRaised g.levels levels)
+      (λ g q. raised_trans g.levels f.levels levels q r) fs (raised_down lines p f.levels ps fs s d.2 d.1.levels))
+
+  pub are_raised : (lines : List Line) (l : Claim) (levels : List ℕ) (ps : List Claim) (frames : List Tried) →
+      IsInstance I → Descends I C lines l ps (reverse frames) → AreLevels I l levels → AreRaisedFrom frames levels
+  are_raised lines l levels ps frames s d a =
+      all_reversed (λ (f : Tried). AreRaised f.levels levels) frames
+      (raised_down lines l levels ps (reverse frames) s d a)
 
   -- ---- a choice deeper
   pub ahead_deeper : (lines : List Line) (sky new : Sky) (frames after : List Tried) (f : Tried) →
       sky.instance ≡ I → 0 < length sky.claims → IsTrying I C lines (last_claim sky.claims) f → IsLeft f →
-      NoneCovers I lines (last_claim sky.claims) →
+      f.asked ≡ length lines →
       Descends I C lines (last_claim sky.claims) (above_of sky.claims) (reverse frames) →
       new.instance ≡ sky.instance →
       new.claims ≡ sky.claims
       ++ child I (last_claim sky.claims) (entry_of (last_claim sky.claims) (chosen_of f)) ∷ [] →
       after ≡ frames ++ f ∷ [] →
       IsAhead I C lines (sky_root sky) (debt_of I C sky f frames) (length frames) new after None
-  ahead_deeper lines sky new frames after f same some trying lt fresh d i claims pushed = record {
+  ahead_deeper lines sky new frames after f same some trying lt asked d i claims pushed = record {
     place = record {
       subject = i ∙ same;
       some = let n = ap length claims in let k = length-append sky.claims (x ∷ []) in omega arith;
       descends = carried (λ (l : Claim) (ps : List Claim) (fs : List Tried). Descends I C lines l ps fs) last above rest
           (record { is_left = lt; is_child = refl }, trying, d);
       known = tt;
-      fresh = subst (NoneCoversFirst I lines) (sym above) fresh;
+      latest = subst (HasAskedAll lines) (sym pushed) (last_asked lines frames f asked);
     };
     root = ap (λ (l : Claim). root_of l (above_of new.claims)) last ∙ ap (root_of x) above;
     owed = omega (arith, debt);
@@ -137,7 +159,7 @@ module _ (I : Instance) (C : ℕ) where
       some = some;
       descends = descends_still k lines after (last_claim sky.claims) (above_of sky.claims) (reverse frames) grown d;
       known = known;
-      fresh = tt;
+      latest = tt;
     };
     root = refl;
     owed = omega arith;

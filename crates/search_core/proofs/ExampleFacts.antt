@@ -19,8 +19,8 @@ use Rattle.search_core.specs.Lifted.{lifted}
 use Rattle.search_core.specs.Tries.{Tried, chosen_of, later_of, noted_by, rest_of, untried}
 use Rattle.search_core.specs.Keys.{key_of}
 use Rattle.search_core.specs.Logs.{AreUncovered, Extends, NoneCovers}
-use Rattle.search_core.specs.Meters.{AreMore, AreSpent, AreWithin, HasUnit, counted}
-use Rattle.search_core.specs.Outcomes.{spends_after}
+use Rattle.search_core.specs.Meters.{AreCounted, AreMore, AreMoreBy, AreSpent, AreWithin, HasUnit, Units, counted}
+use Rattle.search_core.specs.Outcomes.{LinesAreCounted, spends_after}
 
 abbrev plain : ℕ → ℕ → ℕ → ℕ → Buffer
 plain lower upper size alignment = record
@@ -61,6 +61,31 @@ no_more h = omega (arith, h)
 
 no_more_without_number : AreMore (record { most = None; used = 0 }) (record { most = None; used = 0 })
 no_more_without_number = omega arith
+
+-- two lines take two of seven units
+abbrev unused : Units
+unused = record { most = Some 7; used = 0 }
+
+abbrev two_used : Units
+two_used = record { most = Some 7; used = 2 }
+
+two_lines_take_two : AreMoreBy 2 unused two_used
+two_lines_take_two = omega arith
+
+two_take_no_third : AreMoreBy 3 unused two_used → ⊥
+two_take_no_third h = omega (arith, h)
+
+no_lines_take_units_without_number : AreMoreBy 9 (record { most = None; used = 0 }) (record { most = None; used = 0 })
+no_lines_take_units_without_number = omega arith
+
+two_more_than_one : AreCounted unused two_used 1 3
+two_more_than_one = omega arith
+
+not_three_more_than_one : AreCounted unused two_used 1 4 → ⊥
+not_three_more_than_one h = omega (arith, h)
+
+a_spent_answer_has_no_lines : LinesAreCounted two_used two_used Spent
+a_spent_answer_has_no_lines = tt
 
 a_spent_answer_is_counted : spends_after 3 Spent ≡ 4
 a_spent_answer_is_counted = refl

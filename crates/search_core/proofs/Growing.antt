@@ -1,5 +1,5 @@
 -- Logs that grow.
-use Rattle.std.proofs.Common.{◌≡◌, ℕ, zero, suc, ◌^◌, ◌<◌, ◌≤◌, ◌⊎◌, inl, inr, List, [], ◌∷◌, ◌++◌, length, slice_get, take, Some, sym, refl, ap, ◌∙◌, subst, arith, append_assoc, length-append}
+use Rattle.std.proofs.Common.{◌≡◌, ℕ, zero, suc, ◌^◌, ◌<◌, ◌≤◌, ◌⊎◌, inl, inr, List, [], ◌∷◌, ◌++◌, length, slice_get, take, Some, sym, refl, ap, ◌∙◌, subst, arith, append_assoc}
 use Rattle.std.proofs.lemmas.List.{append-nil, take-append-le}
 use Rattle.std.proofs.lemmas.Option.{slice_get_within}
 use Rattle.dsa_terms.specs.Buffers.{Instance}
@@ -10,7 +10,7 @@ use Rattle.dsa_terms.proofs.Lists.{from_append}
 use Rattle.canonical_order.specs.Claims.{HasBuffer}
 use Rattle.canonical_order.proofs.CoverLemmas.{covered_has}
 use Rattle.search_core.specs.Cites.{IsCoveredBy}
-use Rattle.search_core.specs.Logs.{AreAsked, Extends}
+use Rattle.search_core.specs.Logs.{Extends}
 
 pub get_before : {X : Type 0} (xs ys : List X) (k : ℕ) → k < length xs → slice_get (xs ++ ys) k ≡ slice_get xs k
 get_before [] ys k lt = absurd (omega arith)
@@ -82,7 +82,7 @@ covered_still I k l c before after m h = record {
   covers = h.covers;
 }
 
-get_new : {X : Type 0} (xs : List X) (x : X) → slice_get (xs ++ x ∷ []) (length xs) ≡ Some x
+pub get_new : {X : Type 0} (xs : List X) (x : X) → slice_get (xs ++ x ∷ []) (length xs) ≡ Some x
 get_new [] x = refl
 get_new (y ∷ ys) x = get_new ys x
 
@@ -91,13 +91,3 @@ pub covered_last : (I : Instance) (l : Claim) (c : ℕ) (lines after : List Line
     Covers I (claim_of line) l → IsCoveredBy I after l c
 covered_last I l c lines after line q e le covers = record
     { limit = le; line = line; stands = rw (q, e) (get_new lines line); covers = covers }
-
--- what was asked of the first lines holds of more lines
-pub asked_still : (I : Instance) (k l : Claim) (n : ℕ) (before after : List Line) → Extends k before after →
-    AreAsked I before l n → AreAsked I after l n
-asked_still I k l n before after m h = record {
-  within = let w = h.within in let e = ap length m.is in let a = length-append before m.more in omega arith;
-  none = λ j line lt at. h.none j line lt
-      (sym (get_before before m.more j (let w = h.within in omega arith))
-      ∙ subst (λ (xs : List Line). slice_get xs j ≡ Some line) m.is at);
-}

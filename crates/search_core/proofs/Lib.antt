@@ -24,8 +24,14 @@ pub mod Joining
 pub mod Deciding
 pub mod ExampleFacts
 pub mod Meeting
-pub mod Filing
-pub mod IndexFacts
+pub mod WatchLemmas
+pub mod WatchRows
+pub mod Looking
+pub mod WatchFacts
+pub mod WatchTableFacts
 pub mod Rising
+pub mod Watched
 pub mod TwinMarking
 pub mod TwinFacts
+pub mod Counting
+mod OutcomeFacts

@@ -1,5 +1,5 @@
 -- What the levels of a claim say of bounds: the claim meets a bound exactly where it is below the buffer's level.
-use Rattle.std.proofs.Common.{◌≡◌, ℕ, ◌+◌, ◌-◌, ◌<◌, ◌≤◌, ◌⊎◌, inl, inr, List, [], ◌∷◌, ◌++◌, length, slice_index, slice_index_or, Option, Some, None, refl, sym, ap, subst, arith}
+use Rattle.std.proofs.Common.{◌≡◌, ℕ, ◌+◌, ◌-◌, ◌<◌, ◌≤◌, ◌⊎◌, inl, inr, List, [], ◌∷◌, ◌++◌, length, slice_index, slice_index_or, Option, Some, None, refl, ap, subst, arith}
 use Rattle.std.proofs.lemmas.List.{get_or_past, get_or_read, map-append}
 use Rattle.dsa_terms.specs.Buffers.{Instance}
 use Rattle.dsa_terms.specs.Claims.{Claim, Entry, IsIn, Rises, buffers_of, up}
@@ -50,13 +50,6 @@ module _ (I : Instance) (l : Claim) (levels : List ℕ) (h : AreLevels I l level
       let q : e.1 ≤ up I (entry_of l e.0) = r.1 in
       omega arith
 
-  -- the same where the level was read
-  pub meets_at : (e : Entry) (level : ℕ) → level ≡ slice_index levels e.0 → e.1 < level → CoversEntry I l e
-  meets_at e level q lt = meets e (omega arith)
-
-  pub not_met_at : (e : Entry) (level : ℕ) → level ≡ slice_index levels e.0 → level ≤ e.1 → CoversEntry I l e → ⊥
-  not_met_at e level q le c = let k : e.1 < slice_index levels e.0 = is_met e c in omega arith
-
   pub lifted_at : (b level : ℕ) → level ≡ slice_index levels b → 0 < level →
       HasBuffer l b × (◌≡◌ {A = Entry} (b, level - 1) (lift I (entry_of l b)))
   lifted_at b level q lt =
@@ -72,24 +65,6 @@ pub level_read : (numbers levels : List ℕ) (b level : ℕ) → numbers ≡ lev
     level ≡ slice_index_or numbers b level → level ≡ slice_index levels b
 level_read numbers levels b level q lt e =
     subst (λ (xs : List ℕ). level ≡ slice_index xs b) q (get_or_read numbers b level lt e 0)
-
--- some bound is not met, or all are
-pub met_or_not : (levels : List ℕ) (k : Claim) → ((e : Entry) → IsIn e k → e.1 < slice_index levels e.0)
-    ⊎ ((e : Entry) × IsIn e k × (slice_index levels e.0 ≤ e.1))
-met_or_not levels [] = inl (λ e i. absurd i)
-met_or_not levels (x ∷ xs) = go (below_or_from x.1 (slice_index levels x.0)) (met_or_not levels xs)
-  where
-    go : (x.1 < slice_index levels x.0) ⊎ (slice_index levels x.0 ≤ x.1) →
-        ((e : Entry) → IsIn e xs → e.1 < slice_index levels e.0)
-        ⊎ ((e : Entry) × IsIn e xs × (slice_index levels e.0 ≤ e.1)) →
-        ((e : Entry) → IsIn e (x ∷ xs) → e.1 < slice_index levels e.0)
-        ⊎ ((e : Entry) × IsIn e (x ∷ xs) × (slice_index levels e.0 ≤ e.1))
-    go (inr le) r = inr (x, inl refl, le)
-    go (inl lt) (inr r) = inr (r.0, inr r.1, r.2)
-    go (inl lt) (inl h) = inl (λ e i. elim i [
-      | inl q ↦ subst (λ (e : Entry). e.1 < slice_index levels e.0) (sym q) lt
-      | inr j ↦ h e j
-    ])
 
 -- ---- a claim with one entry more
 pub rises_next : (xs : List ℕ) (y : ℕ) → Rises xs → ((x : ℕ) → IsIn x xs → x < y) → Rises (xs ++ y ∷ [])

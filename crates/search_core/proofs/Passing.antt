@@ -28,6 +28,8 @@ left_below I C l f = through I C l (map (entry_of l) (rest_of f))
 pub record IsPassing (I : Instance) (C : ℕ) (lines : List Line) (l : Claim) (old f : Tried) : Type 0 where
   pub trying : IsTrying I C lines l f
   pub less : left_below I C l f ≤ left_below I C l old
+  pub levels : f.levels ≡ old.levels
+  pub asked : f.asked ≡ old.asked
 
 -- a level of a buffer of the claim is above 0
 pub some_level : (I : Instance) (l : Claim) (levels : List ℕ) (b : ℕ) → AreLevels I l levels → HasBuffer l b →

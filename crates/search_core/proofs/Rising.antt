@@ -5,8 +5,9 @@ use Rattle.dsa_terms.specs.Buffers.{Instance, IsInstance, buffer}
 use Rattle.dsa_terms.specs.Claims.{Claim, Entry, child, step, up}
 use Rattle.dsa_search_laws.proofs.Placing.{up_at_or_above}
 use Rattle.canonical_order.specs.Claims.{CoversEntry, HasBuffer, entry_of}
-use Rattle.canonical_order.proofs.CoverLemmas.{covers_entry, entry_of_child, in_child_by}
+use Rattle.canonical_order.proofs.CoverLemmas.{covers_entry, entry_of_child, from_child, in_child_by}
 use Rattle.search_core.specs.Levels.{AreLevels}
+use Rattle.search_core.specs.Watches.{AreRaised}
 use Rattle.search_core.proofs.Meeting.{has_level, level_inside}
 
 -- the up in the child is the raised bound at the next multiple
@@ -42,3 +43,18 @@ meets_above I l levels b c bound level s h ne q pos lt =
     let n : (entry_of (child I l (entry_of l b)) c).1 ≤ up I (entry_of (child I l (entry_of l b)) c) =
     up_at_or_above I (entry_of (child I l (entry_of l b)) c) s in
     covers_entry I (child I l (entry_of l b)) (c, bound) (in_child_by I l b c i ne) (omega arith)
+
+-- no low falls in the child
+pub child_raised : (I : Instance) (l : Claim) (b : ℕ) (before now : List ℕ) → IsInstance I → AreLevels I l before →
+    AreLevels I (child I l (entry_of l b)) now → AreRaised before now
+child_raised I l b before now s h k c lt =
+    let i : HasBuffer (child I l (entry_of l b)) c = has_level I (child I l (entry_of l b)) now k c lt in
+    let r = from_child I l b c i in
+    let p : slice_index before c ≡ up I (entry_of l c) + 1 = level_inside I l before h c r.0 in
+    let q : slice_index now c ≡ up I (entry_of (child I l (entry_of l b)) c) + 1 =
+    level_inside I (child I l (entry_of l b)) now k c i in
+    let m : (entry_of (child I l (entry_of l b)) c).1 ≡ max (up I (entry_of l c)) (up I (entry_of l b) + step I b c) =
+    ap (λ (e : Entry). e.1) (entry_of_child I l b c h.claim.rises r.0 r.1) in
+    let n : (entry_of (child I l (entry_of l b)) c).1 ≤ up I (entry_of (child I l (entry_of l b)) c) =
+    up_at_or_above I (entry_of (child I l (entry_of l b)) c) s in
+    (omega arith, omega arith)

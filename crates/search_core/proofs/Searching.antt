@@ -17,13 +17,12 @@ use Rattle.dsa_terms.specs.Logs.{Line}
 use Rattle.search_core.specs.declared.found.Refuted.{Refuted}
 use Rattle.search_core.specs.Cites.{IsChildCovered}
 use Rattle.search_core.specs.Levels.{AreLevels}
-use Rattle.search_core.specs.Logs.{AreAsked, Extends, NoneCovers}
+use Rattle.search_core.specs.Logs.{Extends, NoneCovers}
 use Rattle.search_core.specs.Descents.{IsKnown, IsTrying, buffer_of}
 use Rattle.search_core.specs.Tries.{IsLeft, Tried, asked_to, chosen_of, later_of, noted_by, rest_of, untried}
-use Rattle.search_core.proofs.Growing.{asked_still, covered_still}
+use Rattle.search_core.proofs.Growing.{covered_still}
 use Rattle.search_core.specs.Opened.{AreChoices}
 use Rattle.search_core.proofs.Least.{least_passes, none_least}
-use Rattle.search_core.proofs.Uncovered.{all_asked}
 use Rattle.search_core.proofs.Working.{work_is}
 
 -- ---- a claim with a tall buffer, and one with none
@@ -82,14 +81,13 @@ none_is_left f e = drop_of_length-le f.order (omega arith)
 module _ (I : Instance) (C : ℕ) (l : Claim) where
   pub trying_start : (lines : List Line) (order levels : List ℕ) (n : ℕ) → IsClaim I l → l ≢ [] →
       None ≡ least_buffer (is_tall I C) l → map (entry_of l) order ≡ choices I (not_excluded I) l →
-      AreLevels I l levels → AreAsked I lines l n → IsTrying I C lines l (untried order levels n)
-  trying_start lines order levels n c ne none q are_levels asked = record {
+      AreLevels I l levels → IsTrying I C lines l (untried order levels n)
+  trying_start lines order levels n c ne none q are_levels = record {
     order = q;
     noted = sym (drop_zero order);
     covered = λ r i. absurd i;
     left = first_equation I C l c ne ∙ (rw (none_least (is_tall I C) l none, ← q, drop_zero order) refl);
     levels = are_levels;
-    asked = asked;
   }
 
   -- each choice is in the claim
@@ -130,19 +128,17 @@ module _ (I : Instance) (C : ℕ) (l : Claim) where
     ];
     left = t.left ∙ (rw (next_choice f lt, known.none, rest_of_noted f k) refl);
     levels = t.levels;
-    asked = t.asked;
   }
 
   -- more lines are asked
-  pub trying_asked : (lines : List Line) (f : Tried) (n : ℕ) → IsTrying I C lines l f → AreAsked I lines l n →
+  pub trying_asked : (lines : List Line) (f : Tried) (n : ℕ) → IsTrying I C lines l f →
       IsTrying I C lines l (asked_to f n)
-  trying_asked lines f n t asked = record {
+  trying_asked lines f n t = record {
     order = t.order;
     noted = t.noted;
     covered = t.covered;
     left = t.left;
     levels = t.levels;
-    asked = asked;
   }
 
   -- a log that grows keeps what is known
@@ -154,7 +150,6 @@ module _ (I : Instance) (C : ℕ) (l : Claim) where
     covered = λ r i. covered_still I k (child I l (entry_of l r.buffer)) r.line lines after grown (t.covered r i);
     left = t.left;
     levels = t.levels;
-    asked = asked_still I k l f.asked lines after grown t.asked;
   }
 
   -- no choice is left
@@ -186,11 +181,10 @@ module _ (I : Instance) (C : ℕ) (l : Claim) where
   -- the choices of a claim that has some buffers, none of which is tall
   pub are_choices : (lines : List Line) (order levels : List ℕ) (n : ℕ) → IsClaim I l → l ≢ [] →
       None ≡ least_buffer (is_tall I C) l → map (entry_of l) order ≡ choices I (not_excluded I) l →
-      AreLevels I l levels → NoneCovers I lines l → n ≡ length lines →
-      AreChoices I C lines l (untried order levels n)
-  are_choices lines order levels n c ne none q are_levels fresh e = record {
+      AreLevels I l levels → NoneCovers I lines l → AreChoices I C lines l (untried order levels n)
+  are_choices lines order levels n c ne none q are_levels fresh = record {
     not_empty = ne;
     fresh = fresh;
-    trying = trying_start lines order levels n c ne none q are_levels (all_asked I lines l n fresh e);
+    trying = trying_start lines order levels n c ne none q are_levels;
     work = work_is I C l c ne none ∙ (rw (drop_zero order, q) refl);
   }

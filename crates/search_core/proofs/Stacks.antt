@@ -1,6 +1,8 @@
 -- Lists that are read from their end.
-use Rattle.std.proofs.Common.{◌≡◌, suc, ◌+◌, ◌-◌, ◌<◌, List, [], ◌∷◌, ◌++◌, length, drop, reverse, slice_index_or, Result, Ok, Err, IsOk, is_ok, if◌then◌else◌, refl, sym, ap, ◌∙◌, arith, length-append}
+use Rattle.std.proofs.Common.{◌≡◌, suc, ◌+◌, ◌-◌, ◌<◌, List, [], ◌∷◌, ◌++◌, length, drop, reverse, slice_index_or, Result, Ok, Err, Some, IsOk, is_ok, if◌then◌else◌, refl, sym, ap, ◌∙◌, arith, length-append}
 use Rattle.std.proofs.lemmas.List.{reverse-append, length-reverse}
+use Rattle.std.proofs.lemmas.List.Elements.{All-cons, All-nil, All-pop}
+use Rattle.std.specs.List.{All}
 use Rattle.dsa_terms.specs.Claims.{Claim}
 use Rattle.skyline.specs.Skies.{last_claim}
 use Rattle.search_core.specs.Descents.{above_of}
@@ -38,6 +40,13 @@ count_above ls lt =
     let a : length (reverse ls) ≡ suc (length (above_of ls)) = ap length (reverse_is ls lt) in
     let b : length (reverse ls) ≡ length ls = length-reverse ls in
     omega arith
+
+-- what holds of each element from the last one on holds of each from the first one on
+pub all_reversed : {X : Type 0} (P : X → Type 0) (xs : List X) → All P (reverse xs) → All P xs
+all_reversed P [] h = All-nil P
+all_reversed P (x ∷ xs) h =
+    let r = All-pop P (reverse (x ∷ xs)) (reverse xs) (Some x) (reverse-append (x ∷ []) xs) h in
+    All-cons P x xs r.1 (all_reversed P xs r.0)
 
 -- what an answer that is there chooses
 pub when_ok : {T E X : Type 0} (r : Result T E) (a b x : X) → x ≡ (if is_ok r then a else b) → IsOk r → x ≡ a

@@ -6,15 +6,14 @@ use Rattle.dsa_terms.specs.Logs.{Line}
 use Rattle.dsa_terms.specs.Search.{first, work}
 use Rattle.skyline.specs.Skies.{Sky, last_claim}
 use Rattle.search_core.specs.Cites.{IsCoveredBy}
-use Rattle.search_core.specs.Descents.{AreAbove, Descends, IsKnown, IsPlace, above_of, left_of, owed, sky_root, turns_left}
-use Rattle.search_core.specs.Logs.{Extends, NoneCoversFirst}
+use Rattle.search_core.specs.Descents.{Descends, HasAskedAll, IsKnown, IsPlace, above_of, left_of, owed, sky_root, turns_left}
+use Rattle.search_core.specs.Logs.{Extends}
 use Rattle.search_core.specs.Meters.{Units}
 use Rattle.search_core.specs.Opened.{AreChoices}
 use Rattle.search_core.specs.Tries.{Tried, noted_by}
 use Rattle.search_core.specs.Turns.{IsAhead, IsOn, debt_of}
-use Rattle.search_core.proofs.Descending.{IsBack, back_debt, descends_still, is_above, no_above, root_has}
+use Rattle.search_core.proofs.Descending.{IsBack, back_debt, descends_still, no_above, root_has}
 use Rattle.search_core.proofs.Growing.{extends_along, extends_none}
-use Rattle.search_core.proofs.Stacks.{reverse_push}
 use Rattle.search_core.proofs.Working.{some_work}
 
 pub nothing_in : {X : Type 0} (xs : List X) → length xs ≡ 0 → xs ≡ []
@@ -36,13 +35,9 @@ module _ (I : Instance) (C : ℕ) (lines : List Line) (sky : Sky) (frames : List
   pub known_line : (k : ℕ) → line ≡ Some k → IsKnown I C lines (last_claim sky.claims) k
   known_line k e = subst (λ o. IfSome o (IsKnown I C lines (last_claim sky.claims))) e p.known
 
-  -- where no line is known, none covers the claim above
-  pub are_above : line ≡ None → AreAbove I lines (last_claim sky.claims) frames
-  are_above e fs f q =
-      is_above I C lines (last_claim sky.claims) (above_of sky.claims) f (reverse fs)
-      (subst (Descends I C lines (last_claim sky.claims) (above_of sky.claims)) (ap reverse q ∙ reverse_push fs f)
-      p.descends)
-      (subst (λ o. IfNone o (NoneCoversFirst I lines (above_of sky.claims))) e p.fresh)
+  -- where no line is known, the claim above has asked all lines
+  pub asked_above : line ≡ None → HasAskedAll lines frames
+  asked_above e = subst (λ o. IfNone o (HasAskedAll lines frames)) e p.latest
 
   -- where no line is known, the last claim is left to look at
   pub some_owed : line ≡ None → IsClaim I (last_claim sky.claims) → 1 ≤ owed I C sky frames line
@@ -101,7 +96,7 @@ module _ (I : Instance) (C : ℕ) (lines : List Line) (sky : Sky) (frames : List
       descends = descends_still I C (last_claim sky.claims) lines after (last_claim sky.claims) (above_of sky.claims)
           (reverse frames) grown p.descends;
       known = known;
-      fresh = tt;
+      latest = tt;
     };
     root = refl;
     units = omega (arith, old, one, w);

@@ -1,6 +1,5 @@
 -- What a line that covers a claim says of it, and lines that none covers.
-use Rattle.std.proofs.Common.{◌≡◌, ℕ, zero, suc, ◌+◌, ◌<◌, ◌≤◌, ◌⊎◌, inl, inr, List, [], ◌∷◌, ◌++◌, length, slice_get, take, Some, None, sym, ◌∙◌, subst, arith}
-use Rattle.std.proofs.lemmas.Option.{slice_get_within}
+use Rattle.std.proofs.Common.{◌≡◌, ℕ, zero, suc, ◌<◌, ◌≤◌, ◌⊎◌, inl, inr, List, [], ◌∷◌, ◌++◌, length, slice_get, take, Some, None, sym, ◌∙◌, subst, arith}
 use Rattle.dsa_terms.specs.Buffers.{Instance, IsInstance}
 use Rattle.dsa_terms.specs.Claims.{Claim, Covers, IsClaim, IsRefuted}
 use Rattle.dsa_terms.specs.Logs.{Line, claim_of}
@@ -10,7 +9,7 @@ use Rattle.dsa_search_laws.proofs.Logs.{covered_is_refuted, covers_along, from_t
 use Rattle.canonical_order.specs.Stands.{Stands}
 use Rattle.refute_log.specs.Logs.{Belongs, OpenLog}
 use Rattle.search_core.specs.Cites.{IsCoveredBy}
-use Rattle.search_core.specs.Logs.{AreAsked, AreUncovered, IsSearchLog, NoneCovers}
+use Rattle.search_core.specs.Logs.{AreUncovered, IsSearchLog, NoneCovers}
 use Rattle.search_core.proofs.Descent.{is_instance}
 use Rattle.search_core.proofs.Growing.{get_before, get_last}
 
@@ -57,43 +56,3 @@ uncovered_next I lines after line q h none j k earlier x lt at_j at_k covers = e
     old : (n : ℕ) (x : Line) → n < length lines → slice_get after n ≡ Some x → slice_get lines n ≡ Some x
     old n x below at = sym (get_before lines (line ∷ []) n below) ∙ subst
         (λ (xs : List Line). slice_get xs n ≡ Some x) q at
-
--- ---- the loop over the lines, from the last one back
--- no line from n on covers the claim
-abbrev pub NoneCoversFrom : Instance → List Line → Claim → ℕ → Type 0
-NoneCoversFrom I lines l n = (k : ℕ) (line : Line) → n ≤ k → slice_get lines k ≡ Some line →
-    Covers I (claim_of line) l → ⊥
-
-pub none_from_end : (I : Instance) (lines : List Line) (l : Claim) (n : ℕ) → length lines ≤ n →
-    NoneCoversFrom I lines l n
-none_from_end I lines l n le k line from at covers = absurd (let lt = slice_get_within lines k line at in omega arith)
-
-pub none_from_before : (I : Instance) (lines : List Line) (l : Claim) (n m : ℕ) (line : Line) → n ≡ m + 1 →
-    NoneCoversFrom I lines l n → slice_get lines m ≡ Some line → (Covers I (claim_of line) l → ⊥) →
-    NoneCoversFrom I lines l m
-none_from_before I lines l n m line q h at not k x from at_k covers = elim (later_or_this k m from) [
-  | inl later ↦ h k x (omega arith) at_k covers
-  | inr this ↦ not (subst (λ (x : Line). Covers I (claim_of x) l)
-      (same (sym (subst (λ (k : ℕ). slice_get lines k ≡ Some x) this at_k) ∙ at)) covers)
-]
-  where
-    later_or_this : (k m : ℕ) → m ≤ k → (m + 1 ≤ k) ⊎ (k ≡ m)
-    later_or_this k m le = grind arith
-
-    same : {x y : Line} → Some x ≡ Some y → x ≡ y
-    same q = cc
-
-pub none_in_all : (I : Instance) (lines : List Line) (l : Claim) (n asked : ℕ) → AreAsked I lines l asked → n ≤ asked →
-    NoneCoversFrom I lines l n → NoneCovers I lines l
-none_in_all I lines l n asked a le h k line at covers = elim (below_or_from k asked) [
-  | inl below ↦ a.none k line below at covers
-  | inr from ↦ h k line (omega arith) at covers
-]
-  where
-    below_or_from : (s t : ℕ) → (s < t) ⊎ (t ≤ s)
-    below_or_from s t = grind arith
-
--- ---- lines that were asked
-pub all_asked : (I : Instance) (lines : List Line) (l : Claim) (n : ℕ) → NoneCovers I lines l → n ≡ length lines →
-    AreAsked I lines l n
-all_asked I lines l n h q = record { within = omega arith; none = λ k line lt at. h k line at }

@@ -1,15 +1,14 @@
 -- Where a search is: the claims that it goes down through, and what it knows of each.
-use Rattle.std.specs.Prelude.{◌≡◌, ℕ, ◌+◌, ◌*◌, ◌<◌, ⊤, Option, is_some, IfSome, IfNone, None, cond, List, [], ◌∷◌, ◌++◌, length, map, drop, reverse}
+use Rattle.std.specs.Prelude.{◌≡◌, ℕ, ◌+◌, ◌-◌, ◌*◌, ◌<◌, ⊤, Option, is_some, IfSome, IfNone, None, cond, List, [], ◌∷◌, ◌++◌, length, map, drop, reverse, slice_get}
 use Rattle.dsa_terms.specs.Buffers.{Instance}
 use Rattle.dsa_terms.specs.Claims.{Claim, Entry, IsIn, child}
 use Rattle.dsa_terms.specs.Logs.{Line}
 use Rattle.dsa_terms.specs.Search.{choices, first, first_some, not_excluded, seated, work, work_through}
-use Rattle.canonical_order.specs.Claims.{HasBuffer, entry_of}
+use Rattle.canonical_order.specs.Claims.{entry_of}
 use Rattle.skyline.specs.Skies.{Sky, last_claim}
 use Rattle.search_core.specs.declared.found.Refuted.{Refuted}
 use Rattle.search_core.specs.Cites.{IsChildCovered, IsCoveredBy}
 use Rattle.search_core.specs.Levels.{AreLevels}
-use Rattle.search_core.specs.Logs.{AreAsked, NoneCovers, NoneCoversFirst}
 use Rattle.search_core.specs.Tries.{Tried, IsLeft, chosen_of, later_of, rest_of}
 
 -- the layout of the claim with that entry first
@@ -24,26 +23,17 @@ through I C l es = work_through (λ e. work I C (child I l e)) (λ e. is_some (f
 abbrev pub buffer_of : Refuted → ℕ
 buffer_of r = r.buffer
 
--- the first choices of the claim are refuted, each by a line, and its first layout is the one that the others give;
--- none of the lines that were asked covers it
+-- the first choices of the claim are refuted, each by a line, and its first layout is the one that the others give
 pub record IsTrying (I : Instance) (C : ℕ) (lines : List Line) (l : Claim) (f : Tried) : Type 0 where
   pub order : map (entry_of l) f.order ≡ choices I (not_excluded I) l
   pub noted : f.order ≡ map buffer_of f.refuted ++ rest_of f
   pub covered : (r : Refuted) → IsIn r f.refuted → IsChildCovered I lines l r
   pub left : first I C l ≡ first_some (try_of I C l) (map (entry_of l) (rest_of f))
   pub levels : AreLevels I l f.levels
-  pub asked : AreAsked I lines l f.asked
 
--- the levels are those of a claim that has all buffers of l and that no line covers
-pub record IsAbove (I : Instance) (lines : List Line) (l : Claim) (f : Tried) : Type 0 where
-  pub claim : Claim
-  pub levels : AreLevels I claim f.levels
-  pub has : (b : ℕ) → HasBuffer l b → HasBuffer claim b
-  pub fresh : NoneCovers I lines claim
-
--- the last one of the frames is above l, if there is one
-abbrev pub AreAbove : Instance → List Line → Claim → List Tried → Type 0
-AreAbove I lines l frames = (fs : List Tried) (f : Tried) → frames ≡ fs ++ f ∷ [] → IsAbove I lines l f
+-- the last one of the frames has asked all lines, if there is one
+abbrev pub HasAskedAll : List Line → List Tried → Type 0
+HasAskedAll lines frames = IfSome (slice_get frames (length frames - 1)) (λ (f : Tried). f.asked ≡ length lines)
 
 -- the claim is what is left of p by its first choice that is not refuted
 pub record IsStanding (I : Instance) (p : Claim) (f : Tried) (l : Claim) : Type 0 where
@@ -92,12 +82,12 @@ pub record IsKnown (I : Instance) (C : ℕ) (lines : List Line) (l : Claim) (k :
   pub none : first I C l ≡ None
   pub covered : IsCoveredBy I lines l k
 
--- the search is at the last claim of the skyline; where there is a line, it covers that claim, and else none covers the
--- claim above
+-- the search is at the last claim of the skyline; where there is a line, it covers that claim, and else the claim above
+-- has asked all lines
 pub record IsPlace (I : Instance) (C : ℕ) (lines : List Line) (sky : Sky) (frames : List Tried)
     (line : Option ℕ) : Type 0 where
   pub subject : sky.instance ≡ I
   pub some : 0 < length sky.claims
   pub descends : Descends I C lines (last_claim sky.claims) (above_of sky.claims) (reverse frames)
   pub known : IfSome line (IsKnown I C lines (last_claim sky.claims))
-  pub fresh : IfNone line (NoneCoversFirst I lines (above_of sky.claims))
+  pub latest : IfNone line (HasAskedAll lines frames)

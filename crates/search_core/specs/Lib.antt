@@ -15,5 +15,7 @@ pub mod Pieces
 pub mod Outcomes
 pub mod Courses
 pub mod Levels
-pub mod Indexes
+pub mod Watches
+pub mod Watching
+pub mod Looks
 pub mod TwinMarks

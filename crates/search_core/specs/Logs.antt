@@ -1,5 +1,5 @@
 -- The log of a search, while it grows.
-use Rattle.std.specs.Prelude.{◌≡◌, ℕ, ◌<◌, ◌≤◌, ⊤, List, [], ◌∷◌, ◌++◌, length, slice_get, take, Some}
+use Rattle.std.specs.Prelude.{◌≡◌, ℕ, ◌<◌, List, ◌++◌, slice_get, take, Some}
 use Rattle.dsa_terms.specs.Buffers.{Instance}
 use Rattle.dsa_terms.specs.Claims.{Claim, Covers, Entry, IsIn}
 use Rattle.dsa_terms.specs.Lean.{IsLeanLine}
@@ -16,21 +16,6 @@ pub record Extends (l : Claim) (before after : List Line) : Type 0 where
 -- no line covers the claim
 abbrev pub NoneCovers : Instance → List Line → Claim → Type 0
 NoneCovers I lines l = (k : ℕ) (line : Line) → slice_get lines k ≡ Some line → Covers I (claim_of line) l → ⊥
-
--- none of the first n lines covers the claim
-abbrev pub NoneCoversBelow : Instance → List Line → Claim → ℕ → Type 0
-NoneCoversBelow I lines l n = (k : ℕ) (line : Line) → k < n → slice_get lines k ≡ Some line →
-    Covers I (claim_of line) l → ⊥
-
--- there are n lines at least, and none of the first n covers the claim
-pub record AreAsked (I : Instance) (lines : List Line) (l : Claim) (n : ℕ) : Type 0 where
-  pub within : n ≤ length lines
-  pub none : NoneCoversBelow I lines l n
-
--- no line covers the first of the claims, if there is one
-abbrev pub NoneCoversFirst : Instance → List Line → List Claim → Type 0
-NoneCoversFirst I lines [] = ⊤
-NoneCoversFirst I lines (p ∷ ps) = NoneCovers I lines p
 
 -- no line is covered by an earlier one
 abbrev pub AreUncovered : Instance → List Line → Type 0

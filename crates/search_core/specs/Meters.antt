@@ -25,3 +25,11 @@ counted most n = cond (is_some most) n 0
 -- at least one more is used, where there is a number
 abbrev pub AreMore : Units → Units → Type 0
 AreMore before after = before.used + counted before.most 1 ≤ after.used
+
+-- at least n more are used, where there is a number
+abbrev pub AreMoreBy : ℕ → Units → Units → Type 0
+AreMoreBy n before after = before.used + counted before.most n ≤ after.used
+
+-- a count goes from m to n at most by the units that are used, where there is a number
+abbrev pub AreCounted : Units → Units → ℕ → ℕ → Type 0
+AreCounted before after m n = before.used + counted before.most n ≤ after.used + counted before.most m

@@ -1,11 +1,12 @@
 -- What is found of one part.
-use Rattle.std.specs.Prelude.{◌≡◌, ℕ, ⊤, List, Some, None}
+use Rattle.std.specs.Prelude.{◌≡◌, ℕ, ⊤, List, Some, None, length}
 use Rattle.dsa_terms.specs.Buffers.{Instance}
 use Rattle.dsa_terms.specs.Parts.{whole}
 use Rattle.dsa_terms.specs.Search.{first}
 use Rattle.search_core.specs.declared.part.Piece.{Piece}
 use Rattle.search_core.specs.declared.part.Piece.TheVariants as piece
 use Rattle.search_core.specs.Decisions.{IsRefutation}
+use Rattle.search_core.specs.Meters.{AreMoreBy, Units}
 
 -- the first layout of the part, or a log that refutes the capacity where there is none
 abbrev pub IsPiece : Instance → ℕ → List ℕ → Piece → Type 0
@@ -24,3 +25,9 @@ abbrev pub UnlessPieceSpent : Type 0 → Piece → Type 0
 UnlessPieceSpent P (piece.Seats seats) = P
 UnlessPieceSpent P (piece.Refuted log) = P
 UnlessPieceSpent P piece.Spent = ⊤
+
+-- each line of a refutation took a unit, where there is a number of them
+abbrev pub PieceIsCounted : Units → Units → Piece → Type 0
+PieceIsCounted before after (piece.Seats seats) = ⊤
+PieceIsCounted before after (piece.Refuted log) = AreMoreBy (length log.lines) before after
+PieceIsCounted before after piece.Spent = ⊤

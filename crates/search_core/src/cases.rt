@@ -1,6 +1,6 @@
 //! The end of a claim each of whose choices is refuted.
 
-ghost use Rattle.std.specs.Prelude.{◌≡◌, ◌≢◌, ◌^◌, [], map, true, IfOk, OnOk};
+ghost use Rattle.std.specs.Prelude.{◌≡◌, ◌≢◌, ◌+◌, ◌^◌, [], length, map, true, IfOk, OnOk};
 ghost use Rattle.dsa_terms.specs.Claims.{Entry, IsIn};
 ghost use Rattle.dsa_terms.specs.Search.{not_excluded};
 ghost use Rattle.canonical_order.specs.Claims.{IsBoundedBy};
@@ -45,6 +45,7 @@ pub(crate) fn refute(
     ensures log { OnOk result (IsSearchLog task.now.instance.now task.now.capacity log.new) }
     ensures grown { OnOk result (Extends claim log.old.lines log.new.lines) }
     ensures covered { IfOk result (IsCoveredBy task.now.instance.now log.new.lines claim) }
+    ensures counted { OnOk result (length log.new.lines ≡ length log.old.lines + 1) }
 {
     let view = Leveled {
         instance: task.instance,

@@ -1,6 +1,6 @@
 //! The layout of the first claim, gathered on the way back from an empty one.
 
-ghost use Rattle.std.specs.Prelude.{◌≡◌, [], List, Some, None, IfOk};
+ghost use Rattle.std.specs.Prelude.{◌≡◌, [], List, Some, None, IfOk, OnOk};
 ghost use Rattle.dsa_terms.specs.Logs.{Line};
 ghost use Rattle.dsa_terms.specs.Search.{first};
 ghost use Rattle.search_core.specs.Descents.{IsPlace, sky_root};
@@ -24,8 +24,9 @@ pub(crate) fn seats(
         (lines : List Line) × IsPlace I task.now.capacity lines sky.old frames.old.items None }
     requires found { let I = task.now.instance.now in
         first I task.now.capacity (last_claim sky.old.claims) ≡ Some [] }
-    ensures { let I = task.now.instance.now in
+    ensures value { let I = task.now.instance.now in
         IfOk result (λ v. first I task.now.capacity (sky_root sky.old) ≡ Some v.items) }
+    ensures emptied { OnOk result (frames.new.items ≡ []) }
 {
     let mut seats = Vec::new(alloc);
     while let Some(frame) = frames.pop() {

@@ -1,9 +1,9 @@
 //! The lows of a claim, one after another by buffer.
 
-ghost use Rattle.std.specs.Prelude.{◌≡◌, ◌^◌, ◌+◌, ◌≤◌, ◌↔◌, IfOk, IsTrue, length, slice_index};
+ghost use Rattle.std.specs.Prelude.{◌≡◌, ◌^◌, ◌≤◌, IfOk, length, slice_index};
 ghost use Rattle.std.specs.List.{All};
 ghost use Rattle.dsa_terms.specs.Buffers.{Instance};
-ghost use Rattle.dsa_terms.specs.Claims.{Claim as ClaimTerm, Covers};
+ghost use Rattle.dsa_terms.specs.Claims.{Claim as ClaimTerm};
 ghost use Rattle.canonical_order.specs.Claims.{IsBoundedBy};
 ghost use Rattle.search_core.specs.Levels.{AreLevels, IsLevel};
 ghost use Rattle.search_core.specs.Lifted.{lifted};
@@ -64,12 +64,12 @@ impl Levels {
         Ok(Levels { numbers })
     }
 
-    /// The levels of the last claim, in place of others for the same instance. It takes no memory.
-    pub(crate) fn refill(&mut self, sky: &Skyline)
-        requires { length self.old ≡ length sky.now.instance }
-        ensures { AreLevels sky.now.instance (last_claim sky.now.claims) self.new }
+    /// How many there are: one for each buffer of the instance.
+    pub(crate) fn len(&self) -> usize
+        ensures value { result ≡ length self.now }
+        ensures few { result ≤ 512 }
     {
-        fill(&mut self.numbers, sky);
+        self.numbers.len()
     }
 
     /// The level of the buffer, and 0 for a number that is no buffer's.
@@ -82,19 +82,6 @@ impl Levels {
         } else {
             0
         }
-    }
-
-    /// Whether k covers the claim. It takes no memory.
-    pub(crate) fn covers(&self, k: &Claim) -> bool
-        ensures { (I : Instance) (l : ClaimTerm) → AreLevels I l self.now →
-            IsTrue result ↔ Covers I k.now l }
-    {
-        for pair in k.pairs() {
-            if pair.1 >= self.at(pair.0 as usize) {
-                return false;
-            }
-        }
-        true
     }
 
     /// The claim with each bound at the buffer's low.

@@ -11,19 +11,16 @@ mod ending;
 mod found;
 mod frame;
 mod gather;
-mod index;
-#[cfg(test)]
-mod index_tests;
 mod learned;
 mod leveled;
 mod levels;
 mod lines;
+mod look;
 mod meter;
 mod opening;
 mod over;
 mod part;
 mod recent;
-mod row;
 mod search;
 mod seats;
 mod task;
@@ -31,6 +28,11 @@ mod task;
 mod tests;
 mod twin_marks;
 mod walk;
+mod watch_row;
+mod watch_table;
+#[cfg(test)]
+mod watch_tests;
+mod watches;
 mod whole;
 
 pub use budget::Budget;

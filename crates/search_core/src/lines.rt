@@ -65,6 +65,7 @@ pub(crate) fn append(
     ensures covered { (l : ClaimTerm) →
         Covers task.now.instance.now (claim_of (line_value line)) l →
         IfOk result (λ k. IsCoveredBy task.now.instance.now log.new.lines l k) }
+    ensures counted { OnOk result (length log.new.lines ≡ length log.old.lines + 1) }
 {
     let _count = task.instance.len();
     let _number = log.log().len();

@@ -1,10 +1,15 @@
 //! What the search does first at a claim.
 
-ghost use Rattle.std.specs.Prelude.{◌≡◌, ◌+◌, ◌≤◌, [], OnOk, IfOk};
-ghost use Rattle.search_core.specs.Descents.{AreAbove};
+ghost use Rattle.std.specs.Prelude.{◌≡◌, ◌+◌, ◌≤◌, ℕ, [], List, length, IfNone, IfOk, IfSome, OnOk};
+ghost use Rattle.dsa_terms.specs.Buffers.{Instance};
+ghost use Rattle.dsa_terms.specs.Claims.{Claim as ClaimTerm};
+ghost use Rattle.search_core.specs.Cites.{IsCoveredBy};
+ghost use Rattle.search_core.specs.Descents.{HasAskedAll};
+ghost use Rattle.search_core.specs.Levels.{AreLevels};
 ghost use Rattle.search_core.specs.Logs.{Extends, IsSearchLog};
-ghost use Rattle.search_core.specs.Meters.{AreMore};
-ghost use Rattle.search_core.specs.Opened.{IsOpened, UnlessUnopened};
+ghost use Rattle.search_core.specs.Meters.{AreCounted, AreMore};
+ghost use Rattle.search_core.specs.Opened.{AreAllAsked, IfChoices, IsOpened, UnlessUnopened, left_open};
+ghost use Rattle.search_core.specs.Watches.{AreRaisedFrom, AreWatched, AreWatchedAt};
 ghost use Rattle.skyline.specs.Skies.{last_claim};
 
 use crate::choice::choices;
@@ -16,8 +21,10 @@ use crate::lines::append;
 use crate::meter::Meter;
 use crate::over::over_line;
 use crate::task::Task;
+use crate::watches::Watches;
 use canonical_order::Lows;
 use dsa_model::NoMemory;
+use refute_log::Log;
 use skyline::Skyline;
 use std::alloc::Global;
 
@@ -34,20 +41,47 @@ pub(crate) enum Opened {
     Spent,
 }
 
+/// A line that covers the claim of the levels, which is below those of the frames. All lines are
+/// watched there, if there is none.
+fn covering(
+    log: &Log,
+    levels: &Levels,
+    watches: &mut Watches,
+    frames: &[Frame],
+) -> Result<Option<u64>, NoMemory>
+    requires watched { AreWatchedAt log.now.lines watches.old frames.now }
+    requires raised { AreRaisedFrom frames.now levels.now }
+    requires latest { HasAskedAll log.now.lines frames.now }
+    ensures none { IfOk result (λ found. IfNone found
+        (AreWatched log.now.lines watches.new levels.now (length log.now.lines))) }
+    ensures some { (I : Instance) (l : ClaimTerm) → AreLevels I l levels.now →
+        IfOk result (λ found. IfSome found (IsCoveredBy I log.now.lines l)) }
+    ensures watched { OnOk result (AreWatchedAt log.now.lines watches.new frames.now) }
+{
+    match frames.last() {
+        Some(above) => watches.find(log, above.levels(), levels),
+        None => watches.ask(log, levels, 0),
+    }
+}
+
 /// Opens the last claim of the skyline, unless a line covers it; the frames are those of the claims
 /// above. Its lows are written down first, so that no rule needs to go over sections.
 pub(crate) fn open(
     alloc: Global,
     task: &Task,
     log: &mut Learned,
+    watches: &mut Watches,
     meter: &mut Meter,
     sky: &Skyline,
     frames: &[Frame],
 ) -> Result<Opened, NoMemory>
     requires subject { sky.now.instance ≡ task.now.instance.now }
     requires log { IsSearchLog task.now.instance.now task.now.capacity log.old }
-    requires above { let l = last_claim sky.now.claims in
-        AreAbove task.now.instance.now log.old.lines l frames.now }
+    requires watched { AreWatchedAt log.old.lines watches.old frames.now }
+    requires raised { let I = task.now.instance.now in
+        (levels : List ℕ) → AreLevels I (last_claim sky.now.claims) levels →
+        AreRaisedFrom frames.now levels }
+    requires latest { HasAskedAll log.old.lines frames.now }
     ensures log { OnOk result (IsSearchLog task.now.instance.now task.now.capacity log.new) }
     ensures grown { OnOk result (Extends (last_claim sky.now.claims) log.old.lines log.new.lines) }
     ensures most { meter.new.most ≡ meter.old.most }
@@ -58,10 +92,14 @@ pub(crate) fn open(
     ensures opened { let I = task.now.instance.now in
         let l = last_claim sky.now.claims in
         IfOk result (IsOpened I task.now.capacity log.new.lines l meter.old meter.new) }
+    ensures watched { OnOk result (AreWatchedAt log.new.lines watches.new frames.now) }
+    ensures asked { IfOk result (IfChoices (AreAllAsked log.new.lines watches.new)) }
+    ensures counted { IfOk result (λ o. AreCounted meter.old meter.new
+        (length log.old.lines) (length log.new.lines + left_open o)) }
 {
     let _count = sky.instance().len();
     let levels = Levels::of(alloc, sky)?;
-    if let Some(line) = log.find(frames, &levels) {
+    if let Some(line) = covering(log.log(), &levels, watches, frames)? {
         return Ok(Opened::Line(line));
     }
     if !meter.take() {

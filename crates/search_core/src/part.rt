@@ -6,7 +6,7 @@ ghost use Rattle.dsa_terms.specs.Parts.{parts, whole};
 ghost use Rattle.dsa_terms.specs.Search.{work};
 ghost use Rattle.lifetime.specs.SectionList.{AreSectionsOf};
 ghost use Rattle.search_core.specs.Meters.{AreMore, AreSpent};
-ghost use Rattle.search_core.specs.Pieces.{IfPieceSpent, IsPiece, UnlessPieceSpent};
+ghost use Rattle.search_core.specs.Pieces.{IfPieceSpent, IsPiece, PieceIsCounted, UnlessPieceSpent};
 
 use crate::found::Found;
 use crate::learned::Learned;
@@ -46,6 +46,7 @@ pub(crate) fn search_part(
     ensures spent { let most = work task.now.instance.now task.now.capacity (whole members.now) in
         IfOk result (IfPieceSpent (AreSpent meter.new × (meter.new.used < meter.old.used + most))) }
     ensures taken { IfOk result (UnlessPieceSpent (AreMore meter.old meter.new)) }
+    ensures counted { IfOk result (PieceIsCounted meter.old meter.new) }
     ensures found { IfOk result (IsPiece task.now.instance.now task.now.capacity members.now) }
 {
     let _count = task.instance.len();

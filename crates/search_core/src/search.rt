@@ -87,7 +87,7 @@ impl<'a> Decider for Search<'a> {
     ghost use Rattle.refute_log.specs.Hunts.{Rose};
     ghost use Rattle.search_core.specs.Decisions.{IsGiven, allowance_of, turn_of};
     ghost use Rattle.search_core.specs.Meters.{AreMore};
-    ghost use Rattle.search_core.specs.Outcomes.{UnlessSpent, spends_after};
+    ghost use Rattle.search_core.specs.Outcomes.{LinesAreCounted, UnlessSpent, spends_after};
 
     ghost subject = { λ s. s.subject };
 
@@ -128,6 +128,7 @@ impl<'a> Decider for Search<'a> {
         ensures uncounted { OnErr result (self.new.spends ≡ self.old.spends) }
         ensures taken { 0 < length self.old.subject →
             IfOk result (UnlessSpent (AreMore self.old.units self.new.units)) }
+        ensures lines { IfOk result (LinesAreCounted self.old.units self.new.units) }
     {
         let _count = self.instance.len();
         let task = Task {

@@ -43,7 +43,8 @@ pub(crate) fn seated<L: Lows>(
 ) -> Result<Vec<(u32, u64)>, NoMemory>
     requires { HasBuffer (L.claim lows.now) b }
     ensures { let l = L.claim lows.now in
-        IfOk result (λ v. seated (L.subject lows.now) l (entry_of l b) (Some seats.now) ≡ Some v.items) }
+        IfOk result (λ v.
+        seated (L.subject lows.now) l (entry_of l b) (Some seats.now) ≡ Some v.items) }
 {
     let mut all = Vec::new(alloc);
     for c in 0..lows.instance().len() {

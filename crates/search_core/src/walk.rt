@@ -2,18 +2,18 @@
 
 ghost use Rattle.std.specs.Prelude.{◌≡◌, ◌≢◌, ◌+◌, ◌<◌, ◌≤◌, [], List, Some, None, OnOk, IfOk, length, map, reverse, vec_capacity};
 ghost use Rattle.std.specs.List.{All};
-ghost use Rattle.dsa_terms.specs.Claims.{Rises};
-ghost use Rattle.dsa_terms.specs.Logs.{Line};
+ghost use Rattle.dsa_terms.specs.Claims.{Entry, Rises};
 ghost use Rattle.dsa_terms.specs.Parts.{whole};
-ghost use Rattle.dsa_terms.specs.Search.{first, work};
+ghost use Rattle.dsa_terms.specs.Search.{work};
 ghost use Rattle.canonical_order.specs.Claims.{entry_of};
 ghost use Rattle.lifetime.specs.SectionList.{AreSectionsOf};
 ghost use Rattle.search_core.specs.Descents.{Descends, IsPlace, IsTrying, above_of, owed, sky_root, through};
 ghost use Rattle.search_core.specs.Found.{IfSpent, IsFound, UnlessSpent};
 ghost use Rattle.search_core.specs.Logs.{Extends, IsSearchLog, NoneCovers};
-ghost use Rattle.search_core.specs.Meters.{AreMore, AreSpent};
+ghost use Rattle.search_core.specs.Meters.{AreCounted, AreMore, AreSpent};
 ghost use Rattle.search_core.specs.Tries.{rest_of};
 ghost use Rattle.search_core.specs.Turns.{IfOn, IsAhead, IsTurned, UnlessTurnSpent, debt_of};
+ghost use Rattle.search_core.specs.Watches.{AreWatched, AreWatchedAt};
 ghost use Rattle.skyline.specs.Skies.{last_claim};
 
 use crate::cases::refute;
@@ -25,6 +25,7 @@ use crate::meter::Meter;
 use crate::opening::{Opened, open};
 use crate::recent::Recent;
 use crate::task::Task;
+use crate::watches::Watches;
 use canonical_order::Lows;
 use dsa_model::NoMemory;
 use lifetime::Sections;
@@ -57,6 +58,7 @@ fn advance(
     requires trying { IsTrying task.now.instance.now task.now.capacity log.old.lines
         (last_claim sky.old.claims) frame }
     requires fresh { NoneCovers task.now.instance.now log.old.lines (last_claim sky.old.claims) }
+    requires asked { frame.asked ≡ length log.old.lines }
     requires descends { let l = last_claim sky.old.claims in
         Descends task.now.instance.now task.now.capacity log.old.lines l
         (above_of sky.old.claims) (reverse frames.old.items) }
@@ -70,6 +72,11 @@ fn advance(
         IfOk result (IsAhead I C log.new.lines (sky_root sky.old)
         (debt_of I C sky.old frame frames.old.items) (length frames.old.items)
         sky.new frames.new.items) }
+    ensures watched { (watches : List Entry) → AreWatchedAt log.old.lines watches frames.old.items →
+        AreWatched log.old.lines watches frame.levels frame.asked →
+        OnOk result (AreWatchedAt log.new.lines watches frames.new.items) }
+    ensures counted { OnOk result (length log.new.lines + length frames.new.items ≤
+        length log.old.lines + length frames.old.items + 1) }
 {
     let _count = sky.instance().len();
     if frame.is_done() {
@@ -90,6 +97,8 @@ fn pass_over(task: &Task, log: &Learned, recent: &Recent, sky: &Skyline, frame: 
         (last_claim sky.now.claims) frame.old }
     ensures trying { IsTrying task.now.instance.now task.now.capacity log.now.lines
         (last_claim sky.now.claims) frame.new }
+    ensures levels { frame.new.levels ≡ frame.old.levels }
+    ensures asked { frame.new.asked ≡ frame.old.asked }
     ensures less { let I = task.now.instance.now in let C = task.now.capacity in
         let l = last_claim sky.now.claims in
         through I C l (map (entry_of l) (rest_of frame.new))
@@ -121,6 +130,7 @@ fn proceed(
     requires trying { IsTrying task.now.instance.now task.now.capacity log.old.lines
         (last_claim sky.old.claims) frame }
     requires fresh { NoneCovers task.now.instance.now log.old.lines (last_claim sky.old.claims) }
+    requires asked { frame.asked ≡ length log.old.lines }
     requires descends { let l = last_claim sky.old.claims in
         Descends task.now.instance.now task.now.capacity log.old.lines l
         (above_of sky.old.claims) (reverse frames.old.items) }
@@ -134,6 +144,11 @@ fn proceed(
         IfOk result (IsAhead I C log.new.lines (sky_root sky.old)
         (debt_of I C sky.old frame frames.old.items) (length frames.old.items)
         sky.new frames.new.items) }
+    ensures watched { (watches : List Entry) → AreWatchedAt log.old.lines watches frames.old.items →
+        AreWatched log.old.lines watches frame.levels frame.asked →
+        OnOk result (AreWatchedAt log.new.lines watches frames.new.items) }
+    ensures counted { OnOk result (length log.new.lines + length frames.new.items ≤
+        length log.old.lines + length frames.old.items + 1) }
 {
     pass_over(task, log, recent, sky, &mut frame);
     let next = advance(alloc, task, log, sky, frames, frame)?;
@@ -147,6 +162,7 @@ fn resume(
     task: &Task,
     log: &mut Learned,
     recent: &Recent,
+    watches: &mut Watches,
     sky: &mut Skyline,
     frames: &mut Vec<Frame>,
     mut frame: Frame,
@@ -162,6 +178,8 @@ fn resume(
         (above_of sky.old.claims) (reverse frames.old.items) }
     requires room { length (last_claim sky.old.claims) + length frames.old.items ≤
         vec_capacity frames.old }
+    requires watched { AreWatchedAt log.old.lines watches.old frames.old.items }
+    requires held { AreWatched log.old.lines watches.old frame.levels frame.asked }
     ensures log { OnOk result (IsSearchLog task.now.instance.now task.now.capacity log.new) }
     ensures grown { OnOk result (Extends (last_claim sky.old.claims) log.old.lines log.new.lines) }
     ensures room { OnOk result (length (last_claim sky.new.claims) + length frames.new.items ≤
@@ -170,9 +188,12 @@ fn resume(
         IfOk result (IsAhead I C log.new.lines (sky_root sky.old)
         (debt_of I C sky.old frame frames.old.items) (length frames.old.items)
         sky.new frames.new.items) }
+    ensures watched { OnOk result (AreWatchedAt log.new.lines watches.new frames.new.items) }
+    ensures counted { OnOk result (length log.new.lines + length frames.new.items ≤
+        length log.old.lines + length frames.old.items + 1) }
 {
     let _count = sky.instance().len();
-    if let Some(line) = log.find_later(frame.levels(), frame.asked()) {
+    if let Some(line) = watches.ask(log.log(), frame.levels(), frame.asked())? {
         return Ok(Some(line));
     }
     frame.ask_to(log.log().len());
@@ -185,6 +206,7 @@ fn step(
     task: &Task,
     log: &mut Learned,
     recent: &mut Recent,
+    watches: &mut Watches,
     meter: &mut Meter,
     sky: &mut Skyline,
     frames: &mut Vec<Frame>,
@@ -195,6 +217,7 @@ fn step(
         frames.old.items line }
     requires room { length (last_claim sky.old.claims) + length frames.old.items ≤
         vec_capacity frames.old }
+    requires watched { AreWatchedAt log.old.lines watches.old frames.old.items }
     ensures log { OnOk result (IsSearchLog task.now.instance.now task.now.capacity log.new) }
     ensures grown { OnOk result (Extends (sky_root sky.old) log.old.lines log.new.lines) }
     ensures most { meter.new.most ≡ meter.old.most }
@@ -208,6 +231,11 @@ fn step(
     ensures turned { let I = task.now.instance.now in let C = task.now.capacity in
         IfOk result (IsTurned I C log.new.lines meter.old meter.new sky.old frames.old.items line
         sky.new frames.new.items) }
+    ensures watched { IfOk result (IfOn
+        (AreWatchedAt log.new.lines watches.new frames.new.items)) }
+    ensures counted { OnOk result (AreCounted meter.old meter.new
+        (length log.old.lines + length frames.old.items)
+        (length log.new.lines + length frames.new.items)) }
 {
     let _count = sky.instance().len();
     match line {
@@ -217,12 +245,12 @@ fn step(
                 let _count = sky.instance().len();
                 recent.note(frame.chosen(), k);
                 frame.note(k);
-                let next = resume(alloc, task, log, recent, sky, frames, frame)?;
+                let next = resume(alloc, task, log, recent, watches, sky, frames, frame)?;
                 Ok(Turn::On(next))
             }
             None => Ok(Turn::Done(Found::Line(k))),
         },
-        None => match open(alloc, task, log, meter, sky, frames.as_slice())? {
+        None => match open(alloc, task, log, watches, meter, sky, frames.as_slice())? {
             Opened::Line(k) => Ok(Turn::On(Some(k))),
             Opened::Choices(frame) => {
                 let next = proceed(alloc, task, log, recent, sky, frames, frame)?;
@@ -260,10 +288,13 @@ pub(crate) fn search(
         IfOk result (UnlessSpent (AreMore meter.old meter.new)) }
     ensures found { let I = task.now.instance.now in
         IfOk result (IsFound I task.now.capacity (whole members.now) log.new.lines) }
+    ensures counted { OnOk result (AreCounted meter.old meter.new
+        (length log.old.lines) (length log.new.lines)) }
 {
     let mut sky = Skyline::new(alloc, task.instance, sections, members)?;
     let mut frames = Vec::with_capacity(alloc, members.len())?;
     let mut recent = Recent::new(alloc, task.instance.len())?;
+    let mut watches = Watches::new(alloc)?;
     let mut line = None;
     'turns: loop {
         match step(
@@ -271,6 +302,7 @@ pub(crate) fn search(
             task,
             log,
             &mut recent,
+            &mut watches,
             meter,
             &mut sky,
             &mut frames,

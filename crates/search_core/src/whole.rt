@@ -5,7 +5,7 @@ ghost use Rattle.dsa_terms.specs.Parts.{offsets_of, parts as parts_of, whole_wor
 ghost use Rattle.lifetime.specs.SectionList.{AreSectionsOf};
 ghost use Rattle.refute_log.specs.Decided.{IfSpent};
 ghost use Rattle.search_core.specs.Meters.{AreMore, AreSpent};
-ghost use Rattle.search_core.specs.Outcomes.{IsDecided, UnlessSpent};
+ghost use Rattle.search_core.specs.Outcomes.{IsDecided, LinesAreCounted, UnlessSpent};
 
 use crate::meter::Meter;
 use crate::part::{Piece, search_part};
@@ -46,6 +46,7 @@ pub(crate) fn search_parts(
         IfSpent d (AreSpent meter.new × (meter.new.used < meter.old.used + most))) }
     ensures taken { 0 < length task.now.instance.now →
         IfOk result (UnlessSpent (AreMore meter.old meter.new)) }
+    ensures counted { IfOk result (LinesAreCounted meter.old meter.new) }
     ensures decided { IfOk result (IsDecided task.now.instance.now task.now.capacity) }
 {
     let mut seats = Vec::new(alloc);

@@ -60,7 +60,11 @@ loop-frame-preserved c =
 pub returns : goal.returns
 returns c =
     let i = c.loop-frame.invariant in
-    seated_root c.args.task.now.instance.now c.args.task.now.capacity _ i.0 c.loop-frame.sky c.loop-frame.frames.items
-    c.loop-frame.seats.items i.1
-    (nothing_in c.loop-frame.frames.items (let k = c.in_default.ensures.cases in
-    omega (arith, k.0, c.loop-frame.frames.ok.0)))
+    record {
+      value = seated_root c.args.task.now.instance.now c.args.task.now.capacity _ i.0 c.loop-frame.sky
+          c.loop-frame.frames.items c.loop-frame.seats.items i.1
+          (nothing_in c.loop-frame.frames.items (let k = c.in_default.ensures.cases in
+          omega (arith, k.0, c.loop-frame.frames.ok.0)));
+      emptied = let k = c.in_default.ensures.cases in
+          nothing_in c.pop.new.self.items (omega (arith, k, c.pop.new.self.ok.0));
+    }

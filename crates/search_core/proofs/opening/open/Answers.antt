@@ -11,6 +11,8 @@ use Rattle.search_core.proofs.LiftedChoices.{lifted_nothing, lifted_order}
 use Rattle.search_core.proofs.Searching.{are_choices, first_of_nothing}
 use Rattle.search_core.proofs.Taking.{none_covers}
 use Rattle.search_core.proofs.Uncovered.{covered_has_none, covers_less}
+use Rattle.search_core.proofs.Watched.{all_watched_more}
+use Rattle.search_core.proofs.WatchLemmas.{watched_none}
 use Rattle.search_core.proofs.opening.open.Goals as goal
 
 -- ---- a line that covers the claim
@@ -19,7 +21,8 @@ returns-in-Some-clause-opened c =
     let I = c.args.task.now.instance.now in
     let l = last_claim c.args.sky.now.claims in
     let s = rw (c.instance.ensures.value, c.requires.subject) at c.instance.ensures.stands in
-    let h = c.in-Some.ensures.some I l (rw c.requires.subject at c.in_ok-levels.ensures) in
+    let h = rw (c.in-Some.is, c.log.ensures)
+    at (c.in_ok-line.ensures.some I l (rw c.requires.subject at c.in_ok-levels.ensures)) in
     record {
       none = covered_has_none I c.args.task.now.capacity l c.args.log.now c.in-Some.line s c.requires.log h;
       covered = h;
@@ -27,9 +30,11 @@ returns-in-Some-clause-opened c =
 
 pub returns-in-Some-clause-taken : goal.returns-in-Some-clause-taken
 returns-in-Some-clause-taken c e =
-    absurd (none_covers c.args.task.now.instance.now (last_claim c.args.sky.now.claims) c.args.log.now.lines
-    c.in-Some.line e (c.in-Some.ensures.some c.args.task.now.instance.now (last_claim c.args.sky.now.claims)
-    (rw c.requires.subject at c.in_ok-levels.ensures)))
+    let I = c.args.task.now.instance.now in
+    let l = last_claim c.args.sky.now.claims in
+    absurd (none_covers I l c.args.log.now.lines c.in-Some.line e
+    (rw (c.in-Some.is, c.log.ensures)
+    at (c.in_ok-line.ensures.some I l (rw c.requires.subject at c.in_ok-levels.ensures))))
 
 -- ---- the claim with its lows
 pub over_line-requires-clause-lifted : goal.over_line-requires-clause-lifted
@@ -59,24 +64,25 @@ returns-then-len-eq0-clause-opened c =
 -- ---- an Over line
 pub append-requires-clause-legal : goal.append-requires-clause-legal
 append-requires-clause-legal c =
-    let r = rw c.in-Some-2.is at c.in_ok-line.ensures.some in r.legal c.args.log.now.lines
+    let r = rw c.in-Some-2.is at c.in_ok-line-2.ensures.some in r.legal c.args.log.now.lines
 
 pub append-requires-clause-within : goal.append-requires-clause-within
-append-requires-clause-within c = let r = rw c.in-Some-2.is at c.in_ok-line.ensures.some in r.within
+append-requires-clause-within c = let r = rw c.in-Some-2.is at c.in_ok-line-2.ensures.some in r.within
 
 pub append-requires-clause-fresh : goal.append-requires-clause-fresh
 append-requires-clause-fresh c =
     let I = c.args.task.now.instance.now in
     let l = last_claim c.args.sky.now.claims in
     let s = rw (c.instance.ensures.value, c.requires.subject) at c.instance.ensures.stands in
-    let r = rw c.in-Some-2.is at c.in_ok-line.ensures.some in
+    let r = rw c.in-Some-2.is at c.in_ok-line-2.ensures.some in
     covers_less I c.args.log.now.lines (claim_of (line_value c.in-Some-2.line)) l (is_instance I l s) r.covers
-    (c.in_default.ensures.none I l (sym c.requires.log.belongs.same_count)
-    (rw c.requires.subject at c.in_ok-levels.ensures) c.requires.above)
+    (watched_none I c.args.log.now.lines c.covering.new.watches l c.in_ok-levels.levels
+    (rw c.requires.subject at c.in_ok-levels.ensures)
+    (rw (c.in_default.is, c.log.ensures) at c.in_ok-line.ensures.none))
 
 pub returns-in-Some-2-clause-grown : goal.returns-in-Some-2-clause-grown
 returns-in-Some-2-clause-grown c =
-    let r = rw c.in-Some-2.is at c.in_ok-line.ensures.some in
+    let r = rw c.in-Some-2.is at c.in_ok-line-2.ensures.some in
     c.in_ok-append.ensures.grown (last_claim c.args.sky.now.claims) r.covers
 
 pub returns-in-Some-2-clause-opened : goal.returns-in-Some-2-clause-opened
@@ -85,12 +91,18 @@ returns-in-Some-2-clause-opened c =
     let C = c.args.task.now.capacity in
     let l = last_claim c.args.sky.now.claims in
     let s = rw (c.instance.ensures.value, c.requires.subject) at c.instance.ensures.stands in
-    let r = rw c.in-Some-2.is at c.in_ok-line.ensures.some in
+    let r = rw c.in-Some-2.is at c.in_ok-line-2.ensures.some in
     let h = c.in_ok-append.ensures.covered l r.covers in
     record {
       none = covered_has_none I C l c.append.new.log c.in_ok-append.field-0 s c.in_ok-append.ensures.log h;
       covered = h;
     }
+
+pub returns-in-Some-2-clause-watched : goal.returns-in-Some-2-clause-watched
+returns-in-Some-2-clause-watched c =
+    let l = last_claim c.args.sky.now.claims in
+    all_watched_more l c.args.log.now.lines c.append.new.log.lines c.covering.new.watches c.args.frames.now
+    (returns-in-Some-2-clause-grown c) (rw c.log.ensures at c.in_ok-line.ensures.watched)
 
 pub invariant_of-view : goal.invariant_of-view
 invariant_of-view c =
@@ -114,11 +126,12 @@ returns-clause-opened c =
     let l = last_claim c.args.sky.now.claims in
     let s = rw (c.instance.ensures.value, c.requires.subject) at c.instance.ensures.stands in
     let q = c.in_ok-claim.ensures.value I l (rw c.requires.subject at c.in_ok-levels.ensures) in
-    let none = rw c.in_default-2.is at c.in_ok-line.ensures.none in
+    let none = rw c.in_default-2.is at c.in_ok-line-2.ensures.none in
     rw c.in_ok-new.ensures
     (are_choices I C l c.args.log.now.lines c.in_ok-order.order.items c.in_ok-levels.levels c.len-asked.result s.claim
     (λ e. c.if-len-eq0.false (c.len.ensures.value ∙ ap length q ∙ ap (λ (k : Claim). length (lifted I k)) e)) none
     (lifted_order I l c.in_ok-order.order.items (is_instance I l s) s.claim.rises (rw q at c.in_ok-order.ensures))
     (rw c.requires.subject at c.in_ok-levels.ensures)
-    (c.in_default.ensures.none I l (sym c.requires.log.belongs.same_count)
-    (rw c.requires.subject at c.in_ok-levels.ensures) c.requires.above) (rw c.log.ensures at c.len-asked.ensures.value))
+    (watched_none I c.args.log.now.lines c.covering.new.watches l c.in_ok-levels.levels
+    (rw c.requires.subject at c.in_ok-levels.ensures)
+    (rw (c.in_default.is, c.log.ensures) at c.in_ok-line.ensures.none)))

@@ -1,7 +1,9 @@
-use Rattle.std.proofs.Common.{ap}
+use Rattle.std.proofs.Common.{length, ap}
 use Rattle.std.proofs.lemmas.Option.{slice_get_within}
+use Rattle.dsa_terms.specs.Logs.{Log}
 use Rattle.dsa_terms.specs.Parts.{whole}
 use Rattle.refute_log.specs.Logs.{OpenLog}
+use Rattle.search_core.proofs.Counting.{counted_from_nothing}
 use Rattle.search_core.proofs.Descent.{is_instance}
 use Rattle.search_core.proofs.Parting.{part_in_range, part_rises, refutes_part, stands_part, whole_end}
 use Rattle.search_core.proofs.part.search_part.Goals as goal
@@ -36,3 +38,11 @@ returns-in-Ok-clause-found c =
           (rw (ap (λ (log : OpenLog). log.lines) c.in_ok-log.ensures.value)
           at c.in_ok-seats.ensures.grown) (rw c.into_log.ensures at c.in-Ok.ensures.closed) c.in-Ok.ensures.accepted,
     )
+
+pub returns-in-Ok-clause-counted : goal.returns-in-Ok-clause-counted
+returns-in-Ok-clause-counted c =
+    let q = rw c.into_log.ensures at c.in-Ok.ensures.closed in
+    let n = ap (λ (log : Log). length log.lines) q in
+    rw n (counted_from_nothing c.args.meter.now c.search.new.meter (length c.in_ok-log.log.lines)
+    (length c.search.new.log.lines) c.in_ok-seats.ensures.counted
+    (ap (λ (log : OpenLog). length log.lines) c.in_ok-log.ensures.value))

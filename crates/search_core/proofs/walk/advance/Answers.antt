@@ -11,6 +11,7 @@ use Rattle.search_core.proofs.Descending.{ahead_covered, ahead_deeper}
 use Rattle.search_core.proofs.Leveling.{lifted_levels}
 use Rattle.search_core.proofs.LiftedChoices.{lifted_nothing}
 use Rattle.search_core.proofs.Lifting.{covered_from_lifted, lifted_covered, lifted_extends, lifted_fresh, lifted_noted, lifted_stands}
+use Rattle.search_core.proofs.Watched.{all_watched_more, all_watched_push}
 use Rattle.search_core.proofs.Searching.{all_refuted, chosen_in, each_noted, one_is_left, refuted_in}
 use Rattle.search_core.proofs.walk.advance.Goals as goal
 
@@ -106,6 +107,11 @@ returns-then-is_done-clause-ahead c =
           (rw q at c.in_ok-refute.ensures.covered);
     })
 
+pub returns-then-is_done-clause-watched : goal.returns-then-is_done-clause-watched
+returns-then-is_done-clause-watched c = λ watches h held.
+    all_watched_more (last_claim c.args.sky.now.claims) c.args.log.now.lines c.refute.new.log.lines watches
+    c.args.frames.now.items (returns-then-is_done-clause-grown c) h
+
 -- ---- a choice deeper
 pub push-requires : goal.push-requires
 push-requires c =
@@ -154,6 +160,21 @@ returns-clause-ahead c =
     let claims = rw (c.chosen.ensures, c.requires.subject) at c.push.ensures.claims in
     ahead_deeper I c.args.task.now.capacity c.args.log.now.lines c.args.sky.now c.push.new.self
     c.args.frames.now.items c.push-2.new.self.items f c.requires.subject c.requires.some c.requires.trying left
-    c.requires.fresh c.requires.descends c.push.ensures.instance claims
+    c.requires.asked c.requires.descends c.push.ensures.instance claims
     (when_ok c.push-2.result (c.args.frames.now.items ++ f ∷ []) c.args.frames.now.items c.push-2.new.self.items
     c.push-2.ensures.items (c.push-2.ensures.succeeds (omega (arith, len, c.requires.room, c.args.frames.now.ok.0))))
+
+pub returns-clause-watched : goal.returns-clause-watched
+returns-clause-watched c = λ watches h held.
+    let I = c.args.task.now.instance.now in
+    let l = last_claim c.args.sky.now.claims in
+    let f = c.args.frame in
+    let s = rw (c.instance.ensures.value, c.requires.subject) at c.instance.ensures.stands in
+    let left = one_is_left I c.args.task.now.capacity l c.args.log.now.lines f c.requires.trying
+    (sym c.if-is_done.ensures) in
+    let len = shorter I l (chosen_of f) s.claim.rises
+    (chosen_in I c.args.task.now.capacity l c.args.log.now.lines f c.requires.trying left) in
+    all_watched_push c.args.log.now.lines watches c.args.frames.now.items c.push-2.new.self.items f
+    (when_ok c.push-2.result (c.args.frames.now.items ++ f ∷ []) c.args.frames.now.items c.push-2.new.self.items
+    c.push-2.ensures.items (c.push-2.ensures.succeeds (omega (arith, len, c.requires.room, c.args.frames.now.ok.0))))
+    h held

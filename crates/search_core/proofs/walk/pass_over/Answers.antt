@@ -40,6 +40,8 @@ choices-preserved c =
       trying = passed_trying I C l c.args.log.now f c.in-Some.line s c.requires.log t lt k;
       less = let a = passed_less I C l c.args.log.now f c.in-Some.line s c.requires.log t lt k in
           let b = c.choices.invariant.less in omega arith;
+      levels = c.choices.invariant.levels;
+      asked = c.choices.invariant.asked;
     })
 
 pub choices-smaller : goal.choices-smaller

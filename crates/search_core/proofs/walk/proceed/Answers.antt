@@ -13,3 +13,7 @@ returns-clause-ahead c =
     (debt_of I C c.args.sky.now c.args.frame c.args.frames.now.items) (length c.args.frames.now.items)
     c.advance.new.sky c.advance.new.frames.items c.in_ok-next.next
     (let k = c.pass_over.ensures.less in omega arith) c.in_ok-next.ensures.ahead
+
+pub returns-clause-watched : goal.returns-clause-watched
+returns-clause-watched c = λ watches h held.
+    (rw (c.pass_over.ensures.levels, c.pass_over.ensures.asked) at (c.in_ok-next.ensures.watched watches h)) held

@@ -1,5 +1,6 @@
-use Rattle.std.proofs.Common.{◌∙◌, arith, inl, inr}
+use Rattle.std.proofs.Common.{◌∙◌, ◌+◌, length, arith, inl, inr}
 use Rattle.dsa_terms.specs.Parts.{whole}
+use Rattle.search_core.proofs.Counting.{counted_along, counted_less}
 use Rattle.search_core.proofs.Growing.{extends_along}
 use Rattle.search_core.proofs.Taking.{more_after, more_still, unless_along, unless_always}
 use Rattle.search_core.proofs.walk.search.Goals as goal
@@ -15,6 +16,7 @@ turns-preserved c =
       place = on.place;
       root = on.root ∙ i.root;
       room = rw c.in-On.is at c.in_ok-next.ensures.room;
+      watched = rw c.in-On.is at c.in_ok-next.ensures.watched;
       most = c.step.ensures.most ∙ i.most;
       taken = λ e. elim (i.taken e) [
         | inl n ↦ inr (more_after c.args.meter.now c.turns.meter c.step.new.meter i.most i.units
@@ -23,6 +25,9 @@ turns-preserved c =
       ];
       units = let u = c.step.ensures.units in let v = i.units in omega arith;
       left = let u = on.units in let v = i.left in omega arith;
+      counted = counted_along c.args.meter.now c.turns.meter c.step.new.meter (length c.args.log.now.lines)
+          (length c.turns.log.lines + length c.turns.frames.items)
+          (length c.step.new.log.lines + length c.step.new.frames.items) i.most i.counted c.in_ok-next.ensures.counted;
     }
 
 pub returns-in-Done-clause-grown : goal.returns-in-Done-clause-grown
@@ -41,3 +46,13 @@ returns-in-Done-clause-taken c e =
       | inr m ↦ unless_always c.in-Done.found
           (more_still c.args.meter.now c.turns.meter c.step.new.meter m c.step.ensures.units)
     ]
+
+pub returns-in-Done-clause-counted : goal.returns-in-Done-clause-counted
+returns-in-Done-clause-counted c =
+    let i = c.turns.invariant in
+    counted_less c.args.meter.now c.step.new.meter (length c.args.log.now.lines)
+    (length c.step.new.log.lines + length c.step.new.frames.items) (length c.step.new.log.lines)
+    (counted_along c.args.meter.now c.turns.meter c.step.new.meter (length c.args.log.now.lines)
+    (length c.turns.log.lines + length c.turns.frames.items)
+    (length c.step.new.log.lines + length c.step.new.frames.items) i.most i.counted c.in_ok-next.ensures.counted)
+    (omega arith)

@@ -4,7 +4,8 @@ use Rattle.dsa_terms.specs.Search.{work}
 use Rattle.skyline.specs.Skies.{last_claim}
 use Rattle.search_core.specs.Descents.{IsPlace, owed, sky_root, turns_left}
 use Rattle.search_core.specs.Logs.{Extends, IsSearchLog}
-use Rattle.search_core.specs.Meters.{AreMore}
+use Rattle.search_core.specs.Meters.{AreCounted, AreMore}
+use Rattle.search_core.specs.Watches.{AreWatchedAt}
 use Rattle.search_core.proofs.walk.search.Given as goal
 
 abbrev pub decreases-turns : goal.decreases-turns
@@ -17,9 +18,11 @@ invariant-turns l = record {
   place : IsPlace l.task.instance.now l.task.capacity l.log.lines l.sky l.frames.items l.line;
   root : sky_root l.sky ≡ whole l.members;
   room : length (last_claim l.sky.claims) + length l.frames.items ≤ vec_capacity l.frames;
+  watched : AreWatchedAt l.log.lines l.watches l.frames.items;
   most : l.meter.most ≡ l.fn.meter.most;
   taken : l.fn.log.lines ≡ [] → ((l.line ≡ None) × (l.log.lines ≡ [])) ⊎ AreMore l.fn.meter l.meter;
   units : l.fn.meter.used ≤ l.meter.used;
   left : l.meter.used + owed l.task.instance.now l.task.capacity l.sky l.frames.items l.line ≤
       l.fn.meter.used + work l.task.instance.now l.task.capacity (whole l.members);
+  counted : AreCounted l.fn.meter l.meter (length l.fn.log.lines) (length l.log.lines + length l.frames.items);
 }

@@ -1,11 +1,12 @@
-use Rattle.std.proofs.Common.{ap, arith, length, reverse}
+use Rattle.std.proofs.Common.{◌+◌, ap, arith, length, reverse}
 use Rattle.skyline.specs.Skies.{last_claim}
 use Rattle.search_core.specs.Descents.{above_of}
-use Rattle.search_core.proofs.Descent.{shorter}
-use Rattle.search_core.proofs.Descending.{back_noted, descends_still, is_back}
+use Rattle.search_core.proofs.Counting.{counted_with}
+use Rattle.search_core.proofs.Descent.{is_instance, shorter}
+use Rattle.search_core.proofs.Descending.{are_raised, back_noted, descends_still, is_back}
 use Rattle.search_core.proofs.Growing.{extends_along}
 use Rattle.search_core.proofs.Searching.{chosen_in}
-use Rattle.search_core.proofs.Stepping.{are_above, grown_below, known_line, nothing_in, on_back, on_line, root_refuted, some_owed}
+use Rattle.search_core.proofs.Stepping.{asked_above, grown_below, known_line, nothing_in, on_back, on_line, root_refuted, some_owed}
 use Rattle.search_core.proofs.walk.step.Goals as goal
 
 -- ---- back
@@ -95,11 +96,21 @@ returns-in-None-pop-clause-turned c =
     )
 
 -- ---- forth
-pub open-requires-clause-above : goal.open-requires-clause-above
-open-requires-clause-above c =
+pub open-requires-clause-latest : goal.open-requires-clause-latest
+open-requires-clause-latest c =
     rw c.as_slice.ensures.value
-    (are_above c.args.task.now.instance.now c.args.task.now.capacity c.args.log.now.lines c.args.sky.now
+    (asked_above c.args.task.now.instance.now c.args.task.now.capacity c.args.log.now.lines c.args.sky.now
     c.args.frames.now.items c.args.line c.requires.place c.in-None.is)
+
+pub open-requires-clause-raised : goal.open-requires-clause-raised
+open-requires-clause-raised c = λ levels a.
+    let I = c.args.task.now.instance.now in
+    let l = last_claim c.args.sky.now.claims in
+    let p = c.requires.place in
+    let s = rw (c.instance.ensures.value, p.subject) at c.instance.ensures.stands in
+    rw c.as_slice.ensures.value
+    (are_raised I c.args.task.now.capacity c.args.log.now.lines l levels (above_of c.args.sky.now.claims)
+    c.args.frames.now.items (is_instance I l s) p.descends a)
 
 pub returns-in_err-k-in-None-clause-used : goal.returns-in_err-k-in-None-clause-used
 returns-in_err-k-in-None-clause-used c =
@@ -189,3 +200,16 @@ returns-in_ok-next-in-Choices-clause-taken c _ e = rw c.in-Choices.is at c.in_ok
 
 pub returns-in_ok-seats-in-Empty-clause-taken : goal.returns-in_ok-seats-in-Empty-clause-taken
 returns-in_ok-seats-in-Empty-clause-taken c _ e = rw c.in-Empty.is at c.in_ok-k-in-None.ensures.taken e
+
+pub returns-in_ok-next-in-Choices-clause-watched : goal.returns-in_ok-next-in-Choices-clause-watched
+returns-in_ok-next-in-Choices-clause-watched c =
+    let h = rw c.as_slice.ensures.value at c.in_ok-k-in-None.ensures.watched in
+    let a = rw c.in-Choices.is at c.in_ok-k-in-None.ensures.asked in
+    c.in_ok-next-in-Choices.ensures.watched c.open.new.watches h a.watched
+
+pub returns-in_ok-seats-in-Empty-clause-counted : goal.returns-in_ok-seats-in-Empty-clause-counted
+returns-in_ok-seats-in-Empty-clause-counted c =
+    let n = ap length c.in_ok-seats-in-Empty.ensures.emptied in
+    counted_with c.args.meter.now c.open.new.meter (length c.args.log.now.lines) (length c.open.new.log.lines + 0)
+    (length c.args.frames.now.items) (length c.open.new.log.lines + length c.seats.new.frames.items)
+    (rw c.in-Empty.is at c.in_ok-k-in-None.ensures.counted) (omega (arith, n))

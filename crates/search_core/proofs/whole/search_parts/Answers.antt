@@ -1,4 +1,5 @@
-use Rattle.std.proofs.Common.{◌∙◌, refl, arith}
+use Rattle.std.proofs.Common.{◌∙◌, length, refl, arith}
+use Rattle.search_core.proofs.Counting.{more_by_after}
 use Rattle.search_core.proofs.Joining.{all_joined, all_taken, all_work, is_part, joining_next, part_refuted, part_work}
 use Rattle.search_core.proofs.Taking.{more_after}
 use Rattle.search_core.proofs.whole.search_parts.Goals as goal
@@ -63,6 +64,12 @@ returns-in-Refuted-clause-taken c _ =
     let j = c.loop-p.invariant in
     more_after c.args.meter.now c.loop-p.meter c.search_part.new.meter j.most j.units
     (rw c.in-Refuted.is at c.in_ok-found.ensures.taken)
+
+pub returns-in-Refuted-clause-counted : goal.returns-in-Refuted-clause-counted
+returns-in-Refuted-clause-counted c =
+    let j = c.loop-p.invariant in
+    more_by_after c.args.meter.now c.loop-p.meter c.search_part.new.meter (length c.in-Refuted.log.lines) j.most j.units
+    (rw c.in-Refuted.is at c.in_ok-found.ensures.counted)
 
 pub loop-p-preserved : goal.loop-p-preserved
 loop-p-preserved c =

@@ -1,0 +1,51 @@
+-- A search makes no more lines than it takes units.
+use Rattle.std.proofs.Common.{◌≡◌, ℕ, ◌+◌, ◌≤◌, Option, Some, None, ap, arith}
+use Rattle.search_core.specs.Meters.{AreCounted, AreMoreBy, Units, counted}
+
+counted_fewer : (most : Option ℕ) (m n : ℕ) → n ≤ m → counted most n ≤ counted most m
+counted_fewer None m n le = omega arith
+counted_fewer (Some k) m n le = le
+
+counted_beside : (most : Option ℕ) (m x : ℕ) → counted most (m + x) ≡ counted most m + counted most x
+counted_beside None m x = omega arith
+counted_beside (Some k) m x = omega arith
+
+counted_nothing : (most : Option ℕ) → counted most 0 ≡ 0
+counted_nothing None = omega arith
+counted_nothing (Some k) = omega arith
+
+-- one count after the other
+pub counted_along : (before between after : Units) (m n q : ℕ) → between.most ≡ before.most →
+    AreCounted before between m n → AreCounted between after n q → AreCounted before after m q
+counted_along before between after m n q e h k =
+    let a = ap (λ o. counted o n) e in
+    let b = ap (λ o. counted o q) e in
+    omega (arith, a, b, h, k)
+
+pub counted_less : (before after : Units) (m n q : ℕ) → AreCounted before after m n → q ≤ n →
+    AreCounted before after m q
+counted_less before after m n q h le = let k = counted_fewer before.most n q le in omega (arith, h, k)
+
+-- with other things beside
+pub counted_with : (before after : Units) (m n x q : ℕ) → AreCounted before after m n → q ≤ n + x →
+    AreCounted before after (m + x) q
+counted_with before after m n x q h le =
+    let k = counted_fewer before.most (n + x) q le in
+    let c = counted_beside before.most n x in
+    let d = counted_beside before.most m x in
+    omega (arith, c, d, h, k)
+
+-- from nothing on, each thing took a unit
+pub counted_from_nothing : (before after : Units) (m n : ℕ) → AreCounted before after m n → m ≡ 0 →
+    AreMoreBy n before after
+counted_from_nothing before after m n h z =
+    let a = ap (counted before.most) z in
+    let b = counted_nothing before.most in
+    omega (arith, a, b, h)
+
+-- the units that were used before take nothing away
+pub more_by_after : (before between after : Units) (n : ℕ) → between.most ≡ before.most → before.used ≤ between.used →
+    AreMoreBy n between after → AreMoreBy n before after
+more_by_after before between after n e le h =
+    let a = ap (λ o. counted o n) e in
+    omega (arith, a, le, h)

@@ -1,0 +1,49 @@
+-- What is watched at the claims of all frames.
+use Rattle.std.proofs.Common.{◌≡◌, ℕ, List, [], ◌∷◌, ◌++◌, length, Result, Ok, Err, IfOk, OnOk, subst, sym}
+use Rattle.std.proofs.lemmas.List.Elements.{All-push, All-weaker}
+use Rattle.dsa_terms.specs.Claims.{Claim, Entry}
+use Rattle.dsa_terms.specs.Logs.{Line}
+use Rattle.search_core.specs.Logs.{Extends}
+use Rattle.search_core.specs.Tries.{Tried}
+use Rattle.search_core.specs.Watches.{AreRaised, AreRaisedFrom, AreWatched, AreWatchedAt}
+use Rattle.search_core.proofs.WatchLemmas.{watched_more}
+
+-- a log that grows keeps what is watched
+pub all_watched_more : (l : Claim) (lines after : List Line) (watches : List Entry) (frames : List Tried) →
+    Extends l lines after → AreWatchedAt lines watches frames → AreWatchedAt after watches frames
+all_watched_more l lines after watches frames grown =
+    All-weaker (λ (f : Tried). AreWatched lines watches f.levels f.asked)
+    (λ (f : Tried). AreWatched after watches f.levels f.asked)
+    (λ f w. subst (λ (xs : List Line). AreWatched xs watches f.levels f.asked) (sym grown.is)
+    (watched_more lines grown.more watches f.levels f.asked w)) frames
+
+-- and so do watches that move, where each claim above keeps what is watched there
+pub all_watched_still : (lines : List Line) (before after : List Entry) (levels : List ℕ) (frames : List Tried) →
+    AreRaisedFrom frames levels →
+    ((above : List ℕ) (n : ℕ) → AreRaised above levels → AreWatched lines before above n →
+    AreWatched lines after above n) → AreWatchedAt lines before frames → AreWatchedAt lines after frames
+all_watched_still lines before after levels frames raised kept watched k d lt =
+    kept _ _ (raised k d lt) (watched k d lt)
+
+-- the same after a call that may fail
+pub all_watched_on : {T E : Type 0} (r : Result T E) (lines : List Line) (before after : List Entry) (levels : List ℕ)
+    (frames : List Tried) → AreRaisedFrom frames levels →
+    ((above : List ℕ) (n : ℕ) → AreRaised above levels → AreWatched lines before above n →
+    IfOk r (λ _. AreWatched lines after above n)) → AreWatchedAt lines before frames →
+    OnOk r (AreWatchedAt lines after frames)
+all_watched_on (Ok x) lines before after levels frames raised kept watched =
+    all_watched_still lines before after levels frames raised kept watched
+all_watched_on (Err e) lines before after levels frames raised kept watched = tt
+
+-- a frame is put last
+pub all_watched_push : (lines : List Line) (watches : List Entry) (frames after : List Tried) (f : Tried) →
+    after ≡ frames ++ f ∷ [] → AreWatchedAt lines watches frames → AreWatched lines watches f.levels f.asked →
+    AreWatchedAt lines watches after
+all_watched_push lines watches frames after f e h w =
+    subst (AreWatchedAt lines watches) (sym e)
+    (All-push (λ (f : Tried). AreWatched lines watches f.levels f.asked) frames f h w)
+
+-- the number of lines was read
+pub watched_to : (lines : List Line) (watches : List Entry) (levels : List ℕ) (n : ℕ) → n ≡ length lines →
+    AreWatched lines watches levels (length lines) → AreWatched lines watches levels n
+watched_to lines watches levels n e w = subst (AreWatched lines watches levels) (sym e) w

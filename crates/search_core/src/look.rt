@@ -1,0 +1,64 @@
+//! How a claim stands to the levels of another one.
+
+ghost use Rattle.std.specs.Prelude.{◌<◌, IfNone, IfSome, slice_index};
+ghost use Rattle.dsa_terms.specs.Claims.{Entry, IsIn};
+ghost use Rattle.search_core.specs.Looks.{IsLacked, IsLook, IsUnmet};
+
+use crate::levels::Levels;
+use canonical_order::Claim;
+
+/// What is seen of a claim k at the levels of a claim.
+#[derive(Clone, Copy)]
+pub(crate) enum Look {
+    /// k covers the claim.
+    Covers,
+    /// A bound of k that the claim does not meet, though it has the buffer; in bytes.
+    Unmet(u32, u64),
+    /// A bound of k whose buffer the claim has not. It meets the bounds of all that it has.
+    Lacks(u32, u64),
+}
+
+/// Of the bounds that the claim does not meet, though it has the buffer, the one that is highest
+/// above the level: it stays unmet for longest where lows rise.
+fn highest_unmet(k: &Claim, levels: &Levels) -> Option<(u32, u64)>
+    ensures some { IfSome result (IsUnmet k.now levels.now) }
+    ensures none { (e : Entry) → IsIn e k.now → 0 < slice_index levels.now e.0 →
+        IfNone result (e.1 < slice_index levels.now e.0) }
+{
+    let mut highest = None;
+    let mut most = 0;
+    for pair in k.pairs() {
+        let level = levels.at(pair.0 as usize);
+        if level > 0 && level <= pair.1 && most <= pair.1 - level {
+            most = pair.1 - level;
+            highest = Some(*pair);
+        }
+    }
+    highest
+}
+
+/// A bound whose buffer the claim has not.
+fn lacked(k: &Claim, levels: &Levels) -> Option<(u32, u64)>
+    ensures some { IfSome result (IsLacked k.now levels.now) }
+    ensures none { (e : Entry) → IsIn e k.now → IfNone result (0 < slice_index levels.now e.0) }
+{
+    for pair in k.pairs() {
+        if levels.at(pair.0 as usize) == 0 {
+            return Some(*pair);
+        }
+    }
+    None
+}
+
+/// Whether k covers the claim of the levels, and why not. It takes no memory.
+pub(crate) fn look_at(k: &Claim, levels: &Levels) -> Look
+    ensures { IsLook k.now levels.now result }
+{
+    if let Some((b, bound)) = highest_unmet(k, levels) {
+        return Look::Unmet(b, bound);
+    }
+    match lacked(k, levels) {
+        Some((b, bound)) => Look::Lacks(b, bound),
+        None => Look::Covers,
+    }
+}

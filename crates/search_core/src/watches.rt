@@ -1,0 +1,232 @@
+//! One watched bound for each line of a log.
+
+ghost use Rattle.std.specs.Prelude.{◌≡◌, ◌≤◌, ◌<◌, ◌↔◌, ℕ, [], List, Some, true, false, IfNone, IfOk, IfSome, IsTrue, OnOk, length, slice_get, slice_index, take};
+ghost use Rattle.dsa_terms.specs.Buffers.{Instance};
+ghost use Rattle.dsa_terms.specs.Claims.{Claim as ClaimTerm, Entry, IsIn};
+ghost use Rattle.search_core.specs.declared.watch_row.Mark.{Mark as MarkTerm};
+ghost use Rattle.search_core.specs.Cites.{IsCoveredBy};
+ghost use Rattle.search_core.specs.Levels.{AreLevels};
+ghost use Rattle.search_core.specs.Looks.{IsUnmet};
+ghost use Rattle.search_core.specs.Watches.{AreRaised, AreWatched};
+ghost use Rattle.search_core.specs.Watching.{AreMoved, AreOwnMoved, FailAt, FailsAtMark, IsWatched, row_of};
+
+use crate::levels::Levels;
+use crate::look::{Look, look_at};
+use crate::watch_table::WatchTable;
+use canonical_order::Claim;
+use dsa_model::NoMemory;
+use refute_log::Log;
+use std::alloc::Global;
+use std::marker::Model;
+
+/// Whether the pair is one of the claim's.
+fn has(claim: &Claim, pair: (u32, u64)) -> bool
+    ensures { IsTrue result ↔ IsIn pair claim.now }
+{
+    match claim.bound(pair.0) {
+        Some(bound) => bound == pair.1,
+        None => false,
+    }
+}
+
+/// Whether the pair is a bound of k that the claim of the levels does not meet, though it has the
+/// buffer.
+fn is_unmet(k: &Claim, levels: &Levels, pair: (u32, u64)) -> bool
+    ensures { result ≡ true → IsUnmet k.now levels.now pair }
+{
+    let level = levels.at(pair.0 as usize);
+    if level == 0 || pair.1 < level {
+        return false;
+    }
+    has(k, pair)
+}
+
+/// Whether the line of that number covers the claim of the levels. If not, its watch is then one of
+/// its bounds, which the claim does not meet if it has all buffers of the line.
+fn covers(table: &mut WatchTable, log: &Log, levels: &Levels, k: u64) -> Result<bool, NoMemory>
+    requires in_log { k < length log.now.lines }
+    requires in_table { k < length table.old.watches }
+    ensures covered { (I : Instance) (l : ClaimTerm) → AreLevels I l levels.now →
+        IfOk result (λ covers. covers ≡ true → IsCoveredBy I log.now.lines l k) }
+    ensures watched { IfOk result (λ covers. covers ≡ false →
+        IsWatched log.now.lines table.new.watches levels.now k) }
+    ensures moved { let lines = log.now.lines in
+        OnOk result (AreOwnMoved lines levels.now table.old.watches table.new.watches) }
+    ensures count { OnOk result (length table.new.watches ≡ length table.old.watches) }
+{
+    let _count = log.len();
+    let claim = log.line(k).claim();
+    let watch = table.watch(k);
+    if is_unmet(claim, levels, watch) {
+        return Ok(false);
+    }
+    match look_at(claim, levels) {
+        Look::Covers => return Ok(true),
+        Look::Unmet(b, bound) => table.file(k, (b, bound))?,
+        Look::Lacks(b, bound) => {
+            if !has(claim, watch) {
+                table.file(k, (b, bound))?;
+            }
+        }
+    }
+    Ok(false)
+}
+
+/// The line of the mark at a place of the row of b, if it covers the claim of the levels, which
+/// meets the bound of the mark. If not, either no line has the mark for its watch, or the watch
+/// fails at the levels. Marks at the places before stay.
+fn try_mark(
+    table: &mut WatchTable,
+    log: &Log,
+    b: usize,
+    i: usize,
+    now: &Levels,
+) -> Result<Option<u64>, NoMemory>
+    requires in_row { i < length (row_of table.old.rows b) }
+    requires met { (m : MarkTerm) → slice_get (row_of table.old.rows b) i ≡ Some m →
+        m.bound < slice_index now.now b }
+    ensures some { (I : Instance) (l : ClaimTerm) → AreLevels I l now.now →
+        IfOk result (λ found. IfSome found (IsCoveredBy I log.now.lines l)) }
+    ensures none { (m : MarkTerm) → slice_get (row_of table.old.rows b) i ≡ Some m →
+        IfOk result (λ found. IfNone found
+        (FailsAtMark log.now.lines table.new.watches now.now b m)) }
+    ensures moved { let lines = log.now.lines in
+        OnOk result (AreMoved lines now.now table.old.watches table.new.watches) }
+    ensures before { OnOk result
+        (take i (row_of table.new.rows b) ≡ take i (row_of table.old.rows b)) }
+{
+    let mark = table.mark(b, i);
+    let k = mark.line;
+    if k >= log.len() || k >= table.len() {
+        return Ok(None);
+    }
+    let watch = table.watch(k);
+    if watch.0 as usize != b || watch.1 != mark.bound {
+        table.take(b, i);
+        return Ok(None);
+    }
+    match look_at(log.line(k).claim(), now) {
+        Look::Covers => Ok(Some(k)),
+        Look::Unmet(c, bound) => {
+            table.file(k, (c, bound))?;
+            table.take(b, i);
+            Ok(None)
+        }
+        Look::Lacks(..) => Ok(None),
+    }
+}
+
+/// A line that covers the claim of the levels `now` and watches a bound of buffer b from `low` on
+/// and below the level. If there is none, such watches fail there.
+fn find_in(
+    table: &mut WatchTable,
+    log: &Log,
+    b: usize,
+    low: u64,
+    now: &Levels,
+) -> Result<Option<u64>, NoMemory>
+    requires { b < 512 }
+    ensures some { (I : Instance) (l : ClaimTerm) → AreLevels I l now.now →
+        IfOk result (λ found. IfSome found (IsCoveredBy I log.now.lines l)) }
+    ensures none { IfOk result (λ found. IfNone found
+        (FailAt log.now.lines table.new.watches now.now b low)) }
+    ensures moved { let lines = log.now.lines in
+        OnOk result (AreMoved lines now.now table.old.watches table.new.watches) }
+{
+    let high = now.at(b);
+    if high <= low {
+        return Ok(None);
+    }
+    for i in (0..table.row_len(b)).rev() {
+        let mark = table.mark(b, i);
+        if low <= mark.bound && mark.bound < high {
+            let found = try_mark(table, log, b, i, now)?;
+            if found.is_some() {
+                return Ok(found);
+            }
+        }
+    }
+    Ok(None)
+}
+
+/// For each line of a log one bound of its claim, the watch, and for each buffer the lines that
+/// watch a bound of it. As long as a claim does not meet the watch of a line, the line does not
+/// cover it. So where the search goes down to a child, only the lines whose watch the child meets
+/// and the claim above does not are tried, and each of these gets another watch. Going back up
+/// undoes nothing, since lows fall on the way. Contracts see the watches by line.
+#[derive(Drop)]
+pub(crate) struct Watches {
+    table: WatchTable,
+}
+
+impl Model for Watches {
+    ghost use Rattle.std.specs.Prelude.{List};
+    ghost use Rattle.dsa_terms.specs.Claims.{Entry};
+
+    ghost Value = { List Entry };
+
+    ghost view = { λ w. w.table.watches };
+}
+
+impl Watches {
+    /// No lines.
+    pub(crate) fn new(alloc: Global) -> Result<Watches, NoMemory>
+        ensures { IfOk result (λ watches. watches ≡ []) }
+    {
+        let table = WatchTable::new(alloc)?;
+        Ok(Watches { table })
+    }
+
+    /// The last line from number `asked` on that covers the claim of the levels. The lines before
+    /// that number are watched there, and then all are, if there is none.
+    pub(crate) fn ask(
+        &mut self,
+        log: &Log,
+        levels: &Levels,
+        asked: u64,
+    ) -> Result<Option<u64>, NoMemory>
+        ensures none { AreWatched log.now.lines self.old levels.now asked →
+            IfOk result (λ found. IfNone found
+            (AreWatched log.now.lines self.new levels.now (length log.now.lines))) }
+        ensures some { (I : Instance) (l : ClaimTerm) → AreLevels I l levels.now →
+            IfOk result (λ found. IfSome found (IsCoveredBy I log.now.lines l)) }
+        ensures kept { (above : List ℕ) (n : ℕ) → AreRaised above levels.now →
+            AreWatched log.now.lines self.old above n →
+            IfOk result (λ _. AreWatched log.now.lines self.new above n) }
+    {
+        self.table.extend(log.len())?;
+        for k in (asked..log.len()).rev() {
+            if covers(&mut self.table, log, levels, k)? {
+                return Ok(Some(k));
+            }
+        }
+        Ok(None)
+    }
+
+    /// A line that covers the claim of the levels `now`. The claim of the levels `before` is above
+    /// it, and there all lines are watched; then all are watched at the claim, if there is none.
+    pub(crate) fn find(
+        &mut self,
+        log: &Log,
+        before: &Levels,
+        now: &Levels,
+    ) -> Result<Option<u64>, NoMemory>
+        ensures none { AreRaised before.now now.now →
+            AreWatched log.now.lines self.old before.now (length log.now.lines) →
+            IfOk result (λ found. IfNone found
+            (AreWatched log.now.lines self.new now.now (length log.now.lines))) }
+        ensures some { (I : Instance) (l : ClaimTerm) → AreLevels I l now.now →
+            IfOk result (λ found. IfSome found (IsCoveredBy I log.now.lines l)) }
+        ensures kept { (above : List ℕ) (n : ℕ) → AreRaised above now.now →
+            AreWatched log.now.lines self.old above n →
+            IfOk result (λ _. AreWatched log.now.lines self.new above n) }
+    {
+        for b in 0..now.len() {
+            let found = find_in(&mut self.table, log, b, before.at(b), now)?;
+            if found.is_some() {
+                return Ok(found);
+            }
+        }
+        Ok(None)
+    }
+}
