@@ -1,7 +1,7 @@
 //! What is wrong with numbers that make no buffer.
 
-ghost use Rattle.std.specs.Prelude.{◌≡◌, ◌^◌, ◌<◌, [], length, position, IfSome};
-ghost use Rattle.dsa_model.specs.Buffer.{buffer_of, gap_fault, is_empty_gap, is_ever_live, is_outside, lasting, number_fault};
+ghost use Rattle.std.specs.Prelude.{◌≡◌, ◌^◌, ◌<◌, [], length, nat_lt, position, IfSome};
+ghost use Rattle.dsa_model.specs.Buffer.{buffer_of, gap_fault, gap_limit, is_empty_gap, is_ever_live, is_outside, lasting, number_fault};
 
 use crate::moments::next_live;
 use thiserror::Error;
@@ -93,6 +93,13 @@ fn is_ever_live(lower: u64, upper: u64, gaps: &[(u64, u64)]) -> bool
     }
 }
 
+/// Whether so many gaps are more than a buffer may have.
+fn are_too_many(gaps: usize) -> bool
+    ensures { result ≡ nat_lt gap_limit gaps }
+{
+    gaps > GAP_LIMIT
+}
+
 /// What is wrong with the gaps.
 pub(crate) fn gap_fault(lower: u64, upper: u64, gaps: &[(u64, u64)]) -> Option<BufferFault>
     requires { length gaps.now < 2 ^ 32 }
@@ -102,7 +109,7 @@ pub(crate) fn gap_fault(lower: u64, upper: u64, gaps: &[(u64, u64)]) -> Option<B
         Some(BufferFault::GapEmpty { gap: gap as u32 })
     } else if let Some(gap) = first_outside_gap(lower, upper, gaps) {
         Some(BufferFault::GapOutside { gap: gap as u32 })
-    } else if gaps.len() > GAP_LIMIT {
+    } else if are_too_many(gaps.len()) {
         Some(BufferFault::TooManyGaps)
     } else if !is_ever_live(lower, upper, gaps) {
         Some(BufferFault::NeverLive)
