@@ -1,5 +1,5 @@
 -- Starts of two buffers aligned to four, of which one stands on the other.
-use Rattle.std.proofs.Common.{◌≡◌, ℕ, zero, suc, [], ◌∷◌, Some, refl, sym, ap, subst, ◌∙◌, lit<, lit≤, arith}
+use Rattle.std.proofs.Common.{◌≡◌, ◌<◌, ℕ, zero, suc, [], ◌∷◌, Some, refl, sym, ap, subst, ◌∙◌, lit<, lit≤, arith}
 use Rattle.dsa_terms.specs.Buffers.{IsInstance, buffer, do_share, have_same_moments, is_live, some_before}
 use Rattle.dsa_terms.specs.Claims.{child, step, up}
 use Rattle.dsa_terms.specs.Layouts.{IsLayout}
@@ -41,10 +41,10 @@ eight_is_none s height offsets h =
 -- right on top of the other, at 3, the second one is not aligned
 unaligned : (C : ℕ) → IsLayout two_of_four C (0 ∷ 3 ∷ []) → ⊥
 unfolding buffer
-unaligned C l = three (l.aligned 1 (lit< tt))
+unaligned C l = apart 3 0 (lit< tt) (l.aligned 1 (lit< tt))
   where
-    three : 3 ≡ 0 → ⊥
-    three e = omega arith
+    apart : (m n : ℕ) → n < m → m ≡ n → ⊥
+    apart m n lt e = omega arith
 
 three_is_none : (s : Start) → s.offsets.items ≡ 0 ∷ 3 ∷ [] → IsStart two_of_four s → ⊥
 three_is_none s offsets h = unaligned s.height (subst (IsLayout two_of_four s.height) offsets h.layout)
