@@ -159,9 +159,10 @@ are_kept = record {
     each_other : (b s : ℕ) → b < 2 → s < 2 → IsIn s (sections_of kept b) ↔ IsIn b (members_of kept s)
     each_other zero zero lb ls = (λ i. inl refl, λ i. inl refl)
     each_other zero (suc zero) lb ls = (λ i. inl refl, λ i. inr (inl refl))
-    each_other (suc zero) zero lb ls =
-        (λ i. elim i [ inl e ↦ absurd (omega arith) | inr j ↦ absurd j ],
-        λ i. elim i [ inl e ↦ absurd (omega arith) | inr j ↦ absurd j ])
+    each_other (suc zero) zero lb ls = (
+      λ i. elim i [ inl e ↦ absurd (omega arith) | inr j ↦ absurd j ],
+      λ i. elim i [ inl e ↦ absurd (omega arith) | inr j ↦ absurd j ],
+    )
     each_other (suc zero) (suc zero) lb ls = (λ i. inr (inl refl), λ i. inl refl)
     each_other (suc (suc b)) s lb ls = absurd (omega arith)
     each_other zero (suc (suc s)) lb ls = absurd (omega arith)
