@@ -1,5 +1,5 @@
 -- Brackets of two buffers aligned to four: 7 is their least capacity.
-use Rattle.std.proofs.Common.{◌≡◌, ℕ, zero, suc, ◌<◌, ◌≤◌, inl, inr, [], ◌∷◌, slice_get, take, Some, None, refl, sym, ap, ◌∙◌, subst, lit<, lit≤, arith}
+use Rattle.std.proofs.Common.{◌≡◌, ℕ, zero, suc, ◌+◌, ◌<◌, ◌≤◌, ◌⊎◌, inl, inr, [], ◌∷◌, slice_get, take, Option, Some, None, refl, sym, ap, ◌∙◌, subst, lit<, lit≤, arith}
 use Rattle.dsa_terms.specs.Buffers.{IsInstance, buffer, do_share, have_same_moments, is_live, some_before}
 use Rattle.dsa_terms.specs.Claims.{child, Claim, Entry, IsClaim, IsIn, step, up}
 use Rattle.dsa_terms.specs.Layouts.{IsLayout}
@@ -9,14 +9,15 @@ use Rattle.dsa_terms.specs.Plans.{layout_height}
 use Rattle.dsa_terms.specs.Search.{comes_before, first, is_tall}
 use Rattle.dsa_terms.proofs.Examples.{two_of_four}
 use Rattle.dsa_search_laws.proofs.Parts.{searched_is_layout}
-use Rattle.min_capacity.specs.Brackets.{IsBracket, LayoutComes, Refutes}
+use Rattle.refute_log.specs.Hunts.{hunt}
+use Rattle.min_capacity.specs.Brackets.{ArePaid, IsBracket, IsShort, LayoutComes, Refutes}
 use Rattle.min_capacity.specs.declared.brackets.Bracket.{Bracket}
 
 -- ---- the log of one line at 6
-abbrev both : Claim
+abbrev pub both : Claim
 both = (0, 0) ∷ (1, 0) ∷ []
 
-abbrev six : Log
+abbrev pub six : Log
 six = record { count = 2; capacity = 6; lines = Over ((0, 0) ∷ (1, 0) ∷ []) 0 0 4 ∷ []; final = 0 }
 
 over_six : IsOver two_of_four 6 0 0 4 both
@@ -82,7 +83,7 @@ unfolding layout_height buffer
 seven_high = refl
 
 -- ---- brackets
-seven_is_bracket : (b : Bracket) → b.low ≡ 7 → b.high ≡ 7 → b.layout.items ≡ 0 ∷ 4 ∷ [] → b.log ≡ Some six →
+pub seven_is_bracket : (b : Bracket) → b.low ≡ 7 → b.high ≡ 7 → b.layout.items ≡ 0 ∷ 4 ∷ [] → b.log ≡ Some six →
     IsBracket two_of_four b
 seven_is_bracket b low high layout log = record {
   ordered = omega arith;
@@ -102,3 +103,48 @@ none_from_the_start : (start b : Bracket) → b.layout.items ≡ 0 ∷ 4 ∷ [] 
     start.high ≤ b.high → LayoutComes (λ C a. Unit {0}) start b → ⊥
 none_from_the_start start b layout other le (inl e) = let k = sym layout ∙ e ∙ other in cc
 none_from_the_start start b layout other le (inr g) = let k = g.1 in let m = g.2 in omega arith
+
+-- ---- what is left, where each capacity takes one unit and none has a layout
+abbrev one_unit : ℕ → ℕ
+one_unit C = 1
+
+abbrev no_layout : ℕ → Option ℕ
+no_layout C = None
+
+two_from_0_to_4 : hunt one_unit no_layout 0 4 ≡ 2
+unfolding hunt
+two_from_0_to_4 = refl
+
+one_from_3_to_4 : hunt one_unit no_layout 3 4 ≡ 1
+unfolding hunt
+one_from_3_to_4 = refl
+
+-- a unit has raised the lower end of 0, 4 to 3
+three_is_short : (start b : Bracket) → start.low ≡ 0 → start.high ≡ 4 → b.low ≡ 3 → b.high ≡ 4 →
+    IsShort one_unit no_layout 0 1 start b
+three_is_short start b low high at_3 at_4 =
+    rw (low, high, at_3, at_4) (let e = two_from_0_to_4 in let f = one_from_3_to_4 in omega arith)
+
+-- the start itself is what is left before a unit is used, and not after one
+start_before_a_unit : (start : Bracket) → IsShort one_unit no_layout 0 0 start start
+start_before_a_unit start = omega arith
+
+start_after_a_unit : (start : Bracket) → IsShort one_unit no_layout 0 1 start start → ⊥
+start_after_a_unit start h = omega (arith, h)
+
+-- ---- a new layout is paid for, and a new log also raises the lower end
+unpaid_layout : (start b : Bracket) → b.layout.items ≡ 0 ∷ 4 ∷ [] → start.layout.items ≡ 4 ∷ 0 ∷ [] →
+    ArePaid (λ a. 1) 2 2 start b → ⊥
+unpaid_layout start b layout other h = go h.layout
+  where
+    go : (b.layout.items ≡ start.layout.items) ⊎ (2 + 1 ≤ 2) → ⊥
+    go (inl e) = let k = sym layout ∙ e ∙ other in cc
+    go (inr le) = omega (arith, le)
+
+log_without_a_rise : (start b : Bracket) → b.log ≡ Some six → start.log ≡ None → b.low ≡ start.low →
+    ArePaid (λ a. 1) 2 3 start b → ⊥
+log_without_a_rise start b log none same h = go h.log
+  where
+    go : (b.log ≡ start.log) ⊎ ((l : Log) × (b.log ≡ Some l) × (start.low < b.low) × (2 + 1 ≤ 3)) → ⊥
+    go (inl e) = let k = sym log ∙ e ∙ none in cc
+    go (inr g) = let k = g.2 in omega (arith, k, same)

@@ -1,4 +1,5 @@
 pub mod Hunts
 pub mod Narrowing
 pub mod Counting
-mod ExampleFacts
+pub mod ExampleFacts
+mod NarrowFacts

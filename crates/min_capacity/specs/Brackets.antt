@@ -1,11 +1,12 @@
 -- Brackets round the least capacity, and how they narrow.
-use Rattle.std.specs.Prelude.{◌≡◌, ℕ, ◌+◌, ◌-◌, ◌<◌, ◌≤◌, ◌^◌, ◌⊎◌, Option}
+use Rattle.std.specs.Prelude.{◌≡◌, ℕ, ◌+◌, ◌-◌, ◌/◌, ◌<◌, ◌≤◌, ◌^◌, ◌⊎◌, Option}
 use Rattle.std.specs.declared.option.Option.TheVariants.{Some, None}
 use Rattle.dsa_terms.specs.Buffers.{Instance}
 use Rattle.dsa_terms.specs.Layouts.{IsLayout}
 use Rattle.dsa_terms.specs.Logs.{IsAccepted, Log}
 use Rattle.dsa_terms.specs.Plans.{layout_height}
 use Rattle.refute_log.specs.Answers.{Answer, Offsets, Refutation}
+use Rattle.refute_log.specs.Hunts.{hunt}
 use Rattle.min_capacity.specs.declared.brackets.Bracket.{Bracket}
 use Rattle.min_capacity.specs.declared.brackets.Least.{Least}
 use Rattle.min_capacity.specs.declared.brackets.Least.TheVariants.{Exact, Open}
@@ -41,6 +42,28 @@ pub record Narrows (I : Instance) (gives : ℕ → Answer → Type 0) (start b :
   pub high : b.high ≤ start.high
   pub layout : LayoutComes gives start b
   pub log : LogComes gives start b
+
+-- the layout is the start's, or its charge was taken
+abbrev pub LayoutIsPaid : (Answer → ℕ) → ℕ → ℕ → Bracket → Bracket → Type 0
+LayoutIsPaid charge before after start b =
+    (b.layout.items ≡ start.layout.items) ⊎ (before + charge (Offsets b.layout.items) ≤ after)
+
+-- the log is the start's, or the lower end has risen and the log's charge was taken
+abbrev pub LogIsPaid : (Answer → ℕ) → ℕ → ℕ → Bracket → Bracket → Type 0
+LogIsPaid charge before after start b =
+    (b.log ≡ start.log)
+    ⊎ ((log : Log) × (b.log ≡ Some log) × (start.low < b.low) × (before + charge (Refutation log) ≤ after))
+
+-- the units from `before` to `after` pay for the layout and for the log
+pub record ArePaid (charge : Answer → ℕ) (before after : ℕ) (start b : Bracket) : Type 0 where
+  pub layout : LayoutIsPaid charge before after start b
+  pub log : LogIsPaid charge before after start b
+
+-- what halving can still take is short of what it could take from the start by the units used, but for one call
+abbrev pub IsShort : (ℕ → ℕ) → (ℕ → Option ℕ) → ℕ → ℕ → Bracket → Bracket → Type 0
+IsShort most turn before after start b =
+    after + hunt most turn b.low b.high
+    < before + hunt most turn start.low start.high + most ((b.low + b.high) / 2)
 
 -- the bracket that is found
 abbrev pub bracket_of : Least → Bracket

@@ -3,7 +3,8 @@
 ghost use Rattle.std.specs.Prelude.{◌≡◌, ℕ, ◌+◌, ◌<◌, ◌≤◌, IfOk};
 ghost use Rattle.dsa_terms.specs.Layouts.{IsLeast};
 ghost use Rattle.refute_log.specs.Hunts.{Rose, hunt};
-ghost use Rattle.min_capacity.specs.Brackets.{IsBracket, Narrows, bracket_of, IfExact, IfOpen};
+ghost use Rattle.min_capacity.specs.Brackets.{ArePaid, IsBracket, IsShort, Narrows, bracket_of};
+ghost use Rattle.min_capacity.specs.Brackets.{IfExact, IfOpen};
 
 use crate::{Bracket, Least};
 use dsa_model::{Instance, NoMemory, height};
@@ -45,6 +46,12 @@ pub fn least<D: Decider>(
         + hunt (D.most instance.now) (D.turn instance.now) start.low start.high)) }
     ensures exhausted { IfOk result (λ found.
         IfOpen found (D.allowance decider.old ≤ D.units decider.new)) }
+    ensures left { let most = D.most instance.now in let turn = D.turn instance.now in
+        IfOk result (λ found. IfOpen found (IsShort most turn
+        (D.units decider.old) (D.units decider.new) start (bracket_of found))) }
+    ensures charged { let charge = D.charge instance.now (D.allowance decider.old) in
+        IfOk result (λ found.
+        ArePaid charge (D.units decider.old) (D.units decider.new) start (bracket_of found)) }
 {
     let _count = instance.len();
     let mut bracket = start;

@@ -73,6 +73,8 @@ impl Decider for Prepared<'_> {
 
     ghost turn = { λ _ C. twelve_from_twelve C };
 
+    ghost charge = { λ _ _ _. 0 };
+
     fn decide(&mut self, capacity: u64) -> Result<Decided, NoMemory> {
         if let Some(Answers { layout, log }) = self.answers.take() {
             if capacity >= 12 {

@@ -71,6 +71,11 @@ not_below found C bound h e = elim (le_or_gt bound C) [
   | inr lt ↦ absurd (let some = rw e at h.1 lt in cc)
 ]
 
+-- where the bound has a log, the capacity is below it
+pub is_below : (found : Option Log) (log : Log) (C bound : ℕ) → (IsSome found ↔ (C < bound)) → found ≡ Some log →
+    C < bound
+is_below found log C bound h e = h.0 (rw e refl)
+
 -- no start is below it
 pub start_is_high : (I : Instance) (C : ℕ) (offsets : List ℕ) → IsInstance I → IsAnswered (planned I C) I C offsets →
     lower_bound I ≤ C

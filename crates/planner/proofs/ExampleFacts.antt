@@ -1,5 +1,5 @@
 -- Small instances, and what the definitions say of them.
-use Rattle.std.proofs.Common.{◌≡◌, [], ◌∷◌, Some, None, refl}
+use Rattle.std.proofs.Common.{◌≡◌, [], ◌∷◌, Some, None, refl, arith}
 use Rattle.dsa_terms.specs.Bounds.{bound_modulus, counted, highest_stack, lower_bound, moduli, moments, rounded_size, stack, stack_log}
 use Rattle.dsa_terms.specs.Buffers.{buffer, do_share, is_live, some_before}
 use Rattle.dsa_terms.specs.Fits.{best_fit, best_place, first_fit, first_passing, first_place, free_ranges, highest, holds, is_free, is_tighter, neighbours, stretches, top}
@@ -13,6 +13,7 @@ use Rattle.layout_report.specs.declared.facts.Facts.{Facts}
 use Rattle.planner.specs.Decides.{IsBoundLog}
 use Rattle.planner.specs.InstanceFacts.{AreFactsOf}
 use Rattle.planner.specs.FirstStart.{start_within}
+use Rattle.planner.specs.Openings.{AreGiven}
 
 -- all starts of three buffers have height 5, and the first of them is taken
 start_at_5 : start_within evens 5 ≡ Some (2 ∷ 4 ∷ 0 ∷ [])
@@ -32,18 +33,31 @@ unfolding layout_height starts orders falls_by rises_by first_fit best_fit neigh
 no_start_where_the_search_has_one = refl
 
 -- two buffers of size 3, aligned to four, come to 7; one line refutes 6
-abbrev one_line : Log
+abbrev pub one_line : Log
 one_line = record { count = 2; capacity = 6; lines = Over ((0, 0) ∷ (1, 0) ∷ []) 0 0 4 ∷ []; final = 0 }
 
-bound_log : IsBoundLog two_of_four 6 one_line
+pub bound_log : IsBoundLog two_of_four 6 one_line
 unfolding stack stack_log counted rounded_size bound_modulus lower_bound highest_stack moduli moments is_live buffer
 bound_log = record { moment = 0; reached = refl; one_line = refl }
 
 -- no buffers have no peak, no parts, and nothing to bound
-abbrev no_facts : Facts
+abbrev pub no_facts : Facts
 no_facts = record { buffers = 0; peak = None; parts = 0; bound = 0; modulus = 1; best = 0 }
 
-facts_of_none : AreFactsOf [] no_facts
+pub facts_of_none : AreFactsOf [] no_facts
 unfolding parts part_of last_cut is_cut bound_modulus lower_bound highest_stack moduli moments stack counted
     layout_height best_start lowest_place starts orders first_fit best_fit
 facts_of_none = record { buffers = refl; peak = refl; parts = refl; bound = refl; modulus = refl; best = refl }
+
+-- ---- steps
+three_of_five : AreGiven (Some 5) 3
+three_of_five = omega arith
+
+six_are_more_than_five : AreGiven (Some 5) 6 → ⊥
+six_are_more_than_five h = omega (arith, h)
+
+any_number_without_one : AreGiven None 6
+any_number_without_one = tt
+
+no_layout_without_a_step : AreGiven (Some 0) 1 → ⊥
+no_layout_without_a_step h = omega (arith, h)

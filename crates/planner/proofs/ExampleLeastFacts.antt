@@ -1,5 +1,5 @@
 -- Least capacities of small instances, and what stays open on them.
-use Rattle.std.proofs.Common.{◌≡◌, ℕ, zero, suc, ◌<◌, ◌≤◌, inl, inr, [], ◌∷◌, Some, None, refl, sym, ap, ◌∙◌, subst, lit<, lit≤, arith}
+use Rattle.std.proofs.Common.{◌≡◌, ℕ, zero, suc, ◌+◌, ◌<◌, ◌≤◌, ◌⊎◌, inl, inr, [], ◌∷◌, Some, None, refl, sym, ap, ◌∙◌, subst, lit<, lit≤, arith}
 use Rattle.dsa_terms.specs.Bounds.{bound_modulus, counted, highest_stack, lower_bound, moduli, moments, rounded_size, stack, stack_log}
 use Rattle.dsa_terms.specs.Buffers.{Instance, IsInstance, buffer, do_share, have_same_moments, is_live, some_before}
 use Rattle.dsa_terms.specs.Claims.{child, step, up}
@@ -19,8 +19,10 @@ use Rattle.dsa_start_laws.proofs.Planned.{planned_exactly, planned_is_layout}
 use Rattle.dsa_start_laws.proofs.Stacks.{stack_is_accepted}
 use Rattle.min_capacity.specs.declared.brackets.Bracket.{Bracket}
 use Rattle.planner.specs.Decides.{IsBoundLog, IsRefutation}
-use Rattle.planner.specs.LeastCapacity.{IsExactly, RefutesBelow, work_of_least}
-use Rattle.planner.specs.Openings.{AreTooFew, IsOpen, IsSpentAt}
+use Rattle.min_capacity.specs.declared.brackets.Least.TheVariants.{Open}
+use Rattle.planner.specs.FirstBracket.{IsLogBelow}
+use Rattle.planner.specs.LeastCapacity.{HasHalved, IsByBoundAtLow, IsExactly, IsWithinSteps, RefutesBelow, work_of_least}
+use Rattle.planner.specs.Openings.{AreGiven, AreTooFew, IsOpen, IsSpentAt}
 
 -- ---- steps
 -- five steps are too few for three buffers, six are enough, and without a number there are never too few
@@ -41,8 +43,30 @@ six_steps h = let e = evens_work in let g = h.given in let b = h.below_work in l
 no_number : (work : ℕ) → AreTooFew None work → ⊥
 no_number work h = let g = h.given in cc
 
+-- the start's ends are left only where its halving is not done
+halving_evens : hunt (starts evens) evens 4 5 ≡ 6
+unfolding hunt whole_work work planned plan layout_height starts orders falls_by rises_by first_fit best_fit neighbours
+    first_place first_passing best_place free_ranges stretches holds is_tighter is_free highest top do_share
+    some_before is_live buffer searched parts part_of is_cut last_cut first is_tall comes_before ends_below is_twin
+    child up step have_same_moments
+halving_evens = refl
+
+evens_at_4 : whole_work evens 4 ≡ 6
+unfolding whole_work work parts part_of is_cut last_cut first is_tall comes_before ends_below is_twin child up step
+    do_share some_before have_same_moments is_live buffer
+evens_at_4 = refl
+
+ends_after_five : (b : Bracket) → b.low ≡ 4 → b.high ≡ 5 → HasHalved evens (Some 5) (Open b)
+ends_after_five b low high =
+    rw (low, high) (let e = evens_work in let f = halving_evens in let w = evens_at_4 in omega arith)
+
+ends_after_six : (b : Bracket) → b.low ≡ 4 → b.high ≡ 5 → HasHalved evens (Some 6) (Open b) → ⊥
+ends_after_six b low high h =
+    let k = rw (low, high) at h in
+    let e = evens_work in let f = halving_evens in let w = evens_at_4 in omega (arith, k)
+
 -- ---- logs of one line
-line_refutes : (I : Instance) (t G C : ℕ) → IsInstance I → 1 ≤ G → C < stack I t G →
+pub line_refutes : (I : Instance) (t G C : ℕ) → IsInstance I → 1 ≤ G → C < stack I t G →
     IsRefutation I C (stack_log I t G C)
 unfolding stack_log
 line_refutes I t G C s pos lt = record {
@@ -52,21 +76,21 @@ line_refutes I t G C s pos lt = record {
   lean = stack_is_lean I t G C;
 }
 
-two_sound : IsInstance two_of_four
+pub two_sound : IsInstance two_of_four
 two_sound zero d lt = (lit≤ tt, lit≤ tt, lit< tt)
 two_sound (suc zero) d lt = (lit≤ tt, lit≤ tt, lit< tt)
 two_sound (suc (suc k)) d lt = absurd (omega arith)
 
-below_sound : IsInstance small_below
+pub below_sound : IsInstance small_below
 below_sound zero d lt = (lit≤ tt, lit≤ tt, lit< tt)
 below_sound (suc zero) d lt = (lit≤ tt, lit≤ tt, lit< tt)
 below_sound (suc (suc k)) d lt = absurd (omega arith)
 
-seven_stacked : stack two_of_four 0 4 ≡ 7
+pub seven_stacked : stack two_of_four 0 4 ≡ 7
 unfolding stack counted rounded_size is_live buffer
 seven_stacked = refl
 
-four_stacked : stack small_below 0 1 ≡ 4
+pub four_stacked : stack small_below 0 1 ≡ 4
 unfolding stack counted rounded_size is_live buffer
 four_stacked = refl
 
@@ -75,7 +99,7 @@ unfolding layout_height buffer
 seven_high = refl
 
 -- ---- the least capacity of two buffers aligned to four is 7
-seven_is_exact : (b : Bracket) → b.low ≡ 7 → b.high ≡ 7 → b.layout.items ≡ 0 ∷ 4 ∷ [] →
+pub seven_is_exact : (b : Bracket) → b.low ≡ 7 → b.high ≡ 7 → b.layout.items ≡ 0 ∷ 4 ∷ [] →
     b.log ≡ Some (stack_log two_of_four 0 4 6) → IsExactly two_of_four b
 seven_is_exact b low high layout log = record {
   ends_met = low ∙ sym high;
@@ -129,7 +153,7 @@ no_log_at_5 : RefutesBelow evens 5 None → ⊥
 no_log_at_5 e = omega arith
 
 -- ---- the capacity 4 of a small buffer that belongs below is open without steps
-four_is_open : IsOpen small_below 4 5 (0 ∷ 4 ∷ []) (stack_log small_below 0 1 3)
+pub four_is_open : IsOpen small_below 4 5 (0 ∷ 4 ∷ []) (stack_log small_below 0 1 3)
 unfolding layout_height buffer
 four_is_open = record {
   ends_apart = lit< tt;
@@ -140,33 +164,33 @@ four_is_open = record {
   refuted_below = line_refutes small_below 0 1 3 below_sound (lit≤ tt) (let e = four_stacked in omega arith);
 }
 
-four_steps : whole_work small_below 4 ≡ 4
+pub four_steps : whole_work small_below 4 ≡ 4
 unfolding whole_work work parts part_of is_cut last_cut first is_tall comes_before ends_below is_twin child up step
     do_share some_before have_same_moments is_live buffer
 four_steps = refl
 
-below_bound : lower_bound small_below ≡ 4
+pub below_bound : lower_bound small_below ≡ 4
 unfolding lower_bound highest_stack moduli moments stack counted rounded_size is_live buffer
 below_bound = refl
 
-below_modulus : bound_modulus small_below ≡ 1
+pub below_modulus : bound_modulus small_below ≡ 1
 unfolding bound_modulus lower_bound highest_stack moduli moments stack counted rounded_size is_live buffer
 below_modulus = refl
 
-below_best : best_start small_below ≡ 0 ∷ 4 ∷ []
+pub below_best : best_start small_below ≡ 0 ∷ 4 ∷ []
 unfolding best_start lowest_place layout_height starts orders falls_by rises_by first_fit best_fit neighbours
     first_place first_passing best_place free_ranges stretches holds is_tighter is_free highest top do_share
     some_before is_live buffer
 below_best = refl
 
-below_log : IsBoundLog small_below 3 (stack_log small_below 0 1 3)
+pub below_log : IsBoundLog small_below 3 (stack_log small_below 0 1 3)
 below_log = record {
   moment = 0;
   reached = rw below_modulus (four_stacked ∙ sym below_bound);
   one_line = rw below_modulus refl;
 }
 
-four_is_spent : (b : Bracket) → b.low ≡ 4 → b.high ≡ 5 → b.layout.items ≡ 0 ∷ 4 ∷ [] →
+pub four_is_spent : (b : Bracket) → b.low ≡ 4 → b.high ≡ 5 → b.layout.items ≡ 0 ∷ 4 ∷ [] →
     b.log ≡ Some (stack_log small_below 0 1 3) → IsSpentAt small_below 4 (Some 0) b
 four_is_spent b low high layout log = record {
   bound_log = stack_log small_below 0 1 3;
@@ -180,3 +204,29 @@ four_is_spent b low high layout log = record {
   below_high = omega arith;
   too_few = record { number = 0; given = refl; below_work = let e = four_steps in omega arith };
 }
+
+-- ---- without steps the best start and the bound's log come, and nothing else
+start_without_steps : (b : Bracket) → b.layout.items ≡ 0 ∷ 4 ∷ [] → b.log ≡ Some (stack_log small_below 0 1 3) →
+    IsWithinSteps small_below (Some 0) b
+start_without_steps b layout log = record {
+  layout = inl (layout ∙ sym below_best);
+  log = inl (rw (log, below_bound) (
+    lit≤ tt,
+    record {
+      refutation = line_refutes small_below 0 1 3 below_sound (lit≤ tt) (let e = four_stacked in omega arith);
+      by_bound = below_log;
+    },
+  ));
+}
+
+other_without_steps : (b : Bracket) → b.layout.items ≡ 1 ∷ 0 ∷ [] → IsWithinSteps small_below (Some 0) b → ⊥
+other_without_steps b layout h = go h.layout
+  where
+    go : (b.layout.items ≡ best_start small_below) ⊎ AreGiven (Some 0) 1 → ⊥
+    go (inl e) = let k = sym layout ∙ e ∙ below_best in cc
+    go (inr le) = omega (arith, le)
+
+-- at the lower bound there is a log unless the bound is 0
+no_log_at_the_bound : (b : Bracket) → b.low ≡ 4 → b.log ≡ None → IsByBoundAtLow small_below b → ⊥
+no_log_at_the_bound b low none h =
+    let z = rw none at h (low ∙ sym below_bound) in let e = below_bound in omega (arith, z, e)

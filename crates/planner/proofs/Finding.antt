@@ -125,7 +125,7 @@ open_after I steps start b buffers h n apart few = go b.log (refuted_below I sta
       too_few = few;
     }
 
-first_work : (I : Instance) (start : Bracket) → IsInstance I → IsFirstBracket I start →
+pub first_work : (I : Instance) (start : Bracket) → IsInstance I → IsFirstBracket I start →
     hunt (whole_work I) (turn_of I) start.low start.high ≡ work_of_least I
 first_work I start s h =
     let l = h.low in let t = h.high in

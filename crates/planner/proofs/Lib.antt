@@ -6,5 +6,8 @@ pub mod Hunting
 pub mod Spending
 pub mod Opening
 pub mod Finding
-mod ExampleFacts
-mod ExampleLeastFacts
+pub mod Keeping
+pub mod Halving
+pub mod ExampleFacts
+pub mod ExampleLeastFacts
+mod AnswerFacts

@@ -1,5 +1,5 @@
 -- What is decided of a capacity.
-use Rattle.std.specs.Prelude.{ℕ, Option}
+use Rattle.std.specs.Prelude.{ℕ, length, Option}
 use Rattle.dsa_terms.specs.Buffers.{Instance}
 use Rattle.dsa_terms.specs.Starts.{planned}
 use Rattle.planner.specs.Decides.{IsAnswered, IsBoundLog, IsRefutation}
@@ -30,3 +30,9 @@ abbrev pub IsByBound : Instance → ℕ → Decision → Type 0
 IsByBound I C (Layout offsets) = ⊥
 IsByBound I C (Refuted log) = IsBoundLog I C log
 IsByBound I C (Open b) = ⊥
+
+-- how many steps a search took for the decision at least: one for a layout, and one for each line of a log
+abbrev pub searched_steps : Decision → ℕ
+searched_steps (Layout offsets) = 1
+searched_steps (Refuted log) = length log.lines
+searched_steps (Open b) = 0

@@ -1,17 +1,19 @@
 -- What is found of the least capacity.
-use Rattle.std.specs.Prelude.{◌≡◌, ℕ, ◌-◌, ◌≤◌, ◌↔◌, [], Option}
+use Rattle.std.specs.Prelude.{◌≡◌, ℕ, ◌+◌, ◌-◌, ◌/◌, ◌<◌, ◌≤◌, ◌↔◌, ◌⊎◌, ⊤, [], length, IfSome, Option}
 use Rattle.std.specs.declared.option.Option.TheVariants.{Some, None}
 use Rattle.dsa_terms.specs.Bounds.{lower_bound}
 use Rattle.dsa_terms.specs.Buffers.{Instance}
 use Rattle.dsa_terms.specs.Layouts.{IsLayout, IsLeast}
 use Rattle.dsa_terms.specs.Logs.{Log}
+use Rattle.dsa_terms.specs.Parts.{whole_work}
 use Rattle.dsa_terms.specs.Plans.{hunt, layout_height}
 use Rattle.dsa_terms.specs.Starts.{best_start, planned, starts}
 use Rattle.min_capacity.specs.declared.brackets.Bracket.{Bracket}
 use Rattle.min_capacity.specs.declared.brackets.Least.{Least}
 use Rattle.min_capacity.specs.declared.brackets.Least.TheVariants.{Exact, Open}
 use Rattle.planner.specs.Decides.{IsRefutation}
-use Rattle.planner.specs.Openings.{AreTooFew, IsOpen}
+use Rattle.planner.specs.FirstBracket.{IsLogBelow}
+use Rattle.planner.specs.Openings.{AreGiven, AreTooFew, IsOpen}
 
 -- there is no log for the capacity 0, and else it is one by which no layout fits within one less
 abbrev pub RefutesBelow : Instance → ℕ → Option Log → Type 0
@@ -45,3 +47,22 @@ pub record IsOpenAfter (I : Instance) (steps : Option ℕ) (b : Bracket) : Type 
 abbrev pub FindsLeast : Instance → Option ℕ → Least → Type 0
 FindsLeast I steps (Exact b) = IsExactly I b
 FindsLeast I steps (Open b) = IsOpenAfter I steps b
+
+-- where it stays open: the steps and the work of halving from these ends on are together short of the whole work and
+-- the work of one search at their middle
+abbrev pub HasHalved : Instance → Option ℕ → Least → Type 0
+HasHalved I steps (Exact b) = ⊤
+HasHalved I steps (Open b) =
+    IfSome steps (λ k.
+    k + hunt (starts I) I b.low b.high < work_of_least I + whole_work I ((b.low + b.high) / 2))
+
+-- the layout is the best start or took a step; the log is the bound's, or the lower end is above the bound and the log
+-- took a step for each line
+pub record IsWithinSteps (I : Instance) (steps : Option ℕ) (b : Bracket) : Type 0 where
+  pub layout : (b.layout.items ≡ best_start I) ⊎ AreGiven steps 1
+  pub log : IsLogBelow I (lower_bound I) b.log
+      ⊎ ((log : Log) × (b.log ≡ Some log) × (lower_bound I < b.low) × AreGiven steps (length log.lines))
+
+-- where the lower end is the lower bound, the log is the bound's
+abbrev pub IsByBoundAtLow : Instance → Bracket → Type 0
+IsByBoundAtLow I b = b.low ≡ lower_bound I → IsLogBelow I (lower_bound I) b.log

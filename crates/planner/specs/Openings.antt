@@ -1,5 +1,5 @@
 -- What stays open where the steps are used up.
-use Rattle.std.specs.Prelude.{◌≡◌, ℕ, ◌-◌, ◌<◌, ◌≤◌, List, Option, Some}
+use Rattle.std.specs.Prelude.{◌≡◌, ℕ, ◌-◌, ◌<◌, ◌≤◌, List, Option, IfSome, Some}
 use Rattle.dsa_terms.specs.Bounds.{lower_bound}
 use Rattle.dsa_terms.specs.Buffers.{Instance}
 use Rattle.dsa_terms.specs.Layouts.{IsLayout}
@@ -18,6 +18,10 @@ pub record IsOpen (I : Instance) (low high : ℕ) (offsets : List ℕ) (log : Lo
   pub layout : IsLayout I high offsets
   pub its_height : layout_height I offsets ≡ high
   pub refuted_below : IsRefutation I (low - 1) log
+
+-- so many steps are no more than were given, if a number was
+abbrev pub AreGiven : Option ℕ → ℕ → Type 0
+AreGiven steps n = IfSome steps (λ k. n ≤ k)
 
 -- a number of steps was given, and it is below the work that may be needed
 pub record AreTooFew (steps : Option ℕ) (work : ℕ) : Type 0 where

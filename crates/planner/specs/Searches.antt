@@ -1,5 +1,5 @@
 -- What a search comes to within a number of steps.
-use Rattle.std.specs.Prelude.{ℕ, Option}
+use Rattle.std.specs.Prelude.{ℕ, length, Option}
 use Rattle.dsa_terms.specs.Buffers.{Instance}
 use Rattle.dsa_terms.specs.Parts.{searched, whole_work}
 use Rattle.refute_log.specs.declared.decided.Decided.{Decided}
@@ -12,3 +12,9 @@ abbrev pub EndsSearch : Instance → ℕ → Option ℕ → Decided → Type 0
 EndsSearch I C steps (Layout offsets) = IsAnswered (searched I C) I C offsets.items
 EndsSearch I C steps (Refuted log) = IsRefutation I C log
 EndsSearch I C steps Spent = AreTooFew steps (whole_work I C)
+
+-- how many steps the answer took at least: one for a layout, and one for each line of a log
+abbrev pub steps_of : Decided → ℕ
+steps_of (Layout offsets) = 1
+steps_of (Refuted log) = length log.lines
+steps_of Spent = 0

@@ -1,7 +1,9 @@
 //! The least capacity of an instance.
 
 ghost use Rattle.std.specs.Prelude.{IfOk};
-ghost use Rattle.planner.specs.LeastCapacity.{FindsLeast};
+ghost use Rattle.min_capacity.specs.Brackets.{bracket_of};
+ghost use Rattle.planner.specs.LeastCapacity.{FindsLeast, HasHalved, IsByBoundAtLow};
+ghost use Rattle.planner.specs.LeastCapacity.{IsWithinSteps};
 
 use crate::bracketing::first_bracket;
 use crate::one_stack::bound_of;
@@ -26,6 +28,9 @@ pub fn least_capacity(
     steps: Option<u64>,
 ) -> Result<Least, NoMemory>
     ensures value { IfOk result (FindsLeast instance.now steps) }
+    ensures left { IfOk result (HasHalved instance.now steps) }
+    ensures steps { IfOk result (λ found. IsWithinSteps instance.now steps (bracket_of found)) }
+    ensures by_bound { IfOk result (λ found. IsByBoundAtLow instance.now (bracket_of found)) }
 {
     let _count = instance.len();
     let best = best_of_starts(alloc, instance)?;

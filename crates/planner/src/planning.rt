@@ -3,8 +3,9 @@
 ghost use Rattle.std.specs.Prelude.{◌≡◌, ◌<◌, ◌≤◌, ◌^◌, ◌↔◌, None, IfOk};
 ghost use Rattle.dsa_terms.specs.Bounds.{lower_bound};
 ghost use Rattle.dsa_terms.specs.Layouts.{IsFeasible, IsInfeasible};
-ghost use Rattle.planner.specs.Decisions.{Decides, IsByBound, IsLaidOut, IsRefuted};
+ghost use Rattle.planner.specs.Decisions.{Decides, IsByBound, IsLaidOut, IsRefuted, searched_steps};
 ghost use Rattle.planner.specs.FirstStart.{IsBestStart, start_within};
+ghost use Rattle.planner.specs.Openings.{AreGiven};
 
 use crate::Decision;
 use crate::bracketing::first_bracket;
@@ -33,6 +34,8 @@ fn decide_past_starts(
     ensures value { IfOk result (Decides instance.now capacity steps) }
     ensures bound { capacity < lower_bound instance.now →
         IfOk result (IsByBound instance.now capacity) }
+    ensures steps { lower_bound instance.now ≤ capacity →
+        IfOk result (λ decision. AreGiven steps (searched_steps decision)) }
 {
     let _count = instance.len();
     let sections = Sections::build(alloc, instance)?;
@@ -78,6 +81,9 @@ pub fn plan(
         IsRefuted decision ↔ IsInfeasible instance.now capacity) }
     ensures bound { capacity < lower_bound instance.now →
         IfOk result (IsByBound instance.now capacity) }
+    ensures steps { start_within instance.now capacity ≡ None →
+        lower_bound instance.now ≤ capacity →
+        IfOk result (λ decision. AreGiven steps (searched_steps decision)) }
 {
     let _count = instance.len();
     match try_starts(alloc, instance, capacity)? {

@@ -1,8 +1,9 @@
 //! Deciding a capacity by the search.
 
-ghost use Rattle.std.specs.Prelude.{◌≡◌, ◌≤◌, ◌^◌, IfOk};
+ghost use Rattle.std.specs.Prelude.{◌≡◌, ◌<◌, ◌≤◌, ◌^◌, length, IfOk, IfSome};
 ghost use Rattle.lifetime.specs.SectionList.{AreSectionsOf};
-ghost use Rattle.planner.specs.Searches.{EndsSearch};
+ghost use Rattle.planner.specs.Openings.{AreGiven};
+ghost use Rattle.planner.specs.Searches.{EndsSearch, steps_of};
 
 use dsa_model::{Instance, NoMemory};
 use lifetime::Sections;
@@ -13,7 +14,8 @@ use std::alloc::Global;
 
 /// The budget of that many units, if there is a number.
 pub(crate) fn budget_of(steps: Option<u64>) -> Budget
-    ensures { result ≡ steps }
+    ensures value { result ≡ steps }
+    ensures range { IfSome steps (λ k. k < 2 ^ 64) }
 {
     match steps {
         Some(units) => Budget::units(units),
@@ -32,7 +34,9 @@ pub(crate) fn search(
 ) -> Result<Decided, NoMemory>
     requires sections { AreSectionsOf instance.now sections.now }
     requires limit { capacity ≤ 2 ^ 60 }
-    ensures { IfOk result (EndsSearch instance.now capacity steps) }
+    ensures value { IfOk result (EndsSearch instance.now capacity steps) }
+    ensures steps { 0 < length instance.now →
+        IfOk result (λ d. AreGiven steps (steps_of d)) }
 {
     let _count = instance.len();
     let parts = parts(alloc, instance)?;

@@ -24,6 +24,9 @@ const FOURS: Rows = &[(0, 1, 3, 4), (0, 1, 3, 4)];
 /// Two buffers at even offsets and a third one of their sizes together.
 const EVENS: Rows = &[(0, 1, 1, 2), (0, 1, 1, 2), (0, 1, 2, 1)];
 
+/// The same four times as large.
+const EIGHTS: Rows = &[(0, 1, 4, 8), (0, 1, 4, 8), (0, 1, 8, 1)];
+
 /// A small one that is aligned has to stand below; no start has it there.
 const BELOW: Rows = &[(0, 1, 3, 1), (0, 1, 1, 4)];
 
@@ -163,21 +166,24 @@ fn at(capacity: u64, offsets: &'static [u64]) -> Ends {
     }
 }
 
+/// The ends that stay open, and the offsets of the layout at the upper one.
+fn between(low: u64, high: u64, offsets: &'static [u64]) -> Ends {
+    Ends { low, high, offsets }
+}
+
 #[test]
 fn the_least_capacity_is_found_or_stays_open(rt: HostRuntime) {
-    let open = Ends {
-        low: 4,
-        high: 5,
-        offsets: &[2, 4, 0],
-    };
-    let cases: [(Rows, Option<u64>, bool, Ends); 7] = [
+    let cases: [(Rows, Option<u64>, bool, Ends); 10] = [
         (FIVE, None, true, at(12, &[0, 0, 4, 0, 8])),
         (EVENS, None, true, at(5, &[2, 4, 0])),
         (EVENS, Some(6), true, at(5, &[2, 4, 0])),
-        (EVENS, Some(0), false, open),
+        (EVENS, Some(0), false, between(4, 5, &[2, 4, 0])),
         (BELOW, None, true, at(4, &[1, 0])),
         (FOURS, None, true, at(7, &[0, 4])),
         (&[], None, true, at(0, &[])),
+        (EIGHTS, None, true, at(20, &[8, 16, 0])),
+        (EIGHTS, Some(0), false, between(16, 20, &[8, 16, 0])),
+        (EIGHTS, Some(8), false, between(19, 20, &[8, 16, 0])),
     ];
     for (rows, steps, exact, ends) in cases {
         let found = least_of(rt.alloc(), rows, steps).expect(&rt, "memory");

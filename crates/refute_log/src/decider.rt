@@ -12,7 +12,8 @@ use dsa_model::NoMemory;
 /// Decides capacities of one instance, the subject. `spends` counts the answers Spent, and `units`
 /// what the calls have used. `gives`, `most` and `turn` are functions of the subject: which answers
 /// come at a capacity, how many units one call takes at most, and the height of the layout that
-/// comes, if one does.
+/// comes, if one does. `charge` says how many units an answer takes at least, by the subject and
+/// the allowance.
 pub trait Decider {
     ghost subject: { Self → Instance };
 
@@ -27,6 +28,8 @@ pub trait Decider {
     ghost most: { Instance → ℕ → ℕ };
 
     ghost turn: { Instance → ℕ → Option ℕ };
+
+    ghost charge: { Instance → ℕ → Answer → ℕ };
 
     /// Decides the capacity, in bytes, which is at most 2^60: a layout of the subject at it, an
     /// accepted log of the subject at it, or Spent. Where memory runs out, only `spends` and
@@ -45,5 +48,7 @@ pub trait Decider {
         ensures spent { IfOk result (λ d. IfSpent d (Rose (spends self.old) (spends self.new))) }
         ensures fewer { let limit = units self.old + most (subject self.old) capacity in
             IfOk result (λ d. IfSpent d (units self.new < limit)) }
-        ensures exhausted { IfOk result (λ d. IfSpent d (allowance self.old ≤ units self.new)) };
+        ensures exhausted { IfOk result (λ d. IfSpent d (allowance self.old ≤ units self.new)) }
+        ensures charged { let least = charge (subject self.old) (allowance self.old) in
+            IfOk result (λ d. units self.old + least (answer_of d) ≤ units self.new) };
 }

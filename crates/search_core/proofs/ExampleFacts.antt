@@ -4,15 +4,15 @@ use Rattle.std.proofs.Common.{◌≡◌, ◌-◌, ◌^◌, ℕ, zero, suc, List,
 use Rattle.dsa_terms.specs.Buffers.{Buffer, Instance, buffer, do_share, have_same_moments, is_live, some_before}
 use Rattle.dsa_terms.specs.Claims.{Claim, Entry, IsIn, child, step, up}
 use Rattle.dsa_terms.specs.Plans.{layout_height}
-use Rattle.dsa_terms.specs.Logs.{Line, Over, claim_of, ends_below, is_twin}
+use Rattle.dsa_terms.specs.Logs.{Line, Log, Over, claim_of, ends_below, is_twin}
 use Rattle.dsa_terms.specs.Parts.{is_cut, last_cut, part_of, parts, searched}
 use Rattle.dsa_terms.specs.Search.{comes_before, first, is_tall, work}
 use Rattle.canonical_order.specs.Claims.{HasBuffer}
-use Rattle.refute_log.specs.Answers.{Offsets}
+use Rattle.refute_log.specs.Answers.{Offsets, Refutation}
 use Rattle.refute_log.specs.declared.decided.Decided.TheVariants.{Spent}
 use Rattle.search_core.specs.Cites.{IsCoveredBy}
 use Rattle.search_core.specs.Courses.{at_start}
-use Rattle.search_core.specs.Decisions.{IsGiven, allowance_of, turn_of}
+use Rattle.search_core.specs.Decisions.{IsGiven, allowance_of, charge_of, turn_of}
 use Rattle.skyline.specs.Skies.{Sky}
 use Rattle.search_core.specs.Descents.{above_of, owed, root_of, through}
 use Rattle.search_core.specs.Lifted.{lifted}
@@ -212,3 +212,19 @@ none_below_four : turn_of two 3 ≡ None
 unfolding searched parts part_of last_cut is_cut first is_tall comes_before ends_below is_twin have_same_moments child
     step do_share some_before is_live up buffer
 none_below_four = refl
+
+-- ---- what an answer takes at least
+abbrev two_lines : Log
+two_lines = record { count = 2; capacity = 3; lines = Over [] 0 0 1 ∷ Over [] 0 0 1 ∷ []; final = 1 }
+
+one_for_a_layout : charge_of two 5 (Offsets (1 ∷ 0 ∷ [])) ≡ 1
+one_for_a_layout = refl
+
+none_for_no_buffers : charge_of [] 5 (Offsets []) ≡ 0
+none_for_no_buffers = refl
+
+one_for_each_line : charge_of two 5 (Refutation two_lines) ≡ 2
+one_for_each_line = refl
+
+none_without_a_number : charge_of two (allowance_of None) (Refutation two_lines) ≡ 0
+none_without_a_number = refl

@@ -22,6 +22,7 @@ pub mod Passing
 pub mod Parting
 pub mod Joining
 pub mod Deciding
+pub mod Charging
 pub mod ExampleFacts
 pub mod Meeting
 pub mod WatchLemmas

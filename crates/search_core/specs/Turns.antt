@@ -5,8 +5,8 @@ use Rattle.dsa_terms.specs.Claims.{Claim}
 use Rattle.dsa_terms.specs.Logs.{Line}
 use Rattle.canonical_order.specs.Claims.{entry_of}
 use Rattle.skyline.specs.Skies.{Sky, last_claim}
-use Rattle.search_core.specs.declared.walk.Turn.{Turn}
-use Rattle.search_core.specs.declared.walk.Turn.TheVariants as turn
+use Rattle.search_core.specs.declared.turns.Turn.{Turn}
+use Rattle.search_core.specs.declared.turns.Turn.TheVariants as turn
 use Rattle.search_core.specs.Descents.{IsPlace, above_of, left_of, owed, sky_root, through, turns_left}
 use Rattle.search_core.specs.Found.{IfSpent, IsFound, UnlessSpent}
 use Rattle.search_core.specs.Meters.{AreSpent, Units}

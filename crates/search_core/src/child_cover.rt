@@ -55,8 +55,8 @@ fn low_in_child(instance: &Instance, levels: &Levels, b: u32, c: u32) -> u64
     instance.buffer(c).least_offset(bound)
 }
 
-/// Whether the child by b meets the bound of c. No low falls, so a bound that the claim itself meets
-/// needs no look at the buffers.
+/// Whether the child by b meets the bound of c. No low falls, so a bound that the claim itself
+/// meets needs no look at the buffers.
 fn meets_in_child(instance: &Instance, levels: &Levels, b: u32, c: u32, bound: u64) -> bool
     requires count { length levels.now ≡ length instance.now }
     requires b_in { 0 < slice_index levels.now b }

@@ -26,6 +26,7 @@ mod seats;
 mod task;
 #[cfg(test)]
 mod tests;
+mod turns;
 mod twin_marks;
 mod walk;
 mod watch_row;

@@ -12,14 +12,14 @@ use canonical_order::Claim;
 pub(crate) enum Look {
     /// k covers the claim.
     Covers,
-    /// A bound of k that the claim does not meet, though it has the buffer; in bytes.
+    /// A bound of k that the claim does not meet, though it has all buffers of k; in bytes.
     Unmet(u32, u64),
-    /// A bound of k whose buffer the claim has not. It meets the bounds of all that it has.
+    /// A bound of k whose buffer the claim has not; in bytes.
     Lacks(u32, u64),
 }
 
-/// Of the bounds that the claim does not meet, though it has the buffer, the one that is highest
-/// above the level: it stays unmet for longest where lows rise.
+/// Of the bounds that the claim does not meet, though it has the buffer, the greatest: it stays
+/// unmet for longest where lows rise.
 fn highest_unmet(k: &Claim, levels: &Levels) -> Option<(u32, u64)>
     ensures some { IfSome result (IsUnmet k.now levels.now) }
     ensures none { (e : Entry) → IsIn e k.now → 0 < slice_index levels.now e.0 →
@@ -29,8 +29,8 @@ fn highest_unmet(k: &Claim, levels: &Levels) -> Option<(u32, u64)>
     let mut most = 0;
     for pair in k.pairs() {
         let level = levels.at(pair.0 as usize);
-        if level > 0 && level <= pair.1 && most <= pair.1 - level {
-            most = pair.1 - level;
+        if level > 0 && level <= pair.1 && most <= pair.1 {
+            most = pair.1;
             highest = Some(*pair);
         }
     }
@@ -50,15 +50,17 @@ fn lacked(k: &Claim, levels: &Levels) -> Option<(u32, u64)>
     None
 }
 
-/// Whether k covers the claim of the levels, and why not. It takes no memory.
+/// Whether k covers the claim of the levels, and why not. That a buffer is missing is looked for
+/// first: a line with such a buffer covers no claim below, so its watch stays for the claims above.
+/// It takes no memory.
 pub(crate) fn look_at(k: &Claim, levels: &Levels) -> Look
     ensures { IsLook k.now levels.now result }
 {
-    if let Some((b, bound)) = highest_unmet(k, levels) {
-        return Look::Unmet(b, bound);
+    if let Some((b, bound)) = lacked(k, levels) {
+        return Look::Lacks(b, bound);
     }
-    match lacked(k, levels) {
-        Some((b, bound)) => Look::Lacks(b, bound),
+    match highest_unmet(k, levels) {
+        Some((b, bound)) => Look::Unmet(b, bound),
         None => Look::Covers,
     }
 }

@@ -12,7 +12,7 @@ use crate::found::Found;
 use crate::learned::Learned;
 use crate::meter::Meter;
 use crate::task::Task;
-use crate::walk::search;
+use crate::turns::search;
 use dsa_model::NoMemory;
 use lifetime::Sections;
 use refute_log::ClosedLog;

@@ -85,7 +85,7 @@ impl<'a> Decider for Search<'a> {
     ghost use Rattle.dsa_terms.specs.Parts.{whole_work};
     ghost use Rattle.refute_log.specs.Decided.{IfSpent, IsRight, TurnsOut, answer_of};
     ghost use Rattle.refute_log.specs.Hunts.{Rose};
-    ghost use Rattle.search_core.specs.Decisions.{IsGiven, allowance_of, turn_of};
+    ghost use Rattle.search_core.specs.Decisions.{IsGiven, allowance_of, charge_of, turn_of};
     ghost use Rattle.search_core.specs.Meters.{AreMore};
     ghost use Rattle.search_core.specs.Outcomes.{LinesAreCounted, UnlessSpent, spends_after};
 
@@ -102,6 +102,8 @@ impl<'a> Decider for Search<'a> {
     ghost most = { whole_work };
 
     ghost turn = { turn_of };
+
+    ghost charge = { charge_of };
 
     /// As the trait says. `spends` counts the answers Spent and nothing else, and any other answer
     /// for an instance with a buffer takes a unit, where the budget has a number of them.
@@ -123,6 +125,9 @@ impl<'a> Decider for Search<'a> {
             IfOk result (λ d. IfSpent d (self.new.units.used < limit)) }
         ensures exhausted { let most = self.old.units.most in
             IfOk result (λ d. IfSpent d (allowance_of most ≤ self.new.units.used)) }
+        ensures charged { let most = self.old.units.most in
+            let least = charge_of self.old.subject (allowance_of most) in
+            IfOk result (λ d. self.old.units.used + least (answer_of d) ≤ self.new.units.used) }
         ensures counted { let n = self.old.spends in
             IfOk result (λ d. self.new.spends ≡ spends_after n d) }
         ensures uncounted { OnErr result (self.new.spends ≡ self.old.spends) }

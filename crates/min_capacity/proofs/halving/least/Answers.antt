@@ -2,7 +2,7 @@ use Rattle.std.proofs.Common.{◌≤◌, ◌^◌, ◌∙◌, refl, sym, subst, a
 use Rattle.std.specs.List.{All}
 use Rattle.dsa_model.proofs.Instances.{sound_instance}
 use Rattle.min_capacity.proofs.Hunts.{middle}
-use Rattle.min_capacity.proofs.Counting.{after_layout, after_log, call_within}
+use Rattle.min_capacity.proofs.Counting.{after_layout, after_log, call_short, call_within}
 use Rattle.min_capacity.proofs.Narrowing.{layout_lower, met_is_least, offsets_limited}
 use Rattle.min_capacity.proofs.halving.least.Goals as goal
 
@@ -27,6 +27,12 @@ returns-in-Spent-clause-fewer g c =
     let within = call_within i.halves c.loop-bracket-test.true refl in
     let fewer = rw (c.in-Spent.is, i.subject) at c.in_ok-layout.ensures.fewer in
     omega arith
+
+pub returns-in-Spent-clause-left : goal.returns-in-Spent-clause-left
+returns-in-Spent-clause-left g c =
+    let i = c.loop-bracket.invariant in
+    call_short i.halves c.loop-bracket-test.true refl
+    (rw (c.in-Spent.is, i.subject) at c.in_ok-layout.ensures.fewer)
 
 -- ---- the height of a layout at the middle
 pub height-requires-clause-count : goal.height-requires-clause-count
@@ -64,7 +70,8 @@ loop-bracket-preserved-in-Layout g c =
       halves = after_layout i.halves c.loop-bracket-test.true refl d.spends d.units (rw i.subject at d.used) _
           (sound_instance c.args.instance.now c.len-count.ensures.buffers)
           (rw (c.in-Layout.is, i.subject) at r.right) (rw (c.in-Layout.is, i.subject) at r.given)
-          (rw (c.in-Layout.is, i.subject) at r.turned) refl refl (rw c.deref.ensures.value at c.height.ensures);
+          (rw (c.in-Layout.is, i.subject) at r.turned)
+          (rw (c.in-Layout.is, i.subject, i.allowance) at r.charged) refl refl (rw c.deref.ensures.value at c.height.ensures);
     }
 
 pub loop-bracket-preserved-in-Refuted : goal.loop-bracket-preserved-in-Refuted
@@ -78,7 +85,8 @@ loop-bracket-preserved-in-Refuted g c =
       allowance = d.allowance ∙ i.allowance;
       halves = after_log i.halves c.loop-bracket-test.true refl d.spends d.units (rw i.subject at d.used) _
           c.in-Refuted.log right.0 right.1 (rw (c.in-Refuted.is, i.subject) at r.given)
-          (rw (c.in-Refuted.is, i.subject) at r.turned) refl refl refl refl;
+          (rw (c.in-Refuted.is, i.subject) at r.turned)
+          (rw (c.in-Refuted.is, i.subject, i.allowance) at r.charged) refl refl refl refl;
     }
 
 pub loop-bracket-preserved : goal.loop-bracket-preserved
@@ -92,7 +100,8 @@ loop-bracket-preserved g c =
       allowance = d.allowance ∙ i.allowance;
       halves = after_log i.halves c.loop-bracket-test.true refl d.spends d.units (rw i.subject at d.used) _
           c.in-Refuted.log right.0 right.1 (rw (c.in-Refuted.is, i.subject) at r.given)
-          (rw (c.in-Refuted.is, i.subject) at r.turned) refl refl refl refl;
+          (rw (c.in-Refuted.is, i.subject) at r.turned)
+          (rw (c.in-Refuted.is, i.subject, i.allowance) at r.charged) refl refl refl refl;
     }
 
 -- ---- the ends have met

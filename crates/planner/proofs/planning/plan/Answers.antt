@@ -16,6 +16,7 @@ returns-in-Within c =
       feasible = λ none. (λ laid. (offsets, h.layout), λ feasible. tt);
       infeasible = λ none. (λ refuted. absurd refuted, λ infeasible. infeasible offsets h.layout);
       bound = λ lt. let le = start_is_high I C offsets s h in absurd (omega arith);
+      steps = λ none. absurd (let found = rw c.in-Within.is at c.in_ok-offsets.ensures in cc);
     }
 
 pub returns-in-Past : goal.returns-in-Past
@@ -29,4 +30,5 @@ returns-in-Past c =
       feasible = λ none. IfOk-weaker past.result _ _ (λ d h. laid_out_exactly I C steps d none h) past.ensures.value;
       infeasible = λ none. IfOk-weaker past.result _ _ (λ d h. refuted_exactly I C steps d none h) past.ensures.value;
       bound = past.ensures.bound;
+      steps = λ _. past.ensures.steps;
     }

@@ -7,7 +7,7 @@ use Rattle.search_core.proofs.Descending.{are_raised, back_noted, descends_still
 use Rattle.search_core.proofs.Growing.{extends_along}
 use Rattle.search_core.proofs.Searching.{chosen_in}
 use Rattle.search_core.proofs.Stepping.{asked_above, grown_below, known_line, nothing_in, on_back, on_line, root_refuted, some_owed}
-use Rattle.search_core.proofs.walk.step.Goals as goal
+use Rattle.search_core.proofs.turns.step.Goals as goal
 
 -- ---- back
 pub chosen-requires : goal.chosen-requires

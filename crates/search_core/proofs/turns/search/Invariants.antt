@@ -6,7 +6,7 @@ use Rattle.search_core.specs.Descents.{IsPlace, owed, sky_root, turns_left}
 use Rattle.search_core.specs.Logs.{Extends, IsSearchLog}
 use Rattle.search_core.specs.Meters.{AreCounted, AreMore}
 use Rattle.search_core.specs.Watches.{AreWatchedAt}
-use Rattle.search_core.proofs.walk.search.Given as goal
+use Rattle.search_core.proofs.turns.search.Given as goal
 
 abbrev pub decreases-turns : goal.decreases-turns
 decreases-turns l = turns_left l.task.instance.now l.task.capacity l.sky l.frames.items l.line

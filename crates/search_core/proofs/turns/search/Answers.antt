@@ -3,7 +3,7 @@ use Rattle.dsa_terms.specs.Parts.{whole}
 use Rattle.search_core.proofs.Counting.{counted_along, counted_less}
 use Rattle.search_core.proofs.Growing.{extends_along}
 use Rattle.search_core.proofs.Taking.{more_after, more_still, unless_along, unless_always}
-use Rattle.search_core.proofs.walk.search.Goals as goal
+use Rattle.search_core.proofs.turns.search.Goals as goal
 
 pub turns-preserved : goal.turns-preserved
 turns-preserved c =
