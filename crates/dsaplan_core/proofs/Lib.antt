@@ -16,3 +16,20 @@ pub mod Accepting
 pub mod Headline
 pub mod Reading
 mod ExampleFacts
+mod InputTextFacts
+mod OutputTextFacts
+mod LineFacts
+mod NameFacts
+pub mod OneFacts
+pub mod WorldFacts
+mod RefusedFacts
+mod FileFacts
+mod ConcludedFacts
+pub mod DecidedFacts
+mod JudgedFacts
+pub mod CheckedFacts
+pub mod AnswerFacts
+mod LostFacts
+pub mod ShownFacts
+mod HeadlineFacts
+mod EmptyFacts

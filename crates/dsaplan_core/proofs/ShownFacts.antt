@@ -1,0 +1,116 @@
+-- Facts of the one buffer, and the report of a trial without buffers.
+use Rattle.std.proofs.Common.{◌≡◌, ℕ, zero, suc, ◌≤◌, ◌++◌, inl, [], Some, None, Ok, codes, refl, sym, ap, lit≤, arith}
+use Rattle.std.specs.FinMap.{empty}
+use Rattle.std.specs.Fmt.{digits}
+use Rattle.dsa_terms.specs.Bounds.{bound_modulus, counted, highest_stack, lower_bound, moduli, moments, rounded_size, stack}
+use Rattle.dsa_terms.specs.Buffers.{buffer, do_share, is_live, some_before}
+use Rattle.dsa_terms.specs.Fits.{best_fit, best_place, first_fit, first_passing, first_place, free_ranges, highest, holds, is_free, is_tighter, neighbours, stretches, top}
+use Rattle.dsa_terms.specs.Layouts.{IsLayout, IsLeast}
+use Rattle.dsa_terms.specs.Orders.{falls_by, orders, rises_by}
+use Rattle.dsa_terms.specs.Parts.{is_cut, last_cut, part_of, parts}
+use Rattle.dsa_terms.specs.Plans.{IsPeak, layout_height, load}
+use Rattle.dsa_terms.specs.Starts.{best_start, lowest_place, starts}
+use Rattle.dsa_model.proofs.Live.{not_live_after}
+use Rattle.csv_instance.specs.Parse.{parse}
+use Rattle.csv_instance.specs.Records.{table_of}
+use Rattle.layout_report.specs.Facts.{bounds_text}
+use Rattle.layout_report.specs.declared.facts.Facts.{Facts}
+use Rattle.make_instance.specs.Made.{made_text}
+use Rattle.planner.specs.InstanceFacts.{AreFactsOf}
+use Rattle.dsaplan_core.specs.Shown.{IsVerdict, ShowsTrial}
+use Rattle.dsaplan_core.specs.declared.status.Status.TheVariants as status
+use Rattle.make_instance.proofs.TextLemmas.{table-read}
+use Rattle.dsaplan_core.proofs.OneFacts.{byte, one}
+use Rattle.dsaplan_core.proofs.WorldFacts.{told, trial_words}
+
+-- ---- the peak of the one buffer
+later_load : (s : ℕ) → load one (suc s) ≡ 0
+unfolding load
+later_load s = rw (not_live_after byte (suc s) (omega arith)) refl
+
+first_load : load one 0 ≡ 1
+unfolding load is_live
+first_load = refl
+
+one_peak : IsPeak one 0
+one_peak = record { not_empty = λ e. absurd cc; most = most; earliest = λ s lt. absurd (omega arith) }
+  where
+    most : (s : ℕ) → load one s ≤ load one 0
+    most zero = omega arith
+    most (suc s) = omega (arith, later_load s)
+
+-- ---- its facts
+abbrev one_facts : Facts
+one_facts = record { buffers = 1; peak = Some (0, 1); parts = 1; bound = 1; modulus = 1; best = 1 }
+
+facts_of_one : AreFactsOf one one_facts
+unfolding parts part_of last_cut is_cut bound_modulus lower_bound highest_stack moduli moments stack counted
+    rounded_size layout_height best_start lowest_place starts orders falls_by rises_by first_fit best_fit neighbours
+    first_place first_passing best_place free_ranges stretches holds is_tighter is_free highest top do_share
+    some_before is_live buffer
+facts_of_one = record {
+  buffers = refl;
+  peak = (one_peak, sym first_load);
+  parts = refl;
+  bound = refl;
+  modulus = refl;
+  best = refl;
+}
+
+one_text : bounds_text one_facts ≡ codes "buffers 1\npeak 0 1\nparts 1\nbound 1 1\nbest 1\n"
+unfolding digits
+one_text = refl
+
+-- ---- a trial without buffers
+abbrev pub no_facts : Facts
+no_facts = record { buffers = 0; peak = None; parts = 0; bound = 0; modulus = 1; best = 0 }
+
+pub facts_of_none : AreFactsOf [] no_facts
+unfolding parts part_of last_cut is_cut bound_modulus lower_bound highest_stack moduli moments stack counted
+    layout_height best_start lowest_place starts orders first_fit best_fit
+facts_of_none = record { buffers = refl; peak = refl; parts = refl; bound = refl; modulus = refl; best = refl }
+
+made_none : parse (table_of (made_text 7 0)) ≡ Ok []
+made_none = ap parse (table-read 7 0 (lit≤ tt))
+
+pub none_least : IsLeast [] 0
+none_least = (([], laid), inl refl)
+  where
+    laid : IsLayout [] 0 []
+    laid = record {
+      count = refl;
+      aligned = λ b lt. absurd (omega arith);
+      within = λ b lt. absurd (omega arith);
+      apart = λ b c t lt. absurd (omega arith);
+    }
+
+none_text : codes "buffers 0\npeak none\nparts 0\nbound 0 1\nbest 0\nleast 0\n"
+    ≡ bounds_text no_facts ++ codes "least 0\n"
+unfolding digits
+none_text = refl
+
+pub trial_shown : ShowsTrial (trial_words (codes "0")) (told empty) (told empty)
+    (codes "buffers 0\npeak none\nparts 0\nbound 0 1\nbest 0\nleast 0\n")
+unfolding digits
+trial_shown = record {
+  seed = 7;
+  count = 0;
+  steps = 5;
+  instance = [];
+  facts = no_facts;
+  verdict = status.Least 0;
+  asked = refl;
+  few = lit≤ tt;
+  made = made_none;
+  true_facts = facts_of_none;
+  true_verdict = none_least;
+  its_text = none_text;
+  files = refl;
+}
+
+-- ---- a verdict is of the least capacity
+one_verdict : IsVerdict [] 5 (status.Least 0)
+one_verdict = none_least
+
+no_verdict : IsVerdict [] 5 (status.Feasible 0) → ⊥
+no_verdict h = h
