@@ -4,7 +4,7 @@ use Rattle.dsa_terms.specs.Buffers.{Buffer, Instance, is_live, buffer, have_same
 use Rattle.dsa_terms.specs.Claims.{Claim, up}
 use Rattle.dsa_terms.specs.Logs.{ByLine, Below, Twin, Cases, Over, Line, ends_below, is_stacked, is_twin, rounded, rounding}
 use Rattle.conflicts.specs.Covering.{IsCoveringLine}
-use Rattle.conflicts.specs.Eased.{IsLower, IsLowerCases, IsOwnOf, cut, eased_over, from_height, least_height, lowered, reach}
+use Rattle.conflicts.specs.Eased.{HasNoOwn, IsLower, IsLowerCases, IsNoHigher, IsOwnOf, cut, eased_over, from_height, least_height, least_over, lowered, reach}
 use Rattle.conflicts.specs.Easing.{IsOfKind}
 use Rattle.conflicts.specs.Ends.{IsLeastEnd, end_of}
 use Rattle.conflicts.specs.Walks.{IsWalk}
@@ -55,6 +55,10 @@ too_high : eased_over four 4 ((0, 9) ∷ (1, 10) ∷ (2, 10) ∷ (3, 0) ∷ []) 
 unfolding least_height reach is_stacked rounded rounding up is_live buffer
 too_high = refl
 
+least_line : least_over four 4 0 2 ((0, 9) ∷ (1, 10) ∷ []) ≡ Over ((0, 2) ∷ (1, 2) ∷ []) 0 2 2
+unfolding least_height reach rounded rounding buffer
+least_line = refl
+
 low_enough : eased_over four 4 ((2, 3) ∷ []) 0 3 1 ≡ Over ((2, 3) ∷ []) 0 3 1
 unfolding least_height reach is_stacked rounded rounding up is_live buffer
 low_enough = refl
@@ -103,6 +107,9 @@ none_own = record {
   ];
 }
 
+none_below_or_twin : HasNoOwn four ((1, 1) ∷ (2, 1) ∷ []) (2, 1)
+none_below_or_twin = none_own
+
 -- ---- ends
 end_from_low : end_of four (1, 1) ≡ 3
 unfolding end_of up buffer
@@ -126,6 +133,12 @@ lower_bounds = refl
 -- what is needed of buffer 1 is below its bound, and of buffer 2 above
 cut_bounds : map (cut (0 ∷ 3 ∷ 8 ∷ [])) ((1, 5) ∷ (2, 7) ∷ []) ≡ (1, 3) ∷ (2, 7) ∷ []
 cut_bounds = refl
+
+no_higher : IsNoHigher (2, 7) (2, 7)
+no_higher = (refl, lit≤ tt)
+
+higher : IsNoHigher (2, 7) (2, 8) → ⊥
+higher h = let k = h.1 in omega arith
 
 -- without buffer 1, and with a lower bound
 some_lower : IsLower ((1, 2) ∷ (2, 7) ∷ []) ((2, 3) ∷ [])

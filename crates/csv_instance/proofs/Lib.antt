@@ -17,3 +17,4 @@ pub mod Mark
 pub mod OffsetLemmas
 pub mod LayoutLaw
 pub mod OffsetRows
+mod KeptFacts

@@ -7,10 +7,10 @@ use Rattle.dsa_outside.specs.Faults.{AllStay, NoneFell, one_more, Rose}
 use Rattle.dsa_outside.specs.Calls.{CallState, after_call, is_due}
 
 -- the name 'i' holds three bytes
-abbrev one_file : FileMap
+abbrev pub one_file : FileMap
 one_file = insert empty (105 ∷ []) (1 ∷ 2 ∷ 3 ∷ [])
 
-three_bytes_are_held : file_at (Some one_file) (105 ∷ []) ≡ Some (1 ∷ 2 ∷ 3 ∷ [])
+pub three_bytes_are_held : file_at (Some one_file) (105 ∷ []) ≡ Some (1 ∷ 2 ∷ 3 ∷ [])
 three_bytes_are_held = grind (gets, rules)
 
 -- a longer name is another name
@@ -39,14 +39,14 @@ text_is_put_last : with_text (Some (1 ∷ [])) (2 ∷ []) ≡ Some (1 ∷ 2 ∷ 
 text_is_put_last = refl
 
 -- calls 0 and 2 are to fail
-listed : ℕ → ℕ → CallState
+pub listed : ℕ → ℕ → CallState
 listed next faults = record { failing = 2 ∷ 0 ∷ []; next = next; faults = faults }
 
-first_is_due : is_due (listed 0 0) ≡ true
+pub first_is_due : is_due (listed 0 0) ≡ true
 unfolding listed
 first_is_due = refl
 
-second_is_not : is_due (listed 1 1) ≡ false
+pub second_is_not : is_due (listed 1 1) ≡ false
 unfolding listed
 second_is_not = refl
 

@@ -1,12 +1,12 @@
 -- What the definitions come to on small instances.
-use Rattle.std.proofs.Common.{◌≡◌, ◌^◌, ◌-◌, ◌<◌, ◌⊎◌, inl, inr, ℕ, List, [], ◌∷◌, length, None, Some, refl, ap, arith}
+use Rattle.std.proofs.Common.{◌≡◌, ◌^◌, ◌-◌, ◌<◌, ◌⊎◌, inl, inr, true, false, ℕ, List, [], ◌∷◌, length, None, Some, refl, ap, arith}
 use Rattle.dsa_terms.specs.Buffers.{buffer, do_share, is_live, some_before}
 use Rattle.dsa_terms.specs.Claims.{Entry, IsIn}
 use Rattle.dsa_terms.specs.Fits.{best_place, first_passing, first_place, free_ranges, highest, holds, is_free, is_tighter, neighbours, stretches, top}
 use Rattle.dsa_terms.specs.Orders.{falls_by, rises_by}
 use Rattle.dsa_terms.proofs.Examples.{evens, five, two_of_four, unlike}
 use Rattle.first_fit.specs.Free.{narrowed, narrower, range_of}
-use Rattle.first_fit.specs.Orders.{in_order, key_of, keyed}
+use Rattle.first_fit.specs.Orders.{before_by, in_order, key_of, keyed}
 use Rattle.first_fit.specs.Rules.{IsOrderOf, rule_of}
 use Rattle.first_fit.specs.Starts.{start_of}
 use Rattle.first_fit.specs.Taken.{AreTaken}
@@ -48,6 +48,15 @@ lower_key = refl
 area_key : key_of AreaFalling (buffer five 3) ≡ 2 ^ 128 - 49
 unfolding buffer
 area_key = refl
+
+-- of two buffers of one size the lower number comes first
+lower_number_first : before_by SizeFalling evens 0 1 ≡ true
+unfolding falls_by buffer
+lower_number_first = refl
+
+not_the_higher : before_by SizeFalling evens 1 0 ≡ false
+unfolding falls_by buffer
+not_the_higher = refl
 
 by_size : in_order SizeFalling evens ≡ 2 ∷ 0 ∷ 1 ∷ []
 unfolding falls_by buffer

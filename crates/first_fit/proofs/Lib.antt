@@ -9,3 +9,4 @@ pub mod Ordering
 pub mod Starting
 mod ExampleFacts
 mod StartFacts
+mod SeatFacts

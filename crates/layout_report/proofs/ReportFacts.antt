@@ -1,17 +1,18 @@
 -- Small layouts, and what the report says of them.
-use Rattle.std.proofs.Common.{◌≡◌, ℕ, zero, suc, ◌+◌, ◌<◌, ◌≤◌, ◌⊎◌, inl, inr, List, [], ◌∷◌, ◌++◌, Some, None, codes, refl, sym, arith, lit<, lit≤}
+use Rattle.std.proofs.Common.{◌≡◌, ℕ, zero, suc, ◌+◌, ◌<◌, ◌≤◌, ◌⊎◌, inl, inr, List, [], ◌∷◌, ◌++◌, slice_index, Some, None, codes, refl, ap₂, sym, arith, lit<, lit≤}
 use Rattle.std.specs.Fmt.{digits}
 use Rattle.csv.specs.Writing.{escaped, fields_text, is_blank}
 use Rattle.csv_instance.specs.Offsets.{ids_of}
 use Rattle.csv_instance.specs.Records.{Record}
 use Rattle.dsa_terms.specs.Buffers.{IsLive, buffer, is_live}
 use Rattle.dsa_terms.specs.Claims.{IsIn}
+use Rattle.dsa_terms.specs.Fits.{Range}
 use Rattle.dsa_terms.specs.Plans.{layout_height, load}
 use Rattle.dsa_terms.proofs.Examples.{evens, plain}
 use Rattle.dsa_model.proofs.Live.{not_live_after}
 use Rattle.load_profile.specs.LoadProfile.{IsPeakOf}
-use Rattle.layout_report.specs.Report.{IsReportOf, moment_line, peak_line, row_fields, rows_text}
-use Rattle.layout_report.specs.Rows.{AreLiveRows, AreRowsAt, IsUnused, buffer_row, rows_between}
+use Rattle.layout_report.specs.Report.{AreRowsOf, IsReportOf, id_of, moment_line, peak_line, row_fields, rows_text}
+use Rattle.layout_report.specs.Rows.{AreLiveRows, AreRowsAt, AreStacked, IsFreeAt, IsRowAt, IsUnused, buffer_row, free_row, rows_between}
 use Rattle.layout_report.specs.declared.row.Row.{Row}
 use Rattle.layout_report.proofs.Filling.{filled_are_rows, range}
 
@@ -117,6 +118,62 @@ over_a_buffer u = go (u.free 1 (lit< tt) refl)
     go : (5 ≤ 4) ⊎ (4 + 1 ≤ 3) → ⊥
     go (inl k) = omega arith
     go (inr k) = omega arith
+
+-- between the first and the second one address is free
+free_at_3 : IsFreeAt evens offsets 0 5 (range 3 4)
+unfolding buffer is_live
+free_at_3 = record { unused = record { not_empty = lit< tt; under = lit≤ tt; free = free_of }; greatest = greatest }
+  where
+    free_of : (b : ℕ) → b < 3 → IsLive (buffer evens b) 0 →
+        (4 ≤ slice_index offsets b) ⊎ (slice_index offsets b + (buffer evens b).size ≤ 3)
+    free_of zero lt l = inr (lit≤ tt)
+    free_of (suc zero) lt l = inl (lit≤ tt)
+    free_of (suc (suc zero)) lt l = inr (lit≤ tt)
+    free_of (suc (suc (suc b))) lt l = absurd (omega arith)
+
+    above : (x y : ℕ) → 4 ≤ y → (y ≤ 2) ⊎ (3 ≤ x) → x ≤ 3 → x ≡ 3
+    above x y k (inl h) l = absurd (omega arith)
+    above x y k (inr h) l = omega arith
+
+    below : (x y : ℕ) → x ≤ 3 → (y ≤ 4) ⊎ (5 ≤ x) → 4 ≤ y → y ≡ 4
+    below x y k (inl h) l = omega arith
+    below x y k (inr h) l = absurd (omega arith)
+
+    greatest : (s : Range) → IsUnused evens offsets 0 5 s → s.start ≤ 3 → 4 ≤ s.stop → s ≡ range 3 4
+    greatest s u from to = ap₂ range
+        (above s.start s.stop to (u.free 0 (lit< tt) refl) from)
+        (below s.start s.stop from (u.free 1 (lit< tt) refl) to)
+
+not_free : IsFreeAt evens offsets 0 5 (range 3 5) → ⊥
+not_free f = over_a_buffer f.unused
+
+row_of_a_range : IsRowAt evens offsets 0 5 (free 3 1)
+row_of_a_range = inr (range 3 4, free_at_3, refl)
+
+row_of_a_buffer : IsRowAt evens offsets 0 5 (row 4 1 1)
+unfolding buffer is_live
+row_of_a_buffer = inl (1, lit< tt, refl, refl)
+
+size_of_a_range : free_row (range 3 7) ≡ free 3 4
+size_of_a_range = refl
+
+id_of_none : id_of three_ids None ≡ []
+id_of_none = refl
+
+id_of_the_second : id_of three_ids (Some 1) ≡ codes "B"
+id_of_the_second = refl
+
+no_peak_no_rows : AreRowsOf evens offsets None []
+no_peak_no_rows = refl
+
+a_row_without_a_peak : AreRowsOf evens offsets None (row 0 2 2 ∷ []) → ⊥
+a_row_without_a_peak e = cc
+
+rows_above_each_other : AreStacked 1 (row 1 2 0 ∷ row 4 1 1 ∷ [])
+rows_above_each_other = (lit≤ tt, lit< tt, (lit≤ tt, lit< tt, tt))
+
+into_the_first : AreStacked 1 (row 1 2 0 ∷ row 2 1 1 ∷ []) → ⊥
+into_the_first s = let k : 3 ≤ 2 = s.2.0 in omega arith
 
 -- nothing is live after the first moment
 later_load : (s : ℕ) → load evens (suc s) ≡ 0

@@ -44,10 +44,10 @@ numbered_edges = refl
 one_noted : ends_with (1 ∷ []) 7 ((3 ∷ []) ∷ (4 ∷ []) ∷ []) ≡ (3 ∷ []) ∷ (4 ∷ 7 ∷ []) ∷ []
 one_noted = refl
 
-abbrev first : Section
+abbrev pub first : Section
 first = record { start = 0; members = 0 ∷ [] }
 
-abbrev second : Section
+abbrev pub second : Section
 second = record { start = 6; members = 0 ∷ 1 ∷ [] }
 
 starts_of_both : starts_of (first ∷ second ∷ []) ≡ 0 ∷ 6 ∷ []
@@ -75,11 +75,11 @@ list_with sections = record { sections = sections; of_buffers = [] }
 last_of_both : last_of (first ∷ second ∷ []) ≡ second
 last_of_both = refl
 
-among_both : AreAmong (0 ∷ []) (0 ∷ 1 ∷ [])
+pub among_both : AreAmong (0 ∷ []) (0 ∷ 1 ∷ [])
 among_both b (inl e) = inl e
 among_both b (inr i) = absurd i
 
-not_among : AreAmong (0 ∷ 1 ∷ []) (0 ∷ []) → ⊥
+pub not_among : AreAmong (0 ∷ 1 ∷ []) (0 ∷ []) → ⊥
 not_among h = elim (h 1 (inr (inl refl))) [ inl e ↦ absurd cc | inr i ↦ i ]
 
 -- the first of the two is within the second

@@ -13,5 +13,7 @@ pub mod Live
 pub mod Standing
 pub mod Belonging
 pub mod Members
-mod ExampleFacts
-mod RunFacts
+pub mod ExampleFacts
+pub mod RunFacts
+pub mod SweepFacts
+pub mod ThinFacts

@@ -13,7 +13,7 @@ two =
     record { lower = 0; upper = 10; size = 4; alignment = 1; gaps = (4, 6) ∷ [] }
     ∷ record { lower = 4; upper = 7; size = 4; alignment = 1; gaps = [] } ∷ []
 
-abbrev listed : List Section → SectionList
+abbrev pub listed : List Section → SectionList
 listed sections = record { sections = sections; of_buffers = [] }
 
 -- ---- runs begin at 0, 4, 6 and 7
@@ -86,17 +86,17 @@ second_stands_not h = let r = h 0 0 (omega arith) refl in absent r.0 r.1
     absent (suc s) f = let k = f.in_range in omega arith
 
 -- ---- lists of sections
-abbrev placed : List Section → List (List ℕ) → SectionList
+abbrev pub placed : List Section → List (List ℕ) → SectionList
 placed sections places = record { sections = sections; of_buffers = places }
 
-abbrev both : List Section
+abbrev pub both : List Section
 both = section_with 0 (0 ∷ []) ∷ section_with 6 (0 ∷ 1 ∷ []) ∷ []
 
 -- buffer 0 is in both sections, buffer 1 in the second one
-abbrev kept : SectionList
+abbrev pub kept : SectionList
 kept = placed both ((0 ∷ 1 ∷ []) ∷ (1 ∷ []) ∷ [])
 
-rising : Rises (0 ∷ 1 ∷ [])
+pub rising : Rises (0 ∷ 1 ∷ [])
 rising = (above, ((λ y i. absurd i), tt))
   where
     above : (y : ℕ) → IsIn y (1 ∷ []) → 0 < y

@@ -1,8 +1,8 @@
 -- Worked logs: the sample log has no fault, and each changed one has the fault that is said.
-use Rattle.std.proofs.Common.{◌≡◌, ◌^◌, ◌-◌, ℕ, false, [], ◌∷◌, Some, None, refl}
+use Rattle.std.proofs.Common.{◌≡◌, ◌^◌, ◌-◌, ℕ, false, [], ◌∷◌, map, Some, None, refl}
 use Rattle.dsa_terms.specs.Buffers.{buffer, do_share, have_same_moments, is_live, some_before}
 use Rattle.dsa_terms.specs.Claims.{child, step, up}
-use Rattle.dsa_terms.specs.Logs.{Below, Cases, ends_below, is_stacked, is_twin, rounded, rounding}
+use Rattle.dsa_terms.specs.Logs.{Below, ByLine, Cases, Twin, ends_below, is_stacked, is_twin, rounded, rounding}
 use Rattle.dsa_terms.proofs.Examples.{evens, sample}
 use Rattle.refute_log.specs.Reasons.{covers}
 use Rattle.refute_log.specs.declared.line.Cite.TheVariants as cite
@@ -13,7 +13,7 @@ use Rattle.log_text.specs.declared.raw.RawLine.{RawLine}
 use Rattle.log_text.specs.declared.raw.RawLine.TheVariants as raw
 use Rattle.log_text.specs.declared.raw.RawLog.{RawLog}
 use Rattle.log_check.specs.declared.fault.CheckFault.TheVariants as fault
-use Rattle.log_check.specs.Faults.{check_fault, end_fault, has_own_cites, line_of, raw_reason, reason_at}
+use Rattle.log_check.specs.Faults.{check_fault, cite_of, end_fault, has_own_cites, line_of, raw_reason, reason_at}
 use Rattle.log_check.specs.Narrowing.{narrow_cite, narrow_line, shape_reason}
 use Rattle.log_check.specs.Taking.{illegal_fault}
 
@@ -108,6 +108,9 @@ no_such_line = refl
 
 text_of_a_line : raw_line_of (line_of case_all) ≡ case_all
 text_of_a_line = refl
+
+three_cites : map cite_of (raw_cite.Line 7 ∷ raw_cite.Below 8 ∷ raw_cite.Twin 9 ∷ []) ≡ ByLine 7 ∷ Below 8 ∷ Twin 9 ∷ []
+three_cites = refl
 
 other_cites : has_own_cites (raw.Cases ((1, 1) ∷ []) ((2, raw_cite.Line 0) ∷ [])) ≡ false
 other_cites = refl

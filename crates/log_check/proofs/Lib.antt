@@ -5,3 +5,4 @@ pub mod Texts
 pub mod AcceptedLogs
 pub mod Ends
 mod ExampleFacts
+mod TakenFacts

@@ -169,7 +169,7 @@ one_newline_more = (
   ),
 )
 
-differs : (a b : ℕ) (xs ys zs : List ℕ) → b < a → a ∷ xs ≡ zs → zs ≡ b ∷ ys → ⊥
+pub differs : (a b : ℕ) (xs ys zs : List ℕ) → b < a → a ∷ xs ≡ zs → zs ≡ b ∷ ys → ⊥
 differs a b xs ys zs l e q = let n : a ≡ b = head_of a b xs ys (e ∙ q) in omega arith
 
 -- no row begins with an x

@@ -13,10 +13,10 @@ use Rattle.log_text.specs.declared.raw.RawLog.{RawLog}
 use Rattle.log_text.proofs.ExampleFacts.{no_row}
 
 -- ---- lines that are kept
-abbrev line : RawLine
+abbrev pub line : RawLine
 line = raw_line.Over 0 3 1 ((2, 3) ∷ [])
 
-line_within : IsWithin line
+pub line_within : IsWithin line
 line_within = (
   lit< tt,
   lit≤ tt,
@@ -24,14 +24,14 @@ line_within = (
   All-cons IsPairWithin (2, 3) [] (lit≤ tt, lit≤ tt) (All-nil IsPairWithin),
 )
 
-line_kept : IsLineKept line
+pub line_kept : IsLineKept line
 line_kept = record { not_empty = λ e. cc; rising = ((λ y i. absurd i), tt); within = line_within }
 
 not_without_claim : IsLineKept (raw_line.Over 0 3 1 []) → ⊥
 not_without_claim k = k.not_empty refl
 
 -- a claim with one buffer twice
-abbrev twice : Claim
+abbrev pub twice : Claim
 twice = (2, 3) ∷ (2, 4) ∷ []
 
 not_twice : IsLineKept (raw_line.Over 0 3 1 twice) → ⊥

@@ -1,9 +1,9 @@
 -- Small made instances.
-use Rattle.std.proofs.Common.{◌≡◌, codes, refl}
+use Rattle.std.proofs.Common.{◌≡◌, [], ◌∷◌, Some, None, codes, refl}
 use Rattle.std.specs.Fmt.{digits}
-use Rattle.make_instance.specs.Draws.{first_state, state_at}
-use Rattle.make_instance.specs.Made.{made_text}
-use Rattle.make_instance.specs.Rows.{made_row}
+use Rattle.make_instance.specs.Draws.{draw, first_state, next_state, state_at}
+use Rattle.make_instance.specs.Made.{gap_text, header, made_record, made_table, made_text, record_of}
+use Rattle.make_instance.specs.Rows.{gap_in, made_row, row_of}
 
 -- the states of the generator, at first and by the ten draws of two buffers
 first : state_at 1 0 ≡ 2
@@ -49,3 +49,39 @@ greatest_first = refl
 large : made_text 1152921504606846976 2 ≡ codes "id,lower,upper,size,alignment,gaps\nb0,2,6,42,1,\nb1,0,11,7,1,\n"
 unfolding made_text made_row state_at digits
 large = refl
+
+-- ---- draws, gaps and records one by one
+after_two : next_state 2 ≡ 96542
+after_two = refl
+
+first_draw : draw 1 1 4 ≡ 2
+unfolding state_at
+first_draw = refl
+
+gap_of_three : gap_in 0 5 3 ≡ Some (6, 7)
+gap_of_three = refl
+
+no_room : gap_in 0 5 2 ≡ None
+no_room = refl
+
+no_flag : gap_in 1 5 3 ≡ None
+no_flag = refl
+
+a_row : row_of 5 3 7 2 0 ≡ record { lower = 5; upper = 8; size = 7; alignment = 2; gap = Some (6, 7) }
+a_row = refl
+
+text_of_a_gap : gap_text (Some (6, 7)) ≡ codes "6-7"
+unfolding digits
+text_of_a_gap = refl
+
+a_record : record_of 3 (row_of 5 3 7 2 0)
+    ≡ codes "b3" ∷ codes "5" ∷ codes "8" ∷ codes "7" ∷ codes "2" ∷ codes "6-7" ∷ []
+unfolding digits
+a_record = refl
+
+second_record : made_record 1 2 1 ≡ codes "b1" ∷ codes "2" ∷ codes "6" ∷ codes "51" ∷ codes "3" ∷ [] ∷ []
+unfolding made_row state_at digits
+second_record = refl
+
+no_records : made_table 7 0 ≡ header ∷ []
+no_records = refl

@@ -10,18 +10,18 @@ use Rattle.skyline.specs.Places.{at_places, set_each}
 use Rattle.skyline.specs.Skies.{last_claim}
 use Rattle.skyline.specs.Standing.{claim_after, floor, offset_after, raised, top_under}
 
-abbrev plain : ℕ → ℕ → ℕ → ℕ → Buffer
+abbrev pub plain : ℕ → ℕ → ℕ → ℕ → Buffer
 plain lower upper size alignment =
     record { lower = lower; upper = upper; size = size; alignment = alignment; gaps = [] }
 
-abbrev all_three : List ℕ
+abbrev pub all_three : List ℕ
 all_three = 0 ∷ 1 ∷ 2 ∷ []
 
 -- ---- two buffers of size 1 at even offsets and one of size 2, all live at moment 0
-abbrev together : Instance
+abbrev pub together : Instance
 together = plain 0 1 1 2 ∷ plain 0 1 1 2 ∷ plain 0 1 2 1 ∷ []
 
-abbrev one_section : SectionList
+abbrev pub one_section : SectionList
 one_section = record {
   sections = section_with 0 all_three ∷ [];
   of_buffers = (0 ∷ []) ∷ (0 ∷ []) ∷ (0 ∷ []) ∷ [];

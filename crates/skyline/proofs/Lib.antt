@@ -9,7 +9,8 @@ pub mod Marks
 pub mod Loads
 pub mod LoadSteps
 pub mod Overloads
-mod ExampleFacts
+pub mod ExampleFacts
 pub mod Bounds
 pub mod Turns
 mod ClaimFacts
+mod StackFacts

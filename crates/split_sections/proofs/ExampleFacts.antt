@@ -7,11 +7,11 @@ use Rattle.split_sections.specs.PartList.{AreInRange, IsPart}
 use Rattle.split_sections.specs.Sweep.{BeginsAt, IsRun, entry_at, lower_entry}
 use Rattle.split_sections.proofs.Kept.{in_range_at}
 
-abbrev lives : ℕ → ℕ → Buffer
+abbrev pub lives : ℕ → ℕ → Buffer
 lives lower upper = record { lower = lower; upper = upper; size = 1; alignment = 1; gaps = [] }
 
 -- the second and the third touch, the first comes last
-abbrev three : Instance
+abbrev pub three : Instance
 three = lives 5 7 ∷ lives 0 3 ∷ lives 3 5 ∷ []
 
 three_parts : parts three ≡ (1 ∷ []) ∷ (2 ∷ []) ∷ (0 ∷ []) ∷ []
@@ -22,7 +22,7 @@ entry_of_first : lower_entry three 0 ≡ (5, 0)
 unfolding buffer
 entry_of_first = refl
 
-abbrev order : List (ℕ × ℕ)
+abbrev pub order : List (ℕ × ℕ)
 order = (0, 1) ∷ (3, 2) ∷ (5, 0) ∷ []
 
 entry_in_order : entry_at order 1 ≡ (3, 2)
@@ -43,7 +43,7 @@ first_is_run = record { some = omega arith; within = omega arith; same = same; e
     same (suc k) le lt = absurd (omega arith)
 
 -- ---- parts
-rising_part : IsPart (0 ∷ 2 ∷ [])
+pub rising_part : IsPart (0 ∷ 2 ∷ [])
 rising_part = record { rises = (above, ((λ y i. absurd i), tt)); not_empty = λ e. cc }
   where
     above : (y : ℕ) → IsIn y (2 ∷ []) → 0 < y
@@ -56,7 +56,7 @@ not_falling p = let k = p.rises.0 0 (inl refl) in omega arith
 not_twice : IsPart (1 ∷ 1 ∷ []) → ⊥
 not_twice p = let k = p.rises.0 1 (inl refl) in omega arith
 
-not_empty : IsPart [] → ⊥
+pub not_empty : IsPart [] → ⊥
 not_empty p = p.not_empty refl
 
 -- the last part is that of buffer 0, and there is no buffer 3

@@ -4,4 +4,5 @@ pub mod Cuts
 pub mod Sweeping
 pub mod Order
 pub mod Grouping
-mod ExampleFacts
+pub mod ExampleFacts
+mod OrderFacts
