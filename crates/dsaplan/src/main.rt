@@ -1,5 +1,5 @@
-//! Plans storage for buffers of known lifetime: hands the words, the real files and standard output to the one call that
-//! does the work, and ends with its status's code.
+//! Plans storage for buffers of known lifetime: hands the words, the real files and standard output
+//! to the one call that does the work, and ends with its status's code.
 #![tactic(auto)]
 
 use dsa_outside::{DiskFiles, StdSink};

@@ -33,7 +33,8 @@ more I offsets t b =
     ∙ map-append (buffer_row I offsets) (live_before I t b) (cond (is_live (buffer I b) t) (b ∷ []) [])
 
 pub one_more : (I : Instance) (offsets : List ℕ) (t b : ℕ) (x : Buffer) (row : Row) (rows now : List Row) →
-    x ≡ buffer I b → is_live x t ≡ true → row ≡ buffer_row I offsets b → rows ≡ rows_before I offsets t b → now ≡ rows ++ row ∷ [] →
+    x ≡ buffer I b → is_live x t ≡ true → row ≡ buffer_row I offsets b → rows ≡ rows_before I offsets t b →
+    now ≡ rows ++ row ∷ [] →
     now ≡ rows_before I offsets t (b + 1)
 one_more I offsets t b x row rows now e live r h n =
     let l : is_live (buffer I b) t ≡ true = rw (← e) live in

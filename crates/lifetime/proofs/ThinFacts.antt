@@ -148,7 +148,8 @@ its_own = record {
     peak : (t : ℕ) → IsPeak one t → (s : ℕ) × (s < 1) × (start_of its_section s ≡ t)
     peak zero p = (0, lit< tt, refl)
     peak (suc zero) p = let k : 1 < 1 = p.earliest 0 (lit< tt) in absurd (omega arith)
-    peak (suc (suc t)) p = let k : 1 < load one (suc (suc t)) = p.earliest 0 (omega arith) in absurd (omega (arith, no_load_later t))
+    peak (suc (suc t)) p =
+        let k : 1 < load one (suc (suc t)) = p.earliest 0 (omega arith) in absurd (omega (arith, no_load_later t))
 
     listed_own : (b : ℕ) → b < 1 → sections_of its_section b
         ≡ filter (λ s. is_live (buffer one b) (start_of its_section s)) (numbers 1)

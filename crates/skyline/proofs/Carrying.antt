@@ -221,7 +221,8 @@ pushed I S members bs ys hs rows flags b y hs' row h i at heights saved = record
     lt : b < length I
     lt = member_in_range I members bs b h.in_range i
 
-    room : (c : ℕ) → c < length I → IsIn c members → length (slice_index_or (set rows b row) c []) ≡ length (sections_of S c)
+    room : (c : ℕ) → c < length I → IsIn c members →
+        length (slice_index_or (set rows b row) c []) ≡ length (sections_of S c)
     room c l m = go (equal c b)
       where
         go : (c ≡ b) ⊎ (c ≢ b) → length (slice_index_or (set rows b row) c []) ≡ length (sections_of S c)

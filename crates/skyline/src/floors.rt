@@ -10,7 +10,8 @@ pub(crate) fn floor_above(stack: &[u32], floors: &[u64], depth: usize, b: u32) -
     requires stack { depth ≤ length stack.now }
     requires floors { depth ≤ length floors.now }
     requires limit { 0 < depth → slice_index floors.now (depth - 1) < 2 ^ 60 }
-    ensures { result ≡ floor_at (reverse (take depth stack.now)) (reverse (take depth floors.now)) b }
+    ensures { let last_first = reverse (take depth stack.now) in
+        result ≡ floor_at last_first (reverse (take depth floors.now)) b }
 {
     if depth == 0 {
         return 0;

@@ -42,7 +42,8 @@ save-requires-clause-room c =
     omega (arith, f.low.in_range, n, length-map a.saved.items items_of) in
     ap length (c.deref_mut.ensures.value
     ∙ sym (row_is a.saved.items c.args.b c.index_mut-row.result.now lt c.index_mut-row.ensures.value))
-    ∙ c.self.invariant.sky.carries.saved_room c.args.b f.low.in_range f.member ∙ ap length (sym c.sections_of-sections.ensures.value)
+    ∙ c.self.invariant.sky.carries.saved_room c.args.b f.low.in_range f.member
+    ∙ ap length (sym c.sections_of-sections.ensures.value)
 
 pub save-requires-clause-in_range : goal.save-requires-clause-in_range
 save-requires-clause-in_range c =
