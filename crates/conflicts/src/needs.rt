@@ -10,26 +10,11 @@ ghost use Rattle.conflicts.specs.Eased.{IsLower, cut};
 
 use crate::cites::eased_cites;
 use crate::lowering::least_bound;
-use canonical_order::{Claim, LowTable, Lows, covers_child};
+use canonical_order::{Claim, LowTable, Lows, covers_child, step};
 use dsa_model::{Instance, NoMemory};
 use prune_rules::{is_below, is_twin};
 use refute_log::{Cite, Log};
 use std::alloc::{AllocError, Global};
-
-/// How far above b, which comes first, c has to start.
-fn step(instance: &Instance, b: u32, c: u32) -> u64
-    requires b_in { b < length instance.now }
-    requires c_in { c < length instance.now }
-{
-    let first = instance.buffer(b);
-    if first.first_common(instance.buffer(c)).is_some() {
-        first.size()
-    } else if c < b {
-        1
-    } else {
-        0
-    }
-}
 
 /// How low b, which comes first, may start for c to start at its bound or above.
 fn needed_first(instance: &Instance, b: u32, c: u32, bound: u64) -> u64

@@ -7,26 +7,8 @@ ghost use Rattle.canonical_order.specs.Claims.{CoversEntry, entry_of};
 ghost use Rattle.search_core.specs.Levels.{AreLevels};
 
 use crate::levels::Levels;
-use canonical_order::Claim;
+use canonical_order::{Claim, step};
 use dsa_model::Instance;
-
-/// How far above b, which comes first, c has to start, in bytes.
-fn step(instance: &Instance, b: u32, c: u32) -> u64
-    requires b_in { b < length instance.now }
-    requires c_in { c < length instance.now }
-    ensures value { result ≡ step_of instance.now b c }
-    ensures limit { result ≤ 2 ^ 40 }
-{
-    let first = instance.buffer(b);
-    let size = first.size();
-    if first.first_common(instance.buffer(c)).is_some() {
-        size
-    } else if c < b {
-        1
-    } else {
-        0
-    }
-}
 
 /// The bound of c in the child by b, in bytes. Both are in the claim of the levels.
 fn raised(instance: &Instance, levels: &Levels, b: u32, c: u32) -> u64
