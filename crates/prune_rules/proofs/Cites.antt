@@ -7,6 +7,7 @@ use Rattle.dsa_terms.specs.Logs.{is_twin}
 use Rattle.dsa_search_laws.proofs.Placing.{in_buffers}
 use Rattle.canonical_order.specs.Claims.{HasBuffer, Passes, entry_of}
 use Rattle.canonical_order.proofs.Entries.{entry_in, is_entry}
+use Rattle.prune_rules.specs.Twins.{are_alike}
 
 -- a buffer that passes is in the claim
 pub passes_has : (test : Entry → Bool) (l : Claim) (c : ℕ) → Passes test l c → HasBuffer l c
@@ -41,7 +42,7 @@ twin_above c b m n same size alignment h = let k : nat_le m n ≡ false = (grind
     ends true = refl
     ends false = refl
 
-pub twin_alike : (c b m n : ℕ) (same size alignment : Bool) → c < b → m ≤ n →
+twin_alike : (c b m n : ℕ) (same size alignment : Bool) → c < b → m ≤ n →
     (size && (alignment && same)) ≡ (nat_lt c b && same && size && alignment && nat_le m n)
 twin_alike c b m n same size alignment h k =
     let p : nat_lt c b ≡ true = (grind (arith, nat_tests)) in let q : nat_le m n ≡ true = (grind (arith, nat_tests)) in
@@ -60,3 +61,10 @@ unfolding is_twin
 higher_is_no_twin I f e h =
     twin_above f.0 e.0 (up I f) (up I e) (have_same_moments (buffer I f.0) (buffer I e.0))
     ((buffer I f.0).size == (buffer I e.0).size) ((buffer I f.0).alignment == (buffer I e.0).alignment) h
+
+pub alike_is_twin : (I : Instance) (f e : Entry) → f.0 < e.0 → up I f ≤ up I e →
+    are_alike (buffer I f.0) (buffer I e.0) ≡ is_twin I f e
+unfolding is_twin
+alike_is_twin I f e h k =
+    twin_alike f.0 e.0 (up I f) (up I e) (have_same_moments (buffer I f.0) (buffer I e.0))
+    ((buffer I f.0).size == (buffer I e.0).size) ((buffer I f.0).alignment == (buffer I e.0).alignment) h k

@@ -4,6 +4,7 @@ use Rattle.dsa_terms.specs.Buffers.{Buffer, Instance, is_live, buffer, have_same
 use Rattle.dsa_terms.specs.Claims.{up}
 use Rattle.dsa_terms.specs.Logs.{ends_below, is_twin}
 use Rattle.canonical_order.specs.Claims.{least_buffer}
+use Rattle.prune_rules.specs.Twins.{are_alike}
 
 abbrev made : ℕ → ℕ → ℕ → ℕ → List (ℕ × ℕ) → Buffer
 made lower upper size alignment gaps = record {
@@ -47,6 +48,18 @@ least_below = refl
 none_below : least_buffer (λ f. ends_below three f (2, 2)) ((0, 3) ∷ (1, 3) ∷ (2, 2) ∷ []) ≡ None
 unfolding ends_below up buffer
 none_below = refl
+
+-- ---- alike, at whatever lows
+alike_with_gaps_in_pieces : are_alike (made 0 10 4 1 ((4, 6) ∷ [])) (made 0 10 4 1 ((4, 5) ∷ (5, 6) ∷ [])) ≡ true
+unfolding have_same_moments some_before is_live
+alike_with_gaps_in_pieces = refl
+
+alike_but_for_a_moment : are_alike (made 0 10 4 1 ((4, 6) ∷ [])) (made 0 10 4 1 ((4, 5) ∷ [])) ≡ false
+unfolding have_same_moments some_before is_live
+alike_but_for_a_moment = refl
+
+alike_but_for_the_size : are_alike (made 0 1 1 2 []) (made 0 1 2 2 []) ≡ false
+alike_but_for_the_size = refl
 
 -- ---- twins
 twin : is_twin three (0, 1) (1, 2) ≡ true

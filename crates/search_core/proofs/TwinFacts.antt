@@ -3,7 +3,8 @@ use Rattle.std.proofs.Common.{◌≡◌, ℕ, true, false, [], ◌∷◌, refl}
 use Rattle.dsa_terms.specs.Buffers.{Buffer, Instance, buffer, have_same_moments, is_live, some_before}
 use Rattle.dsa_terms.specs.Claims.{up}
 use Rattle.dsa_terms.specs.Logs.{is_twin}
-use Rattle.search_core.specs.TwinMarks.{AreTwinMarks, are_alike}
+use Rattle.prune_rules.specs.Twins.{are_alike}
+use Rattle.search_core.specs.TwinMarks.{AreTwinMarks}
 
 abbrev aligned : ℕ → Buffer
 aligned alignment = record { lower = 0; upper = 1; size = 3; alignment = alignment; gaps = [] }

@@ -5,7 +5,8 @@ use Rattle.std.specs.List.{list_any}
 use Rattle.dsa_terms.specs.Buffers.{Instance, buffer, have_same_moments}
 use Rattle.dsa_terms.specs.Claims.{Claim, Entry, up}
 use Rattle.dsa_terms.specs.Logs.{is_twin}
-use Rattle.search_core.specs.TwinMarks.{AreTwinMarks, HasNoTwin, are_alike}
+use Rattle.prune_rules.specs.Twins.{are_alike}
+use Rattle.search_core.specs.TwinMarks.{AreTwinMarks, HasNoTwin}
 
 -- ---- the test of a twin, from its parts
 not_like : (before same size alignment low : Bool) → (size && (alignment && same)) ≡ false →

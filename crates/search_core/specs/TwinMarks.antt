@@ -1,12 +1,8 @@
 -- Which buffers have another one of smaller number that is like them, in every claim.
-use Rattle.std.specs.Prelude.{◌≡◌, ◌==◌, ◌&&◌, ℕ, Bool, true, false, List, slice_index_or}
-use Rattle.dsa_terms.specs.Buffers.{Buffer, Instance, have_same_moments}
+use Rattle.std.specs.Prelude.{◌≡◌, ℕ, Bool, true, false, List, slice_index_or}
+use Rattle.dsa_terms.specs.Buffers.{Instance}
 use Rattle.dsa_terms.specs.Claims.{Entry}
 use Rattle.dsa_terms.specs.Logs.{is_twin}
-
--- the two have the same size, alignment and moments
-abbrev pub are_alike : Buffer → Buffer → Bool
-are_alike c b = (c.size == b.size) && ((c.alignment == b.alignment) && have_same_moments c b)
 
 -- no entry is a twin before one of buffer b
 abbrev pub HasNoTwin : Instance → ℕ → Type 0

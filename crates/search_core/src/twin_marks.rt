@@ -1,18 +1,12 @@
 //! Which buffers may have a twin at all, whatever the claim.
 
 ghost use Rattle.std.specs.Prelude.{◌≡◌, ◌<◌, true, false, IfOk, length, slice_index_or};
-ghost use Rattle.search_core.specs.TwinMarks.{AreTwinMarks, HasNoTwin, are_alike};
+ghost use Rattle.search_core.specs.TwinMarks.{AreTwinMarks, HasNoTwin};
 
-use dsa_model::{Buffer, Instance, NoMemory};
+use dsa_model::{Instance, NoMemory};
+use prune_rules::are_alike;
 use std::alloc::Global;
 use std::marker::Model;
-
-/// Whether the two have the same size, alignment and moments.
-fn are_alike(c: &Buffer, b: &Buffer) -> bool
-    ensures { result ≡ are_alike c.now b.now }
-{
-    c.size() == b.size() && c.alignment() == b.alignment() && c.same_times(b)
-}
 
 /// Whether a buffer of smaller number is like this one.
 fn follows_its_like(instance: &Instance, b: u32) -> bool

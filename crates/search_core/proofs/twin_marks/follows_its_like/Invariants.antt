@@ -1,6 +1,6 @@
 use Rattle.std.proofs.Common.{◌≡◌, ℕ, ◌<◌, false}
 use Rattle.dsa_terms.specs.Buffers.{buffer}
-use Rattle.search_core.specs.TwinMarks.{are_alike}
+use Rattle.prune_rules.specs.Twins.{are_alike}
 use Rattle.search_core.proofs.twin_marks.follows_its_like.Given as goal
 
 abbrev pub invariant-loop-c : goal.invariant-loop-c
