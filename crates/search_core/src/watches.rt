@@ -177,8 +177,9 @@ impl Watches {
         Ok(Watches { table })
     }
 
-    /// The last line from number `asked` on that covers the claim of the levels. The lines before
-    /// that number are watched there, and then all are, if there is none.
+    /// A line that covers the claim of the levels, looked for from number `asked` on. If there is
+    /// none, and the first `asked` lines are watched there, then all are. As many first lines as
+    /// are watched at a claim above stay watched there.
     pub(crate) fn ask(
         &mut self,
         log: &Log,
