@@ -25,7 +25,8 @@ loop-pair-preserved c =
 
 all_mapped : (c : goal.After-deref) →
     c.deref.result.now ≡ map (lowered c.args.instance.now) c.args.claim.now
-all_mapped c = c.deref.ensures.value ∙ mapped_all (lowered c.args.instance.now) c.args.claim.now c.loop-pair.pair-index _
+all_mapped c =
+    c.deref.ensures.value ∙ mapped_all (lowered c.args.instance.now) c.args.claim.now c.loop-pair.pair-index _
     (rw c.pairs-pair-items.ensures.value at c.loop-pair-test.false) c.loop-pair.invariant
 
 pub from_pairs-requires-clause-rises : goal.from_pairs-requires-clause-rises

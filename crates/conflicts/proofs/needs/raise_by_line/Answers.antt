@@ -24,7 +24,8 @@ pub needed_first-requires-then-is_free-2-clause-c_in : goal.needed_first-require
 needed_first-requires-then-is_free-2-clause-c_in c =
     c.args.lows.now.in_range _ (c.is_free-in-loop-pair-2.ensures.value.0 c.if-is_free-2.true)
 
-pub needed_first-requires-then-is_free-2-clause-bound_limit : goal.needed_first-requires-then-is_free-2-clause-bound_limit
+pub needed_first-requires-then-is_free-2-clause-bound_limit :
+    goal.needed_first-requires-then-is_free-2-clause-bound_limit
 needed_first-requires-then-is_free-2-clause-bound_limit c = c.requires.bounds _
     (at_in _ _ _ c.pairs-pair-items-2.ensures.value c.loop-pair-2-test.true)
 

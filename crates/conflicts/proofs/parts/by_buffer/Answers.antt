@@ -8,6 +8,7 @@ index_mut-requires c =
     let len = ap length v in
     let each = c.requires in
     let m : c.loop-place.place < length c.pairs-pairs.result.now = omega arith in
-    let lt : (slice_index_or c.pairs-pairs.result.now c.loop-place.place (0, 0)).0 < length c.args.lows.now.instance.now =
+    let pair = slice_index_or c.pairs-pairs.result.now c.loop-place.place (0, 0) in
+    let lt : pair.0 < length c.args.lows.now.instance.now =
     c.args.lows.now.in_range _ (has_at c.args.lows.now.claim.now _ _ v m) in
     omega (arith, lt, c.loop-place.invariant, c.loop-place.all.ok.0)

@@ -43,5 +43,5 @@ returns-clause-lower c =
     let l = c.args.lows.now.claim.now in
     let each = c.requires.each in
     let le : length l ≤ c.loop-place.place = omega arith in
-    rw (c.in_ok-claim.ensures, c.deref.ensures.value, filter_all p l c.loop-place.place _ le c.loop-place.invariant.left)
-    (lower_filter p l c.pairs-all.ensures.kept.rises)
+    let all = filter_all p l c.loop-place.place _ le c.loop-place.invariant.left in
+    rw (c.in_ok-claim.ensures, c.deref.ensures.value, all) (lower_filter p l c.pairs-all.ensures.kept.rises)

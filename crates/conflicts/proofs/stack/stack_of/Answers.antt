@@ -31,7 +31,8 @@ loop-pair-preserved c =
     c.buffer-buffer.ensures.value in
     elim c.if-stacks.branch [
       | then-stacks+in_ok-push w ↦
-          let r = rounded_of I c.args.modulus e c.buffer-buffer.result.now w.size.result w.next_multiple_of-rounded.result
+          let r = rounded_of I c.args.modulus e c.buffer-buffer.result.now w.size.result
+          w.next_multiple_of-rounded.result
           c.buffer-buffer.ensures.value w.size.ensures.value w.next_multiple_of-rounded.ensures.value in
           let s = rounding_of I c.args.modulus e c.buffer-buffer.result.now w.size-then-stacks.result
           w.next_multiple_of-rounded.result c.buffer-buffer.ensures.value w.size-then-stacks.ensures.value r in

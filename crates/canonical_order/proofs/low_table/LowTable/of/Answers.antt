@@ -27,7 +27,8 @@ overflow_add-low c =
 
 pub index_mut-requires : goal.index_mut-requires
 index_mut-requires c =
-    let lt : (slice_index_or c.pairs-pair-items.result.now c.loop-pair.pair-index (0, 0)).0 < length c.args.instance.now =
+    let pair = slice_index_or c.pairs-pair-items.result.now c.loop-pair.pair-index (0, 0) in
+    let lt : pair.0 < length c.args.instance.now =
     c.requires.claim.in_range _ (at_in _ _ _ c.pairs-pair-items.ensures.value c.loop-pair-test.true) in
     omega (arith, lt, c.loop-pair.invariant.count, c.loop-pair.levels.ok.0)
 

@@ -10,8 +10,8 @@ returns-then-place-len-clause-value c =
     let lt : c.args.b < length t.levels.items = omega (arith, c.if-place-len.true, c.len.ensures, t.levels.ok.0) in (
       λ h. free_by_level t.instance.now t.claim.now t.levels.items r t.filled c.args.b
           (not_zero t.levels.items c.args.b c.index.result.now c.index.ensures lt h),
-      λ h. one_more c.index.result.now _
-          (read_level t.instance.now t.claim.now t.levels.items r t.filled c.args.b c.index.result.now (t.in_range _ h) h
+      λ h. let i = t.in_range _ h in one_more c.index.result.now _
+          (read_level t.instance.now t.claim.now t.levels.items r t.filled c.args.b c.index.result.now i h
           c.index.ensures),
     )
 
