@@ -21,6 +21,7 @@ fn the_child_of_a_whole_claim_is_made(rt: HostRuntime) {
         claim: &claim,
     };
     let left = child(alloc, &view, 2).expect(&rt, "memory");
+    assert!(rt; three.len() == 3);
     assert_eq!(rt; step(&three, 2, 0), 2);
     let table = LowTable::of(alloc, view.instance(), &claim).expect(&rt, "memory");
     assert!(rt; table.is_free(2));

@@ -16,6 +16,7 @@ fn a_twin_stands_before_the_second_of_two_alike(rt: HostRuntime) {
     }
     let claim = Claim::from_pairs(alloc, &[(0, 1), (1, 2), (2, 3)]).expect(&rt, "memory");
     assert!(rt; claim.out_of_range(three.len()).is_none());
+    assert!(rt; three.len() == 3);
     assert!(rt; are_alike(three.buffer(0), three.buffer(1)));
     let view = View {
         instance: &three,
