@@ -1,11 +1,11 @@
 -- Numbers that are read: how they fit 64 bits, and that what is read is the one that stands there.
-use Rattle.std.proofs.Common.{◌≡◌, ◌^◌, ◌-◌, ◌+◌, ◌*◌, ◌/◌, ℕ, zero, suc, ◌<◌, ◌≤◌, true, false, Bool, cond, nat_lt, Option, Some, None, IfNone, ◌⊎◌, inl, inr, List, [], ◌∷◌, ◌++◌, length, take, drop, get_or, refl, sym, ap, ◌∙◌, arith, append_assoc}
+use Rattle.std.proofs.Common.{◌≡◌, ◌^◌, ◌-◌, ◌+◌, ◌*◌, ℕ, zero, suc, ◌<◌, ◌≤◌, true, false, Bool, cond, nat_lt, Option, Some, None, IfNone, ◌⊎◌, inl, inr, List, [], ◌∷◌, ◌++◌, length, take, drop, get_or, refl, sym, ap, ◌∙◌, arith, append_assoc}
 use Rattle.std.proofs.lemmas.Bool.Decides.{nat_tests}
 use Rattle.std.proofs.lemmas.Int.Digits.{digits_value_more}
-use Rattle.std.proofs.lemmas.Str.Parse.{digits_value-take-le}
+use Rattle.std.proofs.lemmas.List.Folds.{list_all_more}
 use Rattle.std.specs.Char.{digit_value}
 use Rattle.std.specs.List.{list_all}
-use Rattle.std.specs.Option.{unwrap_or}
+use Rattle.std.specs.Option.{SomeIff, unwrap_or}
 use Rattle.std.specs.Str.Parse.{digits_value}
 use Rattle.dsa_terms.specs.Claims.{Entry}
 use Rattle.log_text.specs.Digits.{IsCanonical, is_digit, Stops}
@@ -15,7 +15,7 @@ use Rattle.log_text.specs.Reading.{HasNoField, HasNoItem, HasNoMarked, HasNoNumb
 use Rattle.log_text.specs.declared.raw.RawCite.{RawCite}
 use Rattle.log_text.specs.declared.raw.RawCite.TheVariants as raw_cite
 use Rattle.log_text.proofs.Numerals.{char_of_value, numeral_is_canonical, numeral_of}
-use Rattle.log_text.proofs.PrefixFree.{and_true, digits_split, head_of, number_split, tail_of}
+use Rattle.log_text.proofs.PrefixFree.{digits_split, head_of, number_split, tail_of}
 
 pub fitting_small : (n : ℕ) → n < 2 ^ 64 → fitting n ≡ Some n
 unfolding fitting
@@ -76,11 +76,6 @@ take_drop (x ∷ xs) zero = refl
 take_drop (x ∷ xs) (suc n) = ap (λ ys. x ∷ ys) (take_drop xs n)
 
 -- ---- digits
-digit_at : (ds : List ℕ) (k : ℕ) → list_all is_digit ds ≡ true → k < length ds → is_digit (get_or ds k 0) ≡ true
-digit_at [] k a h = absurd (omega arith)
-digit_at (d ∷ ds) zero a h = (and_true _ _ a).0
-digit_at (d ∷ ds) (suc k) a h = digit_at ds k (and_true _ _ a).1 (omega arith)
-
 digit_is : (c : ℕ) → is_digit c ≡ true → digit_value c ≡ c - 48
 digit_is c h = let k : 48 + digit_value c ≡ c = char_of_value c (below (digit_value c) h) in omega arith
   where
@@ -88,20 +83,46 @@ digit_is c h = let k : 48 + digit_value c ≡ c = char_of_value c (below (digit_
     below n h = grind (arith, nat_tests)
 
 -- one more digit
-pub digit_step : (ds : List ℕ) (k : ℕ) → list_all is_digit ds ≡ true → k < length ds →
+digit_step : (ds : List ℕ) (k : ℕ) → k < length ds → is_digit (get_or ds k 0) ≡ true →
     digits_value 10 (take (k + 1) ds) ≡ digits_value 10 (take k ds) * 10 + (get_or ds k 0 - 48)
-digit_step ds k a h = digits_value_more 10 ds k h ∙ ap (λ n. digits_value 10 (take k ds) * 10 + n)
-    (digit_is (get_or ds k 0) (digit_at ds k a h))
+digit_step ds k h d = digits_value_more 10 ds k h ∙ ap (λ n. digits_value 10 (take k ds) * 10 + n)
+    (digit_is (get_or ds k 0) d)
 
--- the digits so far are too many
-pub too_large : (ds : List ℕ) (k v d : ℕ) → list_all is_digit ds ≡ true → k < length ds →
-    v ≡ digits_value 10 (take k ds) → d ≡ get_or ds k 0 - 48 →
-    (2 ^ 64 - 1 - d) / 10 < v → 2 ^ 64 ≤ digits_value 10 ds
-too_large ds k v d a h e q l =
-    let one : digits_value 10 (take (k + 1) ds) ≡ v * 10 + d = digit_step ds k a h ∙ rw (e, q) refl in
-    let two : digits_value 10 (take (k + 1) ds) ≤ digits_value 10 ds =
-    digits_value-take-le 10 ds (k + 1) (omega arith) in
-    omega arith
+low_or_high : (n : ℕ) → (n < 2 ^ 64) ⊎ (2 ^ 64 ≤ n)
+low_or_high n = grind arith
+
+-- a digit more behind a number that is too large
+pub more_too_large : (n d : ℕ) → None ≡ fitting n → None ≡ fitting (n * 10 + d)
+more_too_large n d e = elim (low_or_high n)
+    [ inl h ↦ absurd (fitting_none n e h) | inr h ↦ sym (fitting_large (n * 10 + d) (omega arith)) ]
+
+-- a digit more, where the number tenfold is too large
+pub tens_too_large : (n v d : ℕ) → Some v ≡ fitting n → (v * 10 < 2 ^ 64 → ⊥) → None ≡ fitting (n * 10 + d)
+tens_too_large n v d e h = elim (low_or_high (v * 10)) [
+  | inl l ↦ absurd (h l)
+  | inr l ↦ let q : v ≡ n = (fitting_some n v e).0 in sym (fitting_large (n * 10 + d) (omega arith))
+]
+
+-- a digit more
+pub with_more : (n v t d : ℕ) (r : Option ℕ) → Some v ≡ fitting n → t ≡ v * 10 → SomeIff r (t + d < 2 ^ 64) (t + d) →
+    r ≡ fitting (n * 10 + d)
+with_more n v t d (Some x) e q h =
+    let p : v ≡ n = (fitting_some n v e).0 in
+    let w : x ≡ n * 10 + d = omega arith in
+    ap Some w ∙ sym (fitting_small (n * 10 + d) (omega arith))
+with_more n v t d None e q h = elim (low_or_high (n * 10 + d)) [
+  | inl l ↦ let p : v ≡ n = (fitting_some n v e).0 in absurd (h (omega arith))
+  | inr l ↦ sym (fitting_large (n * 10 + d) l)
+]
+
+-- the digits so far, with the next one
+pub next_digit : (ds : List ℕ) (k : ℕ) (v : Option ℕ) → list_all is_digit (take k ds) ≡ true → k < length ds →
+    is_digit (get_or ds k 0) ≡ true → v ≡ fitting (digits_value 10 (take k ds) * 10 + (get_or ds k 0 - 48)) →
+    (list_all is_digit (take (k + 1) ds) ≡ true) × (v ≡ fitting (digits_value 10 (take (k + 1) ds)))
+next_digit ds k v a h d e = (
+  list_all_more is_digit ds k 0 h ∙ rw (a, d) refl,
+  e ∙ ap fitting (sym (digit_step ds k h d)),
+)
 
 pub take_all : (xs : List ℕ) (n : ℕ) → length xs ≤ n → take n xs ≡ xs
 take_all [] zero h = refl

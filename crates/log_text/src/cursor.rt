@@ -5,7 +5,7 @@ ghost use Rattle.std.specs.Option.{unwrap_or};
 ghost use Rattle.log_text.specs.Digits.{Ends, Stops};
 ghost use Rattle.log_text.specs.Reading.{BeginsDigit, HasNoField, HasNoMarked, HasNoNumber, IsBreak, IsFieldRead, IsMarkedRead, IsNumberRead};
 
-use crate::split::{are_canonical, count_digits, value_of};
+use crate::split::{are_canonical, digits_of};
 use std::marker::Model;
 
 /// A number of 64 bits in place of any that was read: the greatest, where it does not fit.
@@ -82,12 +82,13 @@ impl<'a> Cursor<'a> {
         ensures none { IfNone result (HasNoNumber self.old) }
     {
         let rest = self.rest;
-        let (digits, more) = rest.split_at(count_digits(rest));
+        let front = digits_of(rest);
+        let (digits, more) = rest.split_at(front.count);
         if !are_canonical(digits) {
             return None;
         }
         self.rest = more;
-        Some(value_of(digits))
+        Some(front.value)
     }
 
     /// Reads a number and these bytes after it.

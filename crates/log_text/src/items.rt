@@ -10,6 +10,10 @@ use crate::{RawCite, RawCites, RawClaim};
 use dsa_model::Fail;
 use std::alloc::Global;
 
+/// How many pairs, or cites, a list has room for from the start. Most lists are shorter, and give
+/// back what they do not need.
+const ROOM: usize = 64;
+
 /// The bytes have not the form that is read.
 #[derive(Clone, Copy)]
 pub(crate) struct NoForm;
@@ -54,7 +58,7 @@ pub(crate) fn read_claim(
         (λ claim. IsListRead pair_text capped_pair end.now cursor.old claim cursor.new)
         (λ _. HasNoList pair_text end.now cursor.old) }
 {
-    let mut pairs = Vec::new(alloc);
+    let mut pairs = Vec::with_capacity(alloc, ROOM)?;
     let Some(first) = read_pair(cursor) else {
         return Err(Fail::Fault(NoForm));
     };
@@ -68,6 +72,7 @@ pub(crate) fn read_claim(
     if !cursor.take(end) {
         return Err(Fail::Fault(NoForm));
     }
+    pairs.shrink_to_fit();
     Ok(RawClaim::from_vec(pairs))
 }
 
@@ -82,7 +87,7 @@ pub(crate) fn read_cites(
         (λ cites. IsListRead cite_text capped_cite end.now cursor.old cites cursor.new)
         (λ _. HasNoList cite_text end.now cursor.old) }
 {
-    let mut cites = Vec::new(alloc);
+    let mut cites = Vec::with_capacity(alloc, ROOM)?;
     let Some(first) = read_cite(cursor) else {
         return Err(Fail::Fault(NoForm));
     };
@@ -96,5 +101,6 @@ pub(crate) fn read_cites(
     if !cursor.take(end) {
         return Err(Fail::Fault(NoForm));
     }
+    cites.shrink_to_fit();
     Ok(RawCites::from_vec(cites))
 }

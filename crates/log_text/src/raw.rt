@@ -74,6 +74,13 @@ impl RawLines {
     {
         self.items.as_slice()
     }
+
+    /// The vector of the lines.
+    pub fn into_vec(self) -> Vec<RawLine>
+        ensures value { result.items ≡ self }
+    {
+        self.items
+    }
 }
 
 /// Buffers as a text says them, each with its bound in bytes.

@@ -9,7 +9,7 @@ pub returns-in_default : goal.returns-in_default
 returns-in_default c = no_first cite_text _ _ c.requires c.in_default.ensures.none
 
 pub loop-cursor-init : goal.loop-cursor-init
-loop-cursor-init c = one_read cite_text capped_cite _ _ _ _ _ c.in-Some.ensures.some c.new-cites.ensures.items
+loop-cursor-init c = one_read cite_text capped_cite _ _ _ _ _ c.in-Some.ensures.some c.in_ok-cites.ensures.items
     c.in_ok-push.ensures.items
 
 pub returns-in_default-read_cite : goal.returns-in_default-read_cite
