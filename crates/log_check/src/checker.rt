@@ -34,7 +34,7 @@ fn closed_log(
         let said = raw.count;
         return Err(Fail::Fault(CheckFault::WrongCount { said, actual }));
     }
-    let log = match log_of(alloc, instance, raw.capacity, raw.lines.as_slice()) {
+    let log = match log_of(alloc, instance, raw.capacity, raw.lines.into_vec()) {
         Ok(log) => log,
         Err(fail) => return Err(fail),
     };

@@ -21,48 +21,48 @@ fn push_line(
     alloc: Global,
     instance: &Instance,
     log: &mut Log,
-    line: &RawLine,
+    line: RawLine,
 ) -> Result<(), Fail<Reason>>
     requires belongs { Belongs instance.now log.old }
-    requires kept { IsLineKept line.now }
-    ensures reason { let reason = raw_reason instance.now log.old.capacity log.old.lines line.now in
+    requires kept { IsLineKept line }
+    ensures reason { let reason = raw_reason instance.now log.old.capacity log.old.lines line in
         UnlessNoMemory result (λ _. reason ≡ None) (λ r. reason ≡ Some r) }
-    ensures appended { let lines = log.old.lines ++ line_of line.now ∷ [] in
+    ensures appended { let lines = log.old.lines ++ line_of line ∷ [] in
         OnOk result (log.new ≡ record log.old { lines = lines }) }
-    ensures text { OnOk result (raw_line_of (line_of line.now) ≡ line.now) }
+    ensures text { OnOk result (raw_line_of (line_of line) ≡ line) }
     ensures belongs { Belongs instance.now log.new }
 {
-    let line = line_of(alloc, instance, line)?;
-    match log.push(instance, line) {
+    let made = line_of(alloc, instance, &line)?;
+    match log.push(instance, made) {
         Ok(_) => Ok(()),
         Err(fail) => Err(fail),
     }
 }
 
 /// The log of these lines; else the fault is the least line that is not legal after those before
-/// it.
+/// it. Each line gives its memory back once it is taken.
 pub(crate) fn log_of(
     alloc: Global,
     instance: &Instance,
     capacity: u64,
-    lines: &[RawLine],
+    lines: Vec<RawLine>,
 ) -> Result<Log, Fail<CheckFault>>
     requires capacity_limit { capacity ≤ 2 ^ 60 }
-    requires kept { All IsLineKept lines.now }
-    ensures fault { let fault = illegal_fault instance.now capacity lines.now in
+    requires kept { All IsLineKept lines.items }
+    ensures fault { let fault = illegal_fault instance.now capacity lines.items in
         UnlessNoMemory result (λ _. fault ≡ None) (λ f. fault ≡ Some f) }
-    ensures value { let count = length instance.now in let lines = map line_of lines.now in
+    ensures value { let count = length instance.now in let lines = map line_of lines.items in
         IfOk result (λ log. log ≡ record { count = count; capacity = capacity; lines = lines }) }
-    ensures text { IfOk result (λ _. map raw_line_of (map line_of lines.now) ≡ lines.now) }
+    ensures text { IfOk result (λ _. map raw_line_of (map line_of lines.items) ≡ lines.items) }
     ensures belongs { IfOk result (λ log. Belongs instance.now log) }
 {
     let mut log = Log::new(alloc, instance, capacity);
-    for number in 0..lines.len() {
-        match push_line(alloc, instance, &mut log, &lines[number]) {
+    for next in lines {
+        let line = log.len();
+        match push_line(alloc, instance, &mut log, next) {
             Ok(()) => {}
             Err(Fail::NoMemory) => return Err(Fail::NoMemory),
             Err(Fail::Fault(reason)) => {
-                let line = number as u64;
                 return Err(Fail::Fault(CheckFault::Illegal { line, reason }));
             }
         }

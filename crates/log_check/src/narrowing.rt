@@ -48,7 +48,7 @@ fn claim_of(alloc: Global, count: u32, pairs: &[(u64, u64)]) -> Result<Claim, No
     ensures { IfOk result (λ claim. claim ≡ pairs.now) }
 {
     let narrowed = narrow_pairs(alloc, pairs)?;
-    Claim::from_pairs(alloc, narrowed.as_slice())
+    Ok(Claim::from_vec(narrowed))
 }
 
 /// The pairs with buffers of 32 bits.
