@@ -30,7 +30,7 @@ at_start I gives most turn charge start s u h = record {
   spends = omega arith;
   units = omega arith;
   used = omega arith;
-  paid = record { layout = inl refl; log = inl refl };
+  paid = record { layout_cost = 0; log_cost = 0; layout = inl refl; log = inl refl; paid = omega arith };
 }
 
 module _ {I : Instance} {gives : ℕ → Answer → Type 0} {most : ℕ → ℕ} {turn : ℕ → Option ℕ} {charge : Answer → ℕ}
@@ -55,12 +55,18 @@ module _ {I : Instance} {gives : ℕ → Answer → Type 0} {most : ℕ → ℕ}
       spends = let k = h.spends in omega arith;
       units = let k = h.units in omega arith;
       used = let k = h.used in omega (arith, left);
-      paid = record { layout = inr (let k = h.units in omega (arith, paid)); log = logs h.paid.log };
+      paid = record {
+        layout_cost = charge (Offsets n.layout.items);
+        log_cost = h.paid.log_cost;
+        layout = inr (omega arith);
+        log = logs h.paid.log;
+        paid = let k = h.paid.paid in omega (arith, paid);
+      };
     }
       where
-        logs : LogIsPaid charge u u' start b → LogIsPaid charge u u'' start n
+        logs : LogIsPaid charge h.paid.log_cost start b → LogIsPaid charge h.paid.log_cost start n
         logs (inl e) = inl (log ∙ e)
-        logs (inr g) = inr (g.0, log ∙ g.1, (let k = g.2 in omega (arith, low)), (let k = g.3 in omega (arith, units)))
+        logs (inr g) = inr (g.0, log ∙ g.1, (let k = g.2 in omega (arith, low)), g.3)
 
         at_middle : turn ((b.low + b.high) / 2) ≡ Some n.high
         at_middle = ap turn (sym mid) ∙ turned ∙ ap Some (sym high)
@@ -82,14 +88,17 @@ module _ {I : Instance} {gives : ℕ → Answer → Type 0} {most : ℕ → ℕ}
       units = let k = h.units in omega arith;
       used = let k = h.used in omega (arith, left);
       paid = record {
+        layout_cost = h.paid.layout_cost;
+        log_cost = charge (Refutation log);
         layout = layouts h.paid.layout;
-        log = inr (log, logged, above, (let k = h.units in omega (arith, paid)));
+        log = inr (log, logged, above, omega arith);
+        paid = let k = h.paid.paid in omega (arith, paid);
       };
     }
       where
-        layouts : LayoutIsPaid charge u u' start b → LayoutIsPaid charge u u'' start n
+        layouts : LayoutIsPaid charge h.paid.layout_cost start b → LayoutIsPaid charge h.paid.layout_cost start n
         layouts (inl e) = inl (layout ∙ e)
-        layouts (inr g) = inr (subst (λ o. u + charge (Offsets o) ≤ u'') (sym layout) (omega (arith, g, units)))
+        layouts (inr g) = inr (subst (λ o. charge (Offsets o) ≤ h.paid.layout_cost) (sym layout) g)
 
         above : start.low < n.low
         above = let k = h.narrowed.low in let m = (middle b.low b.high lt).0 in omega (arith, low)

@@ -1,5 +1,5 @@
 -- Brackets of two buffers aligned to four: 7 is their least capacity.
-use Rattle.std.proofs.Common.{◌≡◌, ℕ, zero, suc, ◌+◌, ◌<◌, ◌≤◌, ◌⊎◌, inl, inr, [], ◌∷◌, slice_get, take, Option, Some, None, refl, sym, ap, ◌∙◌, subst, lit<, lit≤, arith}
+use Rattle.std.proofs.Common.{◌≡◌, ℕ, zero, suc, ◌<◌, ◌≤◌, inl, inr, [], ◌∷◌, slice_get, take, Option, Some, None, refl, sym, ap, ◌∙◌, subst, lit<, lit≤, arith}
 use Rattle.dsa_terms.specs.Buffers.{IsInstance, buffer, do_share, have_same_moments, is_live, some_before}
 use Rattle.dsa_terms.specs.Claims.{child, Claim, Entry, IsClaim, IsIn, step, up}
 use Rattle.dsa_terms.specs.Layouts.{IsLayout}
@@ -10,7 +10,7 @@ use Rattle.dsa_terms.specs.Search.{comes_before, first, is_tall}
 use Rattle.dsa_terms.proofs.Examples.{two_of_four}
 use Rattle.dsa_search_laws.proofs.Parts.{searched_is_layout}
 use Rattle.refute_log.specs.Hunts.{hunt}
-use Rattle.min_capacity.specs.Brackets.{ArePaid, IsBracket, IsShort, LayoutComes, Refutes}
+use Rattle.min_capacity.specs.Brackets.{ArePaid, IsBracket, IsShort, LayoutComes, LayoutIsPaid, LogIsPaid, Refutes}
 use Rattle.min_capacity.specs.declared.brackets.Bracket.{Bracket}
 
 -- ---- the log of one line at 6
@@ -132,19 +132,37 @@ start_before_a_unit start = omega arith
 start_after_a_unit : (start : Bracket) → IsShort one_unit no_layout 0 1 start start → ⊥
 start_after_a_unit start h = omega (arith, h)
 
--- ---- a new layout is paid for, and a new log also raises the lower end
-unpaid_layout : (start b : Bracket) → b.layout.items ≡ 0 ∷ 4 ∷ [] → start.layout.items ≡ 4 ∷ 0 ∷ [] →
-    ArePaid (λ a. 1) 2 2 start b → ⊥
-unpaid_layout start b layout other h = go h.layout
-  where
-    go : (b.layout.items ≡ start.layout.items) ⊎ (2 + 1 ≤ 2) → ⊥
-    go (inl e) = let k = sym layout ∙ e ∙ other in cc
-    go (inr le) = omega (arith, le)
+-- ---- a new layout is paid for, and a new log also raises the lower end; both are paid for together
+module _ (start b : Bracket) (other : start.layout.items ≡ 4 ∷ 0 ∷ []) (none : start.log ≡ None)
+    (layout : b.layout.items ≡ 0 ∷ 4 ∷ []) (log : b.log ≡ Some six) where
+  layout_costs_one : {cost : ℕ} → LayoutIsPaid (λ a. 1) cost start b → 1 ≤ cost
+  layout_costs_one (inl e) = let k = sym layout ∙ e ∙ other in absurd cc
+  layout_costs_one (inr le) = le
 
-log_without_a_rise : (start b : Bracket) → b.log ≡ Some six → start.log ≡ None → b.low ≡ start.low →
-    ArePaid (λ a. 1) 2 3 start b → ⊥
-log_without_a_rise start b log none same h = go h.log
-  where
-    go : (b.log ≡ start.log) ⊎ ((l : Log) × (b.log ≡ Some l) × (start.low < b.low) × (2 + 1 ≤ 3)) → ⊥
-    go (inl e) = let k = sym log ∙ e ∙ none in cc
-    go (inr g) = let k = g.2 in omega (arith, k, same)
+  log_costs_one : {cost : ℕ} → LogIsPaid (λ a. 1) cost start b → 1 ≤ cost
+  log_costs_one (inl e) = let k = sym log ∙ e ∙ none in absurd cc
+  log_costs_one (inr g) = g.3
+
+  unpaid_layout : ArePaid (λ a. 1) 2 2 start b → ⊥
+  unpaid_layout h = let k = layout_costs_one h.layout in let p = h.paid in omega arith
+
+  -- a unit pays for one of the two
+  one_for_both : ArePaid (λ a. 1) 2 3 start b → ⊥
+  one_for_both h =
+      let k = layout_costs_one h.layout in let l = log_costs_one h.log in let p = h.paid in omega arith
+
+  two_for_both : start.low < b.low → ArePaid (λ a. 1) 2 4 start b
+  two_for_both rises = record {
+    layout_cost = 1;
+    log_cost = 1;
+    layout = inr (lit≤ tt);
+    log = inr (six, log, rises, lit≤ tt);
+    paid = lit≤ tt;
+  }
+
+  log_without_a_rise : b.low ≡ start.low → ArePaid (λ a. 1) 2 4 start b → ⊥
+  log_without_a_rise same h = go h.log
+    where
+      go : {cost : ℕ} → LogIsPaid (λ a. 1) cost start b → ⊥
+      go (inl e) = let k = sym log ∙ e ∙ none in cc
+      go (inr g) = let k = g.2 in omega (arith, k, same)

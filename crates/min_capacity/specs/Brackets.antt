@@ -43,21 +43,24 @@ pub record Narrows (I : Instance) (gives : ℕ → Answer → Type 0) (start b :
   pub layout : LayoutComes gives start b
   pub log : LogComes gives start b
 
--- the layout is the start's, or its charge was taken
-abbrev pub LayoutIsPaid : (Answer → ℕ) → ℕ → ℕ → Bracket → Bracket → Type 0
-LayoutIsPaid charge before after start b =
-    (b.layout.items ≡ start.layout.items) ⊎ (before + charge (Offsets b.layout.items) ≤ after)
+-- the layout is the start's, or its charge is within the cost
+abbrev pub LayoutIsPaid : (Answer → ℕ) → ℕ → Bracket → Bracket → Type 0
+LayoutIsPaid charge cost start b =
+    (b.layout.items ≡ start.layout.items) ⊎ (charge (Offsets b.layout.items) ≤ cost)
 
--- the log is the start's, or the lower end has risen and the log's charge was taken
-abbrev pub LogIsPaid : (Answer → ℕ) → ℕ → ℕ → Bracket → Bracket → Type 0
-LogIsPaid charge before after start b =
+-- the log is the start's, or the lower end has risen and the log's charge is within the cost
+abbrev pub LogIsPaid : (Answer → ℕ) → ℕ → Bracket → Bracket → Type 0
+LogIsPaid charge cost start b =
     (b.log ≡ start.log)
-    ⊎ ((log : Log) × (b.log ≡ Some log) × (start.low < b.low) × (before + charge (Refutation log) ≤ after))
+    ⊎ ((log : Log) × (b.log ≡ Some log) × (start.low < b.low) × (charge (Refutation log) ≤ cost))
 
--- the units from `before` to `after` pay for the layout and for the log
+-- the units from `before` to `after` pay for the layout and for the log together
 pub record ArePaid (charge : Answer → ℕ) (before after : ℕ) (start b : Bracket) : Type 0 where
-  pub layout : LayoutIsPaid charge before after start b
-  pub log : LogIsPaid charge before after start b
+  pub layout_cost : ℕ
+  pub log_cost : ℕ
+  pub layout : LayoutIsPaid charge layout_cost start b
+  pub log : LogIsPaid charge log_cost start b
+  pub paid : before + layout_cost + log_cost ≤ after
 
 -- what halving can still take is short of what it could take from the start by the units used, but for one call
 abbrev pub IsShort : (ℕ → ℕ) → (ℕ → Option ℕ) → ℕ → ℕ → Bracket → Bracket → Type 0
