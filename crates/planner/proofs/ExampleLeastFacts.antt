@@ -1,11 +1,12 @@
 -- Least capacities of small instances, and what stays open on them.
-use Rattle.std.proofs.Common.{◌≡◌, ℕ, zero, suc, ◌+◌, ◌<◌, ◌≤◌, ◌⊎◌, inl, inr, [], ◌∷◌, Some, None, refl, sym, ap, ◌∙◌, subst, lit<, lit≤, arith}
+use Rattle.std.proofs.Common.{◌≡◌, ℕ, zero, suc, ◌<◌, ◌≤◌, inl, inr, [], ◌∷◌, ◌-◌, length, Option, Some, None, refl, sym, ap, ◌∙◌, subst, lit<, lit≤, arith}
+use Rattle.std.specs.Prelude.{option_map}
 use Rattle.dsa_terms.specs.Bounds.{bound_modulus, counted, highest_stack, lower_bound, moduli, moments, rounded_size, stack, stack_log}
 use Rattle.dsa_terms.specs.Buffers.{Instance, IsInstance, buffer, do_share, have_same_moments, is_live, some_before}
 use Rattle.dsa_terms.specs.Claims.{child, step, up}
 use Rattle.dsa_terms.specs.Fits.{best_fit, best_place, first_fit, first_passing, first_place, free_ranges, highest, holds, is_free, is_tighter, neighbours, stretches, top}
 use Rattle.dsa_terms.specs.Layouts.{IsLayout, IsLeast}
-use Rattle.dsa_terms.specs.Logs.{ends_below, is_twin}
+use Rattle.dsa_terms.specs.Logs.{Log, ends_below, is_twin}
 use Rattle.dsa_terms.specs.Orders.{falls_by, orders, rises_by}
 use Rattle.dsa_terms.specs.Parts.{is_cut, last_cut, part_of, parts, searched, whole_work}
 use Rattle.dsa_terms.specs.Plans.{hunt, layout_height, plan}
@@ -20,9 +21,8 @@ use Rattle.dsa_start_laws.proofs.Stacks.{stack_is_accepted}
 use Rattle.min_capacity.specs.declared.brackets.Bracket.{Bracket}
 use Rattle.planner.specs.Decides.{IsBoundLog, IsRefutation}
 use Rattle.min_capacity.specs.declared.brackets.Least.TheVariants.{Open}
-use Rattle.planner.specs.FirstBracket.{IsLogBelow}
-use Rattle.planner.specs.LeastCapacity.{HasHalved, IsByBoundAtLow, IsExactly, IsWithinSteps, RefutesBelow, work_of_least}
-use Rattle.planner.specs.Openings.{AreGiven, AreTooFew, IsOpen, IsSpentAt}
+use Rattle.planner.specs.LeastCapacity.{AreWithinSteps, HasHalved, IsByBoundAtLow, IsExactly, IsLayoutWithin, IsLogWithin, IsWithinSteps, RefutesBelow, work_of_least}
+use Rattle.planner.specs.Openings.{AreTooFew, IsOpen, IsSpentAt}
 
 -- ---- steps
 -- five steps are too few for three buffers, six are enough, and without a number there are never too few
@@ -209,6 +209,8 @@ four_is_spent b low high layout log = record {
 start_without_steps : (b : Bracket) → b.layout.items ≡ 0 ∷ 4 ∷ [] → b.log ≡ Some (stack_log small_below 0 1 3) →
     IsWithinSteps small_below (Some 0) b
 start_without_steps b layout log = record {
+  layout_steps = 0;
+  log_steps = 0;
   layout = inl (layout ∙ sym below_best);
   log = inl (rw (log, below_bound) (
     lit≤ tt,
@@ -217,14 +219,55 @@ start_without_steps b layout log = record {
       by_bound = below_log;
     },
   ));
+  given = omega arith;
 }
 
-other_without_steps : (b : Bracket) → b.layout.items ≡ 1 ∷ 0 ∷ [] → IsWithinSteps small_below (Some 0) b → ⊥
-other_without_steps b layout h = go h.layout
+-- another layout took a step, and another log one for its line; one step is not enough for both
+other_layout : {k : ℕ} → IsLayoutWithin small_below k (1 ∷ 0 ∷ []) → 1 ≤ k
+other_layout (inl e) = let k = e ∙ below_best in absurd cc
+other_layout (inr le) = le
+
+other_log : {k low : ℕ} → IsLogWithin small_below k low (Some (stack_log small_below 0 1 4)) → 1 ≤ k
+unfolding stack_log
+other_log (inl h) =
+    let e = below_bound in let c : 4 ≡ lower_bound small_below - 1 = h.1.refutation.its_capacity in
+    absurd (omega (arith, e, c))
+other_log (inr g) = let l = ap (λ o. option_map (λ (w : Log). length w.lines) o) g.1 in let k = g.3 in
+    let n : 1 ≡ length g.0.lines = cc in omega (arith, n, k)
+
+other_without_steps : (low : ℕ) (log : Option Log) → AreWithinSteps small_below (Some 0) low (1 ∷ 0 ∷ []) log → ⊥
+other_without_steps low log h =
+    let k = other_layout h.layout in let g = h.given in omega (arith, k, g)
+
+one_step_for_both : (low : ℕ) →
+    AreWithinSteps small_below (Some 1) low (1 ∷ 0 ∷ []) (Some (stack_log small_below 0 1 4)) → ⊥
+one_step_for_both low h =
+    let k = other_layout h.layout in
+    let l = other_log h.log in
+    let g = h.given in
+    omega (arith, k, l, g)
+
+two_steps_for_both : AreWithinSteps small_below (Some 2) 5 (1 ∷ 0 ∷ []) (Some (stack_log small_below 0 1 4))
+unfolding stack_log
+two_steps_for_both = record {
+  layout_steps = 1;
+  log_steps = 1;
+  layout = inr (lit≤ tt);
+  log = inr (stack_log small_below 0 1 4, refl, (let e = below_bound in omega (arith, e)), lit≤ tt);
+  given = lit≤ tt;
+}
+
+-- the lower end does not rise by a log of the search at the bound
+two_steps_at_the_bound :
+    AreWithinSteps small_below (Some 2) 4 (1 ∷ 0 ∷ []) (Some (stack_log small_below 0 1 4)) → ⊥
+unfolding stack_log
+two_steps_at_the_bound h = go h.log
   where
-    go : (b.layout.items ≡ best_start small_below) ⊎ AreGiven (Some 0) 1 → ⊥
-    go (inl e) = let k = sym layout ∙ e ∙ below_best in cc
-    go (inr le) = omega (arith, le)
+    go : {k : ℕ} → IsLogWithin small_below k 4 (Some (stack_log small_below 0 1 4)) → ⊥
+    go (inl b) =
+        let e = below_bound in let c : 4 ≡ lower_bound small_below - 1 = b.1.refutation.its_capacity in
+        omega (arith, e, c)
+    go (inr g) = let e = below_bound in let k = g.2 in omega (arith, e, k)
 
 -- at the lower bound there is a log unless the bound is 0
 no_log_at_the_bound : (b : Bracket) → b.low ≡ 4 → b.log ≡ None → IsByBoundAtLow small_below b → ⊥

@@ -1,5 +1,5 @@
 -- What is found of the least capacity.
-use Rattle.std.specs.Prelude.{◌≡◌, ℕ, ◌+◌, ◌-◌, ◌/◌, ◌<◌, ◌≤◌, ◌↔◌, ◌⊎◌, ⊤, [], length, IfSome, Option}
+use Rattle.std.specs.Prelude.{◌≡◌, ℕ, ◌+◌, ◌-◌, ◌/◌, ◌<◌, ◌≤◌, ◌↔◌, ◌⊎◌, ⊤, List, [], length, IfSome, Option}
 use Rattle.std.specs.declared.option.Option.TheVariants.{Some, None}
 use Rattle.dsa_terms.specs.Bounds.{lower_bound}
 use Rattle.dsa_terms.specs.Buffers.{Instance}
@@ -56,12 +56,29 @@ HasHalved I steps (Open b) =
     IfSome steps (λ k.
     k + hunt (starts I) I b.low b.high < work_of_least I + whole_work I ((b.low + b.high) / 2))
 
--- the layout is the best start or took a step; the log is the bound's, or the lower end is above the bound and the log
--- took a step for each line
-pub record IsWithinSteps (I : Instance) (steps : Option ℕ) (b : Bracket) : Type 0 where
-  pub layout : (b.layout.items ≡ best_start I) ⊎ AreGiven steps 1
-  pub log : IsLogBelow I (lower_bound I) b.log
-      ⊎ ((log : Log) × (b.log ≡ Some log) × (lower_bound I < b.low) × AreGiven steps (length log.lines))
+-- the layout is the best start, or one of the steps at least went into it
+abbrev pub IsLayoutWithin : Instance → ℕ → List ℕ → Type 0
+IsLayoutWithin I n offsets = (offsets ≡ best_start I) ⊎ (1 ≤ n)
+
+-- the log is the bound's, or the lower end is above the bound and one of the steps went into each line of the log
+abbrev pub IsLogWithin : Instance → ℕ → ℕ → Option Log → Type 0
+IsLogWithin I n low log =
+    IsLogBelow I (lower_bound I) log
+    ⊎ ((refutation : Log) × (log ≡ Some refutation) × (lower_bound I < low) × (length refutation.lines ≤ n))
+
+-- halving has come to the lower end `low`: the layout is the best start or took a step, the log is the bound's or took a
+-- step for each line, and both together took no more than were given; so at the bound the log is the bound's
+pub record AreWithinSteps (I : Instance) (steps : Option ℕ) (low : ℕ) (offsets : List ℕ) (refutation : Option Log) :
+    Type 0 where
+  pub layout_steps : ℕ
+  pub log_steps : ℕ
+  pub layout : IsLayoutWithin I layout_steps offsets
+  pub log : IsLogWithin I log_steps low refutation
+  pub given : AreGiven steps (layout_steps + log_steps)
+
+-- the same of the layout and the log of a bracket
+abbrev pub IsWithinSteps : Instance → Option ℕ → Bracket → Type 0
+IsWithinSteps I steps b = AreWithinSteps I steps b.low b.layout.items b.log
 
 -- where the lower end is the lower bound, the log is the bound's
 abbrev pub IsByBoundAtLow : Instance → Bracket → Type 0

@@ -1,4 +1,5 @@
 use Rattle.std.proofs.Common.{arith}
+use Rattle.min_capacity.specs.Brackets.{bracket_of}
 use Rattle.planner.proofs.Finding.{finds}
 use Rattle.planner.proofs.Halving.{by_bound_at_low, has_halved, is_within_steps}
 use Rattle.planner.proofs.leasts.least_capacity.Goals as goal
@@ -11,8 +12,8 @@ returns c =
     let b = c.budget_of.ensures.value in
     let s = c.in_ok-search.ensures in
     let steps = is_within_steps c.args.instance.now c.args.steps c.budget_of.result c.in_ok-start.start
-    c.in_ok-search.search c.least.new.decider _ c.in_ok-start.ensures s b c.budget_of.ensures.range c.least.ensures.allowance n h.narrowed
-    h.charged in
+    c.in_ok-search.search c.least.new.decider (bracket_of c.in_ok-found.found) c.in_ok-start.ensures s b
+    c.budget_of.ensures.range c.least.ensures.allowance n h.narrowed h.charged in
     record {
       value = finds c.args.instance.now c.args.steps c.budget_of.result c.in_ok-start.start c.in_ok-search.search
           c.least.new.decider.units.used c.in_ok-found.found c.len-count.ensures.buffers c.in_ok-start.ensures
@@ -22,5 +23,5 @@ returns c =
           c.least.new.decider.units.used c.in_ok-found.found c.len-count.ensures.buffers c.in_ok-start.ensures s b
           h.narrowed h.exhausted h.left;
       steps = steps;
-      by_bound = by_bound_at_low c.args.instance.now c.args.steps _ steps;
+      by_bound = by_bound_at_low c.args.instance.now c.args.steps (bracket_of c.in_ok-found.found) steps;
     }
