@@ -33,3 +33,4 @@ mod LostFacts
 pub mod ShownFacts
 mod HeadlineFacts
 mod EmptyFacts
+pub mod TableFacts
