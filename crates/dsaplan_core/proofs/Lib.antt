@@ -34,3 +34,4 @@ pub mod ShownFacts
 mod HeadlineFacts
 mod EmptyFacts
 pub mod TableFacts
+pub mod InputFacts
