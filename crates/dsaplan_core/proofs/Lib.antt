@@ -35,3 +35,4 @@ mod HeadlineFacts
 mod EmptyFacts
 pub mod TableFacts
 pub mod InputFacts
+pub mod LayoutFileFacts
