@@ -36,3 +36,4 @@ mod EmptyFacts
 pub mod TableFacts
 pub mod InputFacts
 pub mod LayoutFileFacts
+mod GivenLayoutFacts
