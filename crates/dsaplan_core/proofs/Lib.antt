@@ -37,3 +37,4 @@ pub mod TableFacts
 pub mod InputFacts
 pub mod LayoutFileFacts
 mod GivenLayoutFacts
+mod ReportFacts

@@ -1,0 +1,120 @@
+-- What report prints of a layout of the one buffer.
+use Rattle.std.proofs.Common.{◌≡◌, ◌^◌, ◌+◌, ◌<◌, ◌≤◌, ◌++◌, ℕ, zero, suc, slice_index, List, inl, inr, [], ◌∷◌, Option, Some, None, codes, refl, sym, subst, lit<, lit≤, arith}
+use Rattle.std.specs.Fmt.{digits}
+use Rattle.csv.specs.Writing.{escaped, fields_text, is_blank}
+use Rattle.dsa_terms.specs.Buffers.{IsLive, buffer, is_live}
+use Rattle.dsa_terms.specs.Claims.{IsIn}
+use Rattle.dsa_terms.specs.Layouts.{IsLayout}
+use Rattle.dsa_terms.specs.Plans.{IsPeak, layout_height, load}
+use Rattle.dsa_model.proofs.Live.{not_live_after}
+use Rattle.csv_instance.specs.Offsets.{ids_of}
+use Rattle.layout_report.specs.Report.{IsReportOf, peak_line, rows_text}
+use Rattle.layout_report.specs.Rows.{AreLiveRows, AreRowsAt, buffer_row}
+use Rattle.layout_report.proofs.Filling.{filled_are_rows}
+use Rattle.command_words.specs.Commands.{Report}
+use Rattle.command_words.specs.Options.{Word}
+use Rattle.dsaplan_core.specs.Shown.{ShowsLayout}
+use Rattle.dsaplan_core.proofs.LayoutFileFacts.{beside, reads_file}
+use Rattle.dsaplan_core.proofs.OneFacts.{byte, one, one_laid, rows}
+use Rattle.dsaplan_core.proofs.TableFacts.{low_file, low_offsets}
+
+abbrev report_words : List Word
+report_words = codes "report" ∷ codes "--input" ∷ codes "i" ∷ codes "--layout" ∷ codes "a" ∷ []
+
+-- ---- the moment 0, and the row of the buffer then
+later_load : (s : ℕ) → load one (suc s) ≡ 0
+unfolding load
+later_load s = rw (not_live_after byte (suc s) (omega arith)) refl
+
+first_load : load one 0 ≡ 1
+unfolding load is_live
+first_load = refl
+
+one_peak : IsPeak one 0
+one_peak = record { not_empty = λ e. absurd cc; most = most; earliest = λ s lt. absurd (omega arith) }
+  where
+    most : (s : ℕ) → load one s ≤ load one 0
+    most zero = omega arith
+    most (suc s) = omega (arith, later_load s)
+
+-- what holds of the one item of a list
+alone : {A : Type 0} (P : A → Type 0) (x : A) → P x → (y : A) → IsIn y (x ∷ []) → P y
+alone P x p y (inl e) = subst P (sym e) p
+alone P x p y (inr i) = absurd i
+
+live_row : AreLiveRows one (0 ∷ []) 0 (buffer_row one (0 ∷ []) 0 ∷ [])
+unfolding buffer is_live
+live_row = record {
+  stacked = (lit≤ tt, lit< tt, tt);
+  each = alone (λ row. (b : ℕ) × (b < 1) × IsLive (buffer one b) 0 × (row ≡ buffer_row one (0 ∷ []) b))
+      (buffer_row one (0 ∷ []) 0) (0, lit< tt, refl, refl);
+  all = all;
+}
+  where
+    all : (b : ℕ) → b < 1 → IsLive (buffer one b) 0 →
+        IsIn (buffer_row one (0 ∷ []) b) (buffer_row one (0 ∷ []) 0 ∷ [])
+    all zero lt l = inl refl
+    all (suc b) lt l = absurd (omega arith)
+
+rows_at_0 : AreRowsAt one (0 ∷ []) 0 1 (buffer_row one (0 ∷ []) 0 ∷ [])
+unfolding buffer
+rows_at_0 = filled_are_rows one (0 ∷ []) 0 1 (buffer_row one (0 ∷ []) 0 ∷ []) live_row
+    (alone (λ row. row.place + row.size ≤ 1) (buffer_row one (0 ∷ []) 0) (lit≤ tt))
+
+-- ---- its text
+height_of_one : layout_height one (0 ∷ []) ≡ 1
+unfolding layout_height buffer
+height_of_one = refl
+
+abbrev report_text : List ℕ
+report_text = codes "moment 0 load 1 height 1\nplace,size,id\n0,1,A\n"
+
+text_of_one : report_text ≡ peak_line (Some (0, 1)) 1 ++ rows_text (ids_of rows) (buffer_row one (0 ∷ []) 0 ∷ [])
+unfolding buffer digits escaped fields_text is_blank
+text_of_one = refl
+
+report_of_one : IsReportOf rows one (0 ∷ []) report_text
+report_of_one = record {
+  peak = Some (0, 1);
+  rows = buffer_row one (0 ∷ []) 0 ∷ [];
+  is_peak = (one_peak, sym first_load);
+  are_rows = rw height_of_one rows_at_0;
+  is_text = rw height_of_one text_of_one;
+}
+
+-- ---- the layout that is shown
+laid_within_all : IsLayout one (2 ^ 60) (0 ∷ [])
+laid_within_all = record {
+  count = one_laid.count;
+  aligned = one_laid.aligned;
+  within = within;
+  apart = one_laid.apart;
+}
+  where
+    within : (b : ℕ) → b < 1 → slice_index (0 ∷ []) b + (buffer one b).size ≤ 2 ^ 60
+    within b lt = let k = one_laid.within b lt in omega arith
+
+layout_shown : ShowsLayout report_words (beside low_file) (beside low_file) report_text
+layout_shown = record {
+  input = codes "i";
+  file = codes "a";
+  table = rows;
+  instance = one;
+  bytes = low_file;
+  offsets = 0 ∷ [];
+  read = reads_file report_words (Report (codes "i") (codes "a")) low_file refl refl refl (lit≤ tt);
+  parsed = low_offsets;
+  layout = laid_within_all;
+  its_text = report_of_one;
+  files = refl;
+}
+
+-- it is never empty
+never_empty : ShowsLayout report_words (beside low_file) (beside low_file) [] → ⊥
+never_empty h =
+    go h.its_text.peak (layout_height h.instance h.offsets) (rows_text (ids_of h.table) h.its_text.rows)
+    h.its_text.is_text
+  where
+    go : (peak : Option (ℕ × ℕ)) (height : ℕ) (rest : List ℕ) → [] ≡ peak_line peak height ++ rest → ⊥
+    go None height rest e = absurd cc
+    go (Some p) height rest e = absurd cc
