@@ -38,3 +38,4 @@ pub mod InputFacts
 pub mod LayoutFileFacts
 mod GivenLayoutFacts
 mod ReportFacts
+pub mod LogFileFacts
