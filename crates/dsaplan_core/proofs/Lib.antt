@@ -39,3 +39,4 @@ pub mod LayoutFileFacts
 mod GivenLayoutFacts
 mod ReportFacts
 pub mod LogFileFacts
+mod HeldLogFacts
