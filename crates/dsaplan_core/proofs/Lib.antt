@@ -40,3 +40,4 @@ mod GivenLayoutFacts
 mod ReportFacts
 pub mod LogFileFacts
 mod HeldLogFacts
+mod ShortFacts
