@@ -41,3 +41,4 @@ mod ReportFacts
 pub mod LogFileFacts
 mod HeldLogFacts
 mod ShortFacts
+mod PromiseFacts
