@@ -42,3 +42,4 @@ pub mod LogFileFacts
 mod HeldLogFacts
 mod ShortFacts
 mod PromiseFacts
+mod LeftFacts
