@@ -1,5 +1,5 @@
 -- What report prints of a layout of the one buffer.
-use Rattle.std.proofs.Common.{◌≡◌, ◌^◌, ◌+◌, ◌<◌, ◌≤◌, ◌++◌, ℕ, zero, suc, slice_index, List, inl, inr, [], ◌∷◌, Option, Some, None, codes, refl, sym, subst, lit<, lit≤, arith}
+use Rattle.std.proofs.Common.{◌≡◌, ◌∙◌, ◌^◌, ◌+◌, ◌<◌, ◌≤◌, ◌++◌, ℕ, zero, suc, slice_index, List, inl, inr, [], ◌∷◌, Option, Some, None, codes, refl, sym, ap, ap₂, subst, lit<, lit≤, arith}
 use Rattle.std.specs.Fmt.{digits}
 use Rattle.csv.specs.Writing.{escaped, fields_text, is_blank}
 use Rattle.dsa_terms.specs.Buffers.{IsLive, buffer, is_live}
@@ -7,16 +7,27 @@ use Rattle.dsa_terms.specs.Claims.{IsIn}
 use Rattle.dsa_terms.specs.Layouts.{IsLayout}
 use Rattle.dsa_terms.specs.Plans.{IsPeak, layout_height, load}
 use Rattle.dsa_model.proofs.Live.{not_live_after}
-use Rattle.csv_instance.specs.Offsets.{ids_of}
+use Rattle.dsa_outside.specs.Held.{file_at}
+use Rattle.csv_instance.specs.Offsets.{ids_of, offsets_of}
+use Rattle.csv_instance.specs.Records.{Record, table_of}
+use Rattle.csv_instance.specs.declared.columns.Column.TheVariants as column
+use Rattle.csv_instance.specs.declared.fault.OffsetsFault.TheVariants as offsets
 use Rattle.layout_report.specs.Report.{IsReportOf, peak_line, rows_text}
 use Rattle.layout_report.specs.Rows.{AreLiveRows, AreRowsAt, buffer_row}
 use Rattle.layout_report.proofs.Filling.{filled_are_rows}
-use Rattle.command_words.specs.Commands.{Report}
+use Rattle.command_words.specs.Commands.{Command, Report}
 use Rattle.command_words.specs.Options.{Word}
+use Rattle.dsaplan_core.specs.Asked.{layout_of}
 use Rattle.dsaplan_core.specs.Shown.{ShowsLayout}
-use Rattle.dsaplan_core.proofs.LayoutFileFacts.{beside, reads_file}
+use Rattle.dsaplan_core.specs.Steps.{table_limit}
+use Rattle.dsaplan_core.proofs.InputFacts.{only_bytes, only_command, only_table}
+use Rattle.dsaplan_core.proofs.LayoutFileFacts.{beside, no_fault, reads_file}
 use Rattle.dsaplan_core.proofs.OneFacts.{byte, one, one_laid, rows}
-use Rattle.dsaplan_core.proofs.TableFacts.{low_file, low_offsets}
+use Rattle.dsaplan_core.proofs.TableFacts.{bare_file, bare_offsets, low_file, low_offsets}
+use Rattle.dsaplan_core.proofs.WorldFacts.{reads_beside_layout, reads_layout, with_layout}
+
+abbrev report : Command
+report = Report (codes "i") (codes "a")
 
 abbrev report_words : List Word
 report_words = codes "report" ∷ codes "--input" ∷ codes "i" ∷ codes "--layout" ∷ codes "a" ∷ []
@@ -102,7 +113,7 @@ layout_shown = record {
   instance = one;
   bytes = low_file;
   offsets = 0 ∷ [];
-  read = reads_file report_words (Report (codes "i") (codes "a")) low_file refl refl refl (lit≤ tt);
+  read = reads_file report_words report low_file refl refl refl (lit≤ tt);
   parsed = low_offsets;
   layout = laid_within_all;
   its_text = report_of_one;
@@ -118,3 +129,17 @@ never_empty h =
     go : (peak : Option (ℕ × ℕ)) (height : ℕ) (rest : List ℕ) → [] ≡ peak_line peak height ++ rest → ⊥
     go None height rest e = absurd cc
     go (Some p) height rest e = absurd cc
+
+-- nor is there one of a file without offsets
+no_report : (text : List ℕ) → ShowsLayout report_words (beside bare_file) (beside bare_file) text → ⊥
+no_report text h =
+    let files = with_layout bare_file in
+    let command = only_command report_words files report (Report h.input h.file) h.table h.instance refl refl
+    (reads_beside_layout bare_file) h.read.asked in
+    let table = only_table report_words files report (Report h.input h.file) h.table h.instance refl refl
+    (reads_beside_layout bare_file) h.read.asked in
+    let name : codes "a" ≡ h.read.layout = (let e = ap layout_of command ∙ h.read.its_layout in cc) in
+    let reads = subst (λ n. file_at (Some files) n ≡ Some bare_file) name (reads_layout bare_file) in
+    let bytes = only_bytes files h.read.layout bare_file h.bytes table_limit reads h.read.whole in
+    let found = ap₂ (λ (t : List Record) (b : List ℕ). offsets_of (ids_of t) (table_of b)) table bytes in
+    no_fault h.offsets (offsets.MissingColumn column.Offset) (sym (sym bare_offsets ∙ found ∙ h.parsed))
