@@ -12,7 +12,7 @@ use Rattle.command_words.specs.Options.{Word}
 use Rattle.command_words.specs.Commands.{Command, Solve, Least, Verify, Refute, Trim, Bounds, Report, Trial, command_of, names_of}
 use Rattle.dsaplan_core.specs.Seen.{FilesSeen, SinkSeen}
 use Rattle.dsaplan_core.specs.Steps.{table_limit, log_limit, IsWhole, HoldsMore, IsUnread}
-use Rattle.dsaplan_core.specs.Asked.{IsAsked, input_of, layout_of, checked_log_of, output_of, log_of}
+use Rattle.dsaplan_core.specs.Asked.{IsAsked, input_of, layout_of, checked_log_of}
 use Rattle.dsaplan_core.specs.Decided.{MayStayOpen}
 use Rattle.dsaplan_core.specs.Shown.{ShowsFacts, ShowsLayout, ShowsTrial}
 use Rattle.dsaplan_core.specs.Answers.{Cause, Answers}
@@ -24,6 +24,7 @@ use Rattle.dsaplan_core.specs.declared.status.WrongCause.{WrongCause}
 use Rattle.dsaplan_core.specs.declared.status.WrongCause.TheVariants as wrong
 use Rattle.dsaplan_core.specs.declared.status.LogCause.{LogCause}
 use Rattle.dsaplan_core.specs.declared.status.LogCause.TheVariants as refused
+use Rattle.dsaplan_core.proofs.CommandNames.{input_named, layout_named, checked_log_named, output_named, log_named}
 
 told : (held : Option FileMap) (name bytes : List ℕ) → file_at held name ≡ Some bytes → IsSome held
 told None name bytes is = absurd cc
@@ -43,64 +44,9 @@ not_more files name most there more =
     let same : more.bytes ≡ there.bytes = (let a = more.held in let b = there.held in cc) in
     omega (arith, ap length same, more.long, there.short)
 
-same_name : (a b : Word) → Some a ≡ Some b → b ≡ a
-same_name a b is = cc
-
 -- what holds of a name where there is one
 given_at : (P : Word → Type 0) (o : Option Word) (name : Word) → o ≡ Some name → MatchOption o (Unit {0}) P → P name
 given_at P o name is holds = subst (λ x. MatchOption x (Unit {0}) P) is holds
-
--- ---- the names of a command
-
-input_named : (c : Command) (name : Word) → input_of c ≡ Some name → IsIn name (names_of c)
-input_named (Solve capacity input output log steps) name is = inl (same_name input name is)
-input_named (Least input output log steps) name is = inl (same_name input name is)
-input_named (Verify capacity input layout) name is = inl (same_name input name is)
-input_named (Refute input log) name is = inl (same_name input name is)
-input_named (Trim input log output) name is = inl (same_name input name is)
-input_named (Bounds input) name is = inl (same_name input name is)
-input_named (Report input layout) name is = inl (same_name input name is)
-input_named (Trial seed count steps) name is = absurd cc
-
-layout_named : (c : Command) (name : Word) → layout_of c ≡ Some name → IsIn name (names_of c)
-layout_named (Solve capacity input output log steps) name is = absurd cc
-layout_named (Least input output log steps) name is = absurd cc
-layout_named (Verify capacity input layout) name is = inr (inl (same_name layout name is))
-layout_named (Refute input log) name is = absurd cc
-layout_named (Trim input log output) name is = absurd cc
-layout_named (Bounds input) name is = absurd cc
-layout_named (Report input layout) name is = inr (inl (same_name layout name is))
-layout_named (Trial seed count steps) name is = absurd cc
-
-checked_log_named : (c : Command) (name : Word) → checked_log_of c ≡ Some name → IsIn name (names_of c)
-checked_log_named (Solve capacity input output log steps) name is = absurd cc
-checked_log_named (Least input output log steps) name is = absurd cc
-checked_log_named (Verify capacity input layout) name is = absurd cc
-checked_log_named (Refute input log) name is = inr (inl (same_name log name is))
-checked_log_named (Trim input log output) name is = inr (inl (same_name log name is))
-checked_log_named (Bounds input) name is = absurd cc
-checked_log_named (Report input layout) name is = absurd cc
-checked_log_named (Trial seed count steps) name is = absurd cc
-
-output_named : (c : Command) (name : Word) → output_of c ≡ Some name → IsIn name (names_of c)
-output_named (Solve capacity input output log steps) name is = inr (inl (same_name output name is))
-output_named (Least input output log steps) name is = inr (inl (same_name output name is))
-output_named (Verify capacity input layout) name is = absurd cc
-output_named (Refute input log) name is = absurd cc
-output_named (Trim input log output) name is = inr (inr (inl (same_name output name is)))
-output_named (Bounds input) name is = absurd cc
-output_named (Report input layout) name is = absurd cc
-output_named (Trial seed count steps) name is = absurd cc
-
-log_named : (c : Command) (name : Word) → log_of c ≡ Some name → IsIn name (names_of c)
-log_named (Solve capacity input output log steps) name is = inr (inr (inl (same_name log name is)))
-log_named (Least input output log steps) name is = inr (inr (inl (same_name log name is)))
-log_named (Verify capacity input layout) name is = absurd cc
-log_named (Refute input log) name is = absurd cc
-log_named (Trim input log output) name is = absurd cc
-log_named (Bounds input) name is = absurd cc
-log_named (Report input layout) name is = absurd cc
-log_named (Trial seed count steps) name is = absurd cc
 
 -- ---- answers that conclude a command
 

@@ -11,6 +11,7 @@ pub mod Found
 pub mod Trimming
 pub mod Showing
 pub mod Judging
+pub mod CommandNames
 pub mod Concluded
 pub mod Accepting
 pub mod Headline
