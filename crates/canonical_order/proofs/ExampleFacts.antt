@@ -1,10 +1,10 @@
 -- Worked claims: bounds, children, tall buffers, and what is covered.
-use Rattle.std.proofs.Common.{◌≡◌, ℕ, inl, inr, [], ◌∷◌, Some, None, refl, ap, lit≤, arith}
+use Rattle.std.proofs.Common.{◌≡◌, ℕ, zero, suc, ◌<◌, inl, inr, [], ◌∷◌, slice_index, Some, None, refl, ap, lit≤, arith}
 use Rattle.dsa_terms.specs.Buffers.{Buffer, Instance, is_live, buffer, do_share, some_before}
 use Rattle.dsa_terms.specs.Claims.{Entry, IsIn, Covers, up, step, child}
 use Rattle.dsa_terms.specs.Search.{is_tall}
-use Rattle.canonical_order.specs.Claims.{bound_of, entries_below, entry_of, least_buffer}
-use Rattle.canonical_order.specs.LowTables.{AreLevels}
+use Rattle.canonical_order.specs.Claims.{HasBuffer, bound_of, entries_below, entry_of, least_buffer}
+use Rattle.canonical_order.specs.Levels.{AreLevels, IsLevel}
 
 abbrev plain : ℕ → ℕ → ℕ → ℕ → Buffer
 plain lower upper size alignment = record {
@@ -37,16 +37,51 @@ entry_there = refl
 below_two : entries_below 2 ((0, 5) ∷ (1, 6) ∷ (2, 7) ∷ []) ≡ (0, 5) ∷ (1, 6) ∷ []
 below_two = refl
 
--- ---- tables of lows
--- the lows of the buffers 1 and 2 are 2 and 1, and buffer 0 is not in the claim
-two_levels : AreLevels three ((1, 1) ∷ (2, 1) ∷ []) (0 ∷ 3 ∷ 2 ∷ [])
+-- ---- levels
+-- the low of buffer 1 is 2, past its bound, and buffer 0 is not in the claim
+level_of_low : IsLevel three ((1, 1) ∷ (2, 1) ∷ []) 1 3
 unfolding up buffer
-two_levels = refl
+level_of_low = record { inside = λ i. refl; outside = λ out. absurd (out (inl refl)) }
+
+level_of_a_stranger : IsLevel three ((1, 1) ∷ (2, 1) ∷ []) 0 0
+level_of_a_stranger = record { inside = λ i. absurd (strange i); outside = λ out. refl }
+  where
+    strange : HasBuffer ((1, 1) ∷ (2, 1) ∷ []) 0 → ⊥
+    strange (inl q) = absurd cc
+    strange (inr (inl q)) = absurd cc
+    strange (inr (inr i)) = i
 
 -- a low of 0 is written down too
-level_of_zero : AreLevels three ((0, 0) ∷ []) (1 ∷ 0 ∷ 0 ∷ [])
+no_level_of_zero : IsLevel three ((0, 0) ∷ []) 0 0 → ⊥
 unfolding up buffer
-level_of_zero = refl
+no_level_of_zero h = absurd (let k : 0 ≡ 1 = h.inside (inl refl) in omega (arith, k))
+
+two_levels : AreLevels three ((1, 1) ∷ (2, 1) ∷ []) (0 ∷ 3 ∷ 2 ∷ [])
+unfolding up buffer
+two_levels = record {
+  claim = record { rises = (λ x i. ordered x i, (λ x i. absurd i, tt)); in_range = within };
+  count = refl;
+  each = each;
+}
+  where
+    ordered : (x : ℕ) → IsIn x (2 ∷ []) → 1 < x
+    ordered x (inl q) = rw q (lit≤ {m = 2} {n = 2} tt)
+    ordered x (inr i) = absurd i
+
+    within : (e : Entry) → IsIn e ((1, 1) ∷ (2, 1) ∷ []) → e.0 < 3
+    within e (inl q) = let k : e.0 ≡ 1 = ap (λ (e : Entry). e.0) q in omega arith
+    within e (inr (inl q)) = let k : e.0 ≡ 2 = ap (λ (e : Entry). e.0) q in omega arith
+    within e (inr (inr i)) = absurd i
+
+    each : (b : ℕ) → b < 3 → IsLevel three ((1, 1) ∷ (2, 1) ∷ []) b (slice_index (0 ∷ 3 ∷ 2 ∷ []) b)
+    each zero lt = level_of_a_stranger
+    each (suc zero) lt = level_of_low
+    each (suc (suc zero)) lt = record { inside = λ i. refl; outside = λ out. absurd (out (inr (inl refl))) }
+    each (suc (suc (suc b))) lt = absurd (omega arith)
+
+-- one level is missing
+too_few_levels : AreLevels three [] (0 ∷ 0 ∷ []) → ⊥
+too_few_levels h = absurd (let k : 2 ≡ 3 = h.count in omega (arith, k))
 
 -- ---- children
 -- past the size of the first, which each other one shares a moment with

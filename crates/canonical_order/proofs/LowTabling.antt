@@ -1,18 +1,21 @@
--- Tables of lows.
-use Rattle.std.proofs.Common.{◌≡◌, ◌≢◌, ℕ, ◌+◌, ◌<◌, ◌≤◌, ◌==◌, nat_lt, IsTrue, Bool, true, false, cond, List, [], ◌∷◌, drop, length, replicate, slice_index_or, slice_set, Option, Some, None, inl, inr, sym, refl, ◌∙◌, arith}
+-- A table of lows that is filled entry by entry.
+use Rattle.std.proofs.Common.{◌≡◌, ◌≢◌, ℕ, ◌+◌, ◌<◌, ◌≤◌, ◌==◌, Bool, true, false, cond, List, [], ◌∷◌, drop, length, replicate, slice_index_or, slice_set, inl, inr, sym, refl, ◌∙◌, arith}
 use Rattle.std.proofs.lemmas.Bool.Decides.{nat_tests}
-use Rattle.std.proofs.lemmas.Grind.{get_or_default_zero}
 use Rattle.std.proofs.lemmas.List.{drop_all, get_or-replicate, get_or_past, get_or-set_other, get_or-set_same, length-replicate, length-set}
 use Rattle.std.specs.Int.{next_multiple_of}
 use Rattle.dsa_terms.specs.Buffers.{Buffer, Instance, buffer}
-use Rattle.dsa_terms.specs.Claims.{Claim, Entry, Rises, buffers_of, number_of, up}
-use Rattle.canonical_order.specs.Claims.{HasBuffer, bound_of, entry_of}
-use Rattle.canonical_order.proofs.Entries.{bound_none, bound_some}
+use Rattle.dsa_terms.specs.Claims.{Claim, Entry, IsClaim, Rises, buffers_of, number_of, up}
+use Rattle.canonical_order.specs.Claims.{HasBuffer, entry_of}
+use Rattle.canonical_order.specs.Levels.{AreLevels}
 use Rattle.canonical_order.proofs.NumberTests.{below_or_from}
-use Rattle.canonical_order.specs.LowTables.{AreLevels, filled}
+
+-- the levels with one more than the up of each entry at the place of its buffer
+abbrev pub filled : Instance → Claim → List ℕ → List ℕ
+filled I [] levels = levels
+filled I (e ∷ es) levels = filled I es (slice_set levels e.0 (up I e + 1))
 
 module _ (I : Instance) where
-  pub filled_length : (l : Claim) (levels : List ℕ) → length (filled I l levels) ≡ length levels
+  filled_length : (l : Claim) (levels : List ℕ) → length (filled I l levels) ≡ length levels
   filled_length [] levels = refl
   filled_length (e ∷ es) levels = filled_length es (slice_set levels e.0 (up I e + 1)) ∙ length-set levels e.0 _
 
@@ -40,7 +43,7 @@ module _ (I : Instance) where
       go false q (inr i) ih = ih i
 
 -- ---- the table
-abbrev zeros : ℕ → List ℕ
+abbrev pub zeros : ℕ → List ℕ
 zeros n = replicate n 0
 
 zeros_length : (n : ℕ) → length (zeros n) ≡ n
@@ -52,37 +55,17 @@ zeros_at n b = elim (below_or_from b n) [
   | inr le ↦ get_or_past (zeros n) b 0 (rw (zeros_length n) le)
 ]
 
-module _ (I : Instance) (l : Claim) (levels : List ℕ) (r : Rises (buffers_of l)) (h : AreLevels I l levels) where
-  pub table_length : length levels ≡ length I
-  table_length = rw h (filled_length I l (zeros (length I)) ∙ zeros_length (length I))
-
-  pub level_of : (b : ℕ) → b < length I → HasBuffer l b → slice_index_or levels b 0 ≡ up I (entry_of l b) + 1
-  level_of b lt i = rw h (filled_free I l (zeros (length I)) b r (rw (zeros_length (length I)) lt) i)
-
-  pub read_level : (b x : ℕ) → b < length I → HasBuffer l b → x ≡ slice_index_or levels b x →
-      x ≡ up I (entry_of l b) + 1
-  read_level b x lt i q = q ∙ (get_or_default_zero levels b x (rw table_length lt) ∙ level_of b lt i)
-
-  pub free_by_level : (b : ℕ) → 0 < slice_index_or levels b 0 → HasBuffer l b
-  free_by_level b lt = go (bound_of l b) refl
-    where
-      go : (o : Option ℕ) → o ≡ bound_of l b → HasBuffer l b
-      go (Some x) e = (bound_some l b x e).0
-      go None e =
-          let q : slice_index_or levels b 0 ≡ 0 =
-          rw h (filled_other I l (zeros (length I)) b (bound_none l b e) ∙ zeros_at (length I) b) in
-          absurd (omega arith)
-
--- ---- tests of levels
-pub not_zero : (levels : List ℕ) (b x : ℕ) → x ≡ slice_index_or levels b x → b < length levels →
-    IsTrue (nat_lt 0 x) → 0 < slice_index_or levels b 0
-not_zero levels b x q lt t = rw (← get_or_default_zero levels b x lt, ← q) (above x t)
-  where
-    above : (x : ℕ) → IsTrue (nat_lt 0 x) → 0 < x
-    above x t = grind (arith, nat_tests)
-
-pub one_more : (x y : ℕ) → x ≡ y + 1 → IsTrue (nat_lt 0 x)
-one_more x y q = grind (arith, nat_tests)
+-- the levels of a claim of the instance
+pub filled_levels : (I : Instance) (l : Claim) (levels : List ℕ) → IsClaim I l →
+    levels ≡ filled I l (zeros (length I)) → AreLevels I l levels
+filled_levels I l levels claim h = record {
+  claim = claim;
+  count = rw h (filled_length I l (zeros (length I)) ∙ zeros_length (length I));
+  each = λ b lt. record {
+    inside = λ i. rw h (filled_free I l (zeros (length I)) b claim.rises (rw (zeros_length (length I)) lt) i);
+    outside = λ out. rw h (filled_other I l (zeros (length I)) b out ∙ zeros_at (length I) b);
+  };
+}
 
 -- ---- one entry more
 pub filled_next : (I : Instance) (l : Claim) (n : ℕ) (e : Entry) (levels after start : List ℕ) (level : ℕ) →

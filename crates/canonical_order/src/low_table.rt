@@ -2,7 +2,7 @@
 
 ghost use Rattle.std.specs.Prelude.{◌≡◌, ◌<◌, ℕ, IfOk, length};
 ghost use Rattle.canonical_order.specs.Claims.{HasBuffer};
-ghost use Rattle.canonical_order.specs.LowTables.{AreLevels};
+ghost use Rattle.canonical_order.specs.Levels.{AreLevels, AreLevels-prop};
 ghost use Rattle.canonical_order.specs.Stands.{Stands};
 
 use crate::{Claim, Lows};
@@ -19,7 +19,7 @@ pub struct LowTable<'a> {
     pub claim: &'a Claim,
     levels: Vec<u64>,
     ghost in_range: { (b : ℕ) → HasBuffer claim.now b → b < length instance.now },
-    ghost filled: { AreLevels instance.now claim.now levels.items },
+    ghost filled: { AreLevels instance.now claim.now levels.items } by { AreLevels-prop },
 }
 
 impl<'a> LowTable<'a> {

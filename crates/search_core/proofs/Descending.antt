@@ -6,9 +6,9 @@ use Rattle.dsa_terms.specs.Claims.{Claim, Entry, child}
 use Rattle.dsa_terms.specs.Logs.{Line}
 use Rattle.dsa_terms.specs.Search.{first, seated, work}
 use Rattle.canonical_order.specs.Claims.{HasBuffer, entry_of}
+use Rattle.canonical_order.specs.Levels.{AreLevels}
 use Rattle.skyline.specs.Skies.{Sky, last_claim}
 use Rattle.search_core.specs.Descents.{Descends, HasAskedAll, IsKnown, IsStanding, IsTrying, above_of, left_of, owed, root_of, sky_root, through}
-use Rattle.search_core.specs.Levels.{AreLevels}
 use Rattle.search_core.specs.Logs.{Extends}
 use Rattle.search_core.specs.Tries.{IsLeft, Tried, chosen_of, later_of, noted_by, rest_of}
 use Rattle.search_core.specs.Turns.{IsAhead, debt_of}

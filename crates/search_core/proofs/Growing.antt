@@ -1,5 +1,5 @@
 -- Logs that grow.
-use Rattle.std.proofs.Common.{◌≡◌, ℕ, zero, suc, ◌^◌, ◌<◌, ◌≤◌, ◌⊎◌, inl, inr, List, [], ◌∷◌, ◌++◌, length, slice_get, take, Some, sym, refl, ap, ◌∙◌, subst, arith, append_assoc}
+use Rattle.std.proofs.Common.{◌≡◌, ℕ, zero, suc, ◌^◌, ◌<◌, ◌≤◌, inl, inr, List, [], ◌∷◌, ◌++◌, length, slice_get, take, Some, sym, refl, ap, ◌∙◌, subst, arith, append_assoc}
 use Rattle.std.proofs.lemmas.List.{append-nil, take-append-le}
 use Rattle.std.proofs.lemmas.Option.{slice_get_within}
 use Rattle.dsa_terms.specs.Buffers.{Instance}
@@ -9,6 +9,7 @@ use Rattle.dsa_terms.specs.Logs.{Line, claim_of}
 use Rattle.dsa_terms.proofs.Lists.{from_append}
 use Rattle.canonical_order.specs.Claims.{HasBuffer}
 use Rattle.canonical_order.proofs.CoverLemmas.{covered_has}
+use Rattle.canonical_order.proofs.NumberTests.{below_or_from}
 use Rattle.search_core.specs.Cites.{IsCoveredBy}
 use Rattle.search_core.specs.Logs.{Extends}
 
@@ -38,9 +39,6 @@ next_line P lines line h p k x q = elim (below_or_from k (length lines)) [
       let r = get_last lines line x k le q in
       rw (r.0, take-append-le (length lines) lines (line ∷ []) (omega arith), take_length lines, ← r.1) p
 ]
-  where
-    below_or_from : (s t : ℕ) → (s < t) ⊎ (t ≤ s)
-    below_or_from s t = grind arith
 
 pub lean_next : (I : Instance) (C : ℕ) (lines after : List Line) (line : Line) → after ≡ lines ++ line ∷ [] →
     ((k : ℕ) (x : Line) → slice_get lines k ≡ Some x → IsLeanLine I C (take k lines) x) → IsLeanLine I C lines line →

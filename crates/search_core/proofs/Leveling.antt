@@ -4,8 +4,7 @@ use Rattle.dsa_terms.specs.Buffers.{Instance, IsInstance}
 use Rattle.dsa_terms.specs.Claims.{Claim, Entry, IsIn, up}
 use Rattle.dsa_terms.proofs.Lists.{from_map}
 use Rattle.canonical_order.specs.Claims.{HasBuffer, entry_of}
-use Rattle.canonical_order.proofs.Entries.{entry_in}
-use Rattle.search_core.specs.Levels.{AreLevels}
+use Rattle.canonical_order.specs.Levels.{AreLevels}
 use Rattle.search_core.specs.Lifted.{lift, lifted}
 use Rattle.search_core.proofs.Lifting.{buffers_of-lifted, lifted_entry, lifted_has, lifted_rises, up_of_lift}
 
@@ -27,8 +26,3 @@ lifted_levels I l levels s h = record {
   where
     same_up : (b : ℕ) → HasBuffer l b → up I (entry_of l b) ≡ up I (entry_of (lifted I l) b)
     same_up b j = sym (up_of_lift I (entry_of l b) s) ∙ ap (up I) (lifted_entry I l b h.claim.rises j)
-
--- the buffers of a claim with levels are in range
-pub levels_in_range : (I : Instance) (l : Claim) (levels : List ℕ) → AreLevels I l levels →
-    (b : ℕ) → HasBuffer l b → b < length I
-levels_in_range I l levels h b i = h.claim.in_range (entry_of l b) (entry_in l b i)

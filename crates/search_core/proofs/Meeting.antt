@@ -1,65 +1,40 @@
 -- What the levels of a claim say of bounds: the claim meets a bound exactly where it is below the buffer's level.
-use Rattle.std.proofs.Common.{◌≡◌, ℕ, ◌+◌, ◌-◌, ◌<◌, ◌≤◌, ◌⊎◌, inl, inr, List, [], ◌∷◌, ◌++◌, length, slice_index, slice_index_or, Option, Some, None, refl, ap, subst, arith}
-use Rattle.std.proofs.lemmas.List.{get_or_past, get_or_read, map-append}
+use Rattle.std.proofs.Common.{◌≡◌, ℕ, ◌+◌, ◌-◌, ◌<◌, ◌≤◌, inl, inr, List, [], ◌∷◌, ◌++◌, length, slice_index, slice_index_or, refl, ap, subst, arith}
+use Rattle.std.proofs.lemmas.List.{get_or_read, map-append}
 use Rattle.dsa_terms.specs.Buffers.{Instance}
 use Rattle.dsa_terms.specs.Claims.{Claim, Entry, IsIn, Rises, buffers_of, up}
 use Rattle.dsa_terms.proofs.Lists.{from_append, from_map}
-use Rattle.canonical_order.specs.Claims.{CoversEntry, HasBuffer, bound_of, entry_of}
+use Rattle.canonical_order.specs.Claims.{CoversEntry, HasBuffer, entry_of}
+use Rattle.canonical_order.specs.Levels.{AreLevels}
 use Rattle.canonical_order.proofs.CoverLemmas.{covers_entry, from_covered}
-use Rattle.canonical_order.proofs.Entries.{bound_none, bound_some, entry_in}
-use Rattle.search_core.specs.Levels.{AreLevels}
+use Rattle.canonical_order.proofs.LevelLemmas.{has_level, level_inside}
 use Rattle.search_core.specs.Lifted.{lift}
-
-pub below_or_from : (s t : ℕ) → (s < t) ⊎ (t ≤ s)
-below_or_from s t = grind arith
-
-pub has_or_not : (l : Claim) (b : ℕ) → HasBuffer l b ⊎ (HasBuffer l b → ⊥)
-has_or_not l b = go (bound_of l b) refl
-  where
-    go : (o : Option ℕ) → o ≡ bound_of l b → HasBuffer l b ⊎ (HasBuffer l b → ⊥)
-    go None e = inr (bound_none l b e)
-    go (Some x) e = inl (bound_some l b x e).0
 
 -- ---- the level of one buffer
 module _ (I : Instance) (l : Claim) (levels : List ℕ) (h : AreLevels I l levels) where
-  pub level_inside : (b : ℕ) → HasBuffer l b → slice_index levels b ≡ up I (entry_of l b) + 1
-  level_inside b i = (h.each b (h.claim.in_range (entry_of l b) (entry_in l b i))).inside i
-
-  pub level_outside : (b : ℕ) → (HasBuffer l b → ⊥) → slice_index levels b ≡ 0
-  level_outside b n = elim (below_or_from b (length I)) [
-    | inl lt ↦ (h.each b lt).outside n
-    | inr le ↦ get_or_past levels b 0 (let k = h.count in omega arith)
-  ]
-
-  pub has_level : (b : ℕ) → 0 < slice_index levels b → HasBuffer l b
-  has_level b lt = elim (has_or_not l b) [
-    | inl i ↦ i
-    | inr n ↦ absurd (let k : slice_index levels b ≡ 0 = level_outside b n in omega arith)
-  ]
-
   pub meets : (e : Entry) → e.1 < slice_index levels e.0 → CoversEntry I l e
   meets e lt =
-      let i : HasBuffer l e.0 = has_level e.0 (omega arith) in
+      let i : HasBuffer l e.0 = has_level I l levels h e.0 (omega arith) in
       covers_entry I l e i
-      (let k : slice_index levels e.0 ≡ up I (entry_of l e.0) + 1 = level_inside e.0 i in omega arith)
+      (let k : slice_index levels e.0 ≡ up I (entry_of l e.0) + 1 = level_inside I l levels h e.0 i in omega arith)
 
   pub is_met : (e : Entry) → CoversEntry I l e → e.1 < slice_index levels e.0
   is_met e c =
       let r = from_covered I l e h.claim.rises c in
-      let k : slice_index levels e.0 ≡ up I (entry_of l e.0) + 1 = level_inside e.0 r.0 in
+      let k : slice_index levels e.0 ≡ up I (entry_of l e.0) + 1 = level_inside I l levels h e.0 r.0 in
       let q : e.1 ≤ up I (entry_of l e.0) = r.1 in
       omega arith
 
   pub lifted_at : (b level : ℕ) → level ≡ slice_index levels b → 0 < level →
       HasBuffer l b × (◌≡◌ {A = Entry} (b, level - 1) (lift I (entry_of l b)))
   lifted_at b level q lt =
-      let i : HasBuffer l b = has_level b (omega arith) in
-      let k : slice_index levels b ≡ up I (entry_of l b) + 1 = level_inside b i in
+      let i : HasBuffer l b = has_level I l levels h b (omega arith) in
+      let k : slice_index levels b ≡ up I (entry_of l b) + 1 = level_inside I l levels h b i in
       (i, ap (λ (n : ℕ). let e : Entry = (b, n) in e) (let p : level - 1 ≡ up I (entry_of l b) = omega arith in p))
 
   pub absent_at : (b level : ℕ) → level ≡ slice_index levels b → level ≤ 0 → HasBuffer l b → ⊥
   absent_at b level q z i =
-      let k : slice_index levels b ≡ up I (entry_of l b) + 1 = level_inside b i in omega arith
+      let k : slice_index levels b ≡ up I (entry_of l b) + 1 = level_inside I l levels h b i in omega arith
 
 pub level_read : (numbers levels : List ℕ) (b level : ℕ) → numbers ≡ levels → b < length numbers →
     level ≡ slice_index_or numbers b level → level ≡ slice_index levels b

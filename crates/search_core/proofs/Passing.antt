@@ -6,12 +6,12 @@ use Rattle.dsa_terms.specs.Logs.{Line}
 use Rattle.dsa_terms.specs.Search.{first, work}
 use Rattle.dsa_search_laws.proofs.Claims.{claim-child}
 use Rattle.canonical_order.specs.Claims.{HasBuffer, entry_of}
+use Rattle.canonical_order.specs.Levels.{AreLevels}
 use Rattle.canonical_order.specs.Stands.{Stands}
 use Rattle.refute_log.specs.Logs.{OpenLog}
 use Rattle.skyline.specs.Skies.{Sky}
 use Rattle.search_core.specs.Cites.{IsCoveredBy}
 use Rattle.search_core.specs.Descents.{IsTrying, through}
-use Rattle.search_core.specs.Levels.{AreLevels}
 use Rattle.search_core.specs.Logs.{IsSearchLog}
 use Rattle.search_core.specs.Tries.{IsLeft, Tried, chosen_of, later_of, noted_by, rest_of}
 use Rattle.search_core.specs.Turns.{IsAhead}

@@ -5,10 +5,10 @@ use Rattle.dsa_terms.specs.Buffers.{Instance, IsInstance, buffer}
 use Rattle.dsa_terms.specs.Claims.{Claim, Entry, child, step, up}
 use Rattle.dsa_search_laws.proofs.Placing.{up_at_or_above}
 use Rattle.canonical_order.specs.Claims.{CoversEntry, HasBuffer, entry_of}
+use Rattle.canonical_order.specs.Levels.{AreLevels}
 use Rattle.canonical_order.proofs.CoverLemmas.{covers_entry, entry_of_child, from_child, in_child_by}
-use Rattle.search_core.specs.Levels.{AreLevels}
+use Rattle.canonical_order.proofs.LevelLemmas.{has_level, level_inside}
 use Rattle.search_core.specs.Watches.{AreRaised}
-use Rattle.search_core.proofs.Meeting.{has_level, level_inside}
 
 -- the up in the child is the raised bound at the next multiple
 pub low_of_child : (I : Instance) (l : Claim) (levels : List ℕ) (b c bound low : ℕ) → AreLevels I l levels →

@@ -12,11 +12,11 @@ use Rattle.dsa_search_laws.proofs.Complete.{from_choices, into_choices, tall_is}
 use Rattle.dsa_search_laws.proofs.Placing.{in_buffers}
 use Rattle.dsa_search_laws.proofs.Search.{first_equation, first_empty}
 use Rattle.canonical_order.specs.Claims.{HasBuffer, entry_of, least_buffer}
+use Rattle.canonical_order.specs.Levels.{AreLevels}
 use Rattle.canonical_order.proofs.CoverLemmas.{in_at}
 use Rattle.dsa_terms.specs.Logs.{Line}
 use Rattle.search_core.specs.declared.found.Refuted.{Refuted}
 use Rattle.search_core.specs.Cites.{IsChildCovered}
-use Rattle.search_core.specs.Levels.{AreLevels}
 use Rattle.search_core.specs.Logs.{Extends, NoneCovers}
 use Rattle.search_core.specs.Descents.{IsKnown, IsTrying, buffer_of}
 use Rattle.search_core.specs.Tries.{IsLeft, Tried, asked_to, chosen_of, later_of, noted_by, rest_of, untried}

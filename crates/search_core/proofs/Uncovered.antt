@@ -1,5 +1,5 @@
 -- What a line that covers a claim says of it, and lines that none covers.
-use Rattle.std.proofs.Common.{◌≡◌, ℕ, zero, suc, ◌<◌, ◌≤◌, ◌⊎◌, inl, inr, List, [], ◌∷◌, ◌++◌, length, slice_get, take, Some, None, sym, ◌∙◌, subst, arith}
+use Rattle.std.proofs.Common.{◌≡◌, ℕ, zero, suc, ◌<◌, inl, inr, List, [], ◌∷◌, ◌++◌, length, slice_get, take, Some, None, sym, ◌∙◌, subst, arith}
 use Rattle.dsa_terms.specs.Buffers.{Instance, IsInstance}
 use Rattle.dsa_terms.specs.Claims.{Claim, Covers, IsClaim, IsRefuted}
 use Rattle.dsa_terms.specs.Logs.{Line, claim_of}
@@ -7,6 +7,7 @@ use Rattle.dsa_terms.specs.Search.{first}
 use Rattle.dsa_search_laws.proofs.First.{first_exactly}
 use Rattle.dsa_search_laws.proofs.Logs.{covered_is_refuted, covers_along, from_take, legal_is_refuted}
 use Rattle.canonical_order.specs.Stands.{Stands}
+use Rattle.canonical_order.proofs.NumberTests.{below_or_from}
 use Rattle.refute_log.specs.Logs.{Belongs, OpenLog}
 use Rattle.search_core.specs.Cites.{IsCoveredBy}
 use Rattle.search_core.specs.Logs.{AreUncovered, IsSearchLog, NoneCovers}
@@ -50,9 +51,6 @@ uncovered_next I lines after line q h none j k earlier x lt at_j at_k covers = e
       (subst (λ (x : Line). Covers I (claim_of earlier) (claim_of x)) (sym r.1) covers)
 ]
   where
-    below_or_from : (s t : ℕ) → (s < t) ⊎ (t ≤ s)
-    below_or_from s t = grind arith
-
     old : (n : ℕ) (x : Line) → n < length lines → slice_get after n ≡ Some x → slice_get lines n ≡ Some x
     old n x below at = sym (get_before lines (line ∷ []) n below) ∙ subst
         (λ (xs : List Line). slice_get xs n ≡ Some x) q at

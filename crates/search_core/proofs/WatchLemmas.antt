@@ -5,14 +5,15 @@ use Rattle.std.proofs.lemmas.Option.{slice_get-get_or, slice_get_past, slice_get
 use Rattle.dsa_terms.specs.Buffers.{Instance}
 use Rattle.dsa_terms.specs.Claims.{Claim, Entry, IsIn}
 use Rattle.dsa_terms.specs.Logs.{Line, claim_of}
+use Rattle.canonical_order.specs.Levels.{AreLevels}
+use Rattle.canonical_order.proofs.NumberTests.{below_or_from}
 use Rattle.search_core.specs.Cites.{IsCoveredBy}
-use Rattle.search_core.specs.Levels.{AreLevels}
 use Rattle.search_core.specs.Logs.{NoneCovers}
 use Rattle.search_core.specs.Looks.{IsLacked, IsUnmet}
 use Rattle.search_core.specs.Watches.{AreRaised, AreWatched, HasLevels, RulesOut}
 use Rattle.search_core.specs.Watching.{AreMoved, AreOwnMoved, Fails, FailAt, IsWatched}
 use Rattle.search_core.proofs.Growing.{get_before}
-use Rattle.search_core.proofs.Meeting.{below_or_from, is_met, meets}
+use Rattle.search_core.proofs.Meeting.{is_met, meets}
 
 -- ---- what watched lines say
 pub watched_none : (I : Instance) (lines : List Line) (watches : List Entry) (l : Claim) (levels : List ℕ) →

@@ -7,11 +7,11 @@ use Rattle.dsa_terms.specs.Claims.{Claim, Entry, IsIn}
 use Rattle.dsa_terms.specs.Logs.{Line, claim_of}
 use Rattle.dsa_terms.proofs.Lists.{from_append, left_append, right_append}
 use Rattle.canonical_order.proofs.CoverLemmas.{in_at}
+use Rattle.canonical_order.proofs.NumberTests.{below_or_from}
 use Rattle.search_core.specs.declared.watch_row.Mark.{Mark}
 use Rattle.search_core.specs.Looks.{IsLacked, IsUnmet}
 use Rattle.search_core.specs.Watching.{AreAppended, AreFiled, AreMoved, Fails, FailsAtMark, IsUnwatched, mark_of, row_of}
 use Rattle.search_core.proofs.Growing.{get_before}
-use Rattle.search_core.proofs.Meeting.{below_or_from}
 use Rattle.search_core.proofs.WatchLemmas.{get_set_same, lacked_fails}
 
 same_or_not : (s t : ℕ) → (s ≡ t) ⊎ (s ≢ t)

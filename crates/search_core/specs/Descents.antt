@@ -5,10 +5,10 @@ use Rattle.dsa_terms.specs.Claims.{Claim, Entry, IsIn, child}
 use Rattle.dsa_terms.specs.Logs.{Line}
 use Rattle.dsa_terms.specs.Search.{choices, first, first_some, not_excluded, seated, work, work_through}
 use Rattle.canonical_order.specs.Claims.{entry_of}
+use Rattle.canonical_order.specs.Levels.{AreLevels}
 use Rattle.skyline.specs.Skies.{Sky, last_claim}
 use Rattle.search_core.specs.declared.found.Refuted.{Refuted}
 use Rattle.search_core.specs.Cites.{IsChildCovered, IsCoveredBy}
-use Rattle.search_core.specs.Levels.{AreLevels}
 use Rattle.search_core.specs.Tries.{Tried, IsLeft, chosen_of, later_of, rest_of}
 
 -- the layout of the claim with that entry first

@@ -4,10 +4,10 @@ ghost use Rattle.std.specs.Prelude.{◌≡◌, ◌≢◌, ◌+◌, ◌^◌, [], 
 ghost use Rattle.dsa_terms.specs.Claims.{Entry, IsIn};
 ghost use Rattle.dsa_terms.specs.Search.{not_excluded};
 ghost use Rattle.canonical_order.specs.Claims.{IsBoundedBy};
+ghost use Rattle.canonical_order.specs.Levels.{AreLevels};
 ghost use Rattle.canonical_order.specs.Stands.{Stands};
 ghost use Rattle.search_core.specs.declared.found.Refuted.{Refuted as RefutedTerm};
 ghost use Rattle.search_core.specs.Cites.{IsChildCovered, IsCoveredBy};
-ghost use Rattle.search_core.specs.Levels.{AreLevels};
 ghost use Rattle.search_core.specs.Logs.{Extends, IsSearchLog, NoneCovers};
 
 use crate::cites::cites;

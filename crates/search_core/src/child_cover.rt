@@ -4,7 +4,7 @@ ghost use Rattle.std.specs.Prelude.{◌≡◌, ◌≢◌, ◌+◌, ◌^◌, ◌<
 ghost use Rattle.dsa_terms.specs.Claims.{Claim as ClaimTerm, Covers, up};
 ghost use Rattle.dsa_terms.specs.Claims.{child as child_of, step as step_of};
 ghost use Rattle.canonical_order.specs.Claims.{CoversEntry, entry_of};
-ghost use Rattle.search_core.specs.Levels.{AreLevels};
+ghost use Rattle.canonical_order.specs.Levels.{AreLevels};
 
 use crate::levels::Levels;
 use canonical_order::{Claim, step};

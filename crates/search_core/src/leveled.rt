@@ -1,8 +1,6 @@
 //! A claim with its lows at hand.
 
-ghost use Rattle.std.specs.Prelude.{◌≡◌, ◌+◌, ◌<◌, ℕ, length, slice_index};
-ghost use Rattle.dsa_terms.specs.Claims.{up};
-ghost use Rattle.canonical_order.specs.Claims.{HasBuffer, entry_of};
+ghost use Rattle.canonical_order.specs.Levels.{AreLevels, AreLevels-prop};
 
 use crate::levels::Levels;
 use canonical_order::{Claim, Lows};
@@ -14,10 +12,7 @@ pub(crate) struct Leveled<'a> {
     pub(crate) instance: &'a Instance,
     pub(crate) claim: &'a Claim,
     pub(crate) levels: &'a Levels,
-    ghost in_range: { (b : ℕ) → HasBuffer claim.now b → b < length instance.now },
-    ghost inside: { (b : ℕ) → HasBuffer claim.now b →
-        slice_index levels.now b ≡ up instance.now (entry_of claim.now b) + 1 },
-    ghost outside: { (b : ℕ) → (HasBuffer claim.now b → ⊥) → slice_index levels.now b ≡ 0 },
+    ghost leveled: { AreLevels instance.now claim.now levels.now } by { AreLevels-prop },
 }
 
 impl Lows for Leveled<'_> {

@@ -5,7 +5,7 @@ ghost use Rattle.std.specs.List.{All};
 ghost use Rattle.dsa_terms.specs.Buffers.{Instance};
 ghost use Rattle.dsa_terms.specs.Claims.{Claim as ClaimTerm};
 ghost use Rattle.canonical_order.specs.Claims.{IsBoundedBy};
-ghost use Rattle.search_core.specs.Levels.{AreLevels, IsLevel};
+ghost use Rattle.canonical_order.specs.Levels.{AreLevels, IsLevel};
 ghost use Rattle.search_core.specs.Lifted.{lifted};
 ghost use Rattle.skyline.specs.Skies.{last_claim};
 

@@ -3,9 +3,9 @@
 ghost use Rattle.std.specs.Prelude.{◌≡◌, ◌+◌, ◌≤◌, ℕ, [], List, length, IfNone, IfOk, IfSome, OnOk};
 ghost use Rattle.dsa_terms.specs.Buffers.{Instance};
 ghost use Rattle.dsa_terms.specs.Claims.{Claim as ClaimTerm};
+ghost use Rattle.canonical_order.specs.Levels.{AreLevels};
 ghost use Rattle.search_core.specs.Cites.{IsCoveredBy};
 ghost use Rattle.search_core.specs.Descents.{HasAskedAll};
-ghost use Rattle.search_core.specs.Levels.{AreLevels};
 ghost use Rattle.search_core.specs.Logs.{Extends, IsSearchLog};
 ghost use Rattle.search_core.specs.Meters.{AreCounted, AreMore};
 ghost use Rattle.search_core.specs.Opened.{AreAllAsked, IfChoices, IsOpened, UnlessUnopened, left_open};

@@ -3,8 +3,8 @@
 ghost use Rattle.std.specs.Prelude.{◌≡◌, ◌^◌, None, IfNone, IfOk, IfSome};
 ghost use Rattle.dsa_terms.specs.Search.{is_tall};
 ghost use Rattle.canonical_order.specs.Claims.{IsBoundedBy, least_buffer};
+ghost use Rattle.canonical_order.specs.Levels.{AreLevels};
 ghost use Rattle.refute_log.specs.Lines.{line_value};
-ghost use Rattle.search_core.specs.Levels.{AreLevels};
 ghost use Rattle.search_core.specs.Lifted.{lifted};
 ghost use Rattle.search_core.specs.Overs.{RefutesAtOnce};
 ghost use Rattle.skyline.specs.Skies.{last_claim};

@@ -3,8 +3,8 @@
 ghost use Rattle.std.specs.Prelude.{◌≡◌, ◌<◌, true, IfSome, length, slice_index};
 ghost use Rattle.dsa_terms.specs.Claims.{Claim as ClaimTerm, child as child_of};
 ghost use Rattle.canonical_order.specs.Claims.{entry_of};
+ghost use Rattle.canonical_order.specs.Levels.{AreLevels};
 ghost use Rattle.search_core.specs.Cites.{IsCoveredBy};
-ghost use Rattle.search_core.specs.Levels.{AreLevels};
 
 use crate::child_cover::covers_child;
 use crate::levels::Levels;

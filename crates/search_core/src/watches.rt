@@ -3,9 +3,9 @@
 ghost use Rattle.std.specs.Prelude.{◌≡◌, ◌≤◌, ◌<◌, ◌↔◌, ℕ, [], List, Some, true, false, IfNone, IfOk, IfSome, IsTrue, OnOk, length, slice_get, slice_index, take};
 ghost use Rattle.dsa_terms.specs.Buffers.{Instance};
 ghost use Rattle.dsa_terms.specs.Claims.{Claim as ClaimTerm, Entry, IsIn};
+ghost use Rattle.canonical_order.specs.Levels.{AreLevels};
 ghost use Rattle.search_core.specs.declared.watch_row.Mark.{Mark as MarkTerm};
 ghost use Rattle.search_core.specs.Cites.{IsCoveredBy};
-ghost use Rattle.search_core.specs.Levels.{AreLevels};
 ghost use Rattle.search_core.specs.Looks.{IsUnmet};
 ghost use Rattle.search_core.specs.Watches.{AreRaised, AreWatched};
 ghost use Rattle.search_core.specs.Watching.{AreMoved, AreOwnMoved, FailAt, FailsAtMark, IsWatched, row_of};

@@ -2,16 +2,10 @@ use Rattle.std.proofs.Common.{map}
 use Rattle.refute_log.specs.Lines.{cite_value}
 use Rattle.search_core.proofs.CasesLines.{cases_legal, cites_within}
 use Rattle.search_core.proofs.Descent.{covers_itself, is_instance}
-use Rattle.search_core.proofs.Leveling.{levels_in_range}
-use Rattle.search_core.proofs.Meeting.{level_inside, level_outside}
 use Rattle.search_core.proofs.cases.refute.Goals as goal
 
 pub invariant_of-view : goal.invariant_of-view
-invariant_of-view c = record {
-  in_range = levels_in_range c.args.task.now.instance.now c.args.claim c.args.levels.now c.requires.levels;
-  inside = level_inside c.args.task.now.instance.now c.args.claim c.args.levels.now c.requires.levels;
-  outside = level_outside c.args.task.now.instance.now c.args.claim c.args.levels.now c.requires.levels;
-}
+invariant_of-view c = record { leveled = c.requires.levels }
 
 pub append-requires-clause-legal : goal.append-requires-clause-legal
 append-requires-clause-legal c =

@@ -1,6 +1,6 @@
 use Rattle.dsa_terms.specs.Claims.{Claim, child}
 use Rattle.canonical_order.specs.Claims.{CoversFirst, entry_of}
-use Rattle.search_core.specs.Levels.{AreLevels}
+use Rattle.canonical_order.specs.Levels.{AreLevels}
 use Rattle.search_core.proofs.child_cover.covers_child.Given as goal
 
 abbrev pub invariant-loop-pair : goal.invariant-loop-pair

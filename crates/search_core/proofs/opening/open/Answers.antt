@@ -5,8 +5,7 @@ use Rattle.search_core.specs.Lifted.{lifted}
 use Rattle.refute_log.specs.Lines.{line_value}
 use Rattle.skyline.specs.Skies.{last_claim}
 use Rattle.search_core.proofs.Descent.{is_instance}
-use Rattle.search_core.proofs.Leveling.{levels_in_range, lifted_levels}
-use Rattle.search_core.proofs.Meeting.{level_inside, level_outside}
+use Rattle.search_core.proofs.Leveling.{lifted_levels}
 use Rattle.search_core.proofs.LiftedChoices.{lifted_nothing, lifted_order}
 use Rattle.search_core.proofs.Searching.{are_choices, first_of_nothing}
 use Rattle.search_core.proofs.Taking.{none_covers}
@@ -111,12 +110,7 @@ invariant_of-view c =
     let s = rw (c.instance.ensures.value, c.requires.subject) at c.instance.ensures.stands in
     let a = rw c.requires.subject at c.in_ok-levels.ensures in
     let q = c.in_ok-claim.ensures.value I l a in
-    let h = lifted_levels I l c.in_ok-levels.levels (is_instance I l s) a in
-    rw q (record {
-      in_range = levels_in_range I (lifted I l) c.in_ok-levels.levels h;
-      inside = level_inside I (lifted I l) c.in_ok-levels.levels h;
-      outside = level_outside I (lifted I l) c.in_ok-levels.levels h;
-    })
+    rw q (record { leveled = lifted_levels I l c.in_ok-levels.levels (is_instance I l s) a })
 
 -- ---- the choices
 pub returns-clause-opened : goal.returns-clause-opened

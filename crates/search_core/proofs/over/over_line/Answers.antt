@@ -10,16 +10,10 @@ use Rattle.search_core.proofs.FullSections.{full_is_legal, full_section, some_li
 use Rattle.search_core.proofs.LiftedChoices.{lifted_tall}
 use Rattle.search_core.proofs.Lifting.{covers_lifted, lifted_stands}
 use Rattle.search_core.proofs.Searching.{tall_covers, tall_in_range}
-use Rattle.search_core.proofs.Leveling.{levels_in_range}
-use Rattle.search_core.proofs.Meeting.{level_inside, level_outside}
 use Rattle.search_core.proofs.over.over_line.Goals as goal
 
 pub invariant_of-view : goal.invariant_of-view
-invariant_of-view c = record {
-  in_range = levels_in_range c.args.task.now.instance.now c.args.claim.now c.args.levels.now c.requires.levels;
-  inside = level_inside c.args.task.now.instance.now c.args.claim.now c.args.levels.now c.requires.levels;
-  outside = level_outside c.args.task.now.instance.now c.args.claim.now c.args.levels.now c.requires.levels;
-}
+invariant_of-view c = record { leveled = c.requires.levels }
 
 -- ---- a tall buffer
 pub tall_line-requires : goal.tall_line-requires

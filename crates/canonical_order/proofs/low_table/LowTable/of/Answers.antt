@@ -3,7 +3,7 @@ use Rattle.std.proofs.lemmas.List.{length-set}
 use Rattle.dsa_terms.proofs.Numbers.{next_is_below}
 use Rattle.canonical_order.proofs.Entries.{in_range}
 use Rattle.canonical_order.proofs.Places.{at_in, at_place}
-use Rattle.canonical_order.proofs.LowTabling.{filled_all, filled_next, level_is}
+use Rattle.canonical_order.proofs.LowTabling.{filled_all, filled_levels, filled_next, level_is}
 use Rattle.canonical_order.proofs.low_table.LowTable.of.Goals as goal
 
 pub buffer-requires : goal.buffer-requires
@@ -49,7 +49,8 @@ loop-pair-preserved c =
 pub invariant_of-result : goal.invariant_of-result
 invariant_of-result c = record {
   in_range = λ b h. in_range _ _ b c.requires h;
-  filled = filled_all c.args.instance.now c.args.claim.now c.loop-pair.pair-index _
+  filled = filled_levels c.args.instance.now c.args.claim.now c.loop-pair.levels.items c.requires.claim
+      (filled_all c.args.instance.now c.args.claim.now c.loop-pair.pair-index _
       (replicate (length c.args.instance.now) 0)
-      (rw c.pairs-pair-items.ensures.value at c.loop-pair-test.false) c.loop-pair.invariant.left;
+      (rw c.pairs-pair-items.ensures.value at c.loop-pair-test.false) c.loop-pair.invariant.left);
 }

@@ -1,5 +1,5 @@
 use Rattle.std.proofs.Common.{◌≡◌, drop, length, replicate}
-use Rattle.canonical_order.specs.LowTables.{filled}
+use Rattle.canonical_order.proofs.LowTabling.{filled}
 use Rattle.canonical_order.proofs.low_table.LowTable.of.Given as goal
 
 abbrev pub invariant-loop-pair : goal.invariant-loop-pair

@@ -1,7 +1,8 @@
 use Rattle.canonical_order.proofs.Entries.{stands}
+use Rattle.canonical_order.proofs.LevelLemmas.{level_in_range}
 use Rattle.search_core.proofs.leveled.LeveledLows.instance.Goals as goal
 
 pub returns-clause-stands : goal.returns-clause-stands
 returns-clause-stands c =
-    stands _ _ c.len-pairs.ensures.kept c.args.self.now.in_range c.len-count.ensures.buffers
+    stands _ _ c.len-pairs.ensures.kept (level_in_range _ _ _ c.args.self.now.leveled) c.len-count.ensures.buffers
     c.len-count.ensures.limit

@@ -1,26 +1,18 @@
-use Rattle.std.proofs.Common.{◌≡◌, ℕ, ◌<◌, inl, inr, true, nat_lt, arith}
-use Rattle.std.proofs.lemmas.Bool.Decides.{nat_tests}
+use Rattle.std.proofs.Common.{◌∙◌, arith}
 use Rattle.canonical_order.proofs.Entries.{stands}
-use Rattle.search_core.proofs.Meeting.{has_or_not}
+use Rattle.canonical_order.proofs.LevelLemmas.{has_level, level_in_range, level_inside, one_more, some_number}
 use Rattle.search_core.proofs.leveled.LeveledLows.is_free.Goals as goal
 
-some_number : (n : ℕ) → nat_lt 0 n ≡ true → 0 < n
-some_number n h = grind (arith, nat_tests)
-
-is_some_number : (n : ℕ) → 0 < n → nat_lt 0 n ≡ true
-is_some_number n h = grind (arith, nat_tests)
-
 pub returns-clause-value : goal.returns-clause-value
-returns-clause-value c = (
-  (λ h. elim (has_or_not c.args.self.now.claim.now c.args.b) [
-    | inl i ↦ i
-    | inr out ↦ absurd (let k = some_number c.at.result h in let e = c.at.ensures in
-        let z = c.args.self.now.outside c.args.b out in omega arith)
-  ]),
-  (λ i. is_some_number c.at.result (let k = c.args.self.now.inside c.args.b i in let e = c.at.ensures in omega arith)),
-)
+returns-clause-value c =
+    let v = c.args.self.now in (
+      λ h. has_level v.instance.now v.claim.now v.levels.now v.leveled c.args.b
+          (let k = some_number c.at.result h in let e = c.at.ensures in omega arith),
+      λ i. one_more c.at.result _
+          (c.at.ensures.value ∙ level_inside v.instance.now v.claim.now v.levels.now v.leveled c.args.b i),
+    )
 
 pub returns-clause-stands : goal.returns-clause-stands
 returns-clause-stands c =
-    stands _ _ c.len-pairs.ensures.kept c.args.self.now.in_range c.len-count.ensures.buffers
+    stands _ _ c.len-pairs.ensures.kept (level_in_range _ _ _ c.args.self.now.leveled) c.len-count.ensures.buffers
     c.len-count.ensures.limit

@@ -1,17 +1,19 @@
 use Rattle.std.proofs.Common.{◌^◌, arith}
 use Rattle.canonical_order.proofs.Entries.{stands, up_limit}
+use Rattle.canonical_order.proofs.LevelLemmas.{level_in_range, level_inside}
 use Rattle.search_core.proofs.leveled.LeveledLows.low.Goals as goal
 
 pub returns-clause-value : goal.returns-clause-value
 returns-clause-value c =
-    let k = c.args.self.now.inside c.args.b c.requires in
+    let v = c.args.self.now in
+    let k = level_inside v.instance.now v.claim.now v.levels.now v.leveled c.args.b c.requires in
     let e = c.at.ensures in
     let s = c.saturating_sub.ensures in
     omega arith
 
 pub returns-clause-stands : goal.returns-clause-stands
 returns-clause-stands c =
-    stands _ _ c.len-pairs.ensures.kept c.args.self.now.in_range c.len-count.ensures.buffers
+    stands _ _ c.len-pairs.ensures.kept (level_in_range _ _ _ c.args.self.now.leveled) c.len-count.ensures.buffers
     c.len-count.ensures.limit
 
 pub returns-clause-limit : goal.returns-clause-limit

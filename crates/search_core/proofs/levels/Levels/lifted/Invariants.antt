@@ -2,7 +2,7 @@ use Rattle.std.proofs.Common.{◌≡◌, ◌^◌, ◌<◌, map}
 use Rattle.dsa_terms.specs.Buffers.{Instance}
 use Rattle.dsa_terms.specs.Claims.{Claim, Entry, IsIn, Rises, buffers_of}
 use Rattle.canonical_order.specs.Claims.{IsBoundedBy, entries_below}
-use Rattle.search_core.specs.Levels.{AreLevels}
+use Rattle.canonical_order.specs.Levels.{AreLevels}
 use Rattle.search_core.specs.Lifted.{lift}
 use Rattle.search_core.proofs.levels.Levels.lifted.Given as goal
 
