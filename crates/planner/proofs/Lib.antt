@@ -11,3 +11,6 @@ pub mod Halving
 pub mod ExampleFacts
 pub mod ExampleLeastFacts
 mod AnswerFacts
+mod BracketFacts
+mod StartFacts
+mod SearchFacts
