@@ -36,3 +36,4 @@ pub mod TwinMarking
 pub mod TwinFacts
 pub mod Counting
 mod OutcomeFacts
+mod LevelFacts

@@ -1,0 +1,82 @@
+-- Levels of a buffer of size 3 beside one of size 1 that stands at multiples of 4 alone: in the claim of both without
+-- bounds, and in what is left of it where the first one stands at 0.
+use Rattle.std.proofs.Common.{◌≡◌, ◌+◌, ◌^◌, ◌<◌, ℕ, zero, suc, List, [], ◌∷◌, length, slice_index, slice_index_or, ◌≤◌, inl, inr, refl, sym, arith}
+use Rattle.dsa_terms.specs.Buffers.{buffer}
+use Rattle.dsa_terms.specs.Claims.{Claim, Entry, IsClaim, IsIn, up}
+use Rattle.dsa_terms.proofs.Examples.{small_below}
+use Rattle.canonical_order.specs.Claims.{HasBuffer}
+use Rattle.search_core.specs.Levels.{AreKept, AreLevels, IsLevel}
+
+abbrev pub root : Claim
+root = (0, 0) ∷ (1, 0) ∷ []
+
+abbrev pub rest : Claim
+rest = (1, 3) ∷ []
+
+pub differ : (m n : ℕ) → m < n → m ≡ n → ⊥
+differ m n lt h = omega arith
+
+-- ---- the level of a buffer
+-- the bound 3 of the aligned one is met at 4
+five_for_aligned : IsLevel small_below rest 1 5
+unfolding up buffer
+five_for_aligned = record { inside = λ h. refl; outside = λ out. absurd (out (inl refl)) }
+
+not_its_bound : IsLevel small_below rest 1 4 → ⊥
+unfolding up buffer
+not_its_bound h = differ 4 5 (omega arith) (h.inside (inl refl))
+
+not_in_rest : HasBuffer rest 0 → ⊥
+not_in_rest (inl q) = omega (arith, q)
+not_in_rest (inr z) = z
+
+none_outside : IsLevel small_below rest 0 0
+none_outside = record { inside = λ h. absurd (not_in_rest h); outside = λ out. refl }
+
+some_outside : IsLevel small_below rest 0 1 → ⊥
+some_outside h = differ 0 1 (omega arith) (sym (h.outside not_in_rest))
+
+-- ---- the levels of a claim
+pub root_is_claim : IsClaim small_below root
+root_is_claim = record { rises = (above, ((λ y i. absurd i), tt)); in_range = in_range }
+  where
+    above : (y : ℕ) → IsIn y (1 ∷ []) → 0 < y
+    above y (inl q) = omega (arith, q)
+    above y (inr z) = absurd z
+
+    in_range : (e : Entry) → IsIn e root → e.0 < 2
+    in_range e (inl q) = rw q (omega arith)
+    in_range e (inr (inl q)) = rw q (omega arith)
+    in_range e (inr (inr z)) = absurd z
+
+pub root_levels : AreLevels small_below root (1 ∷ 1 ∷ [])
+unfolding up buffer
+root_levels = record { claim = root_is_claim; count = refl; each = each }
+  where
+    each : (b : ℕ) → b < 2 → IsLevel small_below root b (slice_index (1 ∷ 1 ∷ []) b)
+    each zero lt = record { inside = λ h. refl; outside = λ out. absurd (out (inl refl)) }
+    each (suc zero) lt = record { inside = λ h. refl; outside = λ out. absurd (out (inr (inl refl))) }
+    each (suc (suc b)) lt = absurd (omega arith)
+
+-- there is one for each buffer of the instance, and each is one more than the up
+too_few : AreLevels small_below root (1 ∷ []) → ⊥
+too_few h = let k = h.count in omega arith
+
+not_the_ups : AreLevels small_below root (0 ∷ 0 ∷ []) → ⊥
+unfolding up buffer
+not_the_ups h = differ 0 1 (omega arith) ((h.each 0 (omega arith)).inside (inl refl))
+
+-- ---- what all levels keep
+kept : AreKept (2 ^ 54 ∷ 5 ∷ [])
+kept = record { few = omega arith; low = low }
+  where
+    low : (k d : ℕ) → k < 2 → slice_index_or (2 ^ 54 ∷ 5 ∷ []) k d ≤ 2 ^ 54
+    low zero d lt = omega arith
+    low (suc zero) d lt = omega arith
+    low (suc (suc k)) d lt = absurd (omega arith)
+
+not_above : AreKept (5 ∷ (2 ^ 54 + 1) ∷ []) → ⊥
+not_above h = let k : 2 ^ 54 + 1 ≤ 2 ^ 54 = h.low 1 0 (omega arith) in omega arith
+
+not_more : (levels : List ℕ) → length levels ≡ 513 → AreKept levels → ⊥
+not_more levels q h = let k = h.few in omega arith
