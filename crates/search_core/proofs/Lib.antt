@@ -37,3 +37,4 @@ pub mod TwinFacts
 pub mod Counting
 mod OutcomeFacts
 mod LevelFacts
+mod EndingFacts
