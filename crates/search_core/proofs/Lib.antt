@@ -38,3 +38,4 @@ pub mod Counting
 mod OutcomeFacts
 mod LevelFacts
 mod EndingFacts
+mod OverFacts
