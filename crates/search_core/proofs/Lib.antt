@@ -39,3 +39,4 @@ mod OutcomeFacts
 mod LevelFacts
 mod EndingFacts
 mod OverFacts
+mod LogFacts
