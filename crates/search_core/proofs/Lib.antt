@@ -40,3 +40,4 @@ mod LevelFacts
 mod EndingFacts
 mod OverFacts
 mod LogFacts
+mod FoundFacts
