@@ -41,3 +41,4 @@ mod EndingFacts
 mod OverFacts
 mod LogFacts
 mod FoundFacts
+mod CiteFacts
