@@ -42,3 +42,4 @@ mod OverFacts
 mod LogFacts
 mod FoundFacts
 mod CiteFacts
+mod RefutationFacts
