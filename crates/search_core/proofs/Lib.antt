@@ -43,3 +43,4 @@ mod LogFacts
 mod FoundFacts
 mod CiteFacts
 mod RefutationFacts
+mod PieceFacts
