@@ -44,3 +44,4 @@ mod FoundFacts
 mod CiteFacts
 mod RefutationFacts
 mod PieceFacts
+mod TryFacts
