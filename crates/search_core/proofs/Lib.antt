@@ -45,3 +45,4 @@ mod CiteFacts
 mod RefutationFacts
 mod PieceFacts
 mod TryFacts
+mod DescentFacts

@@ -1,0 +1,122 @@
+-- Where a search is that puts a buffer of size 3 at 0, and looks at what is left of one of size 1 that stands at
+-- multiples of 4 alone.
+use Rattle.std.proofs.Common.{◌≡◌, ℕ, List, [], ◌∷◌, Some, None, refl, sym, ap, arith}
+use Rattle.dsa_terms.specs.Buffers.{buffer, do_share, have_same_moments, is_live, some_before}
+use Rattle.dsa_terms.specs.Claims.{Claim, child, step, up}
+use Rattle.dsa_terms.specs.Logs.{Line, ends_below, is_twin}
+use Rattle.dsa_terms.specs.Search.{comes_before, first, is_tall, work}
+use Rattle.dsa_terms.proofs.Examples.{small_below}
+use Rattle.skyline.specs.Skies.{Sky}
+use Rattle.search_core.specs.Descents.{Descends, IsPlace, IsStanding, left_of, sky_root, through, turns_left}
+use Rattle.search_core.specs.Tries.{Tried}
+use Rattle.search_core.proofs.FoundFacts.{rest_known}
+use Rattle.search_core.proofs.LevelFacts.{differ, rest, root}
+use Rattle.search_core.proofs.OverFacts.{over}
+use Rattle.search_core.proofs.TryFacts.{both_left, one_left, trying_both, trying_one}
+
+abbrev pub sky_of : List Claim → Sky
+sky_of claims = record {
+  instance = small_below;
+  sections = record { sections = []; of_buffers = [] };
+  claims = claims;
+}
+
+-- what is left where the other one stands at 0
+abbrev pub other : Claim
+other = (0, 1) ∷ []
+
+-- ---- the choice that stands
+pub first_stands : (n : ℕ) → IsStanding small_below root (both_left n) rest
+unfolding child step do_share some_before is_live up buffer
+first_stands n = record { is_left = omega arith; is_child = refl }
+
+second_stands : IsStanding small_below root one_left other
+unfolding child step do_share some_before is_live up buffer
+second_stands = record { is_left = omega arith; is_child = refl }
+
+abbrev first_buffer : Claim → ℕ
+first_buffer [] = 0
+first_buffer (e ∷ es) = e.0
+
+-- the first one is refuted there
+first_does_not : IsStanding small_below root one_left rest → ⊥
+unfolding child step do_share some_before is_live up buffer
+first_does_not s = differ 0 1 (omega arith) (sym (ap first_buffer s.is_child))
+
+-- ---- the claims down to the last one
+down_one : (lines : List Line) (n : ℕ) → Descends small_below 4 lines rest (root ∷ []) (both_left n ∷ [])
+down_one lines n = (first_stands n, trying_both lines n, tt)
+
+down_the_other : Descends small_below 4 (over ∷ []) other (root ∷ []) (one_left ∷ [])
+down_the_other = (second_stands, trying_one, tt)
+
+at_the_root : Descends small_below 4 [] root [] []
+at_the_root = tt
+
+not_without_frame : Descends small_below 4 [] rest (root ∷ []) [] → ⊥
+not_without_frame d = d
+
+not_by_another_choice : Descends small_below 4 (over ∷ []) rest (root ∷ []) (one_left ∷ []) → ⊥
+not_by_another_choice d = first_does_not d.0
+
+-- ---- what is left to do
+-- the second choice, and the empty claim below it
+two_left : left_of small_below 4 rest (root ∷ []) (both_left 0 ∷ []) ≡ 2
+unfolding work through first is_tall comes_before ends_below is_twin have_same_moments child step do_share some_before
+    is_live up buffer
+two_left = refl
+
+-- nothing once the last claim has a layout
+none_left : left_of small_below 4 other (root ∷ []) (one_left ∷ []) ≡ 0
+unfolding work through first is_tall comes_before ends_below is_twin have_same_moments child step do_share some_before
+    is_live up buffer
+none_left = refl
+
+the_first_claim : sky_root (sky_of (root ∷ rest ∷ [])) ≡ root
+the_first_claim = refl
+
+-- three claims, two turns each, and one frame
+pub seven_turns : (n : ℕ) → turns_left small_below 4 (sky_of (root ∷ rest ∷ [])) (both_left n ∷ []) None ≡ 7
+unfolding work through first is_tall comes_before ends_below is_twin have_same_moments child step do_share some_before
+    is_live up buffer
+seven_turns n = refl
+
+-- with a line for the last claim one claim less is left, and one turn back
+pub six_turns : (n : ℕ) → turns_left small_below 4 (sky_of (root ∷ rest ∷ [])) (both_left n ∷ []) (Some 0) ≡ 6
+unfolding work through first is_tall comes_before ends_below is_twin have_same_moments child step do_share some_before
+    is_live up buffer
+six_turns n = refl
+
+-- ---- the place
+pub before_line : IsPlace small_below 4 [] (sky_of (root ∷ rest ∷ [])) (both_left 0 ∷ []) None
+before_line = record {
+  subject = refl;
+  some = omega arith;
+  descends = down_one [] 0;
+  known = tt;
+  latest = refl;
+}
+
+pub after_line : IsPlace small_below 4 (over ∷ []) (sky_of (root ∷ rest ∷ [])) (both_left 0 ∷ []) (Some 0)
+after_line = record {
+  subject = refl;
+  some = omega arith;
+  descends = down_one (over ∷ []) 0;
+  known = rest_known;
+  latest = tt;
+}
+
+-- the line is not asked at the claim above
+not_asked : IsPlace small_below 4 (over ∷ []) (sky_of (root ∷ rest ∷ [])) (both_left 0 ∷ []) None → ⊥
+not_asked p = let k = p.latest in omega arith
+
+-- the line is not there
+not_known : IsPlace small_below 4 [] (sky_of (root ∷ rest ∷ [])) (both_left 0 ∷ []) (Some 0) → ⊥
+not_known p = let e = p.known.covered.stands in absurd cc
+
+nowhere : (frames : List Tried) → IsPlace small_below 4 [] (sky_of []) frames None → ⊥
+nowhere frames p = let k = p.some in omega arith
+
+-- a claim below the root has a frame above it
+not_below : IsPlace small_below 4 [] (sky_of (root ∷ rest ∷ [])) [] None → ⊥
+not_below p = p.descends
