@@ -46,3 +46,4 @@ mod RefutationFacts
 mod PieceFacts
 mod TryFacts
 mod DescentFacts
+mod OpenedFacts

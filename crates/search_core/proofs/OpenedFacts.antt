@@ -1,0 +1,126 @@
+-- What is found where claims are opened of a buffer of size 3 and one of size 1 that stands at multiples of 4 alone.
+use Rattle.std.proofs.Common.{◌≡◌, ◌<◌, ℕ, zero, suc, List, [], ◌∷◌, slice_get, Some, inl, refl, sym, ◌∙◌, subst, arith}
+use Rattle.dsa_terms.specs.Buffers.{buffer, do_share, have_same_moments, is_live, some_before}
+use Rattle.dsa_terms.specs.Claims.{Entry, child, step, up}
+use Rattle.dsa_terms.specs.Logs.{Line, claim_of, ends_below, is_twin}
+use Rattle.dsa_terms.specs.Search.{comes_before, first, is_tall, work}
+use Rattle.dsa_terms.proofs.Examples.{small_below}
+use Rattle.search_core.specs.declared.opening.Opened.TheVariants as opened
+use Rattle.search_core.specs.Descents.{through}
+use Rattle.search_core.specs.Meters.{Units}
+use Rattle.search_core.specs.Opened.{AreAllAsked, AreChoices, IfChoices, IsOpened, UnlessUnopened, left_open}
+use Rattle.search_core.specs.Tries.{Tried, IsLeft}
+use Rattle.search_core.specs.Watches.{RulesOut}
+use Rattle.search_core.proofs.FoundFacts.{rest_known, root_layout}
+use Rattle.search_core.proofs.LevelFacts.{differ, rest, root}
+use Rattle.search_core.proofs.OverFacts.{over, over_covers}
+use Rattle.search_core.proofs.TryFacts.{both_left, one_left, trying_both}
+
+-- ---- choices
+-- of four claims that the search looks at three are left
+choices_of_root : AreChoices small_below 4 [] root (both_left 0)
+unfolding work through first is_tall comes_before ends_below is_twin have_same_moments child step do_share some_before
+    is_live up buffer
+choices_of_root = record {
+  not_empty = λ q. cc;
+  fresh = λ k line at covers. cc;
+  trying = trying_both [] 0;
+  work = refl;
+}
+
+-- two are left where the first choice is refuted
+not_once_one_is_refuted : (lines : List Line) → AreChoices small_below 4 lines root one_left → ⊥
+unfolding work through first is_tall comes_before ends_below is_twin have_same_moments child step do_share some_before
+    is_live up buffer
+not_once_one_is_refuted lines h = differ 3 4 (omega arith) (sym h.work)
+
+-- a claim that a line covers is not opened
+none_where_covered : (f : Tried) → AreChoices small_below 4 (over ∷ []) rest f → ⊥
+none_where_covered f h = h.fresh 0 over refl over_covers
+
+none_of_no_buffers : (f : Tried) → AreChoices small_below 4 [] [] f → ⊥
+none_of_no_buffers f h = h.not_empty refl
+
+-- ---- lines that were asked, and are watched
+same_line : {x y : Line} → Some x ≡ Some y → x ≡ y
+same_line q = cc
+
+asked_and_watched : AreAllAsked (over ∷ []) ((1, 4) ∷ []) (both_left 1)
+asked_and_watched = record { asked = refl; watched = record { within = omega arith; each = each } }
+  where
+    each : (k : ℕ) (line : Line) → k < 1 → slice_get (over ∷ []) k ≡ Some line →
+        (e : Entry) × (slice_get ((1, 4) ∷ []) k ≡ Some e) × RulesOut (1 ∷ 1 ∷ []) (claim_of line) e
+    each zero line lt at = (
+      (1, 4),
+      refl,
+      subst (λ (x : Line). RulesOut (1 ∷ 1 ∷ []) (claim_of x) (1, 4)) (same_line at)
+          (record { among = inl refl; unmet = λ has. omega arith }),
+    )
+    each (suc k) line lt at = absurd (omega arith)
+
+not_all_asked : AreAllAsked (over ∷ []) ((1, 4) ∷ []) (both_left 0) → ⊥
+not_all_asked h = let k = h.asked in omega arith
+
+asked_without_watch : AreAllAsked (over ∷ []) [] (both_left 1) → ⊥
+asked_without_watch h = let r = h.watched.each 0 over (omega arith) refl in let e = r.1 in absurd cc
+
+-- ---- what is found
+abbrev used : ℕ → Units
+used n = record { most = Some 7; used = n }
+
+opens_root : IsOpened small_below 4 [] root (used 0) (used 1) (opened.Choices (both_left 0))
+opens_root = choices_of_root
+
+line_for_rest : IsOpened small_below 4 (over ∷ []) rest (used 1) (used 1) (opened.Line 0)
+line_for_rest = rest_known
+
+no_line_for_root : (lines : List Line) (k : ℕ) → IsOpened small_below 4 lines root (used 0) (used 1) (opened.Line k) → ⊥
+no_line_for_root lines k h = let e = sym root_layout ∙ h.none in absurd cc
+
+nothing_in_it : IsOpened small_below 4 [] [] (used 3) (used 4) opened.Empty
+unfolding first
+nothing_in_it = refl
+
+root_is_not_empty : IsOpened small_below 4 [] root (used 0) (used 1) opened.Empty → ⊥
+root_is_not_empty h = let e = sym root_layout ∙ h in absurd cc
+
+all_used : IsOpened small_below 4 [] root (used 7) (used 7) opened.Spent
+all_used = (refl, refl)
+
+one_is_unused : IsOpened small_below 4 [] root (used 6) (used 6) opened.Spent → ⊥
+one_is_unused h = let k = h.0 in omega arith
+
+-- ---- facts that hold in some cases alone
+of_the_choices : IfChoices IsLeft (opened.Choices (both_left 0))
+of_the_choices = omega arith
+
+of_no_choices : IfChoices (λ f. ⊥) (opened.Line 0)
+of_no_choices = tt
+
+not_of_the_choices : IfChoices (λ f. ⊥) (opened.Choices (both_left 0)) → ⊥
+not_of_the_choices h = h
+
+holds_with_line : UnlessUnopened ⊥ (opened.Line 0) → ⊥
+holds_with_line h = h
+
+holds_with_choices : UnlessUnopened ⊥ (opened.Choices (both_left 0)) → ⊥
+holds_with_choices h = h
+
+holds_when_empty : UnlessUnopened ⊥ opened.Empty → ⊥
+holds_when_empty h = h
+
+nothing_once_spent : UnlessUnopened ⊥ opened.Spent
+nothing_once_spent = tt
+
+-- ---- claims that are left to have a line
+one_to_be_tried : left_open (opened.Choices (both_left 0)) ≡ 1
+one_to_be_tried = refl
+
+none_with_line : left_open (opened.Line 0) ≡ 0
+none_with_line = refl
+
+none_when_empty : left_open opened.Empty ≡ 0
+none_when_empty = refl
+
+none_once_spent : left_open opened.Spent ≡ 0
+none_once_spent = refl
