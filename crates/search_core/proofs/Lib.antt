@@ -47,3 +47,4 @@ mod PieceFacts
 mod TryFacts
 mod DescentFacts
 mod OpenedFacts
+mod TurnFacts

@@ -1,0 +1,132 @@
+-- Steps of a search that puts a buffer of size 3 at 0, and finds by a line that the other one, of size 1 at multiples
+-- of 4 alone, does not fit beside it within 4.
+use Rattle.std.proofs.Common.{◌≡◌, ℕ, List, [], ◌∷◌, Some, None, refl, sym, ap, ◌∙◌, arith}
+use Rattle.std.specs.Global.{Vec}
+use Rattle.dsa_terms.specs.Buffers.{buffer, do_share, have_same_moments, is_live, some_before}
+use Rattle.dsa_terms.specs.Claims.{child, step, up}
+use Rattle.dsa_terms.specs.Logs.{ends_below, is_twin}
+use Rattle.dsa_terms.specs.Search.{comes_before, first, is_tall, work}
+use Rattle.dsa_terms.proofs.Examples.{small_below}
+use Rattle.skyline.specs.Skies.{Sky}
+use Rattle.search_core.specs.declared.found.Found.TheVariants as found
+use Rattle.search_core.specs.declared.turns.Turn.TheVariants as turn
+use Rattle.search_core.specs.Descents.{owed, through}
+use Rattle.search_core.specs.Meters.{Units}
+use Rattle.search_core.specs.Tries.{Tried}
+use Rattle.search_core.specs.Turns.{IfOn, IsAhead, IsOn, IsTurned, UnlessTurnSpent, debt_of}
+use Rattle.search_core.proofs.DescentFacts.{after_line, before_line, seven_turns, six_turns, sky_of}
+use Rattle.search_core.proofs.FoundFacts.{root_layout}
+use Rattle.search_core.proofs.LevelFacts.{rest, root}
+use Rattle.search_core.proofs.OverFacts.{over}
+use Rattle.search_core.proofs.TryFacts.{both_left, one_left}
+
+abbrev used : ℕ → Units
+used n = record { most = Some 7; used = n }
+
+abbrev sky : Sky
+sky = sky_of (root ∷ rest ∷ [])
+
+abbrev frames : List Tried
+frames = both_left 0 ∷ []
+
+-- ---- what is left to do
+three_owed : owed small_below 4 sky frames None ≡ 3
+unfolding work through first is_tall comes_before ends_below is_twin have_same_moments child step do_share some_before
+    is_live up buffer
+three_owed = refl
+
+two_owed : owed small_below 4 sky frames (Some 0) ≡ 2
+unfolding work through first is_tall comes_before ends_below is_twin have_same_moments child step do_share some_before
+    is_live up buffer
+two_owed = refl
+
+-- the root is open: one claim below the first choice, and two below the second
+three_below : debt_of small_below 4 (sky_of (root ∷ [])) (both_left 0) [] ≡ 3
+unfolding work through first is_tall comes_before ends_below is_twin have_same_moments child step do_share some_before
+    is_live up buffer
+three_below = refl
+
+two_below : debt_of small_below 4 (sky_of (root ∷ [])) one_left [] ≡ 2
+unfolding work through first is_tall comes_before ends_below is_twin have_same_moments child step do_share some_before
+    is_live up buffer
+two_below = refl
+
+-- ---- where the search is once it went down
+ahead : IsAhead small_below 4 [] root 3 0 sky frames None
+ahead = record {
+  place = before_line;
+  root = refl;
+  owed = let e = three_owed in omega arith;
+  turns = let e = seven_turns 0 in omega arith;
+}
+
+more_than_two : IsAhead small_below 4 [] root 2 0 sky frames None → ⊥
+more_than_two a = let k = a.owed in let e = three_owed in omega arith
+
+below_another_root : IsAhead small_below 4 [] rest 3 0 sky frames None → ⊥
+below_another_root a = let e = a.root in absurd cc
+
+-- ---- a step that goes on
+-- the line takes a unit, and one claim less is owed
+on_with_line : IsOn small_below 4 (over ∷ []) (used 1) (used 2) sky frames None sky frames (Some 0)
+on_with_line = record {
+  place = after_line;
+  root = refl;
+  units = let e = three_owed in let f = two_owed in omega arith;
+  fewer = let e = seven_turns 0 in let f = six_turns 0 in omega arith;
+}
+
+not_by_two_units : IsOn small_below 4 (over ∷ []) (used 1) (used 3) sky frames None sky frames (Some 0) → ⊥
+not_by_two_units o = let k = o.units in let e = three_owed in let f = two_owed in omega arith
+
+-- a step that changes nothing
+not_in_place : IsOn small_below 4 [] (used 1) (used 1) sky frames None sky frames None → ⊥
+not_in_place o = let k = o.fewer in omega arith
+
+-- ---- what a step comes to
+goes_on : IsTurned small_below 4 (over ∷ []) (used 1) (used 2) sky frames None sky frames (turn.On (Some 0))
+goes_on = on_with_line
+
+stays : IsTurned small_below 4 [] (used 1) (used 1) sky frames None sky frames (turn.On None) → ⊥
+stays o = not_in_place o
+
+module _ (seats : Vec (ℕ × ℕ)) where
+  -- what is found is the root's layout, and not that of the last claim
+  done_with_both : seats.items ≡ (0, 1) ∷ (1, 0) ∷ [] →
+      IsTurned small_below 4 [] (used 1) (used 2) sky frames None sky frames (turn.Done (found.Seats seats))
+  done_with_both e = (root_layout ∙ ap Some (sym e), tt)
+
+  not_done_with_one : seats.items ≡ (0, 1) ∷ [] →
+      IsTurned small_below 4 [] (used 1) (used 2) sky frames None sky frames (turn.Done (found.Seats seats)) → ⊥
+  not_done_with_one e h = let q = sym root_layout ∙ h.0 ∙ ap Some e in absurd cc
+
+  holds_with_seats : UnlessTurnSpent ⊥ (turn.Done (found.Seats seats)) → ⊥
+  holds_with_seats h = h
+
+-- the line covers the last claim, and not the root
+not_done_with_line :
+    IsTurned small_below 4 (over ∷ []) (used 1) (used 2) sky frames None sky frames (turn.Done (found.Line 0)) → ⊥
+not_done_with_line h = let e = sym root_layout ∙ h.0.0 in absurd cc
+
+spent : IsTurned small_below 4 [] (used 7) (used 7) sky frames None sky frames (turn.Done found.Spent)
+spent = (tt, (refl, (let e = three_owed in omega arith)))
+
+not_spent : IsTurned small_below 4 [] (used 6) (used 6) sky frames None sky frames (turn.Done found.Spent) → ⊥
+not_spent h = let k = h.1.0 in omega arith
+
+-- as many units as were owed are not all used up before the end
+not_spent_at_the_end : IsTurned small_below 4 [] (used 4) (used 7) sky frames None sky frames (turn.Done found.Spent) → ⊥
+not_spent_at_the_end h = let k = h.1.1 in let e = three_owed in omega arith
+
+-- ---- facts that hold in some cases alone
+holds_where_it_goes_on : IfOn ⊥ (turn.On None) → ⊥
+holds_where_it_goes_on h = h
+
+nothing_once_done : IfOn ⊥ (turn.Done found.Spent)
+nothing_once_done = tt
+
+holds_on_the_way : UnlessTurnSpent ⊥ (turn.On None) → ⊥
+holds_on_the_way h = h
+
+nothing_once_spent : UnlessTurnSpent ⊥ (turn.Done found.Spent)
+nothing_once_spent = tt
