@@ -48,3 +48,4 @@ mod TryFacts
 mod DescentFacts
 mod OpenedFacts
 mod TurnFacts
+mod NoTwinFacts
