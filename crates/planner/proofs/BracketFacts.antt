@@ -1,6 +1,6 @@
--- The lower bound of two buffers of size 3 aligned to four, which is 7, with the log below it, and the first bracket of a
--- small buffer that belongs below, from 4 to 5.
-use Rattle.std.proofs.Common.{◌≡◌, ℕ, ◌<◌, ◌≤◌, inl, inr, List, [], ◌∷◌, Some, None, refl, sym, ap, ◌∙◌, lit<, lit≤, arith}
+-- The lower bound of two buffers of size 3 aligned to four, which is 7, with the log below it, and the first bracket of
+-- a small buffer that belongs below, from 4 to 5.
+use Rattle.std.proofs.Common.{◌≡◌, ℕ, ◌≤◌, inl, inr, List, [], ◌∷◌, Some, None, refl, sym, ap, ◌∙◌, lit≤, arith}
 use Rattle.dsa_terms.specs.Bounds.{bound_modulus, counted, highest_stack, lower_bound, moduli, moments, rounded_size, stack, stack_log}
 use Rattle.dsa_terms.specs.Buffers.{buffer, is_live}
 use Rattle.dsa_terms.specs.Logs.{Cases, Line, Log, Over}
@@ -10,7 +10,7 @@ use Rattle.dsa_terms.proofs.ExamplePlanFacts.{small_below_plan_at_5, two_of_four
 use Rattle.dsa_start_laws.proofs.Planned.{planned_is_layout}
 use Rattle.lower_bounds.specs.declared.value.Bound.{Bound}
 use Rattle.min_capacity.specs.declared.brackets.Bracket.{Bracket}
-use Rattle.planner.specs.Decides.{IsBoundLog, IsStackRefutation}
+use Rattle.planner.specs.Decides.{IsStackRefutation}
 use Rattle.planner.specs.FirstBracket.{IsFirstBracket, IsLogBelow, IsLowerBound}
 use Rattle.planner.proofs.ExampleLeastFacts.{below_best, below_bound, below_log, below_sound, four_is_open, four_stacked, line_refutes, seven_stacked, two_sound}
 
