@@ -5,7 +5,8 @@ use Rattle.dsa_terms.specs.Buffers.{buffer}
 use Rattle.dsa_terms.specs.Claims.{Claim, Entry, IsClaim, IsIn, up}
 use Rattle.dsa_terms.proofs.Examples.{small_below}
 use Rattle.canonical_order.specs.Claims.{HasBuffer}
-use Rattle.search_core.specs.Levels.{AreKept, AreLevels, IsLevel}
+use Rattle.canonical_order.specs.Levels.{AreLevels, IsLevel}
+use Rattle.search_core.specs.Levels.{AreKept}
 
 abbrev pub root : Claim
 root = (0, 0) ∷ (1, 0) ∷ []
