@@ -143,13 +143,18 @@ at_or_above : (I : Instance) (e : Entry) → 1 ≤ (buffer I e.0).alignment → 
 unfolding up
 at_or_above I e pos = next_at_or_above e.1 (buffer I e.0).alignment pos
 
--- no low falls in a child
+-- no low falls in a child: it is at least what the bound there is
+pub raised_stays : (I : Instance) (l : Claim) (b c : ℕ) → Stands I l → HasBuffer l c → c ≢ b →
+    max (up I (entry_of l c)) (up I (entry_of l b) + step I b c) ≤ up I (entry_of (child I l (entry_of l b)) c)
+raised_stays I l b c s h ne =
+    let n = max (up I (entry_of l c)) (up I (entry_of l b) + step I b c) in
+    rw (entry_of_child I l b c s.claim.rises h ne)
+    (at_or_above I (c, n) ((sound_buffer I c s.buffers (in_range I l c s h)).sound.1))
+
 pub low_stays : (I : Instance) (l : Claim) (b c : ℕ) → Stands I l → HasBuffer l c → c ≢ b →
     up I (entry_of l c) ≤ up I (entry_of (child I l (entry_of l b)) c)
 low_stays I l b c s h ne =
-    let n = max (up I (entry_of l c)) (up I (entry_of l b) + step I b c) in
-    let k : n ≤ up I (c, n) = at_or_above I (c, n) ((sound_buffer I c s.buffers (in_range I l c s h)).sound.1) in
-    rw (entry_of_child I l b c s.claim.rises h ne) (omega arith)
+    let k = raised_stays I l b c s h ne in omega arith
 
 -- ---- covering
 pub covers_entry : (I : Instance) (l : Claim) (e : Entry) → HasBuffer l e.0 → e.1 ≤ up I (entry_of l e.0) →

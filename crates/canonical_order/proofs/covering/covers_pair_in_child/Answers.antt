@@ -1,8 +1,8 @@
-use Rattle.std.proofs.Common.{◌≤◌, arith}
+use Rattle.std.proofs.Common.{◌≤◌, refl, arith}
 use Rattle.dsa_terms.specs.Claims.{child, up}
 use Rattle.dsa_search_laws.proofs.Claims.{rises-child}
 use Rattle.canonical_order.specs.Claims.{entry_of}
-use Rattle.canonical_order.proofs.CoverLemmas.{covers_entry, covers_test, covered_has, from_child, in_child_by, low_stays}
+use Rattle.canonical_order.proofs.CoverLemmas.{covers_entry, covers_test, covered_has, from_child, in_child_by, low_stays, raised_stays}
 use Rattle.canonical_order.proofs.NumberTests.{is_at_most}
 use Rattle.canonical_order.proofs.covering.covers_pair_in_child.Goals as goal
 use Rattle.canonical_order.proofs.covering.covers_pair_in_child.Goals.{then-c-b-via-then-c-b, then-c-b-via-else-c-b+then-not-is_free}
@@ -24,12 +24,23 @@ returns-then-bound-low g c =
     let h = c.is_free.ensures.value.0 c.if-not-is_free.false in
     let k : up I (entry_of l c.args.c) ≤ up I (entry_of (child I l (entry_of l c.args.b)) c.args.c) =
     low_stays I l c.args.b c.args.c c.low.ensures.stands h c.if-c-b.false in
-    let e = c.low.ensures.value in
-    let t = c.if-bound-low.true in (
+    let e = c.low.ensures.value in (
+      λ _. covers_entry _ _ _ (in_child_by _ _ _ _ h c.if-c-b.false) (omega arith),
+      λ _. refl,
+    )
+
+pub returns-then-bound-raised : goal.returns-then-bound-raised
+returns-then-bound-raised g c =
+    let I = g.L.Lows.subject c.args.lows.now in
+    let l = g.L.Lows.claim c.args.lows.now in
+    let h = c.is_free.ensures.value.0 c.if-not-is_free.false in
+    let k = raised_stays I l c.args.b c.args.c c.low.ensures.stands h c.if-c-b.false in
+    let e = c.raised.ensures.value in
+    let t = c.if-bound-raised.true in (
       λ _. covers_entry _ _ _ (in_child_by _ _ _ _ h c.if-c-b.false) (omega arith),
       λ _. is_at_most _ _ t,
     )
 
-pub returns-else-bound-low : goal.returns-else-bound-low
-returns-else-bound-low g c = covers_test _ _ _ _ _ (rises-child _ _ _ (c.is_free.ensures.stands).claim.rises)
+pub returns-else-bound-raised : goal.returns-else-bound-raised
+returns-else-bound-raised g c = covers_test _ _ _ _ _ (rises-child _ _ _ (c.is_free.ensures.stands).claim.rises)
     (in_child_by _ _ _ _ (c.is_free.ensures.value.0 c.if-not-is_free.false) c.if-c-b.false) c.low_in_child.ensures
