@@ -3,7 +3,7 @@ use Rattle.std.proofs.Common.{◌≡◌, ◌≤◌, ◌-◌, ◌↔◌, ℕ, Lis
 use Rattle.dsa_terms.specs.Buffers.{Instance}
 use Rattle.dsa_terms.specs.Layouts.{IsLayout, IsLeast}
 use Rattle.dsa_terms.specs.Logs.{Log}
-use Rattle.dsa_terms.specs.Starts.{planned}
+use Rattle.dsa_terms.specs.Starts.{best_start, planned}
 use Rattle.dsa_outside.specs.Held.{FileMap, with_file, without_file}
 use Rattle.dsa_outside.specs.Faults.{Rose}
 use Rattle.dsa_outside.proofs.FileMaps.{remove-insert}
@@ -12,12 +12,13 @@ use Rattle.csv_instance.specs.Layout.{layout_text}
 use Rattle.log_text.specs.Faults.{IsTextOf}
 use Rattle.log_text.specs.Text.{log_text, raw_log_of}
 use Rattle.planner.specs.Decides.{IsBoundLog, IsRefutation}
+use Rattle.planner.specs.LeastCapacity.{AreWithinSteps}
 use Rattle.planner.specs.Openings.{IsOpen}
 use Rattle.command_words.specs.Options.{Word}
 use Rattle.command_words.specs.Commands.{Command, Least, command_of}
 use Rattle.dsaplan_core.specs.Seen.{FilesSeen}
 use Rattle.dsaplan_core.specs.Steps.{IsInput}
-use Rattle.dsaplan_core.specs.Asked.{capacity_of, input_of, log_of, output_of}
+use Rattle.dsaplan_core.specs.Asked.{capacity_of, input_of, log_of, output_of, steps_of}
 use Rattle.dsaplan_core.specs.Decided.{FindsLeast, MayStayOpen}
 use Rattle.dsaplan_core.specs.Answers.{Cause}
 use Rattle.dsaplan_core.specs.Lost.{WritesOutput, WritesLog}
@@ -121,12 +122,14 @@ pub writes_open : (old new : FilesSeen) (command : Command) (input output log : 
     (I : Instance) (L H : ℕ) (offsets : List ℕ) (refutation : Log) (p : Prepared) →
     input_of command ≡ Some input → output_of command ≡ Some output → log_of command ≡ Some log →
     IsInput old input table I → MayStayOpen command I L H → IsOpen I L H offsets refutation →
+    (IsSome (capacity_of command) → offsets ≡ best_start I) →
     (IsSome (capacity_of command) → IsBoundLog I (L - 1) refutation) →
+    AreWithinSteps I (steps_of command) L offsets (Some refutation) →
     IsTextOf (log_text refutation) (raw_log_of refutation) →
     PutsBoth output (layout_text table offsets) log (log_text refutation) (status.Open L H) p →
     (words : List Word) → command_of words ≡ Ok command → Prepares words old new p
 writes_open old new command input output log table I L H offsets refutation p its_input its_output its_log given allowed
-    opened by_bound readable puts words asked =
+    opened best by_bound within readable puts words asked =
     prepares_both words old new command output log (layout_text table offsets) (log_text refutation) (status.Open L H)
     (record {
       asked = asked;
@@ -146,7 +149,9 @@ writes_open old new command input output log table I L H offsets refutation p it
         its_log = its_log;
         allowed = allowed;
         opened = opened;
+        best = best;
         by_bound = by_bound;
+        within_steps = within;
         readable = readable;
         files = held;
       };
@@ -158,7 +163,8 @@ writes_open old new command input output log table I L H offsets refutation p it
 pub writes_least : (old new : FilesSeen) (input output log : Word) (steps : Option ℕ) (table : List Record)
     (I : Instance) (C : ℕ) (offsets : List ℕ) (refutation : Log) (p : Prepared) →
     IsInput old input table I → IsLeast I C → planned I C ≡ Some offsets → IsLayout I C offsets →
-    (I ≡ []) ↔ (C ≡ 0) → 1 ≤ C → IsRefutation I (C - 1) refutation → IsTextOf (log_text refutation) (raw_log_of refutation) →
+    (I ≡ []) ↔ (C ≡ 0) → 1 ≤ C → IsRefutation I (C - 1) refutation →
+    AreWithinSteps I steps C offsets (Some refutation) → IsTextOf (log_text refutation) (raw_log_of refutation) →
     PutsBoth output (layout_text table offsets) log (log_text refutation) (status.Least C) p →
     (words : List Word) → command_of words ≡ Ok (Least input output log steps) → Prepares words old new p
 writes_least old new input output log steps table I C offsets refutation p given least chosen layout none positive refuted
@@ -185,6 +191,7 @@ writes_least old new input output log steps table I C offsets refutation p given
         planned = chosen;
         layout = layout;
         refuted = record { positive = positive; refuted = refuted; readable = readable };
+        within_steps = within;
         files = held;
       };
       to_output = λ after cause. cause;
@@ -195,10 +202,10 @@ writes_least old new input output log steps table I C offsets refutation p given
 pub writes_layout_alone : (old : FilesSeen) (input output log : Word) (steps : Option ℕ) (table : List Record)
     (I : Instance) (C : ℕ) (offsets : List ℕ) (file : Writing) (said : Said) →
     IsInput old input table I → IsLeast I C → planned I C ≡ Some offsets → IsLayout I C offsets → (I ≡ []) ↔ (C ≡ 0) → C ≡ 0 →
-    Puts output (layout_text table offsets) role.Output file → Tells (status.Least C) said →
+    AreWithinSteps I steps C offsets None → Puts output (layout_text table offsets) role.Output file → Tells (status.Least C) said →
     (words : List Word) → command_of words ≡ Ok (Least input output log steps) → IsWriting words old file said
-writes_layout_alone old input output log steps table I C offsets file said given least chosen layout none zero puts told
-    words asked =
+writes_layout_alone old input output log steps table I C offsets file said given least chosen layout none zero within
+    puts told words asked =
     record {
       written = λ new held. rightly words old new (status.Least C) said tt (finds new (held ∙ held_now)) told;
       unwritten = λ new rose others. rightly words old new (status.WriteFault role.Output) file.unwritten tt (record {
@@ -235,5 +242,6 @@ writes_layout_alone old input output log steps table I C offsets file said given
       planned = chosen;
       layout = layout;
       refuted = zero;
+      within_steps = within;
       files = held;
     }

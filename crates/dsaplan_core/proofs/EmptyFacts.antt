@@ -33,7 +33,7 @@ use Rattle.dsaplan_core.specs.Theorem.{Headline}
 use Rattle.dsaplan_core.specs.declared.status.Status.TheVariants as status
 use Rattle.dsaplan_core.proofs.AnswerFacts.{sink}
 use Rattle.dsaplan_core.proofs.CheckedFacts.{no_header, other, other_file, other_reads}
-use Rattle.dsaplan_core.proofs.ShownFacts.{facts_of_none, no_facts, none_least}
+use Rattle.dsaplan_core.proofs.ShownFacts.{facts_of_none, no_facts, none_laid_at_0, none_least, none_planned_at_0, none_takes_no_steps}
 use Rattle.dsaplan_core.proofs.WorldFacts.{a_is_not_i, bounds_words, i_is_not_l, least_words, reads_i, reads_none, refute_words, solve_words, told, verify_words}
 
 -- ---- the input
@@ -122,6 +122,7 @@ laid_out = record {
       reads_alone;
   planned = none_planned;
   layout = none_laid;
+  searched = λ none. tt;
   files = refl;
 }
 
@@ -219,18 +220,6 @@ log_missed = record {
 }
 
 -- ---- its least capacity is 0, and no log is written
-none_planned_at_0 : planned [] 0 ≡ Some []
-unfolding planned plan layout_height starts orders first_fit best_fit searched parts part_of is_cut last_cut
-none_planned_at_0 = refl
-
-none_laid_at_0 : IsLayout [] 0 []
-none_laid_at_0 = record {
-  count = refl;
-  aligned = λ b lt. absurd (omega arith);
-  within = λ b lt. absurd (omega arith);
-  apart = λ b c t lt. absurd (omega arith);
-}
-
 least_asked : IsAsked least_words (told alone) (Least (codes "i") (codes "o") (codes "l") None) header_alone []
 least_asked =
     asks least_words (told alone) (Least (codes "i") (codes "o") (codes "l") None) refl refl reads_alone
@@ -251,6 +240,7 @@ least_is_0 = record {
   planned = none_planned_at_0;
   layout = none_laid_at_0;
   refuted = refl;
+  within_steps = none_takes_no_steps None;
   files = refl;
 }
 
@@ -277,6 +267,7 @@ promises_least = (
     its_output = refl;
     planned = none_planned_at_0;
     layout = none_laid_at_0;
+    searched = λ none. tt;
     held = λ told. output_is_laid;
   },
   λ positive. absurd (omega arith),

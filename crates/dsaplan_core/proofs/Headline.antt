@@ -5,10 +5,13 @@ use Rattle.dsa_outside.specs.Held.{FileMap, file_at, with_file}
 use Rattle.dsa_outside.proofs.Lookups.{file_at-with_file, file_at-with_other}
 use Rattle.csv_instance.specs.Layout.{layout_text}
 use Rattle.log_text.specs.Text.{log_text}
+use Rattle.planner.specs.LeastCapacity.{AreWithinSteps}
+use Rattle.planner.proofs.Stepping.{layout_took, log_took}
 use Rattle.command_words.specs.Options.{Word}
 use Rattle.command_words.specs.Commands.{Command, Solve, Least, command_of}
 use Rattle.command_words.specs.declared.fault.UsageFault.{UsageFault}
 use Rattle.dsaplan_core.specs.Seen.{FilesSeen, SinkSeen}
+use Rattle.dsaplan_core.specs.Asked.{steps_of}
 use Rattle.dsaplan_core.specs.Decided.{LaysOut, RefutesCapacity, RefutesBelow, FindsLeast, LeavesOpen, with_log}
 use Rattle.dsaplan_core.specs.Shown.{ShowsFacts, ShowsLayout, ShowsTrial}
 use Rattle.dsaplan_core.specs.Answers.{Cause, Answers}
@@ -43,6 +46,7 @@ module _ (words : List Word) (old new : FilesSeen) where
     its_output = refl;
     planned = row.planned;
     layout = row.layout;
+    searched = row.searched;
     held = λ told. ap (λ h. file_at h row.output) row.files
         ∙ file_at-with_file old.held row.output (layout_text row.table row.offsets) told;
   }
@@ -60,6 +64,7 @@ module _ (words : List Word) (old new : FilesSeen) where
     its_capacity = row.its_capacity;
     infeasible = row.infeasible;
     lean = row.lean;
+    searched = row.searched;
     readable = row.readable;
     held = λ told. ap (λ h. file_at h row.log) row.files
         ∙ file_at-with_file old.held row.log (log_text row.refutation) told;
@@ -90,14 +95,16 @@ module _ (words : List Word) (old new : FilesSeen) where
       its_output = refl;
       planned = row.planned;
       layout = row.layout;
+      searched = layout_took row.instance row.steps C C row.offsets row.refutation row.within_steps row.layout;
       held = λ told. ap (λ h. file_at h row.output) row.files ∙ least_held row.refutation told;
     }
 
     least_refuted : (o : Option Log) → MatchOption o (C ≡ 0) (RefutesBelow row.instance C) →
+        AreWithinSteps row.instance row.steps C row.offsets o →
         new.held ≡ with_log (with_file old.held row.output least_text) row.log o → 1 ≤ C →
         HoldsRefutation words old new (C - 1)
-    least_refuted None zero files positive = absurd (omega (arith, zero, positive))
-    least_refuted (Some g) below files positive = record {
+    least_refuted None zero within files positive = absurd (omega (arith, zero, positive))
+    least_refuted (Some g) below within files positive = record {
       command = least_command;
       log = row.log;
       table = row.table;
@@ -109,6 +116,7 @@ module _ (words : List Word) (old new : FilesSeen) where
       its_capacity = below.refuted.its_capacity;
       infeasible = below.refuted.infeasible;
       lean = below.refuted.lean;
+      searched = log_took row.instance row.steps C row.offsets g within positive below.refuted.its_capacity;
       readable = below.readable;
       held = λ told. ap (λ h. file_at h row.log) files
           ∙ file_at-with_file (with_file old.held row.output least_text) row.log (log_text g)
@@ -126,6 +134,8 @@ module _ (words : List Word) (old new : FilesSeen) where
     its_output = row.its_output;
     planned = row.opened.chosen;
     layout = row.opened.layout;
+    searched = layout_took row.instance (steps_of row.command) L H row.offsets (Some row.refutation) row.within_steps
+        row.opened.layout;
     held = λ told. ap (λ h. file_at h row.output) row.files
         ∙ first_kept old.held row.output row.log (layout_text row.table row.offsets) (log_text row.refutation)
         (apart words row.command row.output row.log row.asked.words_ask row.its_output row.its_log) told;
@@ -144,6 +154,8 @@ module _ (words : List Word) (old new : FilesSeen) where
     its_capacity = row.opened.refuted_below.its_capacity;
     infeasible = row.opened.refuted_below.infeasible;
     lean = row.opened.refuted_below.lean;
+    searched = log_took row.instance (steps_of row.command) L row.offsets row.refutation row.within_steps
+        row.opened.positive row.opened.refuted_below.its_capacity;
     readable = row.readable;
     held = λ told. ap (λ h. file_at h row.log) row.files
         ∙ file_at-with_file (with_file old.held row.output (layout_text row.table row.offsets)) row.log
@@ -194,7 +206,7 @@ module _ (words : List Word) (old new : FilesSeen) where
       let row = answer.says.cause in (names_refuted C row, refuted C row)
   headline before after (status.Least C) answer =
       let row = answer.says.cause in
-      (names_least C row, least_laid_out C row, least_refuted C row row.refutation row.refuted row.files)
+      (names_least C row, least_laid_out C row, least_refuted C row row.refutation row.refuted row.within_steps row.files)
   headline before after (status.Open L H) answer =
       let row = answer.says.cause in (runs_out L H row, open_laid_out L H row, open_refuted L H row)
   headline before after status.Right answer = tt

@@ -9,13 +9,13 @@ use Rattle.command_words.specs.Commands.{Least, Solve, Trim}
 use Rattle.command_words.specs.Options.{Word}
 use Rattle.dsaplan_core.specs.Answers.{IsHalfWritten}
 use Rattle.dsaplan_core.specs.Asked.{output_of}
-use Rattle.dsaplan_core.specs.Decided.{FindsLeast, RefutesCapacity}
 use Rattle.dsaplan_core.specs.Lost.{LosesLog, LosesOutput}
 use Rattle.dsaplan_core.specs.Seen.{FilesSeen}
 use Rattle.dsaplan_core.specs.declared.status.Status.TheVariants as status
 use Rattle.dsaplan_core.proofs.DecidedFacts.{both_files, laid_files, refuted_files}
 use Rattle.dsaplan_core.proofs.LogFileFacts.{double_file, logged, trim_words, trimmed_files, trims_a_line}
 use Rattle.dsaplan_core.proofs.OneFacts.{log_file}
+use Rattle.dsaplan_core.proofs.WrittenFacts.{found, refuted}
 use Rattle.dsaplan_core.proofs.WorldFacts.{in_file, input_alone, l_is_not_o, least_words, out_file, reads_none, solve_words, told, with_log_file}
 
 -- calls on the name have failed once
@@ -61,17 +61,16 @@ the_input_is_lost h =
     absurd cc
 
 -- ---- the log's file got three bytes of a refutation
-half_a_log : RefutesCapacity (solve_words (codes "0")) (told input_alone) refuted_files 0 →
-    LosesLog (solve_words (codes "0")) (told input_alone)
+half_a_log : LosesLog (solve_words (codes "0")) (told input_alone)
     (failed (insert input_alone (codes "l") (codes "dsa")) (codes "l"))
-half_a_log refutes = record {
+half_a_log = record {
   command = Solve 0 (codes "i") (codes "o") (codes "l") None;
   log = codes "l";
   status = status.Infeasible 0;
   meant = refuted_files;
   asked = refl;
   its_log = refl;
-  writes = refutes;
+  writes = refuted;
   cause = lit≤ tt;
   others = ap Some (remove-insert input_alone (codes "l") (codes "dsa")
       ∙ sym (remove-insert input_alone (codes "l") log_file));
@@ -81,32 +80,31 @@ no_fault_of_the_log : LosesLog (solve_words (codes "0")) (told input_alone) refu
 no_fault_of_the_log h = omega (arith, h.cause)
 
 -- ---- the output is written, and the log's file is not
-module _ (finds : FindsLeast least_words (told input_alone) both_files 1) where
-  output_without_log : LosesLog least_words (told input_alone)
-      (failed (insert input_alone (codes "o") out_file) (codes "l"))
-  output_without_log = record {
-    command = Least (codes "i") (codes "o") (codes "l") None;
-    log = codes "l";
-    status = status.Least 1;
-    meant = both_files;
-    asked = refl;
-    its_log = refl;
-    writes = (lit≤ tt, finds);
-    cause = lit≤ tt;
-    others = ap Some (sym (remove-insert (insert input_alone (codes "o") out_file) (codes "l") log_file));
-  }
+output_without_log : LosesLog least_words (told input_alone)
+    (failed (insert input_alone (codes "o") out_file) (codes "l"))
+output_without_log = record {
+  command = Least (codes "i") (codes "o") (codes "l") None;
+  log = codes "l";
+  status = status.Least 1;
+  meant = both_files;
+  asked = refl;
+  its_log = refl;
+  writes = (lit≤ tt, found);
+  cause = lit≤ tt;
+  others = ap Some (sym (remove-insert (insert input_alone (codes "o") out_file) (codes "l") log_file));
+}
 
-  between_writes : IsHalfWritten least_words (told input_alone) laid_files
-  between_writes = record {
-    status = status.Least 1;
-    first = codes "o";
-    text = out_file;
-    second = codes "l";
-    further = log_file;
-    names_differ = λ e. l_is_not_o (sym e);
-    written = refl;
-    cause = finds;
-  }
+between_writes : IsHalfWritten least_words (told input_alone) laid_files
+between_writes = record {
+  status = status.Least 1;
+  first = codes "o";
+  text = out_file;
+  second = codes "l";
+  further = log_file;
+  names_differ = λ e. l_is_not_o (sym e);
+  written = refl;
+  cause = found;
+}
 
 -- where nothing is, nothing was written
 nothing_written : (words : List Word) → IsHalfWritten words (told input_alone) (told empty) → ⊥

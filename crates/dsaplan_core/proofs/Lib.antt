@@ -10,6 +10,7 @@ pub mod Opened
 pub mod Found
 pub mod Trimming
 pub mod Showing
+pub mod Verdicts
 pub mod Judging
 pub mod CommandNames
 pub mod Concluded
@@ -43,4 +44,6 @@ pub mod LogFileFacts
 mod HeldLogFacts
 mod ShortFacts
 mod PromiseFacts
+pub mod WrittenFacts
 mod LeftFacts
+mod StepsFacts

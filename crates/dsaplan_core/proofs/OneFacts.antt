@@ -12,7 +12,7 @@ use Rattle.dsa_terms.specs.Orders.{falls_by, orders, rises_by}
 use Rattle.dsa_terms.specs.Parts.{is_cut, last_cut, part_of, parts, searched}
 use Rattle.dsa_terms.specs.Plans.{layout_height, plan}
 use Rattle.dsa_terms.specs.Search.{comes_before, first, is_tall}
-use Rattle.dsa_terms.specs.Starts.{planned, starts}
+use Rattle.dsa_terms.specs.Starts.{best_start, lowest_place, planned, starts}
 use Rattle.dsa_model.specs.Buffer.{is_ever_live}
 use Rattle.csv_instance.specs.Parse.{parse}
 use Rattle.csv_instance.specs.Records.{Record}
@@ -58,6 +58,12 @@ unfolding planned plan layout_height starts orders falls_by rises_by first_fit b
     buffer searched parts part_of is_cut last_cut first is_tall comes_before ends_below is_twin child up step
     have_same_moments
 one_planned = refl
+
+pub one_best : 0 ∷ [] ≡ best_start one
+unfolding best_start lowest_place layout_height starts orders falls_by rises_by first_fit best_fit neighbours first_place
+    first_passing best_place free_ranges stretches holds is_tighter is_free highest top do_share some_before is_live
+    buffer
+one_best = refl
 
 -- ---- the records of its file
 abbrev pub rows : List Record

@@ -10,6 +10,7 @@ use Rattle.log_text.specs.Text.{log_text, raw_log_of}
 use Rattle.min_capacity.specs.declared.brackets.Bracket.{Bracket}
 use Rattle.planner.specs.Decides.{IsBoundLog}
 use Rattle.planner.specs.Openings.{IsOpen, IsSpentAt}
+use Rattle.planner.proofs.Stepping.{spent_took}
 use Rattle.command_words.specs.Options.{Word}
 use Rattle.command_words.specs.Commands.{Solve, command_of}
 use Rattle.dsaplan_core.specs.Seen.{FilesSeen}
@@ -42,6 +43,10 @@ module _ (old new : FilesSeen) (C : ℕ) (input output log : Word) (steps : Opti
       subst (IsOpen I b.low b.high b.layout.items)
       (same_log b.log spent.bound_log refutation spent.its_log its_log) spent.stays_open
 
+  bounds : IsBoundLog I (b.low - 1) refutation
+  bounds =
+      subst (IsBoundLog I (b.low - 1)) (same_log b.log spent.bound_log refutation spent.its_log its_log) spent.by_bound
+
   -- both files of a capacity that the steps leave open
   pub spent_prepared : (r : Result Prepared NoMemory) →
       IfOk r (PutsBoth output (layout_text table b.layout.items) log (log_text refutation) (status.Open b.low b.high)) →
@@ -51,7 +56,6 @@ module _ (old new : FilesSeen) (C : ℕ) (input output log : Word) (steps : Opti
   spent_prepared (Ok p) puts readable =
       writes_open old new (Solve C input output log steps) input output log table I b.low b.high b.layout.items
       refutation p refl refl refl given may_stay_open stays_open
-      (λ some. subst (IsBoundLog I (b.low - 1))
-      (same_log b.log spent.bound_log refutation spent.its_log its_log) spent.by_bound)
-      readable puts
+      (λ some. spent.layout_is_best) (λ some. bounds)
+      (spent_took I C steps b refutation spent stays_open bounds) readable puts
   spent_prepared (Err e) puts readable = tt

@@ -29,6 +29,7 @@ holds_layout = record {
   its_output = refl;
   planned = one_planned;
   layout = one_laid;
+  searched = λ none. tt;
   held = λ told. file_at-with_file (Some input_alone) (codes "o") out_file refl ∙ ap Some (sym out_text);
 }
 
@@ -53,6 +54,7 @@ holds_refutation = record {
   its_capacity = refl;
   infeasible = zero_refuted.infeasible;
   lean = zero_refuted.lean;
+  searched = λ above. tt;
   readable = zero_reads;
   held = λ told. reads_log log_file ∙ ap Some (sym zero_text);
 }

@@ -1,5 +1,5 @@
 -- A layout or a log that is to be written, and what is then said.
-use Rattle.std.proofs.Common.{◌≡◌, ◌<◌, ℕ, List, Option, Ok, refl, sym, ap, ◌∙◌, subst}
+use Rattle.std.proofs.Common.{◌≡◌, ◌<◌, ◌≤◌, ℕ, List, length, Option, None, Ok, refl, sym, ap, ◌∙◌, subst}
 use Rattle.dsa_terms.specs.Buffers.{Instance}
 use Rattle.dsa_terms.specs.Bounds.{lower_bound}
 use Rattle.dsa_terms.specs.Logs.{Log}
@@ -11,6 +11,8 @@ use Rattle.csv_instance.specs.Layout.{layout_text}
 use Rattle.log_text.specs.Faults.{IsTextOf}
 use Rattle.log_text.specs.Text.{log_text, raw_log_of}
 use Rattle.planner.specs.Decides.{IsAnswered, IsRefutation, IsBoundLog}
+use Rattle.planner.specs.FirstStart.{start_within}
+use Rattle.planner.specs.Openings.{AreGiven}
 use Rattle.command_words.specs.Options.{Word}
 use Rattle.command_words.specs.Commands.{Solve, command_of}
 use Rattle.dsaplan_core.specs.Seen.{FilesSeen}
@@ -36,9 +38,9 @@ module _ (old : FilesSeen) (C : ℕ) (input output log : Word) (steps : Option �
     (asked : command_of words ≡ Ok (Solve C input output log steps)) where
   -- the plan, which is written to the output
   pub writes_layout : (offsets : List ℕ) → IsAnswered (planned I C) I C offsets →
-      Puts output (layout_text table offsets) role.Output file → Tells (status.Feasible C) said →
-      IsWriting words old file said
-  writes_layout offsets plan puts told = record {
+      (start_within I C ≡ None → AreGiven steps 1) → Puts output (layout_text table offsets) role.Output file →
+      Tells (status.Feasible C) said → IsWriting words old file said
+  writes_layout offsets plan searched puts told = record {
     written = λ new held. rightly words old new (status.Feasible C) said tt
         (lays_out new (held ∙ held_now old output (layout_text table offsets) role.Output file puts)) told;
     unwritten = λ new rose others. rightly words old new (status.WriteFault role.Output) file.unwritten tt (record {
@@ -67,15 +69,17 @@ module _ (old : FilesSeen) (C : ℕ) (input output log : Word) (steps : Option �
         asked = record { words_ask = asked; name = input; its_input = refl; input = given };
         planned = plan.chosen;
         layout = plan.layout;
+        searched = searched;
         files = held;
       }
 
   -- the log, which is written to its file
   pub writes_log : (refutation : Log) → IsRefutation I C refutation →
       (C < lower_bound I → IsBoundLog I C refutation) →
+      (lower_bound I ≤ C → AreGiven steps (length refutation.lines)) →
       IsTextOf (log_text refutation) (raw_log_of refutation) →
       Puts log (log_text refutation) role.Log file → Tells (status.Infeasible C) said → IsWriting words old file said
-  writes_log refutation refuted bound readable puts told = record {
+  writes_log refutation refuted bound searched readable puts told = record {
     written = λ new held. rightly words old new (status.Infeasible C) said tt
         (refutes new (held ∙ held_now old log (log_text refutation) role.Log file puts)) told;
     unwritten = λ new rose others. rightly words old new (status.WriteFault role.Log) file.unwritten tt (record {
@@ -108,6 +112,7 @@ module _ (old : FilesSeen) (C : ℕ) (input output log : Word) (steps : Option �
         its_capacity = refuted.its_capacity;
         lean = refuted.lean;
         by_bound = bound;
+        searched = searched;
         readable = readable;
         files = held;
       }

@@ -49,6 +49,13 @@ capacity_of (Solve capacity input output log steps) = Some capacity
 capacity_of (Verify capacity input layout) = Some capacity
 capacity_of command = None
 
+-- the number of steps that it gives, if it does
+abbrev pub steps_of : Command → Option ℕ
+steps_of (Solve capacity input output log steps) = steps
+steps_of (Least input output log steps) = steps
+steps_of (Trial seed count steps) = Some steps
+steps_of command = None
+
 -- the capacity at which it judges a layout
 abbrev pub judged_at : Command → ℕ
 judged_at (Verify capacity input layout) = capacity

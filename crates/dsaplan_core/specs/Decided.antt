@@ -15,14 +15,16 @@ use Rattle.csv_instance.specs.Layout.{layout_text}
 use Rattle.log_text.specs.Text.{log_text, raw_log_of}
 use Rattle.log_text.specs.Faults.{IsTextOf}
 use Rattle.planner.specs.Decides.{IsBoundLog, IsRefutation}
-use Rattle.planner.specs.Openings.{IsOpen}
+use Rattle.planner.specs.FirstStart.{start_within}
+use Rattle.planner.specs.LeastCapacity.{AreWithinSteps}
+use Rattle.planner.specs.Openings.{AreGiven, IsOpen}
 use Rattle.command_words.specs.Options.{Word}
 use Rattle.command_words.specs.Commands.{Command, Solve, Least, Trim}
 use Rattle.dsaplan_core.specs.Seen.{FilesSeen}
 use Rattle.dsaplan_core.specs.Steps.{IsWhole, log_limit}
-use Rattle.dsaplan_core.specs.Asked.{IsAsked, capacity_of, log_of, output_of}
+use Rattle.dsaplan_core.specs.Asked.{IsAsked, capacity_of, log_of, output_of, steps_of}
 
--- a layout of the capacity is written to the output, the plan
+-- a layout of the capacity is written to the output, the plan; where no start is within the capacity it took a step
 pub record LaysOut (words : List Word) (old new : FilesSeen) (C : ℕ) : Type 0 where
   pub input : Word
   pub output : Word
@@ -34,10 +36,11 @@ pub record LaysOut (words : List Word) (old new : FilesSeen) (C : ℕ) : Type 0 
   pub asked : IsAsked words old (Solve C input output log steps) table instance
   pub planned : planned instance C ≡ Some offsets
   pub layout : IsLayout instance C offsets
+  pub searched : start_within instance C ≡ None → AreGiven steps 1
   pub files : new.held ≡ with_file old.held output (layout_text table offsets)
 
 -- no layout fits within the capacity, and a log without waste that is accepted at it is written, the bound's where
--- the capacity is below the lower bound; the text reads back
+-- the capacity is below the lower bound, and else one that took a step for each line; the text reads back
 pub record RefutesCapacity (words : List Word) (old new : FilesSeen) (C : ℕ) : Type 0 where
   pub input : Word
   pub output : Word
@@ -52,6 +55,7 @@ pub record RefutesCapacity (words : List Word) (old new : FilesSeen) (C : ℕ) :
   pub its_capacity : refutation.capacity ≡ C
   pub lean : IsLean instance refutation
   pub by_bound : C < lower_bound instance → IsBoundLog instance C refutation
+  pub searched : lower_bound instance ≤ C → AreGiven steps (length refutation.lines)
   pub readable : IsTextOf (log_text refutation) (raw_log_of refutation)
   pub files : new.held ≡ with_file old.held log (log_text refutation)
 
@@ -67,7 +71,7 @@ with_log held name None = held
 with_log held name (Some refutation) = with_file held name (log_text refutation)
 
 -- C is the least capacity that has a layout; the plan at it is written to the output, and a log that refutes one byte
--- less to the log's file, unless C is 0
+-- less to the log's file, unless C is 0; what the starts and the bound do not give took no more steps than were given
 pub record FindsLeast (words : List Word) (old new : FilesSeen) (C : ℕ) : Type 0 where
   pub input : Word
   pub output : Word
@@ -83,6 +87,7 @@ pub record FindsLeast (words : List Word) (old new : FilesSeen) (C : ℕ) : Type
   pub planned : planned instance C ≡ Some offsets
   pub layout : IsLayout instance C offsets
   pub refuted : MatchOption refutation (C ≡ 0) (RefutesBelow instance C)
+  pub within_steps : AreWithinSteps instance steps C offsets refutation
   pub files : new.held ≡ with_log (with_file old.held output (layout_text table offsets)) log refutation
 
 -- k units are too few to decide C, which the lower bound L and the height H of the best start leave open
@@ -107,7 +112,8 @@ MayStayOpen (Least input output log (Some k)) I L H = IsShortOfHunt I k L H
 MayStayOpen command I L H = ⊥
 
 -- the steps ran out: the plan at H is written to the output, a layout of that height, and a log that refutes one byte
--- less than L to the log's file
+-- less than L to the log's file; where the command names a capacity these are the best start and the bound's log, and
+-- else what the starts and the bound do not give took no more steps than were given
 pub record LeavesOpen (words : List Word) (old new : FilesSeen) (L H : ℕ) : Type 0 where
   pub command : Command
   pub output : Word
@@ -121,7 +127,9 @@ pub record LeavesOpen (words : List Word) (old new : FilesSeen) (L H : ℕ) : Ty
   pub its_log : log_of command ≡ Some log
   pub allowed : MayStayOpen command instance L H
   pub opened : IsOpen instance L H offsets refutation
+  pub best : IsSome (capacity_of command) → offsets ≡ best_start instance
   pub by_bound : IsSome (capacity_of command) → IsBoundLog instance (L - 1) refutation
+  pub within_steps : AreWithinSteps instance (steps_of command) L offsets (Some refutation)
   pub readable : IsTextOf (log_text refutation) (raw_log_of refutation)
   pub files : new.held ≡ with_file (with_file old.held output (layout_text table offsets)) log (log_text refutation)
 

@@ -1,8 +1,9 @@
 -- What the answers that print a report say.
-use Rattle.std.specs.Prelude.{◌≡◌, ◌<◌, ◌≤◌, ◌-◌, ◌++◌, ◌^◌, ◌⊎◌, ℕ, List, Some, Ok}
+use Rattle.std.specs.Prelude.{◌≡◌, ◌<◌, ◌≤◌, ◌-◌, ◌++◌, ◌^◌, ◌⊎◌, ℕ, List, Option, Some, Ok}
 use Rattle.dsa_terms.specs.Buffers.{Instance}
 use Rattle.dsa_terms.specs.Bounds.{lower_bound}
 use Rattle.dsa_terms.specs.Layouts.{IsLayout, IsInfeasible, IsLeast}
+use Rattle.dsa_terms.specs.Logs.{Log}
 use Rattle.dsa_terms.specs.Plans.{hunt, layout_height}
 use Rattle.dsa_terms.specs.Starts.{best_start, planned, starts}
 use Rattle.csv_instance.specs.Records.{Record, table_of}
@@ -12,7 +13,9 @@ use Rattle.layout_report.specs.Facts.{bounds_text}
 use Rattle.layout_report.specs.Report.{IsReportOf}
 use Rattle.layout_report.specs.declared.facts.Facts.{Facts}
 use Rattle.make_instance.specs.Made.{made_text}
+use Rattle.planner.specs.Decides.{IsRefutation}
 use Rattle.planner.specs.InstanceFacts.{AreFactsOf}
+use Rattle.planner.specs.LeastCapacity.{AreWithinSteps, RefutesBelow}
 use Rattle.command_words.specs.Options.{Word}
 use Rattle.command_words.specs.Commands.{Bounds, Report, Trial, command_of}
 use Rattle.dsaplan_core.specs.Seen.{FilesSeen}
@@ -47,8 +50,20 @@ pub record ShowsLayout (words : List Word) (old new : FilesSeen) (text : List �
   pub its_text : IsReportOf table instance offsets text
   pub files : new.held ≡ old.held
 
+-- C is the least capacity: the plan at it is so high, and a log refutes one byte less, unless C is 0; what the starts
+-- and the bound do not give took no more than k units
+pub record IsFoundWithin (I : Instance) (k C : ℕ) : Type 0 where
+  pub least : IsLeast I C
+  pub offsets : List ℕ
+  pub refutation : Option Log
+  pub planned : planned I C ≡ Some offsets
+  pub layout : IsLayout I C offsets
+  pub height : layout_height I offsets ≡ C
+  pub refuted : RefutesBelow I C refutation
+  pub within_steps : AreWithinSteps I (Some k) C offsets refutation
+
 -- k units are too few to hunt for the least capacity, which lies between L and H: there is a layout of height H, and
--- none fits within one byte less than L
+-- a log refutes one byte less than L; what the starts and the bound do not give took no more than k units
 pub record IsLeftOpen (I : Instance) (k L H : ℕ) : Type 0 where
   pub few : k < hunt (starts I) I (lower_bound I) (layout_height I (best_start I))
   pub from_bound : lower_bound I ≤ L
@@ -56,14 +71,17 @@ pub record IsLeftOpen (I : Instance) (k L H : ℕ) : Type 0 where
   pub apart : L < H
   pub positive : 1 ≤ L
   pub offsets : List ℕ
+  pub refutation : Log
   pub planned : planned I H ≡ Some offsets
   pub layout : IsLayout I H offsets
   pub height : layout_height I offsets ≡ H
   pub infeasible : IsInfeasible I (L - 1)
+  pub refuted : IsRefutation I (L - 1) refutation
+  pub within_steps : AreWithinSteps I (Some k) L offsets (Some refutation)
 
 -- the verdict on the least capacity of the instance with k units
 abbrev pub IsVerdict : Instance → ℕ → Status → Type 0
-IsVerdict I k (status.Least C) = IsLeast I C
+IsVerdict I k (status.Least C) = IsFoundWithin I k C
 IsVerdict I k (status.Open L H) = IsLeftOpen I k L H
 IsVerdict I k s = ⊥
 

@@ -1,7 +1,10 @@
 -- The promise of a run in few words. The layout that is written with 'feasible', 'least C' or 'open L H' is aligned,
 -- within its capacity and free of overlap at every moment; with 'infeasible', 'least C' or 'open L H' the written log,
--- at C - 1 or L - 1 unless C or L is zero, is accepted, and an accepted log means that no layout fits.
-use Rattle.std.specs.Prelude.{◌≡◌, ◌-◌, ◌≤◌, ◌<◌, ℕ, List, IsSome, Some, Ok}
+-- at C - 1 or L - 1 unless C or L is zero, is accepted, and an accepted log means that no layout fits. A layout took a
+-- step where no start is within its capacity, and a log one for each line where the lower bound leaves its capacity open:
+-- no more than the command gives.
+use Rattle.std.specs.Prelude.{◌≡◌, ◌-◌, ◌≤◌, ◌<◌, ℕ, List, length, IsSome, Some, None, Ok}
+use Rattle.dsa_terms.specs.Bounds.{lower_bound}
 use Rattle.dsa_terms.specs.Buffers.{Instance}
 use Rattle.dsa_terms.specs.Layouts.{IsLayout, IsInfeasible, IsLeast}
 use Rattle.dsa_terms.specs.Lean.{IsLean}
@@ -12,17 +15,20 @@ use Rattle.csv_instance.specs.Records.{Record}
 use Rattle.csv_instance.specs.Layout.{layout_text}
 use Rattle.log_text.specs.Faults.{IsTextOf}
 use Rattle.log_text.specs.Text.{log_text, raw_log_of}
+use Rattle.planner.specs.FirstStart.{start_within}
+use Rattle.planner.specs.Openings.{AreGiven}
 use Rattle.command_words.specs.Options.{Word}
 use Rattle.command_words.specs.Commands.{Command, command_of}
 use Rattle.command_words.specs.declared.fault.UsageFault.{UsageFault}
 use Rattle.dsaplan_core.specs.Seen.{FilesSeen}
-use Rattle.dsaplan_core.specs.Asked.{IsAsked, capacity_of, log_of, output_of}
+use Rattle.dsaplan_core.specs.Asked.{IsAsked, capacity_of, log_of, output_of, steps_of}
 use Rattle.dsaplan_core.specs.Decided.{MayStayOpen}
 use Rattle.dsaplan_core.specs.declared.status.Status.{Status}
 use Rattle.dsaplan_core.specs.declared.status.Status.TheVariants as status
 
 -- the output of the command holds the text of the plan at the capacity, which is a layout: each buffer's offset is
--- aligned and within the capacity, and no two buffers overlap at a moment at which both are live
+-- aligned and within the capacity, and no two buffers overlap at a moment at which both are live; where no start is
+-- within the capacity, the command gives a step at least, or steps without a number
 pub record HoldsLayout (words : List Word) (old new : FilesSeen) (C : ℕ) : Type 0 where
   pub command : Command
   pub output : Word
@@ -33,9 +39,11 @@ pub record HoldsLayout (words : List Word) (old new : FilesSeen) (C : ℕ) : Typ
   pub its_output : output_of command ≡ Some output
   pub planned : planned instance C ≡ Some offsets
   pub layout : IsLayout instance C offsets
+  pub searched : start_within instance C ≡ None → AreGiven (steps_of command) 1
   pub held : IsSome old.held → file_at new.held output ≡ Some (layout_text table offsets)
 
--- the log's file of the command holds the text of a log that is accepted at the capacity, and no layout fits within it
+-- the log's file of the command holds the text of a log that is accepted at the capacity, and no layout fits within it;
+-- where the lower bound leaves the capacity open, the log has no more lines than the command gives steps
 pub record HoldsRefutation (words : List Word) (old new : FilesSeen) (C : ℕ) : Type 0 where
   pub command : Command
   pub log : Word
@@ -48,6 +56,7 @@ pub record HoldsRefutation (words : List Word) (old new : FilesSeen) (C : ℕ) :
   pub its_capacity : refutation.capacity ≡ C
   pub infeasible : IsInfeasible instance C
   pub lean : IsLean instance refutation
+  pub searched : lower_bound instance ≤ C → AreGiven (steps_of command) (length refutation.lines)
   pub readable : IsTextOf (log_text refutation) (raw_log_of refutation)
   pub held : IsSome old.held → file_at new.held log ≡ Some (log_text refutation)
 

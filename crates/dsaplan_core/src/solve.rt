@@ -40,7 +40,9 @@ pub(crate) fn solve<'a, F: Files>(
         Input::Table(table) => table,
         Input::Missing(status) => return silent(alloc, status),
     };
-    match plan(alloc, table.instance(), capacity, steps)? {
+    let instance = table.instance();
+    let _count = instance.len();
+    match plan(alloc, instance, capacity, steps)? {
         Decision::Layout(offsets) => {
             let file = layout_file(alloc, &table, offsets.as_slice(), output)?;
             Ok(Prepared::Write(file, say(alloc, Status::Feasible { capacity })?))

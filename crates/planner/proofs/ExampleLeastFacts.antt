@@ -235,7 +235,7 @@ other_log (inl h) =
 other_log (inr g) = let l = ap (λ o. option_map (λ (w : Log). length w.lines) o) g.1 in let k = g.3 in
     let n : 1 ≡ length g.0.lines = cc in omega (arith, n, k)
 
-other_without_steps : (low : ℕ) (log : Option Log) → AreWithinSteps small_below (Some 0) low (1 ∷ 0 ∷ []) log → ⊥
+pub other_without_steps : (low : ℕ) (log : Option Log) → AreWithinSteps small_below (Some 0) low (1 ∷ 0 ∷ []) log → ⊥
 other_without_steps low log h =
     let k = other_layout h.layout in let g = h.given in omega (arith, k, g)
 

@@ -8,8 +8,10 @@ pub mod Opening
 pub mod Finding
 pub mod Keeping
 pub mod Halving
+pub mod Stepping
 pub mod ExampleFacts
 pub mod ExampleLeastFacts
+pub mod StepFacts
 mod AnswerFacts
 mod BracketFacts
 mod StartFacts

@@ -20,8 +20,9 @@ returns-in-Some-clause-prepared g c =
     let J = c.instance.result.now in
     let mine = input_is _ c.args.input.now c.in-Table.table J given c.instance.ensures.parsed in
     let found = rw c.in-Exact.is at c.in_ok-bracket.ensures.value in
+    let within = rw c.in-Exact.is at c.in_ok-bracket.ensures.steps in
     found_prepared _ _ c.args.input.now c.args.output.now c.args.log.now c.args.steps c.in-Table.table J
-    c.in-Exact.bracket c.in-Some.refutation mine found c.in-Some.is _
+    c.in-Exact.bracket c.in-Some.refutation mine found within c.in-Some.is _
     (rw c.as_slice-layout.ensures.value at c.both_files.ensures.files) c.both_files.ensures.readable
 
 pub returns-in-Exact-clause-prepared : goal.returns-in-Exact-clause-prepared
@@ -30,11 +31,12 @@ returns-in-Exact-clause-prepared g c =
     let J = c.instance.result.now in
     let mine = input_is _ c.args.input.now c.in-Table.table J given c.instance.ensures.parsed in
     let found = rw c.in-Exact.is at c.in_ok-bracket.ensures.value in
+    let within = rw c.in-Exact.is at c.in_ok-bracket.ensures.steps in
     let puts = subst
     (λ offsets. Puts c.args.output.now (layout_text c.in-Table.table offsets) role.Output c.in_ok-file-in-None.file)
     c.as_slice-layout.ensures.value c.in_ok-file-in-None.ensures in
     writes_zero _ c.args.input.now c.args.output.now c.args.log.now c.args.steps c.in-Table.table J
-    c.in-Exact.bracket mine found c.in-None.is _ _ puts c.in_ok-say-in-None.ensures
+    c.in-Exact.bracket mine found within c.in-None.is _ _ puts c.in_ok-say-in-None.ensures
 
 pub returns-clause-prepared : goal.returns-clause-prepared
 returns-clause-prepared g c =
@@ -42,7 +44,8 @@ returns-clause-prepared g c =
     let J = c.instance.result.now in
     let mine = input_is _ c.args.input.now c.in-Table.table J given c.instance.ensures.parsed in
     let found = rw c.in-Open.is at c.in_ok-bracket.ensures.value in
+    let within = rw c.in-Open.is at c.in_ok-bracket.ensures.steps in
     open_prepared _ _ c.args.input.now c.args.output.now c.args.log.now c.args.steps c.in-Table.table J
-    c.in-Open.bracket c.in-Some-log.refutation mine found c.in-Some-log.is _
+    c.in-Open.bracket c.in-Some-log.refutation mine found within c.in-Some-log.is _
     (rw c.as_slice-layout-in-Open.ensures.value at c.both_files-in-Open.ensures.files)
     c.both_files-in-Open.ensures.readable

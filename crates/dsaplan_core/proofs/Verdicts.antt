@@ -1,0 +1,40 @@
+-- The verdict of a trial.
+use Rattle.std.proofs.Common.{◌≡◌, ◌<◌, ℕ, Some, subst, arith}
+use Rattle.dsa_terms.specs.Buffers.{Instance}
+use Rattle.min_capacity.specs.declared.brackets.Bracket.{Bracket}
+use Rattle.planner.specs.LeastCapacity.{AreWithinSteps, IsExactly, IsOpenAfter, IsWithinSteps}
+use Rattle.dsaplan_core.specs.Shown.{IsFoundWithin, IsLeftOpen}
+
+pub found_within : (I : Instance) (k : ℕ) (b : Bracket) → IsExactly I b → IsWithinSteps I (Some k) b →
+    IsFoundWithin I k b.high
+found_within I k b found within = record {
+  least = found.least;
+  offsets = b.layout.items;
+  refutation = b.log;
+  planned = found.chosen;
+  layout = found.layout;
+  height = found.its_height;
+  refuted = found.refuted_below;
+  within_steps = subst (λ low. AreWithinSteps I (Some k) low b.layout.items b.log) found.ends_met within;
+}
+
+pub left_open : (I : Instance) (k : ℕ) (b : Bracket) → IsOpenAfter I (Some k) b → IsWithinSteps I (Some k) b →
+    IsLeftOpen I k b.low b.high
+left_open I k b found within = record {
+  few = fewer found.too_few.given found.too_few.below_work;
+  from_bound = found.from_bound;
+  to_best = found.to_best;
+  apart = found.stays_open.ends_apart;
+  positive = found.stays_open.positive;
+  offsets = b.layout.items;
+  refutation = found.below_log;
+  planned = found.stays_open.chosen;
+  layout = found.stays_open.layout;
+  height = found.stays_open.its_height;
+  infeasible = found.stays_open.refuted_below.infeasible;
+  refuted = found.stays_open.refuted_below;
+  within_steps = subst (AreWithinSteps I (Some k) b.low b.layout.items) found.its_log within;
+}
+  where
+    fewer : {n w : ℕ} → Some k ≡ Some n → n < w → k < w
+    fewer {n} is lt = let same : k ≡ n = cc in omega (arith, same, lt)
