@@ -168,7 +168,7 @@ pub writes_least : (old new : FilesSeen) (input output log : Word) (steps : Opti
     PutsBoth output (layout_text table offsets) log (log_text refutation) (status.Least C) p →
     (words : List Word) → command_of words ≡ Ok (Least input output log steps) → Prepares words old new p
 writes_least old new input output log steps table I C offsets refutation p given least chosen layout none positive refuted
-    readable puts words asked =
+    within readable puts words asked =
     prepares_both words old new (Least input output log steps) output log (layout_text table offsets)
     (log_text refutation) (status.Least C)
     (record {

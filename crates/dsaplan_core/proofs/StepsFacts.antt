@@ -1,6 +1,6 @@
 -- What a number of steps refuses: on a small buffer that belongs below, whose best start ends at 5 and whose lower bound
 -- and least capacity are 4, and for the log of five lines of three buffers at their lower bound 4.
-use Rattle.std.proofs.Common.{◌≡◌, ◌+◌, ◌≤◌, ℕ, List, length, inl, inr, [], ◌∷◌, IsSome, Some, None, refl, sym, ap, ◌∙◌, subst, lit≤, arith}
+use Rattle.std.proofs.Common.{◌≡◌, ◌+◌, ◌≤◌, ℕ, List, length, inl, inr, [], ◌∷◌, IsSome, Some, None, refl, sym, ap, ◌∙◌, subst, lit<, lit≤, arith}
 use Rattle.dsa_terms.specs.Bounds.{counted, highest_stack, lower_bound, moduli, moments, rounded_size, stack, stack_log}
 use Rattle.dsa_terms.specs.Buffers.{buffer, is_live}
 use Rattle.dsa_terms.specs.Logs.{Log}
@@ -20,6 +20,7 @@ use Rattle.dsaplan_core.specs.Decided.{FindsLeast, LaysOut, LeavesOpen, RefutesC
 use Rattle.dsaplan_core.specs.Seen.{FilesSeen}
 use Rattle.dsaplan_core.specs.Shown.{IsFoundWithin, IsLeftOpen}
 use Rattle.dsaplan_core.specs.Theorem.{HoldsLayout, HoldsRefutation}
+use Rattle.dsaplan_core.proofs.WorldFacts.{first_differs}
 
 -- ---- the instance of the log
 evens_bound : lower_bound evens ≡ 4
@@ -98,8 +99,7 @@ module _ (words : List Word) (old new : FilesSeen) where
       capacity_of h.command ≡ Some 4 → h.offsets ≡ 1 ∷ 0 ∷ [] → ⊥
   not_open_with_another h is named other =
       let best = h.best (subst IsSome (sym named) refl) in
-      let k : 1 ∷ 0 ∷ [] ≡ 0 ∷ 4 ∷ [] = sym other ∙ best ∙ ap best_start is ∙ below_best in
-      cc
+      first_differs (0 ∷ 4 ∷ []) (1 ∷ 0 ∷ []) (lit< tt) (sym below_best ∙ ap best_start (sym is) ∙ sym best ∙ other)
 
   -- four steps are too few for a log of five lines
   not_refuted_with_four_steps : (h : RefutesCapacity words old new 4) → h.instance ≡ evens →
