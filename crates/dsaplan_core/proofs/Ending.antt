@@ -1,5 +1,5 @@
 -- Memory that runs out between two writes.
-use Rattle.std.proofs.Common.{◌≡◌, List, Result, Ok, Err, OnErr, inr, refl, sym, ap, ◌∙◌}
+use Rattle.std.proofs.Common.{◌≡◌, List, Result, Ok, Err, OnErr, inr, ap, ◌∙◌}
 use Rattle.dsa_outside.specs.Held.{with_file}
 use Rattle.command_words.specs.Options.{Word}
 use Rattle.dsaplan_core.specs.Seen.{FilesSeen}

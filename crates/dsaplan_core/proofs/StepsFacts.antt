@@ -1,5 +1,5 @@
--- What a number of steps refuses: on a small buffer that belongs below, whose best start ends at 5 and whose lower bound
--- and least capacity are 4, and for the log of five lines of three buffers at their lower bound 4.
+-- What a number of steps refuses: on a small buffer that belongs below, whose best start ends at 5 and whose lower
+-- bound and least capacity are 4, and for the log of five lines of three buffers at their lower bound 4.
 use Rattle.std.proofs.Common.{◌≡◌, ◌+◌, ◌≤◌, ℕ, List, length, inl, inr, [], ◌∷◌, IsSome, Some, None, refl, sym, ap, ◌∙◌, subst, lit<, lit≤, arith}
 use Rattle.dsa_terms.specs.Bounds.{counted, highest_stack, lower_bound, moduli, moments, rounded_size, stack, stack_log}
 use Rattle.dsa_terms.specs.Buffers.{buffer, is_live}
