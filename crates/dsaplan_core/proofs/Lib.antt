@@ -47,3 +47,7 @@ mod PromiseFacts
 pub mod WrittenFacts
 mod LeftFacts
 mod StepsFacts
+mod OpenedFacts
+mod PreparedFacts
+mod SaidFacts
+mod LeftOpenFacts
