@@ -206,8 +206,8 @@ module _ (words : List Word) (old new : FilesSeen) where
       let row = answer.says.cause in (names_refuted C row, refuted C row)
   headline before after (status.Least C) answer =
       let row = answer.says.cause in
-      let refuted = least_refuted C row row.refutation row.refuted row.within_steps row.files in
-      (names_least C row, least_laid_out C row, refuted)
+      let below = least_refuted C row row.refutation row.refuted row.within_steps row.files in
+      (names_least C row, least_laid_out C row, below)
   headline before after (status.Open L H) answer =
       let row = answer.says.cause in (runs_out L H row, open_laid_out L H row, open_refuted L H row)
   headline before after status.Right answer = tt
