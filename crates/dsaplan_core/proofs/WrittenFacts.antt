@@ -1,5 +1,5 @@
 -- Answers that write files, of the one buffer.
-use Rattle.std.proofs.Common.{◌≡◌, ◌∙◌, ℕ, List, [], ◌∷◌, Option, Some, None, codes, inl, refl, sym, ap, ap₂, lit≤, arith}
+use Rattle.std.proofs.Common.{ℕ, List, [], ◌∷◌, Some, None, codes, inl, refl, sym, ap, ap₂, lit≤, arith}
 use Rattle.std.specs.FinMap.{insert}
 use Rattle.command_words.specs.Commands.{Least, Solve}
 use Rattle.dsaplan_core.specs.Decided.{FindsLeast, LaysOut, RefutesCapacity}
@@ -7,7 +7,7 @@ use Rattle.dsaplan_core.proofs.DecidedFacts.{both_files, laid_files, refuted_fil
 use Rattle.dsaplan_core.proofs.InputFacts.{asks_one}
 use Rattle.dsaplan_core.proofs.OneFacts.{one, one_best, one_bound, one_laid, one_least, one_planned, rows, zero_accepted, zero_by_bound, zero_log, zero_reads, zero_refuted, zero_text}
 use Rattle.dsaplan_core.proofs.TableFacts.{out_text}
-use Rattle.dsaplan_core.proofs.WorldFacts.{input_alone, least_words, out_file, reads_input, solve_words, told}
+use Rattle.dsaplan_core.proofs.WorldFacts.{input_alone, least_words, reads_input, solve_words, told}
 
 pub laid_out : LaysOut (solve_words (codes "1")) (told input_alone) laid_files 1
 laid_out = record {
