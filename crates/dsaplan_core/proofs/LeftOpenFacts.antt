@@ -148,6 +148,9 @@ short_of_four_steps = record {
   below = lit< tt;
 }
 
+four_steps_are_enough : IsShortOfWork small_below 4 4 4 5 → ⊥
+four_steps_are_enough h = let e = four_steps in let k = h.few in omega (arith, e, k)
+
 abbrev open_files : FilesSeen
 open_files = told (insert (insert below_alone (codes "o") start_file) (codes "l") bound_file)
 

@@ -1,7 +1,11 @@
 -- What is printed for a status with its cause, in the small world.
-use Rattle.std.proofs.Common.{◌⊎◌, ◌≡◌, ℕ, List, inl, inr, [], codes, refl}
+use Rattle.std.proofs.Common.{◌⊎◌, ◌≡◌, ◌∙◌, ◌++◌, ℕ, List, inl, inr, [], Option, Some, None, codes, refl}
 use Rattle.std.specs.FinMap.{empty}
 use Rattle.std.specs.Fmt.{digits}
+use Rattle.dsa_terms.specs.Plans.{layout_height}
+use Rattle.csv_instance.specs.Offsets.{ids_of}
+use Rattle.layout_report.specs.Report.{peak_line, rows_text}
+use Rattle.command_words.specs.Options.{Word}
 use Rattle.dsaplan_core.specs.Answers.{IsSaid, Says, printed_text}
 use Rattle.dsaplan_core.specs.Seen.{FilesSeen}
 use Rattle.dsaplan_core.specs.Shown.{Shows, ShowsFacts, ShowsLayout, ShowsTrial}
@@ -53,3 +57,19 @@ nothing_without_words old new h = go h.text h.shown
     go text (inl f) = let e = f.asked.words_ask in absurd cc
     go text (inr (inl l)) = let e = l.read.asked.words_ask in absurd cc
     go text (inr (inr t)) = let e = t.asked in absurd cc
+
+-- a report is never empty
+never_empty : (words : List Word) (old new : FilesSeen) → Says words old new status.Shown [] → ⊥
+never_empty words old new h = go h.cause.text h.cause.shown h.its_text
+  where
+    peaked : (peak : Option (ℕ × ℕ)) (height : ℕ) (rest : List ℕ) → [] ≡ peak_line peak height ++ rest → ⊥
+    peaked None height rest e = absurd cc
+    peaked (Some p) height rest e = absurd cc
+
+    go : (text : List ℕ) →
+        ShowsFacts words old new text ⊎ ShowsLayout words old new text ⊎ ShowsTrial words old new text → [] ≡ text → ⊥
+    go text (inl f) e = let k = e ∙ f.its_text in absurd cc
+    go text (inr (inl l)) e =
+        peaked l.its_text.peak (layout_height l.instance l.offsets) (rows_text (ids_of l.table) l.its_text.rows)
+        (e ∙ l.its_text.is_text)
+    go text (inr (inr t)) e = let k = e ∙ t.its_text in absurd cc
