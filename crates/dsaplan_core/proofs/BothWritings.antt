@@ -167,8 +167,8 @@ pub writes_least : (old new : FilesSeen) (input output log : Word) (steps : Opti
     AreWithinSteps I steps C offsets (Some refutation) → IsTextOf (log_text refutation) (raw_log_of refutation) →
     PutsBoth output (layout_text table offsets) log (log_text refutation) (status.Least C) p →
     (words : List Word) → command_of words ≡ Ok (Least input output log steps) → Prepares words old new p
-writes_least old new input output log steps table I C offsets refutation p given least chosen layout none positive refuted
-    within readable puts words asked =
+writes_least old new input output log steps table I C offsets refutation p given least chosen layout none positive
+    refuted within readable puts words asked =
     prepares_both words old new (Least input output log steps) output log (layout_text table offsets)
     (log_text refutation) (status.Least C)
     (record {
@@ -201,8 +201,9 @@ writes_least old new input output log steps table I C offsets refutation p given
 -- the least capacity 0: its layout alone is written
 pub writes_layout_alone : (old : FilesSeen) (input output log : Word) (steps : Option ℕ) (table : List Record)
     (I : Instance) (C : ℕ) (offsets : List ℕ) (file : Writing) (said : Said) →
-    IsInput old input table I → IsLeast I C → planned I C ≡ Some offsets → IsLayout I C offsets → (I ≡ []) ↔ (C ≡ 0) → C ≡ 0 →
-    AreWithinSteps I steps C offsets None → Puts output (layout_text table offsets) role.Output file → Tells (status.Least C) said →
+    IsInput old input table I → IsLeast I C → planned I C ≡ Some offsets → IsLayout I C offsets → (I ≡ []) ↔ (C ≡ 0) →
+    C ≡ 0 → AreWithinSteps I steps C offsets None → Puts output (layout_text table offsets) role.Output file →
+    Tells (status.Least C) said →
     (words : List Word) → command_of words ≡ Ok (Least input output log steps) → IsWriting words old file said
 writes_layout_alone old input output log steps table I C offsets file said given least chosen layout none zero within
     puts told words asked =

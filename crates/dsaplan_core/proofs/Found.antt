@@ -30,7 +30,8 @@ same_log held a b one two = cc
 module _ (old new : FilesSeen) (input output log : Word) (steps : Option ℕ) (table : List Record) (I : Instance)
     (b : Bracket) (refutation : Log) (given : IsInput old input table I) where
   -- both files of the least capacity, where it is above 0
-  pub found_prepared : IsExactly I b → IsWithinSteps I steps b → b.log ≡ Some refutation → (r : Result Prepared NoMemory) →
+  pub found_prepared : IsExactly I b → IsWithinSteps I steps b → b.log ≡ Some refutation →
+      (r : Result Prepared NoMemory) →
       IfOk r (PutsBoth output (layout_text table b.layout.items) log (log_text refutation) (status.Least b.high)) →
       IfOk r (λ p. IsTextOf (log_text refutation) (raw_log_of refutation)) →
       IfOk r (λ p. (words : List Word) → command_of words ≡ Ok (Least input output log steps) →
@@ -44,7 +45,8 @@ module _ (old new : FilesSeen) (input output log : Word) (steps : Option ℕ) (t
   found_prepared found within its_log (Err e) puts readable = tt
 
   -- both files of a least capacity that the steps leave open
-  pub open_prepared : IsOpenAfter I steps b → IsWithinSteps I steps b → b.log ≡ Some refutation → (r : Result Prepared NoMemory) →
+  pub open_prepared : IsOpenAfter I steps b → IsWithinSteps I steps b → b.log ≡ Some refutation →
+      (r : Result Prepared NoMemory) →
       IfOk r (PutsBoth output (layout_text table b.layout.items) log (log_text refutation) (status.Open b.low b.high)) →
       IfOk r (λ p. IsTextOf (log_text refutation) (raw_log_of refutation)) →
       IfOk r (λ p. (words : List Word) → command_of words ≡ Ok (Least input output log steps) →

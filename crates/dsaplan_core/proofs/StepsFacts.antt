@@ -1,17 +1,17 @@
 -- What a number of steps refuses: on a small buffer that belongs below, whose best start ends at 5 and whose lower
 -- bound and least capacity are 4, and for the log of five lines of three buffers at their lower bound 4.
-use Rattle.std.proofs.Common.{◌≡◌, ◌+◌, ◌≤◌, ℕ, List, length, inl, inr, [], ◌∷◌, IsSome, Some, None, refl, sym, ap, ◌∙◌, subst, lit<, lit≤, arith}
+use Rattle.std.proofs.Common.{◌≡◌, ◌+◌, ◌≤◌, ◌<◌, ℕ, List, length, inl, inr, [], ◌∷◌, IsSome, Some, None, refl, sym, ap, ◌∙◌, subst, lit<, lit≤, arith}
 use Rattle.dsa_terms.specs.Bounds.{counted, highest_stack, lower_bound, moduli, moments, rounded_size, stack, stack_log}
 use Rattle.dsa_terms.specs.Buffers.{buffer, is_live}
 use Rattle.dsa_terms.specs.Logs.{Log}
-use Rattle.dsa_terms.specs.Plans.{layout_height}
-use Rattle.dsa_terms.specs.Starts.{best_start}
-use Rattle.dsa_terms.proofs.ExamplePlanFacts.{small_below_plan_at_4}
+use Rattle.dsa_terms.specs.Plans.{hunt, layout_height}
+use Rattle.dsa_terms.specs.Starts.{best_start, hunted, starts}
+use Rattle.dsa_terms.proofs.ExamplePlanFacts.{small_below_hunt, small_below_plan_at_4}
 use Rattle.dsa_terms.proofs.Examples.{evens, sample, small_below}
 use Rattle.planner.specs.FirstStart.{start_within}
 use Rattle.planner.specs.LeastCapacity.{AreWithinSteps, IsLayoutWithin}
 use Rattle.planner.specs.Openings.{AreGiven}
-use Rattle.planner.proofs.ExampleLeastFacts.{below_best, below_bound, below_log, other_without_steps}
+use Rattle.planner.proofs.ExampleLeastFacts.{below_best, below_bound, below_log, four_is_open, other_without_steps}
 use Rattle.planner.proofs.StepFacts.{best_at_5, four_high, four_is_least, laid_at_4, none_within_4, refuted_at_3}
 use Rattle.command_words.specs.Commands.{Solve, Trial, Verify}
 use Rattle.command_words.specs.Options.{Word}
@@ -55,7 +55,35 @@ not_found_without_steps h = go h.within_steps.layout h.within_steps.given
         let a = ap (layout_height small_below) e in let b = best_at_5 in let k = h.height in omega (arith, a, b, k)
     go (inr some) le = omega (arith, some, le)
 
--- the bound is shown by its own log
+-- without steps the bound's log and the best start come, and what lies between them stays open
+open_between_4_and_5 : IsLeftOpen small_below 0 4 5
+open_between_4_and_5 = record {
+  few = few;
+  from_bound = let e = below_bound in omega (arith, e);
+  to_best = let e = best_at_5 in omega (arith, e);
+  apart = four_is_open.ends_apart;
+  positive = four_is_open.positive;
+  offsets = 0 ∷ 4 ∷ [];
+  refutation = stack_log small_below 0 1 3;
+  planned = four_is_open.chosen;
+  layout = four_is_open.layout;
+  height = four_is_open.its_height;
+  refuted = four_is_open.refuted_below;
+  within_steps = record {
+    layout_steps = 0;
+    log_steps = 0;
+    layout = inl (sym below_best);
+    log = inl (rw below_bound (lit≤ tt, record { refutation = refuted_at_3; by_bound = below_log }));
+    given = lit≤ tt;
+  };
+}
+  where
+    few : 0 < hunt (starts small_below) small_below (lower_bound small_below)
+        (layout_height small_below (best_start small_below))
+    unfolding hunted
+    few = rw (below_bound, best_at_5) (let e = small_below_hunt in omega (arith, e))
+
+-- the best start ends at 5
 open_between_5_and_6 : IsLeftOpen small_below 0 5 6 → ⊥
 open_between_5_and_6 h = let b = best_at_5 in let k = h.to_best in omega (arith, b, k)
 

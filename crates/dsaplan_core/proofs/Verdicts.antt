@@ -31,7 +31,6 @@ left_open I k b found within = record {
   planned = found.stays_open.chosen;
   layout = found.stays_open.layout;
   height = found.stays_open.its_height;
-  infeasible = found.stays_open.refuted_below.infeasible;
   refuted = found.stays_open.refuted_below;
   within_steps = subst (AreWithinSteps I (Some k) b.low b.layout.items) found.its_log within;
 }

@@ -2,7 +2,7 @@
 use Rattle.std.specs.Prelude.{◌≡◌, ◌<◌, ◌≤◌, ◌-◌, ◌++◌, ◌^◌, ◌⊎◌, ℕ, List, Option, Some, Ok}
 use Rattle.dsa_terms.specs.Buffers.{Instance}
 use Rattle.dsa_terms.specs.Bounds.{lower_bound}
-use Rattle.dsa_terms.specs.Layouts.{IsLayout, IsInfeasible, IsLeast}
+use Rattle.dsa_terms.specs.Layouts.{IsLayout, IsLeast}
 use Rattle.dsa_terms.specs.Logs.{Log}
 use Rattle.dsa_terms.specs.Plans.{hunt, layout_height}
 use Rattle.dsa_terms.specs.Starts.{best_start, planned, starts}
@@ -75,7 +75,6 @@ pub record IsLeftOpen (I : Instance) (k L H : ℕ) : Type 0 where
   pub planned : planned I H ≡ Some offsets
   pub layout : IsLayout I H offsets
   pub height : layout_height I offsets ≡ H
-  pub infeasible : IsInfeasible I (L - 1)
   pub refuted : IsRefutation I (L - 1) refutation
   pub within_steps : AreWithinSteps I (Some k) L offsets (Some refutation)
 

@@ -8,6 +8,7 @@ pub mod Noting
 pub mod Loads
 pub mod Among
 pub mod Stretches
+pub mod KeptStretches
 pub mod Thinning
 pub mod Live
 pub mod Standing

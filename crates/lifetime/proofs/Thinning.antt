@@ -10,7 +10,8 @@ use Rattle.lifetime.specs.Thin.{AreAmong, IsThinnedTo, last_of}
 use Rattle.lifetime.specs.Views.{section_of}
 use Rattle.lifetime.specs.declared.section_list.Section.{Section as Declared}
 use Rattle.lifetime.proofs.Lists.{all_from_in, in_from_all}
-use Rattle.lifetime.proofs.Stretches.{AreApart, AreStretches, IsAbove, IsNotOver, IsPopping, chosen, into_reverse, kept_of_all, left_out, none_popped, popped, pushed}
+use Rattle.lifetime.proofs.Stretches.{AreApart, AreStretches, IsAbove, IsNotOver, IsPopping, left_out, none_popped, popped, pushed}
+use Rattle.lifetime.proofs.KeptStretches.{chosen, into_reverse, kept_of_all}
 
 -- ---- the last section of a slice
 got : (xs : List Declared) (k : ℕ) (x : Declared) → Some x ≡ slice_get xs k →

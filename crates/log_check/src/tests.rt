@@ -6,11 +6,19 @@ use log_text::read_log;
 use refute_log::Reason;
 use std::alloc::Global;
 
-const SAMPLE: &[u8] =
-    b"dsalog 1 3 4\nover 0 3 1 : 2=3\nover 0 4 1 : 1=4\ncase : 1=1 2=1 : 1>0 2>1\nover 0 2 2 : 0=2 1=2\ncase : 0=0 1=0 2=0 : 0>2 1~0 2>3\nend 4\n";
+const SAMPLE: &[u8] = b"dsalog 1 3 4\n\
+over 0 3 1 : 2=3\n\
+over 0 4 1 : 1=4\n\
+case : 1=1 2=1 : 1>0 2>1\n\
+over 0 2 2 : 0=2 1=2\n\
+case : 0=0 1=0 2=0 : 0>2 1~0 2>3\n\
+end 4\n";
 
-const PAIR: &[u8] =
-    b"dsalog 1 2 1\nover 0 1 1 : 1=1\nover 0 1 1 : 0=1\ncase : 0=0 1=0 : 0>0 1>1\nend 2\n";
+const PAIR: &[u8] = b"dsalog 1 2 1\n\
+over 0 1 1 : 1=1\n\
+over 0 1 1 : 0=1\n\
+case : 0=0 1=0 : 0>0 1>1\n\
+end 2\n";
 
 /// Buffers of these sizes and alignments, all live at moment 0.
 fn buffers(alloc: Global, sizes: &[(u64, u64)]) -> Option<Instance> {

@@ -1,5 +1,5 @@
--- What is decided of capacities, and found of least ones, on two buffers of size 3 aligned to four, whose least capacity
--- is 7, and on a small buffer that belongs below, whose least capacity stays open without steps.
+-- What is decided of capacities, and found of least ones, on two buffers of size 3 aligned to four, whose least
+-- capacity is 7, and on a small buffer that belongs below, whose least capacity stays open without steps.
 use Rattle.std.proofs.Common.{◌≡◌, ◌<◌, ℕ, ◌+◌, ◌≤◌, inl, inr, [], ◌∷◌, Some, None, refl, sym, ap, subst, ◌∙◌, ◌-◌, lit<, lit≤, arith}
 use Rattle.std.specs.Global.{Vec}
 use Rattle.dsa_terms.specs.Bounds.{counted, highest_stack, lower_bound, moduli, moments, rounded_size, stack, stack_log}

@@ -88,7 +88,8 @@ module _ (I : Instance) (start : Bracket) (allowance : ℕ) (b : Bracket) (h : I
   layout_is_start : I ≡ [] → LayoutComes (IsGiven I) start b → b.layout.items ≡ best_start I
   layout_is_start none (inl l) = l ∙ h.best
   layout_is_start none (inr g) =
-      let k = none_high I (best_start I) none in let t = h.high in let below = g.2 in absurd (omega (arith, k, t, below))
+      let k = none_high I (best_start I) none in let t = h.high in let below = g.2 in
+      absurd (omega (arith, k, t, below))
 
   layout_costs : {cost : ℕ} → LayoutIsPaid (charge_of I allowance) cost start b →
       Costs allowance cost (λ k. IsLayoutWithin I k b.layout.items)

@@ -66,8 +66,8 @@ IsLogWithin I n low log =
     IsLogBelow I (lower_bound I) log
     ⊎ ((refutation : Log) × (log ≡ Some refutation) × (lower_bound I < low) × (length refutation.lines ≤ n))
 
--- halving has come to the lower end `low`: the layout is the best start or took a step, the log is the bound's or took a
--- step for each line, and both together took no more than were given; so at the bound the log is the bound's
+-- halving has come to the lower end `low`: the layout is the best start or took a step, the log is the bound's or took
+-- a step for each line, and both together took no more than were given; so at the bound the log is the bound's
 pub record AreWithinSteps (I : Instance) (steps : Option ℕ) (low : ℕ) (offsets : List ℕ) (refutation : Option Log) :
     Type 0 where
   pub layout_steps : ℕ

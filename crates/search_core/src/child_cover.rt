@@ -1,6 +1,6 @@
 //! Whether a claim covers a child that is not made.
 
-ghost use Rattle.std.specs.Prelude.{◌≡◌, ◌≢◌, ◌+◌, ◌^◌, ◌<◌, ◌≤◌, true, length, max, slice_index};
+ghost use Rattle.std.specs.Prelude.{◌≡◌, ◌+◌, ◌^◌, ◌<◌, ◌≤◌, true, length, max, slice_index};
 ghost use Rattle.dsa_terms.specs.Claims.{Claim as ClaimTerm, Covers, up};
 ghost use Rattle.dsa_terms.specs.Claims.{child as child_of, step as step_of};
 ghost use Rattle.canonical_order.specs.Claims.{CoversEntry, entry_of};
@@ -24,21 +24,8 @@ fn raised(instance: &Instance, levels: &Levels, b: u32, c: u32) -> u64
     if low < least { least } else { low }
 }
 
-/// The low of c in the child by b, in bytes.
-fn low_in_child(instance: &Instance, levels: &Levels, b: u32, c: u32) -> u64
-    requires count { length levels.now ≡ length instance.now }
-    requires b_in { 0 < slice_index levels.now b }
-    requires c_in { 0 < slice_index levels.now c }
-    requires other { c ≢ b }
-    ensures { let I = instance.now in (l : ClaimTerm) → AreLevels I l levels.now →
-        result ≡ up I (entry_of (child_of I l (entry_of l b)) c) }
-{
-    let bound = raised(instance, levels, b, c);
-    instance.buffer(c).least_offset(bound)
-}
-
-/// Whether the child by b meets the bound of c. No low falls, so a bound that the claim itself
-/// meets needs no look at the buffers.
+/// Whether the child by b meets the bound of c. No low falls in a child, and no bound when it is
+/// rounded up, so a bound that the claim itself meets needs no look at the buffers.
 fn meets_in_child(instance: &Instance, levels: &Levels, b: u32, c: u32, bound: u64) -> bool
     requires count { length levels.now ≡ length instance.now }
     requires b_in { 0 < slice_index levels.now b }
@@ -56,7 +43,8 @@ fn meets_in_child(instance: &Instance, levels: &Levels, b: u32, c: u32, bound: u
     if bound < level {
         return true;
     }
-    bound <= low_in_child(instance, levels, b, c)
+    let raised = raised(instance, levels, b, c);
+    bound <= raised || bound <= instance.buffer(c).least_offset(raised)
 }
 
 /// Whether k covers the child by b of the claim of the levels, which has b. The child is not made,

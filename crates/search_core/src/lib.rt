@@ -7,6 +7,8 @@ mod cases;
 mod child_cover;
 mod choice;
 mod cites;
+#[cfg(test)]
+mod draws;
 mod ending;
 mod found;
 mod frame;

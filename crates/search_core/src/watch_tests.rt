@@ -1,9 +1,9 @@
 //! The fast look-up of a line beside the plain one, in searches of made instances.
 
-ghost use Rattle.std.specs.Prelude.{◌<◌};
 ghost use Rattle.canonical_order.specs.Claims.{HasBuffer};
 ghost use Rattle.skyline.specs.Skies.{last_claim};
 
+use crate::draws::Draws;
 use crate::levels::Levels;
 use crate::watches::Watches;
 use crate::{Budget, Search};
@@ -46,30 +46,6 @@ const REFUTED: [(u64, u32); 20] = [
     (60, 180),
     (66, 150),
 ];
-
-/// Lehmer's generator of numbers, as in the crate `make_instance`.
-#[derive(Drop)]
-struct Draws {
-    state: u64,
-    ghost small: { state < 2147483647 },
-}
-
-impl Draws {
-    fn new(seed: u64) -> Draws {
-        Draws {
-            state: 1 + seed % 2147483646,
-        }
-    }
-
-    /// The next number, drawn below `limit`.
-    fn below(&mut self, limit: u64) -> u64
-        requires { 0 < limit }
-        ensures { result < limit }
-    {
-        self.state = self.state * 48271 % 2147483647;
-        self.state % limit
-    }
-}
 
 /// The next buffer, drawn as the crate `make_instance` draws one.
 fn next_buffer(alloc: Global, draws: &mut Draws) -> Result<Buffer, Fail<BufferFault>> {

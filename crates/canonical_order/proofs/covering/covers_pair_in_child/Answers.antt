@@ -1,8 +1,9 @@
-use Rattle.std.proofs.Common.{◌≤◌, refl, arith}
-use Rattle.dsa_terms.specs.Claims.{child, up}
+use Rattle.std.proofs.Common.{◌≡◌, ◌≤◌, ◌∙◌, refl, sym, ap, arith, ℕ}
+use Rattle.dsa_terms.specs.Claims.{Entry, child, up}
 use Rattle.dsa_search_laws.proofs.Claims.{rises-child}
 use Rattle.canonical_order.specs.Claims.{entry_of}
-use Rattle.canonical_order.proofs.CoverLemmas.{covers_entry, covers_test, covered_has, from_child, in_child_by, low_stays, raised_stays}
+use Rattle.canonical_order.proofs.CoverLemmas.{covers_entry, covers_test, covered_has, entry_of_child, from_child, in_child_by, low_stays, raised_stays}
+use Rattle.canonical_order.proofs.Entries.{in_range}
 use Rattle.canonical_order.proofs.NumberTests.{is_at_most}
 use Rattle.canonical_order.proofs.covering.covers_pair_in_child.Goals as goal
 use Rattle.canonical_order.proofs.covering.covers_pair_in_child.Goals.{then-c-b-via-then-c-b, then-c-b-via-else-c-b+then-not-is_free}
@@ -29,18 +30,28 @@ returns-then-bound-low g c =
       λ _. refl,
     )
 
+pub buffer-requires : goal.buffer-requires
+buffer-requires g c = in_range _ _ _ c.instance.ensures.stands (c.is_free.ensures.value.0 c.if-not-is_free.false)
+
 pub returns-then-bound-raised : goal.returns-then-bound-raised
 returns-then-bound-raised g c =
     let I = g.L.Lows.subject c.args.lows.now in
     let l = g.L.Lows.claim c.args.lows.now in
     let h = c.is_free.ensures.value.0 c.if-not-is_free.false in
     let k = raised_stays I l c.args.b c.args.c c.low.ensures.stands h c.if-c-b.false in
-    let e = c.raised.ensures.value in
+    let e = c.raised-raised.ensures.value in
     let t = c.if-bound-raised.true in (
       λ _. covers_entry _ _ _ (in_child_by _ _ _ _ h c.if-c-b.false) (omega arith),
       λ _. is_at_most _ _ t,
     )
 
 pub returns-else-bound-raised : goal.returns-else-bound-raised
-returns-else-bound-raised g c = covers_test _ _ _ _ _ (rises-child _ _ _ (c.is_free.ensures.stands).claim.rises)
-    (in_child_by _ _ _ _ (c.is_free.ensures.value.0 c.if-not-is_free.false) c.if-c-b.false) c.low_in_child.ensures
+unfolding up
+returns-else-bound-raised g c =
+    let I = g.L.Lows.subject c.args.lows.now in
+    let h = c.is_free.ensures.value.0 c.if-not-is_free.false in
+    let rises = (c.is_free.ensures.stands).claim.rises in
+    let e = entry_of_child I (g.L.Lows.claim c.args.lows.now) c.args.b c.args.c rises h c.if-c-b.false in
+    let f : up I (c.args.c, c.raised-raised.result) ≡ _ =
+    ap (up I) (ap (λ (n : ℕ). let e : Entry = (c.args.c, n) in e) c.raised-raised.ensures.value ∙ sym e) in
+    covers_test _ _ _ _ _ (rises-child _ _ _ rises) (in_child_by _ _ _ _ h c.if-c-b.false) (cc f)

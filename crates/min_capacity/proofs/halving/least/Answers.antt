@@ -71,7 +71,8 @@ loop-bracket-preserved-in-Layout g c =
           (sound_instance c.args.instance.now c.len-count.ensures.buffers)
           (rw (c.in-Layout.is, i.subject) at r.right) (rw (c.in-Layout.is, i.subject) at r.given)
           (rw (c.in-Layout.is, i.subject) at r.turned)
-          (rw (c.in-Layout.is, i.subject, i.allowance) at r.charged) refl refl (rw c.deref.ensures.value at c.height.ensures);
+          (rw (c.in-Layout.is, i.subject, i.allowance) at r.charged) refl refl
+          (rw c.deref.ensures.value at c.height.ensures);
     }
 
 pub loop-bracket-preserved-in-Refuted : goal.loop-bracket-preserved-in-Refuted

@@ -10,7 +10,8 @@ returns c =
     record {
       value = search_ends c.args.instance.now c.args.capacity c.args.steps c.budget_of.result c.in_ok-search.search
           c.decide.new.self.units.used c.in_ok-decided.decided c.len-count.ensures.buffers c.in_ok-search.ensures
-          c.budget_of.ensures.value d.right d.given d.exhausted d.fewer (let range = c.used-used.type_inv in omega arith);
+          c.budget_of.ensures.value d.right d.given d.exhausted d.fewer
+          (let range = c.used-used.type_inv in omega arith);
       steps = search_keeps c.args.instance.now c.args.steps c.budget_of.result c.in_ok-search.search c.decide.new.self
           c.in_ok-decided.decided c.in_ok-search.ensures c.budget_of.ensures.value c.decide.ensures.allowance
           c.used-used.ensures.within d.taken d.lines;
