@@ -212,6 +212,13 @@ among_few part whole r s a = elim (equal_or_less (λ _. 1) part whole r s a (λ 
   | inr q ↦ (let k = length_is part in let m = length_is whole in omega arith)
 ]
 
+-- two rising lists, each among the other, are one
+pub same_members : (xs ys : List ℕ) → Rises xs → Rises ys → AreAmong xs ys → AreAmong ys xs → xs ≡ ys
+same_members xs ys r s h k = elim (equal_or_less (λ _. 1) xs ys r s h (λ b i. omega arith)) [
+  | inl e ↦ e
+  | inr less ↦ absurd (let a = length_is xs in let b = length_is ys in let c = among_few ys xs s r k in omega arith)
+]
+
 -- a longer list is not among a shorter one
 pub not_among_fewer : (part whole : List ℕ) → Rises part → Rises whole → length whole < length part →
     AreAmong part whole → ⊥

@@ -10,8 +10,7 @@ use Rattle.dsa_terms.specs.Claims.{IsIn, Rises}
 use Rattle.dsa_terms.specs.Parts.{numbers}
 use Rattle.dsa_terms.proofs.Lists.{any_from, any_gives, from_filter, into_filter, true_or_false}
 use Rattle.lifetime.specs.Switching.{IsSwitched, has_number}
-use Rattle.lifetime.specs.Thin.{AreAmong}
-use Rattle.lifetime.proofs.Among.{among_few, equal_or_less, length_is}
+use Rattle.lifetime.proofs.Among.{same_members}
 use Rattle.lifetime.proofs.Lists.{among, below, in_at, place_of, rises-numbers, rises_at}
 
 -- ---- tests of membership
@@ -46,13 +45,6 @@ pub filter_is : (f : ℕ → Bool) (n : ℕ) (xs : List ℕ) → Rises xs → ((
 filter_is f n xs r small h = same_members xs (filter f (numbers n)) r (rises-numbers f n)
     (λ b i. into_filter f (numbers n) b (among n b (small b i)) (sym (h b (small b i)) ∙ has_in xs b i))
     (λ b i. let q = from_filter f (numbers n) b i in in_has xs b (h b (below n b q.0) ∙ q.1))
-  where
-    same_members : (xs ys : List ℕ) → Rises xs → Rises ys → AreAmong xs ys → AreAmong ys xs → xs ≡ ys
-    same_members xs ys r s h k = elim (equal_or_less (λ _. 1) xs ys r s h (λ b i. omega arith)) [
-      | inl e ↦ e
-      | inr less ↦ absurd
-          (let a = length_is xs in let b = length_is ys in let c = among_few ys xs s r k in omega arith)
-    ]
 
 -- ---- a number more
 head_other : (x c b : ℕ) → c ≢ b → x ≡ b → (x == c) ≡ false
