@@ -14,6 +14,7 @@ pub mod Live
 pub mod Standing
 pub mod Belonging
 pub mod Members
+pub mod OneList
 pub mod ExampleFacts
 pub mod RunFacts
 pub mod SweepFacts

@@ -5,3 +5,4 @@ pub mod Edges
 pub mod Switching
 pub mod Places
 pub mod Views
+pub mod Determined

@@ -4,6 +4,7 @@
 
 mod build;
 mod edges;
+mod laws;
 mod places;
 mod section_list;
 mod sweep;
@@ -11,4 +12,5 @@ mod sweep;
 mod tests;
 mod thin;
 
+pub use laws::sections_are_one;
 pub use section_list::Sections;
