@@ -103,7 +103,7 @@ unfolding live_at buffer is_live
 its_member x (inl e) = subst (λ (x : Section). x.members ≡ live_at one x.start) (sym e) refl
 its_member x (inr i) = absurd i
 
-run_at_0 : BeginsRun one 0
+pub run_at_0 : BeginsRun one 0
 unfolding live_at buffer is_live
 run_at_0 = record { something = λ e. cc; changed = begins_at_0 }
 

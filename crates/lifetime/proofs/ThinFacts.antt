@@ -7,13 +7,15 @@ use Rattle.dsa_terms.specs.Buffers.{Share, buffer, is_live}
 use Rattle.dsa_terms.specs.Claims.{IsIn}
 use Rattle.dsa_terms.specs.Parts.{numbers}
 use Rattle.dsa_terms.specs.Plans.{IsPeak, load}
+use Rattle.lifetime.specs.Determined.{AreSections}
 use Rattle.lifetime.specs.Places.{AreMembersBelow, HasMembersBelow}
+use Rattle.lifetime.specs.Runs.{AreRuns, live_before, was_live}
 use Rattle.lifetime.specs.SectionList.{AreSectionsOf, HasAllAt, Section, SectionList, ShareSection, live_at, members_of, no_section, section_with, sections_of, start_of}
-use Rattle.lifetime.specs.Thin.{AreAmong, AreThin, IsThinnedTo, StandsIn}
+use Rattle.lifetime.specs.Thin.{AreAmong, AreThin, IsThinnedTo, StandForAll, StandsIn}
 use Rattle.lifetime.specs.Views.{items_of, list_of, section_of}
 use Rattle.lifetime.proofs.ExampleFacts.{among_both, first, not_among, second}
 use Rattle.lifetime.proofs.RunFacts.{both, kept, listed, placed, rising}
-use Rattle.lifetime.proofs.SweepFacts.{not_later, one}
+use Rattle.lifetime.proofs.SweepFacts.{not_later, one, run_at_0}
 
 -- ---- views
 module _ (v w : Vec ℕ) where
@@ -50,6 +52,14 @@ apart = record { before = before; after = after }
     after : (s : ℕ) → s + 1 < 2 → AreAmong (members s) (members (s + 1)) → ⊥
     after zero lt = other 0 1 (λ e. omega arith)
     after (suc s) lt = absurd (omega arith)
+
+-- all members of the first are in the second
+not_apart : AreThin both → ⊥
+not_apart t = t.after 0 (lit< tt) among_both
+
+-- nor are the two thin the other way round
+not_apart_back : AreThin (second ∷ first ∷ []) → ⊥
+not_apart_back t = t.before 0 (lit< tt) among_both
 
 members_among : (y : Section) → IsIn y both → AreAmong y.members (0 ∷ 1 ∷ [])
 members_among y (inl e) = subst (λ (y : Section). AreAmong y.members (0 ∷ 1 ∷ [])) (sym e) among_both
@@ -165,3 +175,33 @@ its_own = record {
 no_section_at_all : AreSectionsOf one (placed [] ([] ∷ [])) → ⊥
 unfolding buffer is_live
 no_section_at_all h = let r = h.together 0 0 (lit< tt) refl in let k = r.1 in omega arith
+
+-- the one section, from the first moment on
+its_sections : AreSections one its_section
+its_sections = record { sections = its_own; runs = runs; thin = thin; stand = stand }
+  where
+    runs : AreRuns one its_section
+    runs zero lt = run_at_0
+    runs (suc s) lt = absurd (omega arith)
+
+    thin : AreThin its_section.sections
+    thin = record { before = λ s lt. absurd (omega arith); after = λ s lt. absurd (omega arith) }
+
+    stand : StandForAll one its_section
+    stand t b lt live = (
+      0,
+      record {
+        in_range = lit< tt;
+        has_all = λ u c between below lives. has_all u c below lives;
+        more = λ late. absurd (omega arith);
+      },
+    )
+
+-- no run starts at 1
+not_from_1 : AreSections one (placed (section_with 1 (0 ∷ []) ∷ []) ((0 ∷ []) ∷ [])) → ⊥
+unfolding live_at live_before was_live buffer is_live
+not_from_1 h = (h.runs 0 (lit< tt)).changed refl
+
+-- two sections where one has all
+not_twice : AreSections one (placed (section_with 0 (0 ∷ []) ∷ section_with 1 (0 ∷ []) ∷ []) ((0 ∷ 1 ∷ []) ∷ [])) → ⊥
+not_twice h = h.thin.before 0 (lit< tt) (λ b i. i)
