@@ -4,7 +4,7 @@ use Rattle.dsa_terms.specs.Bounds.{counted, rounded_size, stack}
 use Rattle.dsa_terms.specs.Buffers.{Buffer, Instance, buffer, is_live}
 use Rattle.dsa_terms.specs.Claims.{IsIn}
 use Rattle.lifetime.specs.SectionList.{SectionList}
-use Rattle.lower_bounds.specs.Best.{IsBest, IsBoundOf, IsFirstHighest, IsRaised, no_bound, stack_at}
+use Rattle.lower_bounds.specs.Best.{IsBest, IsBoundOf, IsFirstToReach, IsRaised, no_bound, stack_at}
 use Rattle.lower_bounds.specs.Stacks.{IsModulus, counts_at, is_counted, rounding_of, spare_of, stack_of, total_of}
 use Rattle.lower_bounds.specs.declared.value.Bound.{Bound}
 
@@ -95,7 +95,7 @@ zero_is_none m = let k = m.some in omega arith
 abbrev bound_at : ℕ → ℕ → Bound
 bound_at capacity modulus = record { capacity = capacity; moment = 0; modulus = modulus }
 
-first_by_one : IsFirstHighest three one 1 1 (bound_at 8 1)
+first_by_one : IsFirstToReach three one 1 1 (bound_at 8 1)
 unfolding stack counted rounded_size buffer is_live
 first_by_one = record {
   place = 0;
@@ -105,7 +105,7 @@ first_by_one = record {
   first = λ s lt. absurd (omega arith);
 }
 
-first_by_four : IsFirstHighest three one 4 1 (bound_at 7 4)
+first_by_four : IsFirstToReach three one 4 1 (bound_at 7 4)
 unfolding stack counted rounded_size buffer is_live
 first_by_four = record {
   place = 0;
@@ -116,7 +116,7 @@ first_by_four = record {
 }
 
 -- nothing comes to 7 at 0 by 1
-not_seven_by_one : IsFirstHighest three one 1 1 (bound_at 7 1) → ⊥
+not_seven_by_one : IsFirstToReach three one 1 1 (bound_at 7 1) → ⊥
 unfolding stack counted rounded_size buffer is_live
 not_seven_by_one h = go h.place h.in_range h.reached
   where

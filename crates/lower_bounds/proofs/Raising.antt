@@ -6,7 +6,7 @@ use Rattle.dsa_terms.specs.Buffers.{Instance, buffer, is_live}
 use Rattle.dsa_terms.specs.Logs.{greatest}
 use Rattle.dsa_terms.specs.Parts.{numbers}
 use Rattle.lifetime.specs.SectionList.{AreSectionsOf, SectionList, count_of, live_at, members_of, start_of}
-use Rattle.lower_bounds.specs.Best.{IsFirstHighest, IsRaised, stack_at}
+use Rattle.lower_bounds.specs.Best.{IsFirstToReach, IsRaised, stack_at}
 use Rattle.lower_bounds.specs.Stacks.{is_counted, rounding_of, stack_of}
 use Rattle.lower_bounds.specs.declared.value.Bound.{Bound}
 
@@ -87,7 +87,7 @@ raised_more I S G s value moment old best h e lt m = record {
   );
 }
   where
-    above : (best ≡ old) ⊎ ((old.capacity < best.capacity) × (best.modulus ≡ G) × IsFirstHighest I S G s best) →
+    above : (best ≡ old) ⊎ ((old.capacity < best.capacity) × (best.modulus ≡ G) × IsFirstToReach I S G s best) →
         old.capacity < value
     above (inl q) = let k : best.capacity ≡ old.capacity = ap (λ (b : Bound). b.capacity) q in omega arith
     above (inr q) = let k = q.0 in omega arith

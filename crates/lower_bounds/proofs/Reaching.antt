@@ -14,7 +14,7 @@ use Rattle.lifetime.specs.Runs.{starts_of}
 use Rattle.lifetime.specs.SectionList.{AreSectionsOf, Section, SectionList, count_of, members_of, no_section, start_of}
 use Rattle.lifetime.proofs.Belonging.{from_live}
 use Rattle.lifetime.proofs.Lists.{all_from_in, in_at, in_from_all, place_of}
-use Rattle.lower_bounds.specs.Best.{IsBest, IsBoundOf, IsFirstHighest, no_bound, stack_at}
+use Rattle.lower_bounds.specs.Best.{IsBest, IsBoundOf, IsFirstToReach, no_bound, stack_at}
 use Rattle.lower_bounds.specs.declared.value.Bound.{Bound}
 use Rattle.lower_bounds.proofs.Candidates.{is_modulus, one_is_modulus}
 
@@ -143,7 +143,7 @@ module _ (I : Instance) (S : SectionList) (candidates : List ℕ) (b : Bound) (l
       let k = laws.least 1 (one_is_modulus I) (h ∙ sym z) in
       let s = modulus_some in omega arith
 
-  modulus_found : (0 < b.capacity) → IsIn b.modulus candidates → IsFirstHighest I S b.modulus (count_of S) b →
+  modulus_found : (0 < b.capacity) → IsIn b.modulus candidates → IsFirstToReach I S b.modulus (count_of S) b →
       b.modulus ≡ bound_modulus I
   modulus_found pos i first = close (cases (bound_modulus I) b.modulus)
     where
@@ -194,7 +194,7 @@ module _ (I : Instance) (S : SectionList) (candidates : List ℕ) (b : Bound) (l
   pub modulus : b.modulus ≡ bound_modulus I
   modulus = elim best.found [ inl e ↦ modulus_none e | inr r ↦ modulus_found r.0 r.1 r.2 ]
 
-  moment_found : IsFirstHighest I S b.modulus (count_of S) b → b.moment ≡ bound_moment I (starts_of S.sections)
+  moment_found : IsFirstToReach I S b.modulus (count_of S) b → b.moment ≡ bound_moment I (starts_of S.sections)
   unfolding bound_moment
   moment_found first = sym (ap (λ o. unwrap_or o 0) (find_at (λ t. stack I t (bound_modulus I) == lower_bound I)
       (starts_of S.sections) first.place

@@ -5,7 +5,7 @@ use Rattle.dsa_terms.specs.Claims.{IsIn, Rises}
 use Rattle.dsa_terms.proofs.Lists.{from_append, left_append, right_append}
 use Rattle.lifetime.specs.SectionList.{SectionList, count_of}
 use Rattle.lifetime.proofs.Lists.{in_at}
-use Rattle.lower_bounds.specs.Best.{IsBest, IsFirstHighest, IsRaised, no_bound, stack_at}
+use Rattle.lower_bounds.specs.Best.{IsBest, IsFirstToReach, IsRaised, no_bound, stack_at}
 use Rattle.lower_bounds.specs.declared.value.Bound.{Bound}
 
 take_more : (xs : List ℕ) (q : ℕ) → q < length xs → take (q + 1) xs ≡ take q xs ++ slice_index xs q ∷ []
@@ -52,7 +52,7 @@ module _ (I : Instance) (S : SectionList) (candidates : List ℕ) (q G : ℕ) (o
             let d : stack_at I S H s ≡ stack_at I S G s = ap (λ H. stack_at I S H s) f in omega arith)
       ]
 
-      found : (old ≡ no_bound) ⊎ ((0 < old.capacity) × IsIn old.modulus (take q candidates ++ G ∷ []) × IsFirstHighest
+      found : (old ≡ no_bound) ⊎ ((0 < old.capacity) × IsIn old.modulus (take q candidates ++ G ∷ []) × IsFirstToReach
           I S old.modulus (count_of S) old)
       found = elim best.found [
         | inl f ↦ inl f
@@ -67,7 +67,7 @@ module _ (I : Instance) (S : SectionList) (candidates : List ℕ) (q G : ℕ) (o
         | inr f ↦ elim best.found [ inl g ↦ inl g | inr g ↦ absurd (let k = below old.modulus g.1 in omega arith) ]
       ]
 
-  risen : (old.capacity < new.capacity) → new.modulus ≡ G → IsFirstHighest I S G (count_of S) new →
+  risen : (old.capacity < new.capacity) → new.modulus ≡ G → IsFirstToReach I S G (count_of S) new →
       IsBest I S (take q candidates ++ G ∷ []) new
   risen more mine first = record { most = most; found = found; least = least }
     where
@@ -78,13 +78,13 @@ module _ (I : Instance) (S : SectionList) (candidates : List ℕ) (q G : ℕ) (o
             f in omega arith)
       ]
 
-      found : (new ≡ no_bound) ⊎ ((0 < new.capacity) × IsIn new.modulus (take q candidates ++ G ∷ []) × IsFirstHighest
+      found : (new ≡ no_bound) ⊎ ((0 < new.capacity) × IsIn new.modulus (take q candidates ++ G ∷ []) × IsFirstToReach
           I S new.modulus (count_of S) new)
       found = inr (
         omega arith,
         right_append (take q candidates) (G ∷ []) new.modulus (inl mine),
         subst
-            (λ (H : ℕ). IsFirstHighest I S H (count_of S) new) (sym mine) first,
+            (λ (H : ℕ). IsFirstToReach I S H (count_of S) new) (sym mine) first,
       )
 
       least : (H s : ℕ) → IsIn H (take q candidates ++ G ∷ []) → H < new.modulus → s < count_of S →

@@ -18,23 +18,25 @@ no_bound = record { capacity = 0; moment = 0; modulus = 1 }
 abbrev pub stack_at : Instance → SectionList → ℕ → ℕ → ℕ
 stack_at I S G s = stack I (start_of S s) G
 
--- of the first n sections with this modulus it is the first that none is above
-pub record IsFirstHighest (I : Instance) (S : SectionList) (G n : ℕ) (b : Bound) : Type 0 where
+-- one of the first n sections comes to the bound with this modulus at the bound's moment, and none before it comes to
+-- as much
+pub record IsFirstToReach (I : Instance) (S : SectionList) (G n : ℕ) (b : Bound) : Type 0 where
   pub place : ℕ
   pub in_range : place < n
   pub moment : start_of S place ≡ b.moment
   pub reached : stack_at I S G place ≡ b.capacity
   pub first : (s : ℕ) → s < place → stack_at I S G s < b.capacity
 
--- the new bound is the old one, or is above it and first among the first n sections with this modulus
+-- none of the first n sections comes to more than the new bound with this modulus; the new bound is the old one, or is
+-- above it and one of these sections is the first to come to it
 pub record IsRaised (I : Instance) (S : SectionList) (G n : ℕ) (old new : Bound) : Type 0 where
   pub most : (s : ℕ) → s < n → stack_at I S G s ≤ new.capacity
-  pub found : (new ≡ old) ⊎ ((old.capacity < new.capacity) × (new.modulus ≡ G) × IsFirstHighest I S G n new)
+  pub found : (new ≡ old) ⊎ ((old.capacity < new.capacity) × (new.modulus ≡ G) × IsFirstToReach I S G n new)
 
--- of all sections with these moduli, which rise, it is the first that none is above, and the modulus goes before the
--- section
+-- no section comes to more with one of these moduli; of those that come to as much the modulus is the least, and of its
+-- sections it is the first
 pub record IsBest (I : Instance) (S : SectionList) (moduli : List ℕ) (b : Bound) : Type 0 where
   pub most : (G s : ℕ) → IsIn G moduli → s < count_of S → stack_at I S G s ≤ b.capacity
-  pub found : (b ≡ no_bound) ⊎ ((0 < b.capacity) × IsIn b.modulus moduli × IsFirstHighest I S b.modulus (count_of S) b)
+  pub found : (b ≡ no_bound) ⊎ ((0 < b.capacity) × IsIn b.modulus moduli × IsFirstToReach I S b.modulus (count_of S) b)
   pub least : (G s : ℕ) → IsIn G moduli → G < b.modulus → s < count_of S →
       (b ≡ no_bound) ⊎ (stack_at I S G s < b.capacity)
