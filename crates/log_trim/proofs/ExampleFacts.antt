@@ -1,11 +1,12 @@
 -- The marks of a worked log: a line that nothing cites has none.
-use Rattle.std.proofs.Common.{◌≡◌, ℕ, zero, suc, ◌<◌, inl, inr, true, false, [], ◌∷◌, Some, refl, arith}
+use Rattle.std.proofs.Common.{◌≡◌, ℕ, zero, suc, ◌<◌, inl, inr, true, false, [], ◌∷◌, Some, refl, lit<, arith}
 use Rattle.dsa_terms.specs.Claims.{IsIn}
 use Rattle.dsa_terms.specs.Logs.{ByLine, Twin, Line, Over, Cases, Log}
 use Rattle.dsa_terms.specs.Trims.{cited, has, needed, with_cited}
 use Rattle.dsa_terms.proofs.Examples.{over_2, over_1, over_01}
 use Rattle.log_trim.specs.Ends.{IsEndClaim}
 use Rattle.log_trim.specs.Marks.{AreMarkedToo, CiteEarlier, marks_of}
+use Rattle.log_trim.proofs.Marked.{marked_one}
 
 abbrev with_extra : Log
 with_extra = record {
@@ -31,6 +32,10 @@ end_claim = record {
   claim = refl;
 }
 
+-- the end bounds three buffers
+other_end_claim : IsEndClaim with_extra ((0, 0) ∷ []) → ⊥
+other_end_claim h = let t = h.there in let c = h.claim in absurd cc
+
 -- the second line cites the first
 cites_earlier : CiteEarlier (over_2 ∷ Cases ((1, 1) ∷ []) (ByLine 0 ∷ []) ∷ [])
 cites_earlier zero line j h i = absurd (none line j h i)
@@ -54,3 +59,7 @@ cites_itself h = let k = h 0 (Cases ((1, 1) ∷ []) (ByLine 0 ∷ [])) 0 refl (i
 not_marked : AreMarkedToo (0 ∷ []) (false ∷ []) (false ∷ []) → ⊥
 unfolding marks_of has
 not_marked h = let k : false ∷ [] ≡ true ∷ [] = h 1 [] refl in absurd cc
+
+-- a mark that is set
+marked : AreMarkedToo (0 ∷ []) (false ∷ []) (true ∷ [])
+marked = marked_one 0 (false ∷ []) (lit< tt)

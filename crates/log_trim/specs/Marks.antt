@@ -13,6 +13,7 @@ CiteEarlier lines = (k : ℕ) (line : Line) (j : ℕ) → slice_get lines k ≡ 
 unfoldable pub marks_of : ℕ → List ℕ → List Bool
 marks_of n ks = map (λ k. has k ks) (numbers n)
 
--- where the old marks are those of some numbers, the new ones are those of these too
+-- ks are marked beside what was marked: where the old marks are those of some numbers, the new ones are those of ks and
+-- of these
 abbrev pub AreMarkedToo : List ℕ → List Bool → List Bool → Type 0
 AreMarkedToo ks old new = (n : ℕ) (marked : List ℕ) → old ≡ marks_of n marked → new ≡ marks_of n (ks ++ marked)

@@ -62,8 +62,7 @@ fn kept(
 
 /// The log without the lines that its end does not need. What stays is the end's line and each line
 /// that one which stays cites, in order, with cites renumbered; the end's line is the last. The
-/// caller owes that the log is accepted for the instance. The time is that of going over the log
-/// twice.
+/// caller owes that the log is accepted for the instance.
 pub fn trim(alloc: Global, instance: &Instance, log: &ClosedLog) -> Result<ClosedLog, NoMemory>
     requires { IsAccepted instance.now log.now }
     ensures value { IfOk result (λ t. t ≡ trimmed log.now) }

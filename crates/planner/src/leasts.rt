@@ -19,9 +19,9 @@ use std::alloc::Global;
 /// The least capacity that has a layout, in bytes, with the layout that is planned for it and a log
 /// by which none fits within one less; there is no log where the capacity is 0.
 ///
-/// All searches together open at most `steps` claims, if a number is given. Where they are used up
-/// before the least capacity is known, it stays open between the two ends that are reached; without
-/// a number that never comes.
+/// All searches together have a budget of `steps` units, one for each claim that they open, if a
+/// number is given. Where they are used up before the least capacity is known, it stays open
+/// between the two ends that are reached; without a number that never comes.
 pub fn least_capacity(
     alloc: Global,
     instance: &Instance,

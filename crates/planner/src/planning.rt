@@ -58,9 +58,9 @@ fn decide_past_starts(
 /// capacity is below the lower bound, the log is the bound's of one line, and else that of the
 /// search.
 ///
-/// The search opens at most `steps` claims, if a number is given. Where they are used up before it
-/// has an answer, the capacity stays open between the lower bound and the best start; without a
-/// number that never comes.
+/// The search has a budget of `steps` units, one for each claim that it opens, if a number is
+/// given. Where they are used up before it has an answer, the capacity stays open between the lower
+/// bound and the best start; without a number that never comes.
 ///
 /// The caller owes a capacity of at most 2^60.
 pub fn plan(
