@@ -1,5 +1,5 @@
 -- The definitions at small instances.
-use Rattle.std.proofs.Common.{◌≡◌, ℕ, zero, suc, ◌<◌, ◌≤◌, inl, inr, [], ◌∷◌, List, refl, arith}
+use Rattle.std.proofs.Common.{◌≡◌, ℕ, zero, suc, ◌<◌, ◌≤◌, inl, inr, [], ◌∷◌, List, refl, lit<, lit≤, arith}
 use Rattle.dsa_terms.specs.Buffers.{Buffer, Instance, buffer}
 use Rattle.dsa_terms.specs.Claims.{IsIn}
 use Rattle.dsa_terms.specs.Parts.{is_cut, last_cut, part_of, parts}
@@ -34,6 +34,11 @@ unfolding buffer
 second_begins zero lt = omega arith
 second_begins (suc k) lt = absurd (omega arith)
 
+-- the first holds on at 2, where the second begins
+holds_on : BeginsAt (lives 0 3 ∷ lives 2 5 ∷ []) ((0, 0) ∷ (2, 1) ∷ []) 1 → ⊥
+unfolding buffer
+holds_on h = let k = h 0 (lit< tt) in omega (arith, k)
+
 first_is_run : IsRun three order 0 1
 unfolding part_of last_cut is_cut buffer
 first_is_run = record { some = omega arith; within = omega arith; same = same; ended = λ _. second_begins }
@@ -41,6 +46,11 @@ first_is_run = record { some = omega arith; within = omega arith; same = same; e
     same : (k : ℕ) → 0 ≤ k → k < 1 → part_of three (entry_at order k).1 ≡ (entry_at order 0).0
     same zero le lt = refl
     same (suc k) le lt = absurd (omega arith)
+
+-- the second is of another part
+two_parts_are_no_run : IsRun three order 0 2 → ⊥
+unfolding part_of last_cut is_cut buffer
+two_parts_are_no_run h = let k = h.same 1 (lit≤ tt) (lit< tt) in omega (arith, k)
 
 -- ---- parts
 pub rising_part : IsPart (0 ∷ 2 ∷ [])
