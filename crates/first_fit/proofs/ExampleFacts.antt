@@ -1,5 +1,6 @@
 -- What the definitions come to on small instances.
-use Rattle.std.proofs.Common.{◌≡◌, ◌^◌, ◌-◌, ◌<◌, ◌⊎◌, inl, inr, true, false, ℕ, List, [], ◌∷◌, length, None, Some, refl, ap, arith}
+use Rattle.std.proofs.Common.{◌≡◌, ◌^◌, ◌-◌, ◌<◌, ◌⊎◌, inl, inr, true, false, ℕ, zero, suc, List, [], ◌∷◌, length, None, Some, refl, sym, ap, subst, lit≤, arith}
+use Rattle.std.specs.List.Sorted.{IsNonDecreasingBy}
 use Rattle.dsa_terms.specs.Buffers.{buffer, do_share, is_live, some_before}
 use Rattle.dsa_terms.specs.Claims.{Entry, IsIn}
 use Rattle.dsa_terms.specs.Fits.{best_place, first_passing, first_place, free_ranges, highest, holds, is_free, is_tighter, neighbours, stretches, top}
@@ -8,8 +9,8 @@ use Rattle.dsa_terms.proofs.Examples.{evens, five, two_of_four, unlike}
 use Rattle.first_fit.specs.Free.{narrowed, narrower, range_of}
 use Rattle.first_fit.specs.Orders.{before_by, in_order, key_of, keyed}
 use Rattle.first_fit.specs.Rules.{IsOrderOf, rule_of}
-use Rattle.first_fit.specs.Starts.{start_of}
-use Rattle.first_fit.specs.Taken.{AreTaken}
+use Rattle.first_fit.specs.Starts.{offsets_by}
+use Rattle.first_fit.specs.Taken.{AreTaken, IsSpanOf}
 use Rattle.first_fit.specs.declared.fits.Rule.TheVariants.{Best, First}
 use Rattle.first_fit.specs.declared.orders.Order.TheVariants.{AreaFalling, LowerRising, SizeFalling}
 use Rattle.first_fit.specs.declared.spans.Span.{Span}
@@ -71,11 +72,11 @@ unfolding falls_by buffer
 by_area = refl
 
 -- two of the starts
-first_by_lower : start_of unlike (First, LowerRising) ≡ 0 ∷ 9 ∷ 1 ∷ 2 ∷ 13 ∷ 6 ∷ []
+first_by_lower : offsets_by unlike (First, LowerRising) ≡ 0 ∷ 9 ∷ 1 ∷ 2 ∷ 13 ∷ 6 ∷ []
 unfolding rises_by neighbours first_place first_passing is_free highest top do_share some_before is_live buffer
 first_by_lower = refl
 
-best_by_lower : start_of unlike (Best, LowerRising) ≡ 0 ∷ 9 ∷ 1 ∷ 8 ∷ 1 ∷ 6 ∷ []
+best_by_lower : offsets_by unlike (Best, LowerRising) ≡ 0 ∷ 9 ∷ 1 ∷ 8 ∷ 1 ∷ 6 ∷ []
 unfolding rises_by neighbours best_place free_ranges stretches holds is_tighter is_free highest top do_share
     some_before is_live buffer
 best_by_lower = refl
@@ -112,13 +113,48 @@ not_one_twice o = elim (o.each 1 (omega arith)) [
   | inr i ↦ elim i [ inl q ↦ omega arith | inr j ↦ absurd j ]
 ]
 
-not_falling : (placed : List Entry) → AreTaken two_of_four placed
-    (record { start = 4; stop = 7 } ∷ record { start = 0; stop = 3 } ∷ []) → ⊥
-not_falling placed t = let k = t.sorted 0 1 (record { start = 0; stop = 0 }) (omega arith) (omega arith) in omega arith
+abbrev span : ℕ → ℕ → Span
+span start stop = record { start = start; stop = stop }
+
+not_falling : (placed : List Entry) → AreTaken two_of_four placed (span 4 7 ∷ span 0 3 ∷ []) → ⊥
+not_falling placed t = let k = t.sorted 0 1 (span 0 0) (omega arith) (omega arith) in omega arith
 
 -- the second buffer's addresses are left out
-not_all : AreTaken two_of_four ((1, 4) ∷ (0, 0) ∷ []) (record { start = 0; stop = 3 } ∷ []) → ⊥
+not_all : AreTaken two_of_four ((1, 4) ∷ (0, 0) ∷ []) (span 0 3 ∷ []) → ⊥
 not_all t = let q = t.all (1, 4) (inl refl) in elim q.1 [
   | inl e ↦ (let z = q.2.start in let w : q.0.start ≡ 0 = ap (λ (s : Span). s.start) e in omega arith)
   | inr i ↦ absurd i
 ]
+
+low : IsSpanOf two_of_four (0, 0) (span 0 3)
+unfolding top buffer
+low = record { start = refl; stop = refl }
+
+high : IsSpanOf two_of_four (1, 4) (span 4 7)
+unfolding top buffer
+high = record { start = refl; stop = refl }
+
+-- the addresses of both, whichever was placed first
+both_taken : AreTaken two_of_four ((1, 4) ∷ (0, 0) ∷ []) (span 0 3 ∷ span 4 7 ∷ [])
+both_taken = record { sorted = sorted; each = each; all = all }
+  where
+    sorted : IsNonDecreasingBy (λ (s : Span). s.start) (span 0 3 ∷ span 4 7 ∷ [])
+    sorted zero zero d le lt = lit≤ tt
+    sorted zero (suc zero) d le lt = lit≤ tt
+    sorted (suc zero) (suc zero) d le lt = lit≤ tt
+    sorted (suc i) zero d le lt = absurd (omega arith)
+    sorted (suc (suc i)) (suc zero) d le lt = absurd (omega arith)
+    sorted i (suc (suc j)) d le lt = absurd (omega arith)
+
+    each : (s : Span) → IsIn s (span 0 3 ∷ span 4 7 ∷ []) →
+        (e : Entry) × IsIn e ((1, 4) ∷ (0, 0) ∷ []) × IsSpanOf two_of_four e s
+    each s (inl q) = ((0, 0), inr (inl refl), subst (IsSpanOf two_of_four (0, 0)) (sym q) low)
+    each s (inr (inl q)) = ((1, 4), inl refl, subst (IsSpanOf two_of_four (1, 4)) (sym q) high)
+    each s (inr (inr i)) = absurd i
+
+    all : (e : Entry) → IsIn e ((1, 4) ∷ (0, 0) ∷ []) →
+        (s : Span) × IsIn s (span 0 3 ∷ span 4 7 ∷ []) × IsSpanOf two_of_four e s
+    all e (inl q) =
+        (span 4 7, inr (inl refl), subst (λ (f : Entry). IsSpanOf two_of_four f (span 4 7)) (sym q) high)
+    all e (inr (inl q)) = (span 0 3, inl refl, subst (λ (f : Entry). IsSpanOf two_of_four f (span 0 3)) (sym q) low)
+    all e (inr (inr i)) = absurd i

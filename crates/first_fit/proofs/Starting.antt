@@ -21,7 +21,7 @@ use Rattle.dsa_start_laws.proofs.Fits.{into_ordered_by}
 use Rattle.dsa_start_laws.proofs.Orders.{from_ordered_by}
 use Rattle.first_fit.specs.Orders.{before_by, in_order}
 use Rattle.first_fit.specs.Rules.{IsOrderOf}
-use Rattle.first_fit.specs.Starts.{IsStart, height_in, offsets_at, offsets_in, start_of}
+use Rattle.first_fit.specs.Starts.{IsStart, height_in, offsets_at, offsets_by, offsets_in}
 use Rattle.first_fit.specs.declared.fits.Rule.{Rule}
 use Rattle.first_fit.specs.declared.fits.Rule.TheVariants.{Best, First}
 use Rattle.first_fit.specs.declared.orders.Order.{Order}
@@ -80,12 +80,12 @@ abbrev pub ways : List (Rule × Order)
 ways = (First, SizeFalling) ∷ (First, LowerRising) ∷ (First, AreaFalling) ∷ (Best, SizeFalling) ∷ (Best, LowerRising)
     ∷ (Best, AreaFalling) ∷ []
 
-pub starts_by_ways : (I : Instance) → map (start_of I) ways ≡ starts I
+pub starts_by_ways : (I : Instance) → map (offsets_by I) ways ≡ starts I
 unfolding starts orders first_fit best_fit
 starts_by_ways I = refl
 
 pub record AreMade (I : Instance) (done : List (Rule × Order)) (made : List Start) : Type 0 where
-  pub value : map offsets_in made ≡ map (start_of I) done
+  pub value : map offsets_in made ≡ map (offsets_by I) done
   pub each : (s : Start) → IsIn s made → IsStart I s
 
 pub made_none : (I : Instance) (done : List (Rule × Order)) → AreMade I (take 0 done) []
@@ -93,11 +93,11 @@ made_none I done = record { value = refl; each = λ s i. absurd i }
 
 pub made_more : (I : Instance) (all : List (Rule × Order)) (k : ℕ) (d : Rule × Order) (made more : List Start)
     (s : Start) →
-    k < length all → offsets_in s ≡ start_of I (slice_index_or all k d) → IsStart I s → more ≡ made ++ s ∷ [] →
+    k < length all → offsets_in s ≡ offsets_by I (slice_index_or all k d) → IsStart I s → more ≡ made ++ s ∷ [] →
     AreMade I (take k all) made → AreMade I (take (k + 1) all) more
 made_more I all k d made more s lt e start grown h = rw grown (record {
-  value = map-append offsets_in made (s ∷ []) ∙ (rw (h.value, e) (sym (ap (map (start_of I)) (take_more all k d lt)
-      ∙ map-append (start_of I) (take k all) (slice_index_or all k d ∷ []))));
+  value = map-append offsets_in made (s ∷ []) ∙ (rw (h.value, e) (sym (ap (map (offsets_by I)) (take_more all k d lt)
+      ∙ map-append (offsets_by I) (take k all) (slice_index_or all k d ∷ []))));
   each = λ r i. elim (from_append made (s ∷ []) r i) [
     | inl j ↦ h.each r j
     | inr j ↦ last r j
@@ -110,7 +110,7 @@ made_more I all k d made more s lt e start grown h = rw grown (record {
 
 pub made_value : (I : Instance) (all : List (Rule × Order)) (k : ℕ) (made : List Start) → all ≡ ways → length all ≤ k →
     AreMade I (take k all) made → map offsets_in made ≡ starts I
-made_value I all k made e le h = h.value ∙ (ap (map (start_of I)) (take_all k all le ∙ e) ∙ starts_by_ways I)
+made_value I all k made e le h = h.value ∙ (ap (map (offsets_by I)) (take_all k all le ∙ e) ∙ starts_by_ways I)
 
 pub made_each : (I : Instance) (done : List (Rule × Order)) (made : List Start) → AreMade I done made →
     All (IsStart I) made

@@ -30,5 +30,5 @@ abbrev pub height_in : Start → ℕ
 height_in s = s.height
 
 -- the offsets of the rule over the order
-abbrev pub start_of : Instance → Rule × Order → List ℕ
-start_of I way = offsets_of I (fitted (rule_of way.0) I (in_order way.1 I) [])
+abbrev pub offsets_by : Instance → Rule × Order → List ℕ
+offsets_by I way = offsets_of I (fitted (rule_of way.0) I (in_order way.1 I) [])

@@ -5,7 +5,7 @@ ghost use Rattle.std.specs.List.{All};
 ghost use Rattle.dsa_terms.specs.Buffers.{Instance as InstanceTerm};
 ghost use Rattle.dsa_terms.specs.Plans.{layout_height};
 ghost use Rattle.dsa_terms.specs.Starts.{lowest_place, starts};
-ghost use Rattle.first_fit.specs.Starts.{IsStart, height_in, offsets_at, offsets_in, start_of};
+ghost use Rattle.first_fit.specs.Starts.{IsStart, height_in, offsets_at, offsets_by, offsets_in};
 
 use crate::fits::{Rule, fitted};
 use crate::orders::{Order, in_order};
@@ -39,7 +39,7 @@ fn make_start(
     order: Order,
 ) -> Result<Start, AllocError>
     ensures value { IfOk result (λ start.
-        offsets_in start ≡ start_of instance.now (rule, order)) }
+        offsets_in start ≡ offsets_by instance.now (rule, order)) }
     ensures start { IfOk result (λ start. IsStart instance.now start) }
 {
     let order = in_order(alloc, instance, order)?;
