@@ -3,3 +3,4 @@ pub mod Narrowing
 pub mod Counting
 pub mod ExampleFacts
 mod NarrowFacts
+mod PreparedFacts
