@@ -19,8 +19,7 @@ use Rattle.log_text.specs.declared.raw.RawLine.{RawLine}
 use Rattle.log_text.specs.declared.raw.RawLog.{RawLog}
 use Rattle.log_check.specs.declared.fault.CheckFault.{CheckFault}
 use Rattle.log_check.specs.declared.fault.CheckFault.TheVariants as fault
-use Rattle.log_check.specs.Faults.{line_of, has_own_cites, raw_reason, reason_at, end_fault, check_fault}
-use Rattle.log_check.specs.Taking.{illegal_at, illegal_fault}
+use Rattle.log_check.specs.Faults.{line_of, has_own_cites, raw_reason, reason_at, illegal_at, illegal_fault, end_fault, check_fault}
 use Rattle.log_check.proofs.Options.{neither, none_of_three, none_from, find_none}
 use Rattle.log_check.proofs.Texts.{line_back, own_cites}
 

@@ -13,9 +13,8 @@ use Rattle.log_text.specs.declared.raw.RawLine.{RawLine}
 use Rattle.log_text.specs.declared.raw.RawLine.TheVariants as raw
 use Rattle.log_text.specs.declared.raw.RawLog.{RawLog}
 use Rattle.log_check.specs.declared.fault.CheckFault.TheVariants as fault
-use Rattle.log_check.specs.Faults.{check_fault, cite_of, end_fault, has_own_cites, line_of, raw_reason, reason_at}
+use Rattle.log_check.specs.Faults.{check_fault, cite_of, end_fault, has_own_cites, illegal_fault, line_of, raw_reason, reason_at}
 use Rattle.log_check.specs.Narrowing.{narrow_cite, narrow_line, shape_reason}
-use Rattle.log_check.specs.Taking.{illegal_fault}
 
 -- ---- lines as a text says them
 abbrev over_2 : RawLine

@@ -6,8 +6,8 @@ use Rattle.refute_log.specs.declared.reason.Reason.{Reason}
 use Rattle.log_text.specs.Text.{raw_line_of}
 use Rattle.log_text.specs.declared.raw.RawLine.{RawLine}
 use Rattle.log_check.specs.declared.fault.CheckFault.TheVariants as fault
-use Rattle.log_check.specs.Faults.{line_of, raw_reason}
-use Rattle.log_check.specs.Taking.{IsTaken, illegal_at, illegal_fault}
+use Rattle.log_check.specs.Faults.{illegal_at, illegal_fault, line_of, raw_reason}
+use Rattle.log_check.specs.Taking.{IsTaken}
 use Rattle.log_check.proofs.Options.{found_left, next_left, none_left}
 
 pub get_at : {X : Type 0} (xs : List X) (k : ℕ) (x : X) → k < length xs → x ≡ slice_index_or xs k x →

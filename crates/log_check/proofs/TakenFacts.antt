@@ -10,7 +10,8 @@ use Rattle.log_text.specs.declared.raw.RawLine.{RawLine}
 use Rattle.log_text.specs.declared.raw.RawLine.TheVariants as raw
 use Rattle.log_check.specs.declared.fault.CheckFault.TheVariants as fault
 use Rattle.log_check.specs.Narrowing.{IsNarrowed}
-use Rattle.log_check.specs.Taking.{IsTaken, illegal_at}
+use Rattle.log_check.specs.Faults.{illegal_at}
+use Rattle.log_check.specs.Taking.{IsTaken}
 
 -- a line that is legal, and one that is not
 abbrev good : RawLine

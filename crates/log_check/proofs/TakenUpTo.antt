@@ -6,8 +6,8 @@ use Rattle.refute_log.specs.declared.reason.Reason.{Reason}
 use Rattle.log_text.specs.Text.{raw_line_of}
 use Rattle.log_text.specs.declared.raw.RawLine.{RawLine}
 use Rattle.log_check.specs.declared.fault.CheckFault.TheVariants as fault
-use Rattle.log_check.specs.Faults.{line_of, raw_reason}
-use Rattle.log_check.specs.Taking.{IsTaken, illegal_fault}
+use Rattle.log_check.specs.Faults.{illegal_fault, line_of, raw_reason}
+use Rattle.log_check.specs.Taking.{IsTaken}
 use Rattle.log_check.proofs.Taken.{all_are_taken, all_have_text, found_fault, next_taken, none_is_illegal, none_taken}
 
 -- the lines in front of the rest are the log

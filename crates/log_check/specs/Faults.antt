@@ -50,6 +50,14 @@ reason_at I C lines k = reason_of (slice_get lines k)
     reason_of None = None
     reason_of (Some line) = raw_reason I C (map line_of (take k lines)) line
 
+-- the fault of the line of that number, where it is not legal after those before it
+abbrev pub illegal_at : Instance → ℕ → List RawLine → ℕ → Option CheckFault
+illegal_at I C lines k = option_map (fault.Illegal k) (reason_at I C lines k)
+
+-- the least line that is not legal after those before it, as a fault
+abbrev pub illegal_fault : Instance → ℕ → List RawLine → Option CheckFault
+illegal_fault I C lines = first_some (illegal_at I C lines) (numbers (length lines))
+
 -- the end names no line, or one with a bound above 0, at the least buffer that has one
 abbrev pub end_fault : ℕ → Option RawLine → Option CheckFault
 end_fault end None = Some (fault.EndRange end)
@@ -60,6 +68,6 @@ end_fault end (Some line) =
 abbrev pub check_fault : Instance → RawLog → Option CheckFault
 check_fault I log = first_fault (
     when (not (log.count == length I)) (fault.WrongCount log.count (length I))
-    ∷ first_some (λ k. option_map (fault.Illegal k) (reason_at I log.capacity log.lines k)) (numbers (length log.lines))
+    ∷ illegal_fault I log.capacity log.lines
     ∷ end_fault log.end (slice_get log.lines log.end)
     ∷ [])

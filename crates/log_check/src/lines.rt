@@ -5,8 +5,7 @@ ghost use Rattle.dsa_model.specs.Fails.{UnlessNoMemory};
 ghost use Rattle.refute_log.specs.Logs.{Belongs};
 ghost use Rattle.log_text.specs.RawLogs.{IsLineKept};
 ghost use Rattle.log_text.specs.Text.{raw_line_of};
-ghost use Rattle.log_check.specs.Faults.{line_of, raw_reason};
-ghost use Rattle.log_check.specs.Taking.{illegal_fault};
+ghost use Rattle.log_check.specs.Faults.{illegal_fault, line_of, raw_reason};
 
 use crate::CheckFault;
 use crate::narrowing::line_of;
