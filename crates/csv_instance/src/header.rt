@@ -2,7 +2,7 @@
 
 ghost use Rattle.std.specs.Prelude.{◌≡◌, ◌≤◌, find, not, Bool};
 ghost use Rattle.csv.specs.Records.{fields_of};
-ghost use Rattle.csv_instance.specs.Columns.{has_column, named_columns, needed_columns, stands_twice};
+ghost use Rattle.csv_instance.specs.Columns.{has_column, needed_columns, stands_twice};
 ghost use Rattle.csv_instance.specs.Parse.{header_fault};
 
 use crate::columns::{Column, column_name, field_at, find_column};
@@ -24,7 +24,7 @@ const NAMED: [Column; 7] = [
 const NEEDED: [Column; 4] = [Column::Id, Column::Lower, Column::Upper, Column::Size];
 
 /// Whether a column stands twice.
-pub(crate) fn is_twice(header: &ByteRecord, column: Column) -> bool
+fn is_twice(header: &ByteRecord, column: Column) -> bool
     ensures { result ≡ stands_twice (fields_of header.now) column }
 {
     let name = column_name(column);
@@ -37,11 +37,11 @@ pub(crate) fn is_twice(header: &ByteRecord, column: Column) -> bool
     count >= 2
 }
 
-/// The first column that stands twice.
-fn first_twice(header: &ByteRecord) -> Option<Column>
-    ensures { result ≡ find (stands_twice (fields_of header.now)) named_columns }
+/// The first of the columns that stands twice.
+pub(crate) fn first_twice(header: &ByteRecord, columns: &[Column]) -> Option<Column>
+    ensures { result ≡ find (stands_twice (fields_of header.now)) columns.now }
 {
-    NAMED
+    columns
         .iter()
         .copied()
         .find(|column| is_twice(header, *column))
@@ -64,7 +64,7 @@ pub(crate) fn check_header(header: &ByteRecord) -> Option<InstanceFault>
     if field_at(header, 0).starts_with(b"\xEF\xBB\xBF") {
         return Some(InstanceFault::MarkedHeader);
     }
-    if let Some(column) = first_twice(header) {
+    if let Some(column) = first_twice(header, &NAMED) {
         return Some(InstanceFault::DuplicateColumn { column });
     }
     if find_column(header, Column::Offset).is_some() {

@@ -7,7 +7,7 @@ ghost use Rattle.csv_instance.specs.Numbers.{number_of};
 pub(crate) const TIME_LIMIT: u64 = 4611686018427387903;
 
 /// The number that a field writes, if it writes one of at most `most`.
-pub fn parse_number(field: &[u8], most: u64) -> Option<u64>
+pub(crate) fn parse_number(field: &[u8], most: u64) -> Option<u64>
     ensures number { result ≡ number_of most field.now }
     ensures within { IfSome result (λ number. number ≤ most) }
 {

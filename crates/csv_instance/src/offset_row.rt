@@ -1,16 +1,15 @@
 //! The header and the rows of a layout file.
 
-ghost use Rattle.std.specs.Prelude.{◌≡◌, ◌<◌, ◌^◌, ◌++◌, ◌∷◌, [], List, ℕ, Some, None, MatchResult, length, map, find};
+ghost use Rattle.std.specs.Prelude.{◌≡◌, ◌<◌, ◌^◌, ◌++◌, ◌∷◌, [], List, ℕ, Some, None, MatchResult, length, map};
 ghost use Rattle.csv.specs.Records.{fields_of};
 ghost use Rattle.dsa_model.specs.Fails.{UnlessNoMemory};
-ghost use Rattle.csv_instance.specs.Columns.{stands_twice};
 ghost use Rattle.csv_instance.specs.Found.{AreColumns, AreOf};
-ghost use Rattle.csv_instance.specs.Offsets.{layout_columns, layout_header_fault, layout_row_fault, offset_in};
+ghost use Rattle.csv_instance.specs.Offsets.{layout_header_fault, layout_row_fault, offset_in};
 ghost use Rattle.csv_instance.specs.Records.{Record};
 
 use crate::columns::{Column, field_at, find_column};
 use crate::fault::OffsetsFault;
-use crate::header::is_twice;
+use crate::header::first_twice;
 use crate::numbers::parse_number;
 use csv::ByteRecord;
 use dsa_model::Fail;
@@ -31,23 +30,13 @@ pub(crate) struct OffsetColumns {
     pub(crate) offset: usize,
 }
 
-/// The first column that stands twice.
-fn first_twice(header: &ByteRecord) -> Option<Column>
-    ensures { result ≡ find (stands_twice (fields_of header.now)) layout_columns }
-{
-    COLUMNS
-        .iter()
-        .copied()
-        .find(|column| is_twice(header, *column))
-}
-
 /// The columns of a layout file, or the first fault of its header.
 pub(crate) fn find_offset_columns(header: &ByteRecord) -> Result<OffsetColumns, OffsetsFault>
     ensures { let fields = fields_of header.now in MatchResult result
         (λ columns. (layout_header_fault fields ≡ None) × AreColumns fields columns)
         (λ fault. layout_header_fault fields ≡ Some fault) }
 {
-    if let Some(column) = first_twice(header) {
+    if let Some(column) = first_twice(header, &COLUMNS) {
         return Err(OffsetsFault::DuplicateColumn { column });
     }
     let Some(id) = find_column(header, Column::Id) else {

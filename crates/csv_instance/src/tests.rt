@@ -1,3 +1,5 @@
+//! Instance files and layout files, read, refused and written.
+
 ghost use Rattle.std.specs.Prelude.{◌≤◌, length};
 
 use crate::{Column, InstanceFault, OffsetsFault, read_instance, read_offsets, write_layout};
