@@ -1,3 +1,5 @@
+//! Command lines, read or refused, and how an option is written.
+
 use crate::{Command, OptionName, UsageFault, read_words};
 use std::alloc::{AllocError, Global};
 use std::test::Fail;

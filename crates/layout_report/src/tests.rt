@@ -1,3 +1,5 @@
+//! Reports of worked layouts, byte for byte.
+
 ghost use Rattle.std.specs.Prelude.{◌≤◌, length};
 
 use crate::report;

@@ -1,3 +1,5 @@
+//! Worked texts for a seed and a count, and the greatest count.
+
 use crate::{MakeFault, make};
 use dsa_model::Fail;
 
