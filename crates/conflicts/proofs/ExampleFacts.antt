@@ -1,8 +1,9 @@
 -- Worked lines: how low an Over line may be, lowered claims, and cites of other buffers.
-use Rattle.std.proofs.Common.{◌≡◌, ℕ, false, true, inl, inr, [], ◌∷◌, map, List, Some, None, refl, lit≤, arith}
-use Rattle.dsa_terms.specs.Buffers.{Buffer, Instance, is_live, buffer, have_same_moments, some_before}
-use Rattle.dsa_terms.specs.Claims.{Claim, up}
-use Rattle.dsa_terms.specs.Logs.{ByLine, Below, Twin, Cases, Over, Line, ends_below, is_stacked, is_twin, rounded, rounding}
+use Rattle.std.proofs.Common.{◌≡◌, ◌≤◌, ℕ, false, true, inl, inr, [], ◌∷◌, map, List, Some, None, refl, subst, lit≤, arith}
+use Rattle.dsa_terms.specs.Buffers.{Buffer, Instance, is_live, buffer, do_share, have_same_moments, some_before}
+use Rattle.dsa_terms.specs.Claims.{Claim, Covers, Entry, IsIn, child, step, up}
+use Rattle.dsa_terms.specs.Lean.{CitesOwn}
+use Rattle.dsa_terms.specs.Logs.{ByLine, Below, Twin, Cases, IsLegalCite, Over, Line, claim_of, ends_below, is_stacked, is_twin, rounded, rounding}
 use Rattle.conflicts.specs.Covering.{IsCoveringLine}
 use Rattle.conflicts.specs.Eased.{HasNoOwn, IsLower, IsLowerCases, IsNoHigher, IsOwnOf, cut, eased_over, from_height, least_height, least_over, lowered, reach}
 use Rattle.conflicts.specs.Easing.{IsOfKind}
@@ -125,6 +126,14 @@ lowest_end = record {
   ];
 }
 
+-- buffer 1 ends at 5
+not_lowest_end : IsLeastEnd four ((1, 3) ∷ (2, 1) ∷ []) 1 → ⊥
+unfolding end_of up buffer
+not_lowest_end h = let k : 5 ≤ 3 = h.least (2, 1) (inr (inl refl)) in omega arith
+
+no_end_of_another : IsLeastEnd four ((1, 3) ∷ (2, 1) ∷ []) 0 → ⊥
+no_end_of_another h = elim h.is_in [ inl q ↦ cc | inr j ↦ elim j [ inl q ↦ cc | inr n ↦ absurd n ] ]
+
 -- ---- Cases lines
 lower_bounds : map (lowered four) ((1, 2) ∷ (2, 1) ∷ []) ≡ (1, 1) ∷ (2, 1) ∷ []
 unfolding lowered up buffer
@@ -158,6 +167,12 @@ lower_line_is_cases l h = let k = h.is in cc
 
 one_met : IsWalk four ((1, 1) ∷ (2, 1) ∷ []) (false ∷ true ∷ false ∷ false ∷ []) (1 ∷ [])
 one_met = record { count = refl; of_claim = λ k d lt. let q : k ≡ 0 = omega arith in rw q (inl refl) }
+
+not_of_the_claim : IsWalk four ((1, 1) ∷ []) (false ∷ false ∷ true ∷ false ∷ []) (2 ∷ []) → ⊥
+not_of_the_claim h = elim (h.of_claim 0 0 (omega arith)) [ inl q ↦ cc | inr n ↦ absurd n ]
+
+too_few_marks : IsWalk four ((1, 1) ∷ []) (false ∷ true ∷ false ∷ []) (1 ∷ []) → ⊥
+too_few_marks h = let k = h.count in cc
 
 -- ---- kinds
 over_of_kind : IsOfKind (Over ((2, 9) ∷ []) 0 9 1) (Over ((2, 3) ∷ []) 0 3 1)
@@ -193,3 +208,84 @@ covered_by_second = (
 
 no_third_line : (l : Claim) → IsCoveringLine four two_lines l 2 → ⊥
 no_third_line l c = let k = c.1 in cc
+
+-- the up of 2 is 0
+not_covered_by_first : IsCoveringLine four two_lines ((1, 3) ∷ (2, 0) ∷ []) 0 → ⊥
+unfolding up buffer
+not_covered_by_first c =
+    let e : c.0 ≡ Over ((2, 3) ∷ []) 0 3 1 = (let k = c.1 in cc) in
+    let f = subst (λ line. Covers four (claim_of line) ((1, 3) ∷ (2, 0) ∷ [])) e c.2 (2, 3) (inl refl) in
+    elim f.1 [
+      | inl q ↦ (let k : f.0.0 ≡ 1 = rw q refl in let n = f.2 in absurd (omega arith))
+      | inr j ↦ elim j [
+        | inl q ↦ (let k : 3 ≤ 0 = subst (λ (e : Entry). 3 ≤ up four e) q f.3 in absurd (omega arith))
+        | inr n ↦ absurd n
+      ]
+    ]
+
+-- ---- a Cases line with lower bounds, which is legal by the two lines
+abbrev lower : Claim
+lower = (1, 1) ∷ (2, 1) ∷ []
+
+-- the child by 1 has 2 from 3 on, and the child by 2 has 1 from 3 on, which is met at 4
+legal_by_first : IsLegalCite four two_lines lower (1, 1) (ByLine 0)
+unfolding child step do_share some_before is_live up buffer
+legal_by_first = (
+  Over ((2, 3) ∷ []) 0 3 1,
+  refl,
+  λ e i. elim i [
+    | inl q ↦ ((2, 3), inl refl, rw q refl, rw q (lit≤ {m = 3} {n = 3} tt))
+    | inr j ↦ absurd j
+  ],
+)
+
+legal_by_second : IsLegalCite four two_lines lower (2, 1) (ByLine 1)
+unfolding child step do_share some_before is_live up buffer
+legal_by_second = (
+  Over ((1, 4) ∷ []) 0 4 1,
+  refl,
+  λ e i. elim i [
+    | inl q ↦ ((1, 3), inl refl, rw q refl, rw q (lit≤ {m = 4} {n = 4} tt))
+    | inr j ↦ absurd j
+  ],
+)
+
+no_own_of_1 : CitesOwn four lower (1, 1) (ByLine 0)
+unfolding ends_below is_twin have_same_moments some_before is_live up buffer
+no_own_of_1 t = absurd cc
+
+no_own_of_2 : CitesOwn four lower (2, 1) (ByLine 1)
+unfolding ends_below is_twin have_same_moments some_before is_live up buffer
+no_own_of_2 t = absurd cc
+
+lower_line : IsLowerCases four two_lines ((1, 2) ∷ (2, 2) ∷ []) (Cases lower (ByLine 0 ∷ ByLine 1 ∷ []))
+lower_line = record {
+  claim = lower;
+  cites = ByLine 0 ∷ ByLine 1 ∷ [];
+  is = refl;
+  some = λ h. cc;
+  lower = record {
+    rises = (λ y i. elim i [ inl q ↦ rw q (omega arith) | inr j ↦ absurd j ], (λ y i. absurd i, tt));
+    each = λ f i. elim i [
+      | inl q ↦ ((1, 2), inl refl, rw q (refl, lit≤ {m = 1} {n = 2} tt))
+      | inr j ↦ elim j [
+        | inl q ↦ ((2, 2), inr (inl refl), rw q (refl, lit≤ {m = 1} {n = 2} tt))
+        | inr n ↦ absurd n
+      ]
+    ];
+  };
+  legal = (legal_by_first, (legal_by_second, tt));
+  own = (no_own_of_1, (no_own_of_2, tt));
+}
+
+-- it has a higher bound than 0
+no_higher_line : IsLowerCases four two_lines ((1, 0) ∷ (2, 1) ∷ []) (Cases lower (ByLine 0 ∷ ByLine 1 ∷ [])) → ⊥
+no_higher_line h =
+    let e : h.claim ≡ lower = (let k = h.is in cc) in
+    let f = (subst (λ (k : Claim). IsLower ((1, 0) ∷ (2, 1) ∷ []) k) e h.lower).each (1, 1) (inl refl) in
+    none f.0 f.1 f.2
+  where
+    none : (e : Entry) → IsIn e ((1, 0) ∷ (2, 1) ∷ []) → IsNoHigher e (1, 1) → ⊥
+    none e (inl q) n = let k : 1 ≤ 0 = subst (λ (e : Entry). 1 ≤ e.1) q n.1 in absurd (omega arith)
+    none e (inr (inl q)) n = let k = n.0 in cc
+    none e (inr (inr j)) n = absurd j

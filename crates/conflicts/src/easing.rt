@@ -1,4 +1,4 @@
-//! Lines made to cover more.
+//! Eased lines, which cover no less.
 
 ghost use Rattle.std.specs.Prelude.{◌≡◌, ◌≢◌, ◌^◌, ◌<◌, ◌≤◌, ℕ, [], IfOk, IfSome, length, map};
 ghost use Rattle.std.specs.List.{AllZip};
@@ -130,12 +130,13 @@ fn ease_cases(
 }
 
 /// A legal line whose claim covers the claim of the given line, which is legal after the log. So it
-/// can stand in its place, and covers more.
+/// can stand in its place, and covers no less.
 ///
 /// An Over line keeps just the buffers that it stacks, all with the height for their bound, and has
 /// the least height, in bytes, from which they reach above the log's capacity; its moment and its
-/// modulus stay. A Cases line keeps a few of its buffers whose cites need no others, with bounds
-/// that are lower or equal, and has a below cite or a twin cite wherever one is legal in its claim.
+/// modulus stay. A Cases line keeps buffers of the given one, with bounds as low as its cites are
+/// seen to allow; how many and how low is no clause. It has a below cite or a twin cite wherever one
+/// is legal in its claim.
 ///
 /// The log is of the instance, and the numbers of the line are within the limits of `Log::push`.
 pub fn ease(alloc: Global, instance: &Instance, log: &Log, line: Line) -> Result<Line, NoMemory>

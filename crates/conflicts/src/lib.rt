@@ -1,4 +1,4 @@
-//! Learned lines: the least one that covers a claim, and lines made to cover more.
+//! Learned lines: the least one that covers a claim, and eased lines, which cover no less.
 #![tactic(auto)]
 
 mod cites;

@@ -20,7 +20,7 @@ pub(crate) fn least_bound(buffer: &Buffer, bound: u64) -> u64
 }
 
 /// The claim with the least bounds that leave each buffer its low. So its children, its cites and
-/// what covers it stay, and it covers more.
+/// what covers it stay, and it covers no less.
 pub(crate) fn lowered(alloc: Global, instance: &Instance, claim: &Claim) -> Result<Claim, NoMemory>
     requires stands { Stands instance.now claim.now }
     requires bounds { IsBoundedBy (2 ^ 60) claim.now }

@@ -1,4 +1,4 @@
-//! Over lines made to cover more.
+//! Eased Over lines, which cover no less.
 
 ghost use Rattle.std.specs.Prelude.{◌≡◌, ◌^◌, ◌≤◌, ◌<◌, length, map, sum_by, IfOk};
 ghost use Rattle.dsa_terms.specs.Claims.{buffers_of};
@@ -7,24 +7,12 @@ ghost use Rattle.canonical_order.specs.Claims.{IsBoundedBy};
 ghost use Rattle.canonical_order.specs.Stands.{Stands};
 ghost use Rattle.refute_log.specs.Lines.{line_value};
 ghost use Rattle.refute_log.specs.Reasons.{stacked};
-ghost use Rattle.refute_log.specs.Stacks.{stacks};
 ghost use Rattle.conflicts.specs.Eased.{eased_over};
 
 use canonical_order::Claim;
-use dsa_model::{Buffer, Instance, NoMemory};
-use refute_log::Line;
+use dsa_model::{Instance, NoMemory};
+use refute_log::{Line, stacks};
 use std::alloc::{AllocError, Global};
-
-/// Whether the buffer with its bound is stacked.
-fn stacks(buffer: &Buffer, bound: u64, moment: u64, height: u64, modulus: u64) -> bool
-    requires bound_limit { bound ≤ 2 ^ 60 }
-    requires some_modulus { 1 ≤ modulus }
-    ensures { result ≡ stacks buffer.now bound moment height modulus }
-{
-    buffer.live_at(moment)
-        && height <= buffer.least_offset(bound)
-        && buffer.alignment() % modulus == 0
-}
 
 /// The buffers that an Over line stacks, added up.
 #[derive(Drop)]

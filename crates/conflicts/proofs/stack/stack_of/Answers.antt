@@ -10,7 +10,7 @@ buffer-buffer-requires c = (c.requires.stands).claim.in_range _
     (at_in _ _ _ c.pairs-pair-items.ensures.value c.loop-pair-test.true)
 
 pub stacks-requires-clause-bound_limit : goal.stacks-requires-clause-bound_limit
-stacks-requires-clause-bound_limit c = c.requires.bounds _
+stacks-requires-clause-bound_limit c = (c.requires.stands).bounds _
     (at_in _ _ _ c.pairs-pair-items.ensures.value c.loop-pair-test.true)
 
 pub overflow_add-sum : goal.overflow_add-sum
