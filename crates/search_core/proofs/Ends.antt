@@ -11,8 +11,9 @@ use Rattle.canonical_order.specs.Claims.{HasBuffer, entry_of}
 use Rattle.canonical_order.specs.Stands.{Stands}
 use Rattle.canonical_order.proofs.Entries.{entry_in, is_entry}
 use Rattle.canonical_order.proofs.NumberTests.{apart, is_at_most, not_at_most}
+use Rattle.conflicts.specs.Ends.{end_of}
 use Rattle.search_core.specs.declared.ending.Ending.{Ending}
-use Rattle.search_core.specs.Endings.{IsLeastEnd, end_of}
+use Rattle.search_core.specs.Endings.{IsLeastEnd}
 use Rattle.search_core.proofs.Descent.{is_instance}
 
 -- ---- the loop over the buffers
@@ -74,7 +75,7 @@ module _ (I : Instance) (l : Claim) (x : Ending) (b : ℕ) (s : Stands I l) (i :
     (h : IsLeastEnd I l (length I) x) where
   pub least_is_below : x.end ≤ up I (entry_of l b) → up I (entry_of l b) < 2 ^ 62 →
       (f : Entry) × IsIn f l × (f.0 ≡ x.buffer) × (ends_below I f (entry_of l b) ≡ true)
-  unfolding ends_below
+  unfolding ends_below end_of
   least_is_below le limit =
       let r = h.is_end (omega arith) in
       let e = r.1 in
@@ -91,7 +92,7 @@ module _ (I : Instance) (l : Claim) (x : Ending) (b : ℕ) (s : Stands I l) (i :
           omega arith
 
   pub none_is_below : up I (entry_of l b) < x.end → list_any (λ f. ends_below I f (entry_of l b)) l ≡ false
-  unfolding ends_below
+  unfolding ends_below end_of
   none_is_below lt = no_any (λ f. ends_below I f (entry_of l b)) l (λ f j.
       let k = h.least f j (s.claim.in_range f j) in
       let t : nat_le (up I f + (buffer I f.0).size) (up I (entry_of l b)) ≡ false =

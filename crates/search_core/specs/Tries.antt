@@ -22,11 +22,11 @@ IsLeft f = length f.refuted < length f.order
 abbrev pub rest_of : Tried → List ℕ
 rest_of f = drop (length f.refuted) f.order
 
--- the first of these
+-- the first choice that is not refuted
 abbrev pub chosen_of : Tried → ℕ
 chosen_of f = slice_index f.order (length f.refuted)
 
--- the others
+-- the choices after the first one that is not refuted
 abbrev pub later_of : Tried → List ℕ
 later_of f = drop (length f.refuted + 1) f.order
 
@@ -39,6 +39,6 @@ noted_by f k = record {
   asked = f.asked;
 }
 
--- the same, with the first n lines asked
+-- the same choices, with the first n lines asked
 abbrev pub asked_to : Tried → ℕ → Tried
 asked_to f n = record { order = f.order; refuted = f.refuted; levels = f.levels; asked = n }

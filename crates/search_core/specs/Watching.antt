@@ -44,7 +44,8 @@ AreMoved lines levels before after = (k : ℕ) (line : Line) → slice_get lines
     (slice_get after k ≡ slice_get before k)
     ⊎ ((e : Entry) × (slice_get after k ≡ Some e) × IsUnmet (claim_of line) levels e)
 
--- the same of each line that had an entry of its claim for a watch
+-- each line that had an entry of its claim for a watch has it still, or one that is not met at these levels though its
+-- buffer has one
 abbrev pub AreOwnMoved : List Line → List ℕ → List Entry → List Entry → Type 0
 AreOwnMoved lines levels before after = (k : ℕ) (line : Line) (e : Entry) → slice_get lines k ≡ Some line →
     slice_get before k ≡ Some e → IsIn e (claim_of line) →

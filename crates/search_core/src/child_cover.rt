@@ -1,4 +1,4 @@
-//! Whether a claim covers a child that is not made.
+//! A test that finds a child covered which is not made.
 
 ghost use Rattle.std.specs.Prelude.{◌≡◌, ◌+◌, ◌^◌, ◌<◌, ◌≤◌, true, length, max, slice_index};
 ghost use Rattle.dsa_terms.specs.Claims.{Claim as ClaimTerm, Covers, up};
@@ -24,8 +24,8 @@ fn raised(instance: &Instance, levels: &Levels, b: u32, c: u32) -> u64
     if low < least { least } else { low }
 }
 
-/// Whether the child by b meets the bound of c. No low falls in a child, and no bound when it is
-/// rounded up, so a bound that the claim itself meets needs no look at the buffers.
+/// Yes only where the child by b meets the bound of c. No low falls in a child, and no bound when it
+/// is rounded up, so a bound that the claim itself meets needs no look at the buffers.
 fn meets_in_child(instance: &Instance, levels: &Levels, b: u32, c: u32, bound: u64) -> bool
     requires count { length levels.now ≡ length instance.now }
     requires b_in { 0 < slice_index levels.now b }
@@ -47,8 +47,8 @@ fn meets_in_child(instance: &Instance, levels: &Levels, b: u32, c: u32, bound: u
     bound <= raised || bound <= instance.buffer(c).least_offset(raised)
 }
 
-/// Whether k covers the child by b of the claim of the levels, which has b. The child is not made,
-/// and no memory is taken.
+/// Yes only where k covers the child by b of the claim of the levels, which has b. The child is not
+/// made, and no memory is taken.
 pub(crate) fn covers_child(instance: &Instance, levels: &Levels, k: &Claim, b: u32) -> bool
     requires count { length levels.now ≡ length instance.now }
     requires b_in { 0 < slice_index levels.now b }

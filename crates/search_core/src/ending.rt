@@ -2,7 +2,8 @@
 
 ghost use Rattle.std.specs.Prelude.{◌≡◌, ◌^◌, ◌<◌, length};
 ghost use Rattle.canonical_order.specs.Claims.{HasBuffer, entry_of};
-ghost use Rattle.search_core.specs.Endings.{IsLeastEnd, end_of};
+ghost use Rattle.conflicts.specs.Ends.{end_of};
+ghost use Rattle.search_core.specs.Endings.{IsLeastEnd};
 
 use canonical_order::Lows;
 

@@ -27,19 +27,14 @@ impl Model for Learned {
 
 impl Learned {
     /// No lines, for a search of the instance at the capacity.
-    pub(crate) fn new(
-        alloc: Global,
-        instance: &Instance,
-        capacity: u64,
-    ) -> Result<Learned, NoMemory>
+    pub(crate) fn new(alloc: Global, instance: &Instance, capacity: u64) -> Learned
         requires { capacity ≤ 2 ^ 60 }
         ensures value { let count = length instance.now in
-            IfOk result (λ log.
-            log ≡ record { count = count; capacity = capacity; lines = [] }) }
-        ensures belongs { IfOk result (Belongs instance.now) }
+            result ≡ record { count = count; capacity = capacity; lines = [] } }
+        ensures belongs { Belongs instance.now result }
     {
         let lemmas = Lemmas::new(Log::new(alloc, instance, capacity));
-        Ok(Learned { lemmas })
+        Learned { lemmas }
     }
 
     /// The log.

@@ -50,7 +50,7 @@ pub(crate) fn search_part(
     ensures found { IfOk result (IsPiece task.now.instance.now task.now.capacity members.now) }
 {
     let _count = task.instance.len();
-    let mut log = Learned::new(alloc, task.instance, task.capacity)?;
+    let mut log = Learned::new(alloc, task.instance, task.capacity);
     match search(alloc, task, &mut log, meter, sections, members)? {
         Found::Seats(seats) => Ok(Piece::Seats(seats)),
         Found::Line(end) => match log.into_log().close(task.instance, end) {

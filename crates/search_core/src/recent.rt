@@ -18,8 +18,8 @@ const KEPT: usize = 8;
 /// The number of no line.
 const NO_LINE: u64 = u64::MAX;
 
-/// Whether the line of that number, if the log has it, covers the child by b of the claim of the
-/// levels.
+/// Yes only where the log has the line of that number, and it covers the child by b of the claim of
+/// the levels.
 fn is_child_covered_by(log: &Log, instance: &Instance, levels: &Levels, b: u32, k: u64) -> bool
     requires count { length levels.now ≡ length instance.now }
     requires b_in { 0 < slice_index levels.now b }

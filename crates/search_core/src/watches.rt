@@ -29,8 +29,8 @@ fn has(claim: &Claim, pair: (u32, u64)) -> bool
     }
 }
 
-/// Whether the pair is a bound of k that the claim of the levels does not meet, though it has the
-/// buffer.
+/// Yes only where the pair is a bound of k that the claim of the levels does not meet, though it has
+/// the buffer.
 fn is_unmet(k: &Claim, levels: &Levels, pair: (u32, u64)) -> bool
     ensures { result ≡ true → IsUnmet k.now levels.now pair }
 {
@@ -41,8 +41,8 @@ fn is_unmet(k: &Claim, levels: &Levels, pair: (u32, u64)) -> bool
     has(k, pair)
 }
 
-/// Whether the line of that number covers the claim of the levels. If not, its watch is then one of
-/// its bounds, which the claim does not meet if it has all buffers of the line.
+/// Yes only where the line of that number covers the claim of the levels. If no, its watch is then
+/// one of its bounds, which the claim does not meet if it has all buffers of the line.
 fn covers(table: &mut WatchTable, log: &Log, levels: &Levels, k: u64) -> Result<bool, NoMemory>
     requires in_log { k < length log.now.lines }
     requires in_table { k < length table.old.watches }
@@ -152,8 +152,9 @@ fn find_in(
 /// For each line of a log one bound of its claim, the watch, and for each buffer the lines that
 /// watch a bound of it. As long as a claim does not meet the watch of a line, the line does not
 /// cover it. So where the search goes down to a child, only the lines whose watch the child meets
-/// and the claim above does not are tried, and each of these gets another watch. Going back up
-/// undoes nothing, since lows fall on the way. Contracts see the watches by line.
+/// and the claim above does not are tried: such a line covers the child, gets another watch, or has
+/// a buffer that the child has not and keeps its watch. Going back up undoes nothing, since lows
+/// fall on the way. Contracts see the watches by line.
 #[derive(Drop)]
 pub(crate) struct Watches {
     table: WatchTable,
@@ -177,8 +178,8 @@ impl Watches {
         Ok(Watches { table })
     }
 
-    /// A line that covers the claim of the levels, looked for from number `asked` on. If there is
-    /// none, and the first `asked` lines are watched there, then all are. As many first lines as
+    /// A line that covers the claim of the levels, looked for from number `asked` on. If none is
+    /// found, and the first `asked` lines are watched there, then all are. As many first lines as
     /// are watched at a claim above stay watched there.
     pub(crate) fn ask(
         &mut self,
@@ -204,8 +205,9 @@ impl Watches {
         Ok(None)
     }
 
-    /// A line that covers the claim of the levels `now`. The claim of the levels `before` is above
-    /// it, and there all lines are watched; then all are watched at the claim, if there is none.
+    /// A line that covers the claim of the levels `now`. If none is found, the claim of the levels
+    /// `before` is above it, and all lines are watched there, then all are watched at the claim. As
+    /// many first lines as are watched at a claim above stay watched there.
     pub(crate) fn find(
         &mut self,
         log: &Log,

@@ -35,7 +35,7 @@ returns-in-Ok-clause-found c =
       found.0,
       refutes_part c.args.task.now.instance.now c.args.task.now.capacity c.args.members.now c.search.new.log
           c.in-Ok.closed c.in-Line.end c.requires.part c.in_ok-seats.ensures.log
-          (rw (ap (λ (log : OpenLog). log.lines) c.in_ok-log.ensures.value)
+          (rw (ap (λ (log : OpenLog). log.lines) c.new-log.ensures.value)
           at c.in_ok-seats.ensures.grown) (rw c.into_log.ensures at c.in-Ok.ensures.closed) c.in-Ok.ensures.accepted,
     )
 
@@ -43,6 +43,6 @@ pub returns-in-Ok-clause-counted : goal.returns-in-Ok-clause-counted
 returns-in-Ok-clause-counted c =
     let q = rw c.into_log.ensures at c.in-Ok.ensures.closed in
     let n = ap (λ (log : Log). length log.lines) q in
-    rw n (counted_from_nothing c.args.meter.now c.search.new.meter (length c.in_ok-log.log.lines)
+    rw n (counted_from_nothing c.args.meter.now c.search.new.meter (length c.new-log.result.lines)
     (length c.search.new.log.lines) c.in_ok-seats.ensures.counted
-    (ap (λ (log : OpenLog). length log.lines) c.in_ok-log.ensures.value))
+    (ap (λ (log : OpenLog). length log.lines) c.new-log.ensures.value))
