@@ -135,8 +135,8 @@ fn ease_cases(
 /// An Over line keeps just the buffers that it stacks, all with the height for their bound, and has
 /// the least height, in bytes, from which they reach above the log's capacity; its moment and its
 /// modulus stay. A Cases line keeps buffers of the given one, with bounds as low as its cites are
-/// seen to allow; how many and how low is no clause. It has a below cite or a twin cite wherever one
-/// is legal in its claim.
+/// seen to allow; how many and how low is no clause. It has a below cite or a twin cite wherever
+/// one is legal in its claim.
 ///
 /// The log is of the instance, and the numbers of the line are within the limits of `Log::push`.
 pub fn ease(alloc: Global, instance: &Instance, log: &Log, line: Line) -> Result<Line, NoMemory>

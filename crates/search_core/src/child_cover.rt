@@ -24,8 +24,8 @@ fn raised(instance: &Instance, levels: &Levels, b: u32, c: u32) -> u64
     if low < least { least } else { low }
 }
 
-/// Yes only where the child by b meets the bound of c. No low falls in a child, and no bound when it
-/// is rounded up, so a bound that the claim itself meets needs no look at the buffers.
+/// Yes only where the child by b meets the bound of c. No low falls in a child, and no bound when
+/// it is rounded up, so a bound that the claim itself meets needs no look at the buffers.
 fn meets_in_child(instance: &Instance, levels: &Levels, b: u32, c: u32, bound: u64) -> bool
     requires count { length levels.now ≡ length instance.now }
     requires b_in { 0 < slice_index levels.now b }

@@ -8,7 +8,7 @@ use prune_rules::are_alike;
 use std::alloc::Global;
 use std::marker::Model;
 
-/// No only where the buffer has no twin, at whatever lows: a twin is like it, and of smaller number.
+/// No only where the buffer has no twin, at whatever lows. A twin is like it and comes before it.
 fn follows_its_like(instance: &Instance, b: u32) -> bool
     requires { b < length instance.now }
     ensures { result ≡ false → HasNoTwin instance.now b }
@@ -21,9 +21,9 @@ fn follows_its_like(instance: &Instance, b: u32) -> bool
     false
 }
 
-/// For each buffer of an instance whether it may have a twin: no only where it has none, at whatever
-/// lows. What may have one is meant to be what has a buffer of smaller number with its size,
-/// alignment and moments; no clause says so. Contracts see the marks by buffer.
+/// For each buffer of an instance whether it may have a twin: no only where it has none, at
+/// whatever lows. Marked are meant to be just those that have a buffer of smaller number with their
+/// size, alignment and moments; no clause says so. Contracts see the marks by buffer.
 #[derive(Drop)]
 pub(crate) struct TwinMarks {
     marks: Vec<bool>,

@@ -29,8 +29,8 @@ fn has(claim: &Claim, pair: (u32, u64)) -> bool
     }
 }
 
-/// Yes only where the pair is a bound of k that the claim of the levels does not meet, though it has
-/// the buffer.
+/// Yes only where the pair is a bound of k that the claim of the levels does not meet, though it
+/// has the buffer.
 fn is_unmet(k: &Claim, levels: &Levels, pair: (u32, u64)) -> bool
     ensures { result ≡ true → IsUnmet k.now levels.now pair }
 {
