@@ -14,5 +14,6 @@ pub mod PartLists
 pub mod Totals
 pub mod Plans
 mod LineTests
+mod ExampleClaimFacts
 mod ExampleLogFacts
 mod ExampleLeanFacts

@@ -8,7 +8,8 @@ ghost use Rattle.dsa_terms.specs.Plans.{after_plan, hunt, plan};
 ghost use Rattle.dsa_terms.specs.Search.{choices, first, first_some, height, is_tall, most_work, not_excluded, plain_first, seated, work, work_through};
 ghost use Rattle.std.specs.List.{list_any};
 
-/// The first placement of the plain search, which takes every buffer.
+/// The plain search, which takes every buffer, answers none exactly where the claim is refuted, and
+/// else a placement.
 pub fn plain_first_is_complete()
     ensures none { (I : Instance) (C : ℕ) (l : Claim) → IsInstance I → IsClaim I l →
         (plain_first I C l ≡ None) ↔ IsRefuted I C l }
@@ -31,7 +32,8 @@ pub fn first_stays()
         first I C l ≡ Some seats → height I seats ≤ D → D ≤ C → first I D l ≡ Some seats }
 {}
 
-/// The work of a claim of so many buffers, and of an instance.
+/// The work of a claim of k buffers is at least 1 and at most N(k), and that of an instance of n
+/// buffers at most N(n), with N(0) = 1 and N(k) = 1 + k N(k - 1).
 pub fn work_is_bounded()
     ensures whole { (I : Instance) (C : ℕ) → whole_work I C ≤ most_work (length I) }
     ensures claim { (I : Instance) (C : ℕ) (l : Claim) → IsClaim I l →

@@ -44,7 +44,7 @@ do_share b c = some_before b.upper (λ t. is_live b t && is_live c t)
 abbrev pub HaveSameMoments : Buffer → Buffer → Type 0
 HaveSameMoments b c = (t : ℕ) → is_live b t ≡ is_live c t
 
--- whether they are; a moment that tells them apart is before the upper of one of them
+-- whether b and c are live at the same moments; a moment that tells them apart is before the upper of one of them
 unfoldable pub have_same_moments : Buffer → Buffer → Bool
 have_same_moments b c = not (some_before (max b.upper c.upper) (λ t. not (beq (is_live b t) (is_live c t))))
 
