@@ -1,4 +1,4 @@
--- Levels: how high a bound may be, by buffer, that a claim meets.
+-- Levels: by buffer one more than its up in a claim, and 0 where it is not in it; a bound below it is met.
 use Rattle.std.specs.Prelude.{◌≡◌, ℕ, ◌+◌, ◌<◌, List, [], ◌∷◌, length, slice_index}
 use Rattle.std.specs.Coded.{Coded-set, Unit-prop, coded_ℕ, le_prop, ×_prop}
 use Rattle.dsa_terms.specs.Buffers.{Instance}

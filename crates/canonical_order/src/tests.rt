@@ -1,7 +1,7 @@
 //! Each call that takes memory, with memory.
 
 use crate::{Claim, LowTable, Lows, View, child, step};
-use dsa_model::{Buffer, Instance};
+use dsa_model::{BUFFER_LIMIT, Buffer, Instance};
 
 #[test]
 fn the_child_of_a_whole_claim_is_made(rt: HostRuntime) {
@@ -9,7 +9,7 @@ fn the_child_of_a_whole_claim_is_made(rt: HostRuntime) {
     let mut three = Instance::new(alloc);
     for alignment in [2, 2, 1] {
         let buffer = Buffer::new(alloc, 0, 1, 3 - alignment, alignment, &[]).expect(&rt, "memory");
-        if three.len() < 512 {
+        if three.len() < BUFFER_LIMIT {
             three.push(buffer).expect(&rt, "memory");
         }
     }
