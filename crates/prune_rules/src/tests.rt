@@ -2,7 +2,7 @@
 
 use crate::{are_alike, dominated, is_below, is_twin, twin_before};
 use canonical_order::{Claim, View};
-use dsa_model::{Buffer, Instance};
+use dsa_model::{BUFFER_LIMIT, Buffer, Instance};
 
 #[test]
 fn a_twin_stands_before_the_second_of_two_alike(rt: HostRuntime) {
@@ -10,7 +10,7 @@ fn a_twin_stands_before_the_second_of_two_alike(rt: HostRuntime) {
     let mut three = Instance::new(alloc);
     for alignment in [2, 2, 1] {
         let buffer = Buffer::new(alloc, 0, 1, 3 - alignment, alignment, &[]).expect(&rt, "memory");
-        if three.len() < 512 {
+        if three.len() < BUFFER_LIMIT {
             three.push(buffer).expect(&rt, "memory");
         }
     }
