@@ -12,8 +12,9 @@ use dsa_model::NoMemory;
 /// Decides capacities of one instance, the subject. `spends` counts the answers Spent, and `units`
 /// what the calls have used. `gives`, `most` and `turn` are functions of the subject: which answers
 /// come at a capacity, how many units one call takes at most, and the height of the layout that
-/// comes, if one does. `charge` says how many units an answer takes at least, by the subject and
-/// the allowance.
+/// comes, if one does. `allowance` is a number that no call changes: after an answer Spent at least
+/// so many units are used. `charge` says how many units an answer takes at least, by the subject
+/// and the allowance.
 pub trait Decider {
     ghost subject: { Self → Instance };
 

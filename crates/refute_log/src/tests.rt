@@ -2,7 +2,7 @@
 
 use crate::{Cite, Cites, Line, Log, Reason};
 use canonical_order::Claim;
-use dsa_model::{Buffer, Fail, Instance};
+use dsa_model::{BUFFER_LIMIT, Buffer, Fail, Instance};
 
 #[test]
 fn a_log_takes_legal_lines_and_closes_at_a_whole_claim(rt: HostRuntime) {
@@ -10,7 +10,7 @@ fn a_log_takes_legal_lines_and_closes_at_a_whole_claim(rt: HostRuntime) {
     let mut three = Instance::new(alloc);
     for alignment in [2, 2, 1] {
         let buffer = Buffer::new(alloc, 0, 1, 3 - alignment, alignment, &[]).expect(&rt, "memory");
-        if three.len() < 512 {
+        if three.len() < BUFFER_LIMIT {
             three.push(buffer).expect(&rt, "memory");
         }
     }
