@@ -45,6 +45,6 @@ FitsFrom load C (Some H) = H + load ≤ C
 unfoldable pub over : Instance → SectionList → Claim → ℕ → ℕ → Option (ℕ × ℕ)
 over I S l C s = over_at (start_of S s) (free_load I S l s) C (least_up I S l s)
 
--- the same of the earliest section for which there is one
+-- the start and the least up of the earliest section whose members in the claim pass C on top of that up
 unfoldable pub overloaded : Instance → SectionList → Claim → ℕ → Option (ℕ × ℕ)
 overloaded I S l C = first_some (over I S l C) (numbers (count_of S))

@@ -7,7 +7,7 @@ ghost use Rattle.lifetime.specs.SectionList.{AreSectionsOf};
 
 use crate::Skyline;
 use canonical_order::Lows;
-use dsa_model::{Buffer, BufferFault, Fail, Instance, NoMemory};
+use dsa_model::{BUFFER_LIMIT, Buffer, BufferFault, Fail, Instance, NoMemory};
 use lifetime::Sections;
 use std::alloc::{AllocError, Global};
 use std::test;
@@ -74,7 +74,7 @@ fn three(alloc: Global) -> Result<Instance, Fail<BufferFault>> {
     let mut instance = Instance::new(alloc);
     for alignment in [2u32, 2, 1] {
         let buffer = Buffer::new(alloc, 0, 1, 3 - alignment as u64, alignment as u64, &[])?;
-        if instance.len() < 512 {
+        if instance.len() < BUFFER_LIMIT {
             instance.push(buffer)?;
         }
     }
@@ -129,7 +129,7 @@ fn sixty(alloc: Global, state: &mut u64) -> Result<Instance, Fail<BufferFault>> 
         let size = 1 + next(state, 9) as u64;
         let alignment = 1 + next(state, 4) as u64;
         let buffer = Buffer::new(alloc, lower, upper, size, alignment, &[])?;
-        if instance.len() < 512 {
+        if instance.len() < BUFFER_LIMIT {
             instance.push(buffer)?;
         }
     }
