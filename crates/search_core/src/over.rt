@@ -20,8 +20,8 @@ use skyline::Skyline;
 use std::alloc::Global;
 
 /// The Over line of a tall buffer of the last claim, or else of its buffers at the start of a
-/// section that is too full; none where no buffer is tall and no section is too full. The claim is
-/// the last one with its lows as bounds, and the levels are those of both.
+/// section that is too full; none only where no buffer is tall. The claim is the last one with its
+/// lows as bounds, and the levels are those of both.
 pub(crate) fn over_line(
     alloc: Global,
     task: &Task,
