@@ -12,7 +12,7 @@ use Rattle.dsa_terms.specs.Orders.{falls_by, orders, rises_by}
 use Rattle.dsa_terms.specs.Parts.{is_cut, last_cut, part_of, parts, searched, whole_work}
 use Rattle.dsa_terms.specs.Plans.{hunt, layout_height, plan}
 use Rattle.dsa_terms.specs.Search.{comes_before, first, is_tall, work}
-use Rattle.dsa_terms.specs.Starts.{best_start, lowest_place, planned, starts}
+use Rattle.dsa_terms.specs.Starts.{best_start, hunted, lowest_place, planned, starts}
 use Rattle.dsa_terms.proofs.Examples.{small_below, two_of_four}
 use Rattle.dsa_terms.proofs.ExamplePlanFacts.{two_of_four_plan_at_6, two_of_four_plan_at_7}
 use Rattle.dsa_start_laws.proofs.Planned.{planned_is_layout}
@@ -113,8 +113,8 @@ module _ (b : Bracket) where
 
 -- ---- least capacities
 below_work : work_of_least small_below ≡ 4
-unfolding hunt whole_work work planned plan layout_height starts orders falls_by rises_by first_fit best_fit neighbours
-    first_place first_passing best_place free_ranges stretches holds is_tighter is_free highest top do_share
+unfolding hunted hunt whole_work work planned plan layout_height starts orders falls_by rises_by first_fit best_fit
+    neighbours first_place first_passing best_place free_ranges stretches holds is_tighter is_free highest top do_share
     some_before is_live buffer searched parts part_of is_cut last_cut first is_tall comes_before ends_below is_twin
     child up step have_same_moments lower_bound highest_stack moduli moments stack counted rounded_size best_start
     lowest_place

@@ -11,7 +11,7 @@ use Rattle.dsa_terms.specs.Orders.{falls_by, orders, rises_by}
 use Rattle.dsa_terms.specs.Parts.{is_cut, last_cut, part_of, parts, searched, whole_work}
 use Rattle.dsa_terms.specs.Plans.{hunt, layout_height, plan}
 use Rattle.dsa_terms.specs.Search.{comes_before, first, is_tall, work}
-use Rattle.dsa_terms.specs.Starts.{best_start, lowest_place, planned, starts}
+use Rattle.dsa_terms.specs.Starts.{best_start, hunted, lowest_place, planned, starts}
 use Rattle.dsa_terms.proofs.Examples.{evens, small_below, two_of_four}
 use Rattle.dsa_terms.proofs.ExamplePlanFacts.{small_below_plan_at_5, two_of_four_plan_at_6, two_of_four_plan_at_7}
 use Rattle.dsa_search_laws.proofs.Logs.{accepted_is_infeasible}
@@ -27,8 +27,8 @@ use Rattle.planner.specs.Openings.{AreTooFew, IsOpen, IsSpentAt}
 -- ---- steps
 -- five steps are too few for three buffers, six are enough, and without a number there are never too few
 evens_work : work_of_least evens ≡ 6
-unfolding hunt whole_work work planned plan layout_height starts orders falls_by rises_by first_fit best_fit neighbours
-    first_place first_passing best_place free_ranges stretches holds is_tighter is_free highest top do_share
+unfolding hunted hunt whole_work work planned plan layout_height starts orders falls_by rises_by first_fit best_fit
+    neighbours first_place first_passing best_place free_ranges stretches holds is_tighter is_free highest top do_share
     some_before is_live buffer searched parts part_of is_cut last_cut first is_tall comes_before ends_below is_twin
     child up step have_same_moments lower_bound highest_stack moduli moments stack counted rounded_size best_start
     lowest_place
@@ -44,9 +44,9 @@ no_number : (work : ℕ) → AreTooFew None work → ⊥
 no_number work h = let g = h.given in cc
 
 -- the start's ends are left only where its halving is not done
-halving_evens : hunt (starts evens) evens 4 5 ≡ 6
-unfolding hunt whole_work work planned plan layout_height starts orders falls_by rises_by first_fit best_fit neighbours
-    first_place first_passing best_place free_ranges stretches holds is_tighter is_free highest top do_share
+halving_evens : hunted evens 4 5 ≡ 6
+unfolding hunted hunt whole_work work planned plan layout_height starts orders falls_by rises_by first_fit best_fit
+    neighbours first_place first_passing best_place free_ranges stretches holds is_tighter is_free highest top do_share
     some_before is_live buffer searched parts part_of is_cut last_cut first is_tall comes_before ends_below is_twin
     child up step have_same_moments
 halving_evens = refl

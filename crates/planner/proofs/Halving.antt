@@ -6,8 +6,8 @@ use Rattle.std.proofs.lemmas.Bool.Decides.{nat_tests}
 use Rattle.dsa_terms.specs.Bounds.{lower_bound}
 use Rattle.dsa_terms.specs.Buffers.{Instance}
 use Rattle.dsa_terms.specs.Parts.{whole_work}
-use Rattle.dsa_terms.specs.Plans.{hunt, layout_height}
-use Rattle.dsa_terms.specs.Starts.{best_start, starts}
+use Rattle.dsa_terms.specs.Plans.{layout_height}
+use Rattle.dsa_terms.specs.Starts.{best_start, hunted}
 use Rattle.dsa_model.specs.Buffer.{IsBuffer}
 use Rattle.dsa_model.proofs.Instances.{sound_instance}
 use Rattle.search_core.specs.Courses.{at_start, Course}
@@ -44,7 +44,7 @@ has_halved I steps budget start before used (Open b) buffers h e q n all short =
     let z : before.units.used ≡ 0 = ap (λ (v : Course). v.units.used) e in
     let P : Option ℕ → Type 0 = λ o. allowance_of o ≤ used in
     let below : b.high ≤ layout_height I (best_start I) = let l = h.high in let k = n.high in omega (arith, l, k) in
-    short_by_plan steps used _ (hunt (starts I) I b.low b.high) _ (work_of_least I)
+    short_by_plan steps used _ (hunted I b.low b.high) _ (work_of_least I)
     (whole_work I ((b.low + b.high) / 2)) (subst P m all) (same_hunt I b.low b.high s below) (first_work I start s h)
     (omega (arith, z, short))
 

@@ -4,7 +4,7 @@ use Rattle.std.specs.Prelude.{min, option_map}
 use Rattle.dsa_terms.specs.Buffers.{Instance, IsInstance}
 use Rattle.dsa_terms.specs.Parts.{searched, whole_work}
 use Rattle.dsa_terms.specs.Plans.{after_plan, hunt, layout_height, plan}
-use Rattle.dsa_terms.specs.Starts.{best_start, planned, starts}
+use Rattle.dsa_terms.specs.Starts.{best_start, hunted, planned, starts}
 use Rattle.dsa_search_laws.proofs.Parts.{searched_is_layout}
 use Rattle.dsa_search_laws.proofs.Plans.{hunt_equation, hunt_met, layout_under}
 use Rattle.refute_log.specs.Hunts as decider
@@ -58,5 +58,6 @@ same_within (suc n) I a b s le few = elim (lt_or_ge a b) [
 ]
 
 pub same_hunt : (I : Instance) (a b : ℕ) → IsInstance I → b ≤ layout_height I (best_start I) →
-    decider.hunt (whole_work I) (turn_of I) a b ≡ hunt (starts I) I a b
+    decider.hunt (whole_work I) (turn_of I) a b ≡ hunted I a b
+unfolding hunted
 same_hunt I a b s le = same_within (b - a) I a b s le (omega arith)

@@ -10,7 +10,7 @@ use Rattle.search_core.specs.Meters.{AreMore, AreMoreBy, AreWithin, Units, count
 use Rattle.search_core.specs.Outcomes.{LinesAreCounted, UnlessSpent}
 use Rattle.planner.specs.FirstStart.{start_within}
 use Rattle.planner.specs.Openings.{AreGiven}
-use Rattle.planner.specs.Searches.{steps_of}
+use Rattle.planner.specs.Searches.{search_steps}
 use Rattle.planner.proofs.BestStart.{past_starts}
 use Rattle.planner.proofs.Opening.{none_high}
 
@@ -41,7 +41,7 @@ none_given (Some k) = omega arith
 pub search_keeps : (I : Instance) (steps budget : Option ℕ) (before after : Course) (d : Decided) →
     before ≡ at_start I budget → budget ≡ steps → allowance_of after.units.most ≡ allowance_of before.units.most →
     AreWithin after.units → (0 < length before.subject → UnlessSpent (AreMore before.units after.units) d) →
-    LinesAreCounted before.units after.units d → 0 < length I → AreGiven steps (steps_of d)
+    LinesAreCounted before.units after.units d → 0 < length I → AreGiven steps (search_steps d)
 search_keeps I steps budget before after (Layout offsets) e q same within taken lines some =
     let s = ap (λ (v : Course). length v.subject) e in
     are_given I steps budget before after 1 e q same within (taken (omega (arith, s, some)))

@@ -13,8 +13,8 @@ use Rattle.dsa_terms.proofs.ExamplePlanFacts.{small_below_plan_at_4}
 use Rattle.dsa_start_laws.proofs.Planned.{planned_is_layout}
 use Rattle.min_capacity.specs.declared.brackets.Bracket.{Bracket}
 use Rattle.refute_log.specs.declared.decided.Decided.TheVariants as decided
-use Rattle.planner.specs.Decisions.{searched_steps}
-use Rattle.planner.specs.Searches.{EndsSearch, steps_of}
+use Rattle.planner.specs.Decisions.{decision_steps}
+use Rattle.planner.specs.Searches.{EndsSearch, search_steps}
 use Rattle.planner.specs.declared.decision.Decision.TheVariants as decision
 use Rattle.planner.proofs.ExampleLeastFacts.{below_sound, four_stacked, four_steps, line_refutes}
 
@@ -61,20 +61,20 @@ never_spent_without_number : EndsSearch small_below 4 None decided.Spent → ⊥
 never_spent_without_number h = let g = h.given in absurd cc
 
 -- ---- steps
-one_for_a_layout : (offsets : Vec ℕ) → steps_of (decided.Layout offsets) ≡ 1
+one_for_a_layout : (offsets : Vec ℕ) → search_steps (decided.Layout offsets) ≡ 1
 one_for_a_layout offsets = refl
 
-five_for_five_lines : steps_of (decided.Refuted sample) ≡ 5
+five_for_five_lines : search_steps (decided.Refuted sample) ≡ 5
 five_for_five_lines = refl
 
-none_when_spent : steps_of decided.Spent ≡ 0
+none_when_spent : search_steps decided.Spent ≡ 0
 none_when_spent = refl
 
-one_step_for_a_layout : (offsets : Vec ℕ) → searched_steps (decision.Layout offsets) ≡ 1
+one_step_for_a_layout : (offsets : Vec ℕ) → decision_steps (decision.Layout offsets) ≡ 1
 one_step_for_a_layout offsets = refl
 
-five_steps_for_five_lines : searched_steps (decision.Refuted sample) ≡ 5
+five_steps_for_five_lines : decision_steps (decision.Refuted sample) ≡ 5
 five_steps_for_five_lines = refl
 
-no_steps_where_it_stays_open : (b : Bracket) → searched_steps (decision.Open b) ≡ 0
+no_steps_where_it_stays_open : (b : Bracket) → decision_steps (decision.Open b) ≡ 0
 no_steps_where_it_stays_open b = refl

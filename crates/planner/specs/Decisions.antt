@@ -32,7 +32,7 @@ IsByBound I C (Refuted log) = IsBoundLog I C log
 IsByBound I C (Open b) = ⊥
 
 -- how many steps a search took for the decision at least: one for a layout, and one for each line of a log
-abbrev pub searched_steps : Decision → ℕ
-searched_steps (Layout offsets) = 1
-searched_steps (Refuted log) = length log.lines
-searched_steps (Open b) = 0
+abbrev pub decision_steps : Decision → ℕ
+decision_steps (Layout offsets) = 1
+decision_steps (Refuted log) = length log.lines
+decision_steps (Open b) = 0

@@ -6,8 +6,8 @@ use Rattle.dsa_terms.specs.Buffers.{Instance}
 use Rattle.dsa_terms.specs.Layouts.{IsLayout, IsLeast}
 use Rattle.dsa_terms.specs.Logs.{Log}
 use Rattle.dsa_terms.specs.Parts.{whole_work}
-use Rattle.dsa_terms.specs.Plans.{hunt, layout_height}
-use Rattle.dsa_terms.specs.Starts.{best_start, planned, starts}
+use Rattle.dsa_terms.specs.Plans.{layout_height}
+use Rattle.dsa_terms.specs.Starts.{best_start, hunted, planned}
 use Rattle.min_capacity.specs.declared.brackets.Bracket.{Bracket}
 use Rattle.min_capacity.specs.declared.brackets.Least.{Least}
 use Rattle.min_capacity.specs.declared.brackets.Least.TheVariants.{Exact, Open}
@@ -32,7 +32,7 @@ pub record IsExactly (I : Instance) (b : Bracket) : Type 0 where
 
 -- the work of halving from the lower bound and the height of the best start on
 abbrev pub work_of_least : Instance → ℕ
-work_of_least I = hunt (starts I) I (lower_bound I) (layout_height I (best_start I))
+work_of_least I = hunted I (lower_bound I) (layout_height I (best_start I))
 
 -- the least capacity is open, and its searches were cut short
 pub record IsOpenAfter (I : Instance) (steps : Option ℕ) (b : Bracket) : Type 0 where
@@ -54,7 +54,7 @@ abbrev pub HasHalved : Instance → Option ℕ → Least → Type 0
 HasHalved I steps (Exact b) = ⊤
 HasHalved I steps (Open b) =
     IfSome steps (λ k.
-    k + hunt (starts I) I b.low b.high < work_of_least I + whole_work I ((b.low + b.high) / 2))
+    k + hunted I b.low b.high < work_of_least I + whole_work I ((b.low + b.high) / 2))
 
 -- the layout is the best start, or one of the steps at least went into it
 abbrev pub IsLayoutWithin : Instance → ℕ → List ℕ → Type 0

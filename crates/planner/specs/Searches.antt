@@ -13,8 +13,8 @@ EndsSearch I C steps (Layout offsets) = IsAnswered (searched I C) I C offsets.it
 EndsSearch I C steps (Refuted log) = IsRefutation I C log
 EndsSearch I C steps Spent = AreTooFew steps (whole_work I C)
 
--- how many steps the answer took at least: one for a layout, and one for each line of a log
-abbrev pub steps_of : Decided → ℕ
-steps_of (Layout offsets) = 1
-steps_of (Refuted log) = length log.lines
-steps_of Spent = 0
+-- how many steps the search took for the answer at least: one for a layout, and one for each line of a log
+abbrev pub search_steps : Decided → ℕ
+search_steps (Layout offsets) = 1
+search_steps (Refuted log) = length log.lines
+search_steps Spent = 0

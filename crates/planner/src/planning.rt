@@ -3,7 +3,7 @@
 ghost use Rattle.std.specs.Prelude.{◌≡◌, ◌<◌, ◌≤◌, ◌^◌, ◌↔◌, None, IfOk};
 ghost use Rattle.dsa_terms.specs.Bounds.{lower_bound};
 ghost use Rattle.dsa_terms.specs.Layouts.{IsFeasible, IsInfeasible};
-ghost use Rattle.planner.specs.Decisions.{Decides, IsByBound, IsLaidOut, IsRefuted, searched_steps};
+ghost use Rattle.planner.specs.Decisions.{Decides, IsByBound, IsLaidOut, IsRefuted, decision_steps};
 ghost use Rattle.planner.specs.FirstStart.{IsBestStart, start_within};
 ghost use Rattle.planner.specs.Openings.{AreGiven};
 
@@ -35,7 +35,7 @@ fn decide_past_starts(
     ensures bound { capacity < lower_bound instance.now →
         IfOk result (IsByBound instance.now capacity) }
     ensures steps { lower_bound instance.now ≤ capacity →
-        IfOk result (λ decision. AreGiven steps (searched_steps decision)) }
+        IfOk result (λ decision. AreGiven steps (decision_steps decision)) }
 {
     let _count = instance.len();
     let sections = Sections::build(alloc, instance)?;
@@ -83,7 +83,7 @@ pub fn plan(
         IfOk result (IsByBound instance.now capacity) }
     ensures steps { start_within instance.now capacity ≡ None →
         lower_bound instance.now ≤ capacity →
-        IfOk result (λ decision. AreGiven steps (searched_steps decision)) }
+        IfOk result (λ decision. AreGiven steps (decision_steps decision)) }
 {
     let _count = instance.len();
     match try_starts(alloc, instance, capacity)? {

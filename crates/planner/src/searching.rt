@@ -3,7 +3,7 @@
 ghost use Rattle.std.specs.Prelude.{◌≡◌, ◌<◌, ◌≤◌, ◌^◌, length, IfOk, IfSome};
 ghost use Rattle.lifetime.specs.SectionList.{AreSectionsOf};
 ghost use Rattle.planner.specs.Openings.{AreGiven};
-ghost use Rattle.planner.specs.Searches.{EndsSearch, steps_of};
+ghost use Rattle.planner.specs.Searches.{EndsSearch, search_steps};
 
 use dsa_model::{Instance, NoMemory};
 use lifetime::Sections;
@@ -36,7 +36,7 @@ pub(crate) fn search(
     requires limit { capacity ≤ 2 ^ 60 }
     ensures value { IfOk result (EndsSearch instance.now capacity steps) }
     ensures steps { 0 < length instance.now →
-        IfOk result (λ d. AreGiven steps (steps_of d)) }
+        IfOk result (λ d. AreGiven steps (search_steps d)) }
 {
     let _count = instance.len();
     let parts = parts(alloc, instance)?;
