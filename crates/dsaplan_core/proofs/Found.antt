@@ -8,7 +8,8 @@ use Rattle.csv_instance.specs.Layout.{layout_text}
 use Rattle.log_text.specs.Faults.{IsTextOf}
 use Rattle.log_text.specs.Text.{log_text, raw_log_of}
 use Rattle.min_capacity.specs.declared.brackets.Bracket.{Bracket}
-use Rattle.planner.specs.LeastCapacity.{AreWithinSteps, IsExactly, IsOpenAfter, IsWithinSteps, RefutesBelow}
+use Rattle.min_capacity.specs.declared.brackets.Least.TheVariants.{Open}
+use Rattle.planner.specs.LeastCapacity.{AreWithinSteps, HasHalved, IsExactly, IsOpenAfter, IsWithinSteps, RefutesBelow}
 use Rattle.planner.specs.Openings.{IsOpen}
 use Rattle.command_words.specs.Options.{Word}
 use Rattle.command_words.specs.Commands.{Least, command_of}
@@ -45,22 +46,28 @@ module _ (old new : FilesSeen) (input output log : Word) (steps : Option ℕ) (t
   found_prepared found within its_log (Err e) puts readable = tt
 
   -- both files of a least capacity that the steps leave open
-  pub open_prepared : IsOpenAfter I steps b → IsWithinSteps I steps b → b.log ≡ Some refutation →
+  pub open_prepared : IsOpenAfter I steps b → IsWithinSteps I steps b → HasHalved I steps (Open b) →
+      b.log ≡ Some refutation →
       (r : Result Prepared NoMemory) →
       IfOk r (PutsBoth output (layout_text table b.layout.items) log (log_text refutation) (status.Open b.low b.high)) →
       IfOk r (λ p. IsTextOf (log_text refutation) (raw_log_of refutation)) →
       IfOk r (λ p. (words : List Word) → command_of words ≡ Ok (Least input output log steps) →
       Prepares words old new p)
-  open_prepared found within its_log (Ok p) puts readable =
+  open_prepared found within halved its_log (Ok p) puts readable =
       writes_open old new (Least input output log steps) input output log table I b.low b.high b.layout.items
       refutation p refl refl refl given
       (subst (λ k. MayStayOpen (Least input output log k) I b.low b.high) (sym found.too_few.given)
-      (record { few = found.too_few.below_work; from_bound = found.from_bound; to_best = found.to_best }))
+      (record {
+        few = found.too_few.below_work;
+        from_bound = found.from_bound;
+        to_best = found.to_best;
+        halved = subst (λ k. HasHalved I k (Open b)) found.too_few.given halved;
+      }))
       (subst (IsOpen I b.low b.high b.layout.items) (same_log b.log found.below_log refutation found.its_log its_log)
       found.stays_open)
       (λ some. absurd cc) (λ some. absurd cc)
       (subst (AreWithinSteps I steps b.low b.layout.items) its_log within) readable puts
-  open_prepared found within its_log (Err e) puts readable = tt
+  open_prepared found within halved its_log (Err e) puts readable = tt
 
 -- the layout of the least capacity 0, which has no log
 pub writes_zero : (old : FilesSeen) (input output log : Word) (steps : Option ℕ) (table : List Record)

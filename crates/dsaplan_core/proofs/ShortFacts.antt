@@ -1,5 +1,5 @@
 -- Steps that are too few, and steps that are enough, for two buffers of which the starts come to 5 and the bound to 4.
-use Rattle.std.proofs.Common.{◌≡◌, ◌++◌, ℕ, List, [], ◌∷◌, Some, None, Ok, codes, refl, sym, ap, subst, lit<, lit≤, arith}
+use Rattle.std.proofs.Common.{◌≡◌, ◌+◌, ◌/◌, ◌++◌, ℕ, List, [], ◌∷◌, Some, None, Ok, codes, refl, sym, ap, subst, lit<, lit≤, arith}
 use Rattle.std.specs.FinMap.{empty, insert}
 use Rattle.csv.specs.Machine.{next_record}
 use Rattle.csv.specs.Reading.{records_from, strip_bom}
@@ -13,7 +13,7 @@ use Rattle.dsa_terms.specs.Orders.{falls_by, orders, rises_by}
 use Rattle.dsa_terms.specs.Parts.{is_cut, last_cut, part_of, parts, searched, whole_work}
 use Rattle.dsa_terms.specs.Plans.{hunt, layout_height, plan}
 use Rattle.dsa_terms.specs.Search.{comes_before, first, is_tall, work}
-use Rattle.dsa_terms.specs.Starts.{best_start, starts}
+use Rattle.dsa_terms.specs.Starts.{best_start, hunted, starts}
 use Rattle.dsa_terms.proofs.Examples.{small_below}
 use Rattle.dsa_outside.specs.Held.{FileMap}
 use Rattle.csv_instance.specs.Parse.{parse}
@@ -49,22 +49,25 @@ below_the_bound k L H h =
     let e = below_bound in let low = h.low in let at = h.not_below in omega arith
 
 -- ---- halving from 4 to 5 takes these four alone
-halving : hunt (starts small_below) small_below 4 5 ≡ 4
-unfolding hunt whole_work work plan layout_height starts orders falls_by rises_by first_fit best_fit neighbours
+pub halving : hunted small_below 4 5 ≡ 4
+unfolding hunted hunt whole_work work plan layout_height starts orders falls_by rises_by first_fit best_fit neighbours
     first_place first_passing best_place free_ranges stretches holds is_tighter is_free highest top do_share
     some_before is_live buffer searched parts part_of is_cut last_cut first is_tall comes_before ends_below is_twin
     child up step have_same_moments
 halving = refl
 
-its_hunt : hunt (starts small_below) small_below (lower_bound small_below)
-    (layout_height small_below (best_start small_below)) ≡ 4
+its_hunt : hunted small_below (lower_bound small_below) (layout_height small_below (best_start small_below)) ≡ 4
 its_hunt = rw (below_bound, best_height) halving
+
+its_middle : whole_work small_below ((4 + 5) / 2) ≡ 4
+its_middle = four_steps
 
 three_of_the_hunt : IsShortOfHunt small_below 3 4 5
 three_of_the_hunt = record {
   few = let e = its_hunt in omega arith;
   from_bound = let e = below_bound in omega arith;
   to_best = let e = best_height in omega arith;
+  halved = let e = halving in let f = its_hunt in let w = its_middle in omega (arith, e, f, w);
 }
 
 four_of_the_hunt : (L H : ℕ) → IsShortOfHunt small_below 4 L H → ⊥

@@ -1,17 +1,18 @@
 -- What a number of steps refuses: on a small buffer that belongs below, whose best start ends at 5 and whose lower
 -- bound and least capacity are 4, and for the log of five lines of three buffers at their lower bound 4.
-use Rattle.std.proofs.Common.{◌≡◌, ◌+◌, ◌≤◌, ◌<◌, ℕ, List, length, inl, inr, [], ◌∷◌, IsSome, Some, None, refl, sym, ap, ◌∙◌, subst, lit<, lit≤, arith}
+use Rattle.std.proofs.Common.{◌≡◌, ◌+◌, ◌/◌, ◌≤◌, ◌<◌, ℕ, List, length, inl, inr, [], ◌∷◌, IsSome, Some, None, refl, sym, ap, ◌∙◌, subst, lit<, lit≤, arith}
 use Rattle.dsa_terms.specs.Bounds.{counted, highest_stack, lower_bound, moduli, moments, rounded_size, stack, stack_log}
 use Rattle.dsa_terms.specs.Buffers.{buffer, is_live}
 use Rattle.dsa_terms.specs.Logs.{Log}
-use Rattle.dsa_terms.specs.Plans.{hunt, layout_height}
-use Rattle.dsa_terms.specs.Starts.{best_start, hunted, starts}
-use Rattle.dsa_terms.proofs.ExamplePlanFacts.{small_below_hunt, small_below_plan_at_4}
+use Rattle.dsa_terms.specs.Parts.{whole_work}
+use Rattle.dsa_terms.specs.Plans.{layout_height}
+use Rattle.dsa_terms.specs.Starts.{best_start, hunted}
+use Rattle.dsa_terms.proofs.ExamplePlanFacts.{small_below_plan_at_4}
 use Rattle.dsa_terms.proofs.Examples.{evens, sample, small_below}
 use Rattle.planner.specs.FirstStart.{start_within}
-use Rattle.planner.specs.LeastCapacity.{AreWithinSteps, IsLayoutWithin}
+use Rattle.planner.specs.LeastCapacity.{AreWithinSteps, HalvesTo, IsLayoutWithin}
 use Rattle.planner.specs.Openings.{AreGiven}
-use Rattle.planner.proofs.ExampleLeastFacts.{below_best, below_bound, below_log, four_is_open, other_without_steps}
+use Rattle.planner.proofs.ExampleLeastFacts.{below_best, below_bound, below_log, four_is_open, four_steps, other_without_steps}
 use Rattle.planner.proofs.StepFacts.{best_at_5, four_high, four_is_least, laid_at_4, none_within_4, refuted_at_3}
 use Rattle.command_words.specs.Commands.{Solve, Trial, Verify}
 use Rattle.command_words.specs.Options.{Word}
@@ -20,6 +21,7 @@ use Rattle.dsaplan_core.specs.Decided.{FindsLeast, LaysOut, LeavesOpen, RefutesC
 use Rattle.dsaplan_core.specs.Seen.{FilesSeen}
 use Rattle.dsaplan_core.specs.Shown.{IsFoundWithin, IsLeftOpen}
 use Rattle.dsaplan_core.specs.Theorem.{HoldsLayout, HoldsRefutation}
+use Rattle.dsaplan_core.proofs.ShortFacts.{halving}
 use Rattle.dsaplan_core.proofs.WorldFacts.{first_differs}
 
 -- ---- the instance of the log
@@ -61,6 +63,7 @@ open_between_4_and_5 = record {
   few = few;
   from_bound = let e = below_bound in omega (arith, e);
   to_best = let e = best_at_5 in omega (arith, e);
+  halved = halved;
   apart = four_is_open.ends_apart;
   positive = four_is_open.positive;
   offsets = 0 ∷ 4 ∷ [];
@@ -78,10 +81,14 @@ open_between_4_and_5 = record {
   };
 }
   where
-    few : 0 < hunt (starts small_below) small_below (lower_bound small_below)
-        (layout_height small_below (best_start small_below))
-    unfolding hunted
-    few = rw (below_bound, best_at_5) (let e = small_below_hunt in omega (arith, e))
+    few : 0 < hunted small_below (lower_bound small_below) (layout_height small_below (best_start small_below))
+    few = rw (below_bound, best_at_5) (let e = halving in omega (arith, e))
+
+    middle : whole_work small_below ((4 + 5) / 2) ≡ 4
+    middle = four_steps
+
+    halved : HalvesTo small_below 0 4 5
+    halved = rw (below_bound, best_at_5) (let e = halving in let w = middle in omega (arith, e, w))
 
 -- the best start ends at 5
 open_between_5_and_6 : IsLeftOpen small_below 0 5 6 → ⊥

@@ -6,8 +6,8 @@ use Rattle.dsa_terms.specs.Layouts.{IsLayout, IsInfeasible, IsLeast}
 use Rattle.dsa_terms.specs.Lean.{IsLean}
 use Rattle.dsa_terms.specs.Logs.{Log, IsAccepted}
 use Rattle.dsa_terms.specs.Parts.{whole_work}
-use Rattle.dsa_terms.specs.Plans.{hunt, layout_height}
-use Rattle.dsa_terms.specs.Starts.{best_start, planned, starts}
+use Rattle.dsa_terms.specs.Plans.{layout_height}
+use Rattle.dsa_terms.specs.Starts.{best_start, hunted, planned}
 use Rattle.dsa_terms.specs.Trims.{trimmed}
 use Rattle.dsa_outside.specs.Held.{FileMap, with_file}
 use Rattle.csv_instance.specs.Records.{Record}
@@ -16,7 +16,7 @@ use Rattle.log_text.specs.Text.{log_text, raw_log_of}
 use Rattle.log_text.specs.Faults.{IsTextOf}
 use Rattle.planner.specs.Decides.{IsBoundLog, IsRefutation}
 use Rattle.planner.specs.FirstStart.{start_within}
-use Rattle.planner.specs.LeastCapacity.{AreWithinSteps}
+use Rattle.planner.specs.LeastCapacity.{AreWithinSteps, HalvesTo}
 use Rattle.planner.specs.Openings.{AreGiven, IsOpen}
 use Rattle.command_words.specs.Options.{Word}
 use Rattle.command_words.specs.Commands.{Command, Solve, Least, Trim}
@@ -99,11 +99,12 @@ pub record IsShortOfWork (I : Instance) (C k L H : ℕ) : Type 0 where
   pub below : C < H
 
 -- k units are too few to hunt for the least capacity, which they leave open from L to H, between the lower bound and
--- the height of the best start
+-- the height of the best start: halving has come to these ends
 pub record IsShortOfHunt (I : Instance) (k L H : ℕ) : Type 0 where
-  pub few : k < hunt (starts I) I (lower_bound I) (layout_height I (best_start I))
+  pub few : k < hunted I (lower_bound I) (layout_height I (best_start I))
   pub from_bound : lower_bound I ≤ L
   pub to_best : H ≤ layout_height I (best_start I)
+  pub halved : HalvesTo I k L H
 
 -- the command's steps may run out on the instance, and leave its least capacity between L and H
 abbrev pub MayStayOpen : Command → Instance → ℕ → ℕ → Type 0

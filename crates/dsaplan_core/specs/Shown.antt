@@ -4,8 +4,8 @@ use Rattle.dsa_terms.specs.Buffers.{Instance}
 use Rattle.dsa_terms.specs.Bounds.{lower_bound}
 use Rattle.dsa_terms.specs.Layouts.{IsLayout, IsLeast}
 use Rattle.dsa_terms.specs.Logs.{Log}
-use Rattle.dsa_terms.specs.Plans.{hunt, layout_height}
-use Rattle.dsa_terms.specs.Starts.{best_start, planned, starts}
+use Rattle.dsa_terms.specs.Plans.{layout_height}
+use Rattle.dsa_terms.specs.Starts.{best_start, hunted, planned}
 use Rattle.csv_instance.specs.Records.{Record, table_of}
 use Rattle.csv_instance.specs.Parse.{parse, buffer_limit}
 use Rattle.csv_instance.specs.Offsets.{ids_of, offsets_of}
@@ -15,7 +15,7 @@ use Rattle.layout_report.specs.declared.facts.Facts.{Facts}
 use Rattle.make_instance.specs.Made.{made_text}
 use Rattle.planner.specs.Decides.{IsRefutation}
 use Rattle.planner.specs.InstanceFacts.{AreFactsOf}
-use Rattle.planner.specs.LeastCapacity.{AreWithinSteps, RefutesBelow}
+use Rattle.planner.specs.LeastCapacity.{AreWithinSteps, HalvesTo, RefutesBelow}
 use Rattle.command_words.specs.Options.{Word}
 use Rattle.command_words.specs.Commands.{Bounds, Report, Trial, command_of}
 use Rattle.dsaplan_core.specs.Seen.{FilesSeen}
@@ -62,12 +62,14 @@ pub record IsFoundWithin (I : Instance) (k C : ℕ) : Type 0 where
   pub refuted : RefutesBelow I C refutation
   pub within_steps : AreWithinSteps I (Some k) C offsets refutation
 
--- k units are too few to hunt for the least capacity, which lies between L and H: there is a layout of height H, and
--- a log refutes one byte less than L; what the starts and the bound do not give took no more than k units
+-- k units are too few to hunt for the least capacity, which lies between L and H, to which halving has come: there is a
+-- layout of height H, and a log refutes one byte less than L; what the starts and the bound do not give took no more
+-- than k units
 pub record IsLeftOpen (I : Instance) (k L H : ℕ) : Type 0 where
-  pub few : k < hunt (starts I) I (lower_bound I) (layout_height I (best_start I))
+  pub few : k < hunted I (lower_bound I) (layout_height I (best_start I))
   pub from_bound : lower_bound I ≤ L
   pub to_best : H ≤ layout_height I (best_start I)
+  pub halved : HalvesTo I k L H
   pub apart : L < H
   pub positive : 1 ≤ L
   pub offsets : List ℕ

@@ -48,13 +48,15 @@ abbrev pub FindsLeast : Instance → Option ℕ → Least → Type 0
 FindsLeast I steps (Exact b) = IsExactly I b
 FindsLeast I steps (Open b) = IsOpenAfter I steps b
 
--- where it stays open: the steps and the work of halving from these ends on are together short of the whole work and
--- the work of one search at their middle
+-- k steps have brought halving to these ends: the steps and the work of halving from there on are together short of the
+-- whole work and the work of one search at the middle
+abbrev pub HalvesTo : Instance → ℕ → ℕ → ℕ → Type 0
+HalvesTo I k low high = k + hunted I low high < work_of_least I + whole_work I ((low + high) / 2)
+
+-- where it stays open, the steps have brought halving to the ends
 abbrev pub HasHalved : Instance → Option ℕ → Least → Type 0
 HasHalved I steps (Exact b) = ⊤
-HasHalved I steps (Open b) =
-    IfSome steps (λ k.
-    k + hunted I b.low b.high < work_of_least I + whole_work I ((b.low + b.high) / 2))
+HasHalved I steps (Open b) = IfSome steps (λ k. HalvesTo I k b.low b.high)
 
 -- the layout is the best start, or one of the steps at least went into it
 abbrev pub IsLayoutWithin : Instance → ℕ → List ℕ → Type 0

@@ -46,6 +46,7 @@ returns-clause-prepared g c =
     let found = rw c.in-Open.is at c.in_ok-bracket.ensures.value in
     let within = rw c.in-Open.is at c.in_ok-bracket.ensures.steps in
     open_prepared _ _ c.args.input.now c.args.output.now c.args.log.now c.args.steps c.in-Table.table J
-    c.in-Open.bracket c.in-Some-log.refutation mine found within c.in-Some-log.is _
+    c.in-Open.bracket c.in-Some-log.refutation mine found within (rw c.in-Open.is at c.in_ok-bracket.ensures.left)
+    c.in-Some-log.is _
     (rw c.as_slice-layout-in-Open.ensures.value at c.both_files-in-Open.ensures.files)
     c.both_files-in-Open.ensures.readable

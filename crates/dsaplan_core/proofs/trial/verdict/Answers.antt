@@ -10,3 +10,4 @@ pub returns-in-Open : goal.returns-in-Open
 returns-in-Open c =
     left_open c.args.instance.now c.args.steps c.in-Open.bracket
     (rw c.in-Open.is at c.in_ok-bracket.ensures.value) (rw c.in-Open.is at c.in_ok-bracket.ensures.steps)
+    (rw c.in-Open.is at c.in_ok-bracket.ensures.left)
