@@ -1,4 +1,5 @@
-// Each call once with ample memory, and what no contract sees: the system's own files and faults.
+//! Each call once with ample memory, and what no contract sees: the system's own files and faults.
+
 use crate::transfer::{read_up_to, write_whole};
 use crate::{
     DiskFiles, FileFault, Files, MemoryFiles, MemorySink, Sink, SinkFault, SoundFiles, SoundSink,

@@ -2,7 +2,7 @@
 use Rattle.std.proofs.Common.{◌≡◌, Some, None, codes, refl, ap, lit<, lit≤, arith}
 use Rattle.std.specs.FinMap.{insert}
 use Rattle.dsa_terms.specs.Trims.{has, kept_lines, needed, renumbered, trimmed, with_cited}
-use Rattle.dsaplan_core.specs.Decided.{LaysOut, RefutesBelow, RefutesCapacity, with_log}
+use Rattle.dsaplan_core.specs.Decided.{LaysOut, WritesRefutationBelow, RefutesCapacity, with_log}
 use Rattle.dsaplan_core.specs.Seen.{FilesSeen}
 use Rattle.dsaplan_core.specs.Steps.{IsWhole, log_limit}
 use Rattle.dsaplan_core.proofs.OneFacts.{log_file, one, zero_log, zero_reads, zero_refuted, zero_text}
@@ -29,14 +29,14 @@ unfolding named_capacity
 not_refuted_at_1 h = other_number 0 1 (lit< tt) (ap named_capacity h.asked.words_ask)
 
 -- ---- least
-pub zero_refutes_below_1 : RefutesBelow one 1 zero_log
+pub zero_refutes_below_1 : WritesRefutationBelow one 1 zero_log
 zero_refutes_below_1 = record { positive = lit≤ tt; refuted = zero_refuted; readable = zero_reads }
 
 -- it is a log at 0
-zero_refutes_not_below_2 : RefutesBelow one 2 zero_log → ⊥
+zero_refutes_not_below_2 : WritesRefutationBelow one 2 zero_log → ⊥
 zero_refutes_not_below_2 h = let e = h.refuted.its_capacity in omega arith
 
-nothing_refutes_below_0 : RefutesBelow one 0 zero_log → ⊥
+nothing_refutes_below_0 : WritesRefutationBelow one 0 zero_log → ⊥
 nothing_refutes_below_0 h = let k = h.positive in omega arith
 
 no_log_is_written : with_log (Some input_alone) (codes "l") None ≡ Some input_alone

@@ -53,7 +53,7 @@ module _ (old new : FilesSeen) (input output log : Word) (steps : Option ℕ) (t
       IfOk r (λ p. IsTextOf (log_text refutation) (raw_log_of refutation)) →
       IfOk r (λ p. (words : List Word) → command_of words ≡ Ok (Least input output log steps) →
       Prepares words old new p)
-  open_prepared found within halved its_log (Ok p) puts readable =
+  open_prepared found within one_more its_log (Ok p) puts readable =
       writes_open old new (Least input output log steps) input output log table I b.low b.high b.layout.items
       refutation p refl refl refl given
       (subst (λ k. MayStayOpen (Least input output log k) I b.low b.high) (sym found.too_few.given)
@@ -61,13 +61,13 @@ module _ (old new : FilesSeen) (input output log : Word) (steps : Option ℕ) (t
         few = found.too_few.below_work;
         from_bound = found.from_bound;
         to_best = found.to_best;
-        halved = subst (λ k. HasHalved I k (Open b)) found.too_few.given halved;
+        one_more = subst (λ k. HasHalved I k (Open b)) found.too_few.given one_more;
       }))
       (subst (IsOpen I b.low b.high b.layout.items) (same_log b.log found.below_log refutation found.its_log its_log)
       found.stays_open)
       (λ some. absurd cc) (λ some. absurd cc)
       (subst (AreWithinSteps I steps b.low b.layout.items) its_log within) readable puts
-  open_prepared found within halved its_log (Err e) puts readable = tt
+  open_prepared found within one_more its_log (Err e) puts readable = tt
 
 -- the layout of the least capacity 0, which has no log
 pub writes_zero : (old : FilesSeen) (input output log : Word) (steps : Option ℕ) (table : List Record)

@@ -12,7 +12,7 @@ use Rattle.command_words.specs.Commands.{Command, Solve, Least, command_of}
 use Rattle.command_words.specs.declared.fault.UsageFault.{UsageFault}
 use Rattle.dsaplan_core.specs.Seen.{FilesSeen, SinkSeen}
 use Rattle.dsaplan_core.specs.Asked.{steps_of}
-use Rattle.dsaplan_core.specs.Decided.{LaysOut, RefutesCapacity, RefutesBelow, FindsLeast, LeavesOpen, with_log}
+use Rattle.dsaplan_core.specs.Decided.{LaysOut, RefutesCapacity, WritesRefutationBelow, FindsLeast, LeavesOpen, with_log}
 use Rattle.dsaplan_core.specs.Shown.{ShowsFacts, ShowsLayout, ShowsTrial}
 use Rattle.dsaplan_core.specs.Answers.{Cause, Answers}
 use Rattle.dsaplan_core.specs.Theorem.{HoldsLayout, HoldsRefutation, NamesCapacity, NamesLeast, RunsOut, Headline, IsMisuse}
@@ -99,7 +99,7 @@ module _ (words : List Word) (old new : FilesSeen) where
       held = λ told. ap (λ h. file_at h row.output) row.files ∙ least_held row.refutation told;
     }
 
-    least_refuted : (o : Option Log) → MatchOption o (C ≡ 0) (RefutesBelow row.instance C) →
+    least_refuted : (o : Option Log) → MatchOption o (C ≡ 0) (WritesRefutationBelow row.instance C) →
         AreWithinSteps row.instance row.steps C row.offsets o →
         new.held ≡ with_log (with_file old.held row.output least_text) row.log o → 1 ≤ C →
         HoldsRefutation words old new (C - 1)

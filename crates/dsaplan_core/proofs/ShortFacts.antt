@@ -67,7 +67,7 @@ three_of_the_hunt = record {
   few = let e = its_hunt in omega arith;
   from_bound = let e = below_bound in omega arith;
   to_best = let e = best_height in omega arith;
-  halved = let e = halving in let f = its_hunt in let w = its_middle in omega (arith, e, f, w);
+  one_more = let e = halving in let f = its_hunt in let w = its_middle in omega (arith, e, f, w);
 }
 
 four_of_the_hunt : (L H : ℕ) → IsShortOfHunt small_below 4 L H → ⊥

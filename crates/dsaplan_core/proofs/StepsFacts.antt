@@ -10,7 +10,7 @@ use Rattle.dsa_terms.specs.Starts.{best_start, hunted}
 use Rattle.dsa_terms.proofs.ExamplePlanFacts.{small_below_plan_at_4}
 use Rattle.dsa_terms.proofs.Examples.{evens, sample, small_below}
 use Rattle.planner.specs.FirstStart.{start_within}
-use Rattle.planner.specs.LeastCapacity.{AreWithinSteps, HalvesTo, IsLayoutWithin}
+use Rattle.planner.specs.LeastCapacity.{AreWithinSteps, IsLayoutWithin, TakesMoreThan}
 use Rattle.planner.specs.Openings.{AreGiven}
 use Rattle.planner.proofs.ExampleLeastFacts.{below_best, below_bound, below_log, four_is_open, four_steps, other_without_steps}
 use Rattle.planner.proofs.StepFacts.{best_at_5, four_high, four_is_least, laid_at_4, none_within_4, refuted_at_3}
@@ -63,7 +63,7 @@ open_between_4_and_5 = record {
   few = few;
   from_bound = let e = below_bound in omega (arith, e);
   to_best = let e = best_at_5 in omega (arith, e);
-  halved = halved;
+  one_more = one_more;
   apart = four_is_open.ends_apart;
   positive = four_is_open.positive;
   offsets = 0 ∷ 4 ∷ [];
@@ -87,8 +87,8 @@ open_between_4_and_5 = record {
     middle : whole_work small_below ((4 + 5) / 2) ≡ 4
     middle = four_steps
 
-    halved : HalvesTo small_below 0 4 5
-    halved = rw (below_bound, best_at_5) (let e = halving in let w = middle in omega (arith, e, w))
+    one_more : TakesMoreThan small_below 0 4 5
+    one_more = rw (below_bound, best_at_5) (let e = halving in let w = middle in omega (arith, e, w))
 
 -- the best start ends at 5
 open_between_5_and_6 : IsLeftOpen small_below 0 5 6 → ⊥

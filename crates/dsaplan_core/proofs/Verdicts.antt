@@ -2,7 +2,7 @@
 use Rattle.std.proofs.Common.{◌≡◌, ◌<◌, ℕ, Some, subst, arith}
 use Rattle.dsa_terms.specs.Buffers.{Instance}
 use Rattle.min_capacity.specs.declared.brackets.Bracket.{Bracket}
-use Rattle.planner.specs.LeastCapacity.{AreWithinSteps, HalvesTo, IsExactly, IsOpenAfter, IsWithinSteps}
+use Rattle.planner.specs.LeastCapacity.{AreWithinSteps, IsExactly, IsOpenAfter, IsWithinSteps, TakesMoreThan}
 use Rattle.dsaplan_core.specs.Shown.{IsFoundWithin, IsLeftOpen}
 
 pub found_within : (I : Instance) (k : ℕ) (b : Bracket) → IsExactly I b → IsWithinSteps I (Some k) b →
@@ -19,12 +19,12 @@ found_within I k b found within = record {
 }
 
 pub left_open : (I : Instance) (k : ℕ) (b : Bracket) → IsOpenAfter I (Some k) b → IsWithinSteps I (Some k) b →
-    HalvesTo I k b.low b.high → IsLeftOpen I k b.low b.high
-left_open I k b found within halved = record {
+    TakesMoreThan I k b.low b.high → IsLeftOpen I k b.low b.high
+left_open I k b found within one_more = record {
   few = fewer found.too_few.given found.too_few.below_work;
   from_bound = found.from_bound;
   to_best = found.to_best;
-  halved = halved;
+  one_more = one_more;
   apart = found.stays_open.ends_apart;
   positive = found.stays_open.positive;
   offsets = b.layout.items;

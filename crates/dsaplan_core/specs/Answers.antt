@@ -75,7 +75,7 @@ pub record IsUnsaid (words : List Word) (old new : FilesSeen) (before after : Si
   pub taken : ℕ
   pub prefix : after.content ≡ with_text before.content (take taken text)
 
--- the first of the two files of a status that has its cause is written, and the second, of another name, is not
+-- one of the two files of a status that has its cause, called the first here, is written, and the other is not
 pub record IsHalfWritten (words : List Word) (old new : FilesSeen) : Type 0 where
   pub status : Status
   pub first : Word

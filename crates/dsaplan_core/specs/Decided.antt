@@ -16,7 +16,7 @@ use Rattle.log_text.specs.Text.{log_text, raw_log_of}
 use Rattle.log_text.specs.Faults.{IsTextOf}
 use Rattle.planner.specs.Decides.{IsBoundLog, IsRefutation}
 use Rattle.planner.specs.FirstStart.{start_within}
-use Rattle.planner.specs.LeastCapacity.{AreWithinSteps, HalvesTo}
+use Rattle.planner.specs.LeastCapacity.{AreWithinSteps, TakesMoreThan}
 use Rattle.planner.specs.Openings.{AreGiven, IsOpen}
 use Rattle.command_words.specs.Options.{Word}
 use Rattle.command_words.specs.Commands.{Command, Solve, Least, Trim}
@@ -24,7 +24,7 @@ use Rattle.dsaplan_core.specs.Seen.{FilesSeen}
 use Rattle.dsaplan_core.specs.Steps.{IsWhole, log_limit}
 use Rattle.dsaplan_core.specs.Asked.{IsAsked, capacity_of, log_of, output_of, steps_of}
 
--- a layout of the capacity is written to the output, the plan; where no start is within the capacity it took a step
+-- a layout of the capacity is written to the output, the plan; where no start is within the capacity, a step was given
 pub record LaysOut (words : List Word) (old new : FilesSeen) (C : ℕ) : Type 0 where
   pub input : Word
   pub output : Word
@@ -40,7 +40,7 @@ pub record LaysOut (words : List Word) (old new : FilesSeen) (C : ℕ) : Type 0 
   pub files : new.held ≡ with_file old.held output (layout_text table offsets)
 
 -- no layout fits within the capacity, and a log without waste that is accepted at it is written, the bound's where
--- the capacity is below the lower bound, and else one that took a step for each line; the text reads back
+-- the capacity is below the lower bound, and else one with a step given for each line; the text reads back
 pub record RefutesCapacity (words : List Word) (old new : FilesSeen) (C : ℕ) : Type 0 where
   pub input : Word
   pub output : Word
@@ -60,7 +60,7 @@ pub record RefutesCapacity (words : List Word) (old new : FilesSeen) (C : ℕ) :
   pub files : new.held ≡ with_file old.held log (log_text refutation)
 
 -- a log without waste by which no layout fits within one byte less than C; the text reads back
-pub record RefutesBelow (I : Instance) (C : ℕ) (refutation : Log) : Type 0 where
+pub record WritesRefutationBelow (I : Instance) (C : ℕ) (refutation : Log) : Type 0 where
   pub positive : 1 ≤ C
   pub refuted : IsRefutation I (C - 1) refutation
   pub readable : IsTextOf (log_text refutation) (raw_log_of refutation)
@@ -71,7 +71,7 @@ with_log held name None = held
 with_log held name (Some refutation) = with_file held name (log_text refutation)
 
 -- C is the least capacity that has a layout; the plan at it is written to the output, and a log that refutes one byte
--- less to the log's file, unless C is 0; what the starts and the bound do not give took no more steps than were given
+-- less to the log's file, unless C is 0; steps enough were given for what the starts and the bound do not give
 pub record FindsLeast (words : List Word) (old new : FilesSeen) (C : ℕ) : Type 0 where
   pub input : Word
   pub output : Word
@@ -86,7 +86,7 @@ pub record FindsLeast (words : List Word) (old new : FilesSeen) (C : ℕ) : Type
   pub zero_for_none : (instance ≡ []) ↔ (C ≡ 0)
   pub planned : planned instance C ≡ Some offsets
   pub layout : IsLayout instance C offsets
-  pub refuted : MatchOption refutation (C ≡ 0) (RefutesBelow instance C)
+  pub refuted : MatchOption refutation (C ≡ 0) (WritesRefutationBelow instance C)
   pub within_steps : AreWithinSteps instance steps C offsets refutation
   pub files : new.held ≡ with_log (with_file old.held output (layout_text table offsets)) log refutation
 
@@ -99,12 +99,12 @@ pub record IsShortOfWork (I : Instance) (C k L H : ℕ) : Type 0 where
   pub below : C < H
 
 -- k units are too few to hunt for the least capacity, which they leave open from L to H, between the lower bound and
--- the height of the best start: halving has come to these ends
+-- the height of the best start: to halve to these ends and search once more may take more
 pub record IsShortOfHunt (I : Instance) (k L H : ℕ) : Type 0 where
   pub few : k < hunted I (lower_bound I) (layout_height I (best_start I))
   pub from_bound : lower_bound I ≤ L
   pub to_best : H ≤ layout_height I (best_start I)
-  pub halved : HalvesTo I k L H
+  pub one_more : TakesMoreThan I k L H
 
 -- the command's steps may run out on the instance, and leave its least capacity between L and H
 abbrev pub MayStayOpen : Command → Instance → ℕ → ℕ → Type 0
@@ -114,7 +114,7 @@ MayStayOpen command I L H = ⊥
 
 -- the steps ran out: the plan at H is written to the output, a layout of that height, and a log that refutes one byte
 -- less than L to the log's file; where the command names a capacity these are the best start and the bound's log, and
--- else what the starts and the bound do not give took no more steps than were given
+-- else steps enough were given for what the starts and the bound do not give
 pub record LeavesOpen (words : List Word) (old new : FilesSeen) (L H : ℕ) : Type 0 where
   pub command : Command
   pub output : Word

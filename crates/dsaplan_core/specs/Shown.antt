@@ -15,7 +15,7 @@ use Rattle.layout_report.specs.declared.facts.Facts.{Facts}
 use Rattle.make_instance.specs.Made.{made_text}
 use Rattle.planner.specs.Decides.{IsRefutation}
 use Rattle.planner.specs.InstanceFacts.{AreFactsOf}
-use Rattle.planner.specs.LeastCapacity.{AreWithinSteps, HalvesTo, RefutesBelow}
+use Rattle.planner.specs.LeastCapacity.{AreWithinSteps, RefutesBelow, TakesMoreThan}
 use Rattle.command_words.specs.Options.{Word}
 use Rattle.command_words.specs.Commands.{Bounds, Report, Trial, command_of}
 use Rattle.dsaplan_core.specs.Seen.{FilesSeen}
@@ -50,8 +50,8 @@ pub record ShowsLayout (words : List Word) (old new : FilesSeen) (text : List �
   pub its_text : IsReportOf table instance offsets text
   pub files : new.held ≡ old.held
 
--- C is the least capacity: the plan at it is so high, and a log refutes one byte less, unless C is 0; what the starts
--- and the bound do not give took no more than k units
+-- C is the least capacity: the plan at it is so high, and a log refutes one byte less, unless C is 0; k units are enough
+-- for what the starts and the bound do not give
 pub record IsFoundWithin (I : Instance) (k C : ℕ) : Type 0 where
   pub least : IsLeast I C
   pub offsets : List ℕ
@@ -62,14 +62,14 @@ pub record IsFoundWithin (I : Instance) (k C : ℕ) : Type 0 where
   pub refuted : RefutesBelow I C refutation
   pub within_steps : AreWithinSteps I (Some k) C offsets refutation
 
--- k units are too few to hunt for the least capacity, which lies between L and H, to which halving has come: there is a
--- layout of height H, and a log refutes one byte less than L; what the starts and the bound do not give took no more
--- than k units
+-- k units are too few to hunt for the least capacity, which lies between L and H: to halve to these and search once more
+-- may take more. There is a layout of height H, and a log refutes one byte less than L; k units are enough for what the
+-- starts and the bound do not give
 pub record IsLeftOpen (I : Instance) (k L H : ℕ) : Type 0 where
   pub few : k < hunted I (lower_bound I) (layout_height I (best_start I))
   pub from_bound : lower_bound I ≤ L
   pub to_best : H ≤ layout_height I (best_start I)
-  pub halved : HalvesTo I k L H
+  pub one_more : TakesMoreThan I k L H
   pub apart : L < H
   pub positive : 1 ≤ L
   pub offsets : List ℕ

@@ -38,9 +38,9 @@ pub fn run<F: Files, S: Sink>(alloc: Global, words: &[String], files: &mut F, ou
     // The layout that is written with 'feasible', 'least C' or 'open L H' is aligned, within its
     // capacity and free of overlap at every moment; with 'infeasible', 'least C' or 'open L H' the
     // written log, at C - 1 or L - 1 unless C or L is zero, is accepted, and an accepted log means
-    // that no layout fits. A layout took a step where no start is within its capacity, and a log
-    // one for each line where the lower bound leaves its capacity open: no more than the words
-    // give.
+    // that no layout fits. Where the words give a number of steps, a layout that no start gives
+    // comes only where it is 1 or more, and a log at a capacity that the lower bound leaves open
+    // has no more lines.
     ensures headline { Headline (map string_bytes words.now)
         (record { held = F.held files.old; faults = F.faults files.old })
         (record { held = F.held files.new; faults = F.faults files.new }) result }

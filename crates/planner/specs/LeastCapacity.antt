@@ -48,28 +48,28 @@ abbrev pub FindsLeast : Instance → Option ℕ → Least → Type 0
 FindsLeast I steps (Exact b) = IsExactly I b
 FindsLeast I steps (Open b) = IsOpenAfter I steps b
 
--- k steps have brought halving to these ends: the steps and the work of halving from there on are together short of the
--- whole work and the work of one search at the middle
-abbrev pub HalvesTo : Instance → ℕ → ℕ → ℕ → Type 0
-HalvesTo I k low high = k + hunted I low high < work_of_least I + whole_work I ((low + high) / 2)
+-- to halve to these ends and search once more, at their middle, is more work than k; so k and the work of halving from
+-- these ends on are together below the whole work and that of the one search
+abbrev pub TakesMoreThan : Instance → ℕ → ℕ → ℕ → Type 0
+TakesMoreThan I k low high = k + hunted I low high < work_of_least I + whole_work I ((low + high) / 2)
 
--- where it stays open, the steps have brought halving to the ends
+-- where it stays open, to halve to its ends and search once more is more work than the steps
 abbrev pub HasHalved : Instance → Option ℕ → Least → Type 0
 HasHalved I steps (Exact b) = ⊤
-HasHalved I steps (Open b) = IfSome steps (λ k. HalvesTo I k b.low b.high)
+HasHalved I steps (Open b) = IfSome steps (λ k. TakesMoreThan I k b.low b.high)
 
--- the layout is the best start, or one of the steps at least went into it
+-- the layout is the best start, or n is one at least
 abbrev pub IsLayoutWithin : Instance → ℕ → List ℕ → Type 0
 IsLayoutWithin I n offsets = (offsets ≡ best_start I) ⊎ (1 ≤ n)
 
--- the log is the bound's, or the lower end is above the bound and one of the steps went into each line of the log
+-- the log is the bound's, or the lower end is above the bound and the log has no more than n lines
 abbrev pub IsLogWithin : Instance → ℕ → ℕ → Option Log → Type 0
 IsLogWithin I n low log =
     IsLogBelow I (lower_bound I) log
     ⊎ ((refutation : Log) × (log ≡ Some refutation) × (lower_bound I < low) × (length refutation.lines ≤ n))
 
--- halving has come to the lower end `low`: the layout is the best start or took a step, the log is the bound's or took
--- a step for each line, and both together took no more than were given; so at the bound the log is the bound's
+-- steps enough were given for a layout and a log below `low`: one for a layout that is not the best start, and one for
+-- each line of a log that is not the bound's, which comes only where `low` is above the bound
 pub record AreWithinSteps (I : Instance) (steps : Option ℕ) (low : ℕ) (offsets : List ℕ) (refutation : Option Log) :
     Type 0 where
   pub layout_steps : ℕ

@@ -1,10 +1,10 @@
 -- The parts are, for each cut at which one begins, the buffers whose part begins there.
-use Rattle.std.proofs.Common.{◌≡◌, ℕ, zero, suc, ◌-◌, ◌<◌, ◌≤◌, ◌^◌, ◌==◌, ◌↔◌, inl, Bool, true, false, cond, not, List, [], ◌∷◌, length, map, filter, refl, sym, subst, arith}
+use Rattle.std.proofs.Common.{◌≡◌, ℕ, suc, ◌-◌, ◌<◌, ◌^◌, ◌==◌, ◌↔◌, inl, Bool, true, not, List, [], ◌∷◌, length, map, filter, refl, sym, subst, arith}
 use Rattle.std.proofs.lemmas.Bool.Decides.{nat_tests}
 use Rattle.dsa_terms.specs.Buffers.{Buffer, Instance, buffer}
 use Rattle.dsa_terms.specs.Claims.{IsIn, Rises}
 use Rattle.dsa_terms.specs.Logs.{greatest}
-use Rattle.dsa_terms.specs.Parts.{is_cut, is_empty, last_cut, members, numbers, part_of, parts}
+use Rattle.dsa_terms.specs.Parts.{is_empty, members, numbers, part_of, parts}
 use Rattle.dsa_terms.proofs.Lists.{from_filter, from_map, into_filter, into_map}
 use Rattle.dsa_search_laws.proofs.Logs.{in_greatest}
 use Rattle.dsa_search_laws.proofs.Parts.{from_range, into_range, item, last_cut_le, part_is_members, rises-filter_numbers, rises-range}
