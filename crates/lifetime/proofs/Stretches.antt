@@ -1,5 +1,5 @@
 -- Stacks of sections, the last one first, and the stretches that they stand for.
-use Rattle.std.proofs.Common.{◌≡◌, ◌+◌, ◌-◌, ◌⊎◌, inl, inr, List, [], ◌∷◌, ◌++◌, sym, ap, ◌∙◌, subst, append_assoc, append-nil}
+use Rattle.std.proofs.Common.{◌≡◌, ◌⊎◌, inl, inr, List, [], ◌∷◌, ◌++◌, sym, ap, ◌∙◌, subst, append_assoc, append-nil}
 use Rattle.dsa_terms.specs.Claims.{IsIn}
 use Rattle.dsa_terms.proofs.Lists.{from_append}
 use Rattle.lifetime.specs.SectionList.{Section}

@@ -1,5 +1,5 @@
 -- A small buffer that belongs below: its best start ends at 5, and its lower bound and least capacity are 4.
-use Rattle.std.proofs.Common.{◌≡◌, inl, inr, [], ◌∷◌, Some, None, refl, ap, ◌∙◌, lit≤, arith}
+use Rattle.std.proofs.Common.{◌≡◌, inr, [], ◌∷◌, Some, None, refl, ap, ◌∙◌, lit≤, arith}
 use Rattle.dsa_terms.specs.Bounds.{stack_log}
 use Rattle.dsa_terms.specs.Buffers.{buffer, do_share, is_live, some_before}
 use Rattle.dsa_terms.specs.Fits.{best_fit, best_place, first_fit, first_passing, first_place, free_ranges, highest, holds, is_free, is_tighter, neighbours, stretches, top}

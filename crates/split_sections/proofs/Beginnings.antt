@@ -1,5 +1,5 @@
 -- The parts are, for each cut at which one begins, the buffers whose part begins there.
-use Rattle.std.proofs.Common.{◌≡◌, ℕ, suc, ◌-◌, ◌<◌, ◌^◌, ◌==◌, ◌↔◌, inl, Bool, true, not, List, [], ◌∷◌, length, map, filter, refl, sym, subst, arith}
+use Rattle.std.proofs.Common.{◌≡◌, ℕ, suc, ◌<◌, ◌^◌, ◌==◌, ◌↔◌, inl, Bool, true, not, List, [], ◌∷◌, length, map, filter, refl, sym, subst, arith}
 use Rattle.std.proofs.lemmas.Bool.Decides.{nat_tests}
 use Rattle.dsa_terms.specs.Buffers.{Buffer, Instance, buffer}
 use Rattle.dsa_terms.specs.Claims.{IsIn, Rises}

@@ -14,7 +14,7 @@ use Rattle.split_sections.specs.Sweep.{AreByLower, BeginsAt, IsRun, entry_at, lo
 use Rattle.split_sections.proofs.Kept.{in_at, in_from_all}
 use Rattle.split_sections.proofs.Lists.{rises-push, rises_same}
 use Rattle.split_sections.proofs.Sweeping.{cut_here, place_of}
-use Rattle.split_sections.proofs.Beginnings.{begins, below, equal_true, kept, part_starts, parts_are, true_equal}
+use Rattle.split_sections.proofs.Beginnings.{below, equal_true, kept, part_starts, parts_are, true_equal}
 
 -- a cut that is no later than the moment is no later than the last cut there
 last_cut_from : (I : Instance) (s t : ℕ) → is_cut I s ≡ true → s ≤ t → s ≤ last_cut I t
