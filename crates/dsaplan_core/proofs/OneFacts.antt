@@ -60,9 +60,9 @@ unfolding planned plan layout_height starts orders falls_by rises_by first_fit b
 one_planned = refl
 
 pub one_best : 0 ∷ [] ≡ best_start one
-unfolding best_start lowest_place layout_height starts orders falls_by rises_by first_fit best_fit neighbours first_place
-    first_passing best_place free_ranges stretches holds is_tighter is_free highest top do_share some_before is_live
-    buffer
+unfolding best_start lowest_place layout_height starts orders falls_by rises_by first_fit best_fit neighbours
+    first_place first_passing best_place free_ranges stretches holds is_tighter is_free highest top do_share
+    some_before is_live buffer
 one_best = refl
 
 -- ---- the records of its file

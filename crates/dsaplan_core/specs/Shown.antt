@@ -50,8 +50,8 @@ pub record ShowsLayout (words : List Word) (old new : FilesSeen) (text : List �
   pub its_text : IsReportOf table instance offsets text
   pub files : new.held ≡ old.held
 
--- C is the least capacity: the plan at it is so high, and a log refutes one byte less, unless C is 0; k units are enough
--- for what the starts and the bound do not give
+-- C is the least capacity: the plan at it is so high, and a log refutes one byte less, unless C is 0; k units are
+-- enough for what the starts and the bound do not give
 pub record IsFoundWithin (I : Instance) (k C : ℕ) : Type 0 where
   pub least : IsLeast I C
   pub offsets : List ℕ
@@ -62,9 +62,9 @@ pub record IsFoundWithin (I : Instance) (k C : ℕ) : Type 0 where
   pub refuted : RefutesBelow I C refutation
   pub within_steps : AreWithinSteps I (Some k) C offsets refutation
 
--- k units are too few to hunt for the least capacity, which lies between L and H: to halve to these and search once more
--- may take more. There is a layout of height H, and a log refutes one byte less than L; k units are enough for what the
--- starts and the bound do not give
+-- k units are too few to hunt for the least capacity, which lies between L and H: to halve to these and search once
+-- more may take more. There is a layout of height H, and a log refutes one byte less than L; k units are enough for
+-- what the starts and the bound do not give
 pub record IsLeftOpen (I : Instance) (k L H : ℕ) : Type 0 where
   pub few : k < hunted I (lower_bound I) (layout_height I (best_start I))
   pub from_bound : lower_bound I ≤ L

@@ -1,8 +1,8 @@
 -- The promise of a run in few words. The layout that is written with 'feasible', 'least C' or 'open L H' is aligned,
 -- within its capacity and free of overlap at every moment; with 'infeasible', 'least C' or 'open L H' the written log,
--- at C - 1 or L - 1 unless C or L is zero, is accepted, and an accepted log means that no layout fits. Where the command
--- gives a number of steps, a layout that no start gives comes only where it is 1 or more, and a log at a capacity that
--- the lower bound leaves open has no more lines.
+-- at C - 1 or L - 1 unless C or L is zero, is accepted, and an accepted log means that no layout fits. Where the
+-- command gives a number of steps, a layout that no start gives comes only where it is 1 or more, and a log at a
+-- capacity that the lower bound leaves open has no more lines.
 use Rattle.std.specs.Prelude.{◌≡◌, ◌-◌, ◌≤◌, ◌<◌, ℕ, List, length, IsSome, Some, None, Ok}
 use Rattle.dsa_terms.specs.Bounds.{lower_bound}
 use Rattle.dsa_terms.specs.Buffers.{Instance}

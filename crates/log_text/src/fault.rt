@@ -8,8 +8,8 @@ use thiserror::Error;
 /// `AfterEnd`.
 #[derive(Clone, Copy, Debug, PartialEq, Eq, Error)]
 pub enum TextFault {
-    /// There is no header, or its version is above 2^64 - 1, or its count or its capacity above 2^60.
-    /// It comes before BadVersion.
+    /// There is no header, or its version is above 2^64 - 1, or its count or its capacity above
+    /// 2^60. It comes before BadVersion.
     #[error("the text is no log")]
     NotLog,
     /// The header is of another version than 1.

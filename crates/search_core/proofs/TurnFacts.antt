@@ -115,7 +115,8 @@ not_spent : IsTurned small_below 4 [] (used 6) (used 6) sky frames None sky fram
 not_spent h = let k = h.1.0 in omega arith
 
 -- as many units as were owed are not all used up before the end
-not_spent_at_the_end : IsTurned small_below 4 [] (used 4) (used 7) sky frames None sky frames (turn.Done found.Spent) → ⊥
+not_spent_at_the_end :
+    IsTurned small_below 4 [] (used 4) (used 7) sky frames None sky frames (turn.Done found.Spent) → ⊥
 not_spent_at_the_end h = let k = h.1.1 in let e = three_owed in omega arith
 
 -- ---- facts that hold in some cases alone
