@@ -1,8 +1,11 @@
--- Numbers that rise, claims, and sound buffers and instances: what holds of small ones, and what does not.
-use Rattle.std.proofs.Common.{◌≡◌, ℕ, zero, suc, ◌≤◌, ◌<◌, inl, inr, [], ◌∷◌, length, slice_index_or, refl, ap, arith}
-use Rattle.dsa_terms.specs.Buffers.{Buffer, IsSound, IsInstance}
-use Rattle.dsa_terms.specs.Claims.{Entry, IsClaim, IsIn, Rises}
+-- Numbers that rise, claims, sound buffers and instances, and least weight: what holds of small ones, and what does not.
+use Rattle.std.proofs.Common.{◌≡◌, ℕ, List, zero, suc, ◌+◌, ◌≤◌, ◌<◌, inl, inr, [], ◌∷◌, slice_index_or, refl, sym, ap, subst, arith}
+use Rattle.dsa_terms.specs.Buffers.{Buffer, IsSound, IsInstance, buffer}
+use Rattle.dsa_terms.specs.Claims.{Entry, Claim, IsClaim, IsFirst, IsIn, IsPlacement, Rises, number_of, weight}
+use Rattle.dsa_terms.specs.Layouts.{IsMultiple}
+use Rattle.dsa_terms.specs.Search.{IsSettled}
 use Rattle.dsa_terms.proofs.Examples.{plain, evens}
+use Rattle.dsa_search_laws.proofs.Weights.{lightest_is_settled}
 
 -- ---- rising numbers
 one_two : Rises (1 ∷ 2 ∷ [])
@@ -59,3 +62,49 @@ evens_are_sound = each
 -- the second buffer has no size
 not_each_is_sound : IsInstance (plain 0 1 1 2 ∷ plain 0 1 0 1 ∷ []) → ⊥
 not_each_is_sound h = no_size (h 1 (plain 0 1 1 1) (omega arith))
+
+-- ---- least weight: the third buffer alone, with the bound 1, stands at 1 in a placement of least weight
+abbrev third : Claim
+third = (2, 1) ∷ []
+
+third_alone : IsClaim evens third
+third_alone = record { rises = (λ y i. absurd i, tt); in_range = within }
+  where
+    within : (e : Entry) → IsIn e third → e.0 < 3
+    within e (inl q) = let k : e.0 ≡ 2 = ap (λ (e : Entry). e.0) q in omega arith
+    within e (inr i) = absurd i
+
+third_at_1 : IsPlacement evens 5 third third
+unfolding buffer
+third_at_1 = record {
+  same_buffers = refl;
+  places = record {
+    aligned = λ e i. one e (λ e. IsMultiple (number_of third e.0) (buffer evens e.0).alignment) refl i;
+    above = λ e i. one e (λ e. e.1 ≤ number_of third e.0) (omega arith) i;
+    within = λ e i. one e (λ e. number_of third e.0 + (buffer evens e.0).size ≤ 5) (omega arith) i;
+    apart = λ e f t i j n l m. absurd (n (one e (λ e. e.0 ≡ f.0) (one f (λ f. 2 ≡ f.0) refl j) i));
+  };
+}
+  where
+    one : (e : Entry) (P : Entry → Type 0) → P (2, 1) → IsIn e third → P e
+    one e P p (inl q) = subst P (sym q) p
+    one e P p (inr i) = absurd i
+
+third_is_first : IsFirst third (number_of third) (2, 1)
+third_is_first = record { is_in = inl refl; lowest = lowest; least = least }
+  where
+    lowest : (f : Entry) → IsIn f third → number_of third 2 ≤ number_of third f.0
+    lowest f (inl q) = rw q (omega arith)
+    lowest f (inr i) = absurd i
+
+    least : (f : Entry) → IsIn f third → number_of third 2 ≡ number_of third f.0 → 2 ≤ f.0
+    least f (inl q) h = rw q (omega arith)
+    least f (inr i) h = absurd i
+
+lightest : (others : List Entry) → IsPlacement evens 5 third others →
+    weight evens (number_of third) third ≤ weight evens (number_of others) third
+lightest others h = let k : 1 ≤ number_of others 2 = h.places.above (2, 1) (inl refl) in omega arith
+
+third_is_settled : IsSettled evens 5 third (number_of third) (2, 1)
+third_is_settled =
+    lightest_is_settled evens 5 third third (2, 1) evens_are_sound third_alone third_at_1 third_is_first lightest

@@ -1,8 +1,10 @@
 //! Runs over files and sinks in memory.
 
 use crate::{LogCause, Role, Status, UsageFault, WrongCause, run};
+use csv_instance::{Column, InstanceFault, OffsetsFault};
 use dsa_model::LayoutFault;
 use dsa_outside::{MemoryFiles, MemorySink, SoundFiles, SoundSink};
+use log_check::CheckFault;
 use log_text::TextFault;
 use std::alloc::{AllocError, Global};
 use std::test::Fail;
@@ -111,6 +113,22 @@ fn what_is_decided_is_written(rt: HostRuntime) -> Result<(), Fail> {
             Some(THREE_OVER_3),
         ),
         (
+            "solve --capacity 4 --input i --output o --log l --steps 0",
+            THREE,
+            Status::Open { low: 4, high: 5 },
+            "open 4 5\n",
+            None,
+            None,
+        ),
+        (
+            "trim --input i --log waste --output o",
+            FIVE,
+            Status::LogRefused(LogCause::Check(CheckFault::WrongCount { said: 3, actual: 5 })),
+            "refused count 3 5\n",
+            None,
+            None,
+        ),
+        (
             "trim --input i --log waste --output o",
             THREE,
             Status::Trimmed {
@@ -139,12 +157,45 @@ fn what_is_decided_is_written(rt: HostRuntime) -> Result<(), Fail> {
 #[test]
 fn what_is_read_is_judged(rt: HostRuntime) -> Result<(), Fail> {
     let alloc = rt.alloc();
+    let long = b"x".repeat(alloc, 67_108_865)?;
     let overlap = LayoutFault::Overlap {
         first: 0,
         second: 4,
         moment: 0,
     };
     let cases = [
+        (
+            "bounds --input five",
+            Status::Shown,
+            "buffers 5\npeak 0 12\nparts 1\nbound 12 1\nbest 12\n",
+        ),
+        (
+            "bounds --input log",
+            Status::Malformed(InstanceFault::MissingColumn { column: Column::Id }),
+            "malformed missing column id\n",
+        ),
+        (
+            "bounds --input none",
+            Status::ReadFault(Role::Input),
+            "unread --input\n",
+        ),
+        (
+            "bounds --input long",
+            Status::TooLong(Role::Input),
+            "too long --input\n",
+        ),
+        (
+            "verify --capacity 12 --input five --layout log",
+            Status::Wrong(WrongCause::Offsets(OffsetsFault::MissingColumn {
+                column: Column::Id,
+            })),
+            "wrong missing column id\n",
+        ),
+        (
+            "refute --input three --log log",
+            Status::LogRefused(LogCause::Check(CheckFault::WrongCount { said: 5, actual: 3 })),
+            "refused count 5 3\n",
+        ),
         (
             "verify --capacity 12 --input five --layout right",
             Status::Right,
@@ -204,6 +255,7 @@ fn what_is_read_is_judged(rt: HostRuntime) -> Result<(), Fail> {
         files.insert("log", FIVE_OVER_11.as_bytes())?;
         files.insert("three", THREE.as_bytes())?;
         files.insert("placed", THREE_AT_5.as_bytes())?;
+        files.insert("long", long.as_slice())?;
         let mut out = SoundSink::new(alloc);
         let words = words_of(alloc, line)?;
         assert_eq!(rt; run(alloc, words.as_slice(), &mut files, &mut out), status);
