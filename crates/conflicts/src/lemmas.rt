@@ -12,6 +12,7 @@ ghost use Rattle.conflicts.specs.Covering.{IsCoveringLine};
 use canonical_order::{Lows, covers};
 use dsa_model::{Fail, Instance};
 use refute_log::{Line, Log, Reason};
+use std::alloc::Global;
 use std::marker::Model;
 
 /// The lines that a search has learned: a log in which a line can be looked up by what it covers.
@@ -31,7 +32,7 @@ impl Model for Lemmas {
 
 impl Lemmas {
     /// The lines of the log. It takes no memory; later calls take theirs as the log does.
-    pub fn new(log: Log) -> Lemmas
+    pub fn new(_alloc: Global, log: Log) -> Lemmas
         ensures { result ≡ log }
     {
         Lemmas { log }

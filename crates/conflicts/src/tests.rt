@@ -145,7 +145,7 @@ fn a_cases_line_drops_a_buffer_that_no_cite_needs(rt: HostRuntime) {
 fn the_least_covering_line_is_found(rt: HostRuntime) {
     let alloc = rt.alloc();
     let four = four(alloc).expect(&rt, "memory");
-    let mut lemmas = Lemmas::new(Log::new(alloc, &four, 4));
+    let mut lemmas = Lemmas::new(alloc, Log::new(alloc, &four, 4));
     let first = over(alloc, &[(2, 3)], 3, 1).expect(&rt, "memory");
     lemmas.push(&four, first).expect(&rt, "legal");
     let second = over(alloc, &[(1, 4)], 4, 1).expect(&rt, "memory");

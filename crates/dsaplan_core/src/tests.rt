@@ -332,6 +332,15 @@ fn faults_outside_are_told(rt: HostRuntime) -> Result<(), Fail> {
             None,
             None,
         ),
+        (
+            "report --input i --layout right",
+            1,
+            9,
+            Status::ReadFault(Role::Layout),
+            "unread --layout\n",
+            None,
+            None,
+        ),
     ];
     for (line, failing_call, failing_put, status, printed, output, log) in cases {
         let mut files = MemoryFiles::new(alloc, vec![in alloc; failing_call]?);

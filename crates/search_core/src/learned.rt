@@ -33,7 +33,7 @@ impl Learned {
             result ≡ record { count = count; capacity = capacity; lines = [] } }
         ensures belongs { Belongs instance.now result }
     {
-        let lemmas = Lemmas::new(Log::new(alloc, instance, capacity));
+        let lemmas = Lemmas::new(alloc, Log::new(alloc, instance, capacity));
         Learned { lemmas }
     }
 

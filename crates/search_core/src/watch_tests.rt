@@ -145,7 +145,7 @@ impl<'a> Replay<'a> {
             alloc,
             instance,
             closed,
-            lemmas: Lemmas::new(Log::new(alloc, instance, closed.capacity())),
+            lemmas: Lemmas::new(alloc, Log::new(alloc, instance, closed.capacity())),
             watches: Watches::new(alloc)?,
             draws: Draws::new(closed.len()),
             tally,
