@@ -11,7 +11,7 @@ use Rattle.csv_instance.specs.declared.fault.InstanceFault.TheVariants as instan
 use Rattle.command_words.specs.Commands.{Bounds, Command, command_of}
 use Rattle.command_words.specs.Options.{Word}
 use Rattle.dsaplan_core.specs.Asked.{IsAsked, input_of}
-use Rattle.dsaplan_core.specs.Complete.{HoldsInstance}
+use Rattle.dsaplan_core.specs.Complete.{HoldsInstance, IsReady}
 use Rattle.dsaplan_core.specs.Refused.{HasNoInstance}
 use Rattle.dsaplan_core.specs.Steps.{IsInput, IsWhole}
 use Rattle.dsaplan_core.proofs.OneFacts.{one, rows, rows_are_one}
@@ -51,6 +51,10 @@ holds_no_other h =
     let same : in_file ≡ h.file.bytes = (let e = sym reads_input ∙ h.file.held in cc) in
     let e = same_instance one [] (sym rows_are_one ∙ ap parse (sym in_reads ∙ ap table_of same) ∙ h.parsed) in
     absurd cc
+
+-- the file is there for bounds, which reads no other
+ready_for_bounds : IsReady bounds_words (told input_alone) (Bounds (codes "i")) one
+ready_for_bounds = record { asked = refl; input = holds_one; layout = tt; log = tt }
 
 -- ---- words that ask for a command with it
 pub asks_one : (words : List Word) (files : FileMap) (command : Command) → command_of words ≡ Ok command →
