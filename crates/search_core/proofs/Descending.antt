@@ -1,5 +1,5 @@
 -- Steps of the search: a choice deeper, and back.
-use Rattle.std.proofs.Common.{◌≡◌, ◌≢◌, ℕ, ◌+◌, ◌-◌, ◌<◌, cond, List, [], ◌∷◌, ◌++◌, length, map, reverse, Option, Some, None, IfSome, slice_get, is_some, refl, sym, ap, ◌∙◌, subst, arith, length-append}
+use Rattle.std.proofs.Common.{◌≡◌, ◌≢◌, ℕ, ◌+◌, ◌-◌, ◌*◌, ◌<◌, cond, List, [], ◌∷◌, ◌++◌, length, map, reverse, Option, Some, None, IfSome, IfNone, slice_get, is_some, refl, sym, ap, ◌∙◌, subst, arith, length-append}
 use Rattle.std.proofs.lemmas.List.Elements.{All-cons, All-nil, All-weaker}
 use Rattle.dsa_terms.specs.Buffers.{Instance, IsInstance}
 use Rattle.dsa_terms.specs.Claims.{Claim, Entry, child}
@@ -7,8 +7,8 @@ use Rattle.dsa_terms.specs.Logs.{Line}
 use Rattle.dsa_terms.specs.Search.{first, seated, work}
 use Rattle.canonical_order.specs.Claims.{HasBuffer, entry_of}
 use Rattle.canonical_order.specs.Levels.{AreLevels}
-use Rattle.skyline.specs.Skies.{Sky, last_claim}
-use Rattle.search_core.specs.Descents.{Descends, HasAskedAll, IsKnown, IsStanding, IsTrying, above_of, left_of, owed, root_of, sky_root, through}
+use Rattle.skyline.specs.Skies.{last_claim}
+use Rattle.search_core.specs.Descents.{Descends, HasAskedAll, IsKnown, IsPath, IsPlace, IsStanding, IsTrying, Place, above_of, claim_at, left_of, owed, root_of, sky_root, through, turns_left}
 use Rattle.search_core.specs.Logs.{Extends}
 use Rattle.search_core.specs.Tries.{IsLeft, Tried, chosen_of, later_of, noted_by, rest_of}
 use Rattle.search_core.specs.Turns.{IsAhead, debt_of}
@@ -34,6 +34,10 @@ last_asked lines frames f e =
     let n : length (frames ++ f ∷ []) - 1 ≡ length frames = let k = length-append frames (f ∷ []) in omega arith in
     subst (λ (o : Option Tried). IfSome o (λ (f : Tried). f.asked ≡ length lines))
     (sym (ap (slice_get (frames ++ f ∷ [])) n ∙ get_new frames f)) e
+
+-- the place with that line known
+abbrev pub with_line : Place → ℕ → Place
+with_line here n = record { sky = here.sky; frames = here.frames; line = Some n }
 
 module _ (I : Instance) (C : ℕ) where
   -- a log that grows keeps what is known of all claims
@@ -93,195 +97,195 @@ module _ (I : Instance) (C : ℕ) where
       (raised_down lines l levels ps (reverse frames) s d a)
 
   -- ---- a choice deeper
-  pub ahead_deeper : (lines : List Line) (sky new : Sky) (frames after : List Tried) (f : Tried) →
-      sky.instance ≡ I → 0 < length sky.claims → IsTrying I C lines (last_claim sky.claims) f → IsLeft f →
-      f.asked ≡ length lines →
-      Descends I C lines (last_claim sky.claims) (above_of sky.claims) (reverse frames) →
-      new.instance ≡ sky.instance →
-      new.claims ≡ sky.claims
-      ++ child I (last_claim sky.claims) (entry_of (last_claim sky.claims) (chosen_of f)) ∷ [] →
-      after ≡ frames ++ f ∷ [] →
-      IsAhead I C lines (sky_root sky) (debt_of I C sky f frames) (length frames) new after None
-  ahead_deeper lines sky new frames after f same some trying lt asked d i claims pushed = record {
+  pub ahead_deeper : (lines : List Line) (before after : Place) (f : Tried) → IsPath I C lines before →
+      IsTrying I C lines (claim_at before) f → IsLeft f → f.asked ≡ length lines →
+      after.sky.instance ≡ before.sky.instance →
+      after.sky.claims ≡ before.sky.claims
+      ++ child I (claim_at before) (entry_of (claim_at before) (chosen_of f)) ∷ [] →
+      after.frames ≡ before.frames ++ f ∷ [] → after.line ≡ None → IsAhead I C lines before f after
+  ahead_deeper lines before after f p trying lt asked i claims pushed none = record {
     place = record {
-      subject = i ∙ same;
-      some = let n = ap length claims in let k = length-append sky.claims (x ∷ []) in omega arith;
-      descends = carried (λ (l : Claim) (ps : List Claim) (fs : List Tried). Descends I C lines l ps fs) last above rest
-          (record { is_left = lt; is_child = refl }, trying, d);
-      known = tt;
-      latest = subst (HasAskedAll lines) (sym pushed) (last_asked lines frames f asked);
+      path = record {
+        subject = i ∙ p.subject;
+        some = let n = ap length claims in let k = length-append before.sky.claims (x ∷ []) in omega arith;
+        descends = carried (λ (l : Claim) (ps : List Claim) (fs : List Tried). Descends I C lines l ps fs) last above
+            rest (record { is_left = lt; is_child = refl }, trying, p.descends);
+      };
+      known = subst (λ o. IfSome o (IsKnown I C lines (claim_at after))) (sym none) tt;
+      latest = subst (λ o. IfNone o (HasAskedAll lines after.frames)) (sym none)
+          (subst (HasAskedAll lines) (sym pushed) (last_asked lines before.frames f asked));
     };
-    root = ap (λ (l : Claim). root_of l (above_of new.claims)) last ∙ ap (root_of x) above;
+    root = ap (λ (l : Claim). root_of l (above_of after.sky.claims)) last ∙ ap (root_of x) above;
     owed = omega (arith, debt);
     turns =
-        let n : length after ≡ length frames + 1 = ap length pushed ∙ length-append frames (f ∷ []) in
-        omega (arith, debt);
+        let n : length after.frames ≡ length before.frames + 1 =
+        ap length pushed ∙ length-append before.frames (f ∷ []) in
+        let m : turns_left I C after ≡ 2 * owed I C after + length after.frames + 0 =
+        ap (λ o. 2 * owed I C after + length after.frames + cond (is_some o) 1 0) none in
+        omega (arith, debt, n, m);
   }
     where
-      l : Claim
-      l = last_claim sky.claims
-
       x : Claim
-      x = child I (last_claim sky.claims) (entry_of (last_claim sky.claims) (chosen_of f))
+      x = child I (claim_at before) (entry_of (claim_at before) (chosen_of f))
 
-      last : last_claim new.claims ≡ x
-      last = ap last_claim claims ∙ last_of_append sky.claims x
+      last : claim_at after ≡ x
+      last = ap last_claim claims ∙ last_of_append before.sky.claims x
 
-      above : above_of new.claims ≡ last_claim sky.claims ∷ above_of sky.claims
-      above = ap above_of claims ∙ above_pushed sky.claims x some
+      above : above_of after.sky.claims ≡ claim_at before ∷ above_of before.sky.claims
+      above = ap above_of claims ∙ above_pushed before.sky.claims x p.some
 
-      rest : reverse after ≡ f ∷ reverse frames
-      rest = ap reverse pushed ∙ reverse_push frames f
+      rest : reverse after.frames ≡ f ∷ reverse before.frames
+      rest = ap reverse pushed ∙ reverse_push before.frames f
 
-      split : through I C (last_claim sky.claims) (map (entry_of (last_claim sky.claims)) (rest_of f)) ≡
-          work I C x + cond (is_some (first I C x)) 0 (through I C (last_claim sky.claims)
-          (map (entry_of (last_claim sky.claims)) (later_of f)))
-      split = ap (λ (bs : List ℕ). through I C (last_claim sky.claims) (map (entry_of (last_claim sky.claims)) bs))
+      split : through I C (claim_at before) (map (entry_of (claim_at before)) (rest_of f)) ≡
+          work I C x + cond (is_some (first I C x)) 0 (through I C (claim_at before)
+          (map (entry_of (claim_at before)) (later_of f)))
+      split = ap (λ (bs : List ℕ). through I C (claim_at before) (map (entry_of (claim_at before)) bs))
           (next_choice f lt)
-          ∙ through_next I C (last_claim sky.claims) (entry_of (last_claim sky.claims) (chosen_of f))
-          (map (entry_of (last_claim sky.claims)) (later_of f))
+          ∙ through_next I C (claim_at before) (entry_of (claim_at before) (chosen_of f))
+          (map (entry_of (claim_at before)) (later_of f))
 
-      debt : owed I C new after None ≡ debt_of I C sky f frames
+      debt : owed I C after ≡ debt_of I C before f
       debt =
-          carried (λ (l : Claim) (ps : List Claim) (fs : List Tried). work I C l + left_of I C l ps fs
-          ≡ debt_of I C sky f frames) last above rest
+          ap (λ o. cond (is_some o) 0 (work I C (claim_at after))
+          + left_of I C (claim_at after) (above_of after.sky.claims) (reverse after.frames)) none
+          ∙ carried (λ (l : Claim) (ps : List Claim) (fs : List Tried). work I C l + left_of I C l ps fs
+          ≡ debt_of I C before f) last above rest
           (let s = split in omega arith)
 
-  -- ---- a line covers the last claim
-  pub ahead_covered : (k : Claim) (lines after : List Line) (sky : Sky) (frames : List Tried) (f : Tried) (n : ℕ) →
-      sky.instance ≡ I → 0 < length sky.claims → Extends k lines after →
-      Descends I C lines (last_claim sky.claims) (above_of sky.claims) (reverse frames) →
-      IsKnown I C after (last_claim sky.claims) n →
-      IsAhead I C after (sky_root sky) (debt_of I C sky f frames) (length frames) sky frames (Some n)
-  ahead_covered k lines after sky frames f n same some grown d known = record {
-    place = record {
-      subject = same;
-      some = some;
-      descends = descends_still k lines after (last_claim sky.claims) (above_of sky.claims) (reverse frames) grown d;
-      known = known;
-      latest = tt;
-    };
+  -- ---- a line covers the claim
+  pub path_still : (k : Claim) (lines after : List Line) (here : Place) → Extends k lines after →
+      IsPath I C lines here → IsPath I C after here
+  path_still k lines after here grown p = record {
+    subject = p.subject;
+    some = p.some;
+    descends = descends_still k lines after (claim_at here) (above_of here.sky.claims) (reverse here.frames) grown
+        p.descends;
+  }
+
+  pub place_with_line : (k : Claim) (lines after : List Line) (here : Place) (n : ℕ) → Extends k lines after →
+      IsPath I C lines here → IsKnown I C after (claim_at here) n → IsPlace I C after (with_line here n)
+  place_with_line k lines after here n grown p known = record {
+    path = let q = path_still k lines after here grown p in
+        record { subject = q.subject; some = q.some; descends = q.descends };
+    known = known;
+    latest = tt;
+  }
+
+  pub ahead_covered : (k : Claim) (lines after : List Line) (here : Place) (f : Tried) (n : ℕ) →
+      Extends k lines after → IsPath I C lines here → IsKnown I C after (claim_at here) n →
+      IsAhead I C after here f (with_line here n)
+  ahead_covered k lines after here f n grown p known = record {
+    place = place_with_line k lines after here n grown p known;
     root = refl;
     owed = omega arith;
     turns = omega arith;
   }
 
   -- ---- back
-  -- what is known of the claim above the last one
-  pub record IsBack (lines : List Line) (sky new : Sky) (frames : List Tried) (f : Tried) : Type 0 where
-    pub subject : new.instance ≡ I
-    pub some : 0 < length new.claims
-    pub standing : IsStanding I (last_claim new.claims) f (last_claim sky.claims)
-    pub trying : IsTrying I C lines (last_claim new.claims) f
-    pub descends : Descends I C lines (last_claim new.claims) (above_of new.claims) (reverse frames)
-    pub above : above_of sky.claims ≡ last_claim new.claims ∷ above_of new.claims
-    pub root : sky_root sky ≡ sky_root new
-    pub not_empty : last_claim new.claims ≢ []
+  -- what is known of the claim above the one that the search was at
+  pub record IsBack (lines : List Line) (here there : Place) (f : Tried) : Type 0 where
+    pub path : IsPath I C lines there
+    pub standing : IsStanding I (claim_at there) f (claim_at here)
+    pub trying : IsTrying I C lines (claim_at there) f
+    pub above : above_of here.sky.claims ≡ claim_at there ∷ above_of there.sky.claims
+    pub root : sky_root here.sky ≡ sky_root there.sky
+    pub not_empty : claim_at there ≢ []
 
   -- where there is a frame, the last claim may go
-  pub may_pop : (lines : List Line) (sky : Sky) (frames after : List Tried) (f : Tried) → 0 < length sky.claims →
-      Descends I C lines (last_claim sky.claims) (above_of sky.claims) (reverse frames) → frames ≡ after ++ f ∷ [] →
-      1 < length sky.claims
-  may_pop lines sky frames after f some d e =
-      let r : reverse frames ≡ f ∷ reverse after = ap reverse e ∙ reverse_push after f in
-      let a = has_above lines (last_claim sky.claims) (above_of sky.claims) f (reverse after)
-      (subst (Descends I C lines (last_claim sky.claims) (above_of sky.claims)) r d) in
-      let c = count_above sky.claims some in
+  pub may_pop : (lines : List Line) (here : Place) (rest : List Tried) (f : Tried) → IsPath I C lines here →
+      here.frames ≡ rest ++ f ∷ [] → 1 < length here.sky.claims
+  may_pop lines here rest f p e =
+      let r : reverse here.frames ≡ f ∷ reverse rest = ap reverse e ∙ reverse_push rest f in
+      let a = has_above lines (claim_at here) (above_of here.sky.claims) f (reverse rest)
+      (subst (Descends I C lines (claim_at here) (above_of here.sky.claims)) r p.descends) in
+      let c = count_above here.sky.claims p.some in
       omega arith
 
-  pub is_back : (lines : List Line) (sky new : Sky) (frames after : List Tried) (f : Tried) → sky.instance ≡ I →
-      0 < length sky.claims →
-      Descends I C lines (last_claim sky.claims) (above_of sky.claims) (reverse frames) → frames ≡ after ++ f ∷ [] →
-      new.instance ≡ sky.instance → sky.claims ≡ new.claims ++ last_claim sky.claims ∷ [] →
-      IsBack lines sky new after f
-  is_back lines sky new frames after f same some d e i claims = record {
-    subject = i ∙ same;
-    some = there;
+  pub is_back : (lines : List Line) (here there : Place) (f : Tried) → IsPath I C lines here →
+      here.frames ≡ there.frames ++ f ∷ [] → there.sky.instance ≡ here.sky.instance →
+      here.sky.claims ≡ there.sky.claims ++ claim_at here ∷ [] → IsBack lines here there f
+  is_back lines here there f p e i claims = record {
+    path = record { subject = i ∙ p.subject; some = some; descends = all.2 };
     standing = all.0;
     trying = all.1;
-    descends = all.2;
     above = above;
-    root = ap (root_of (last_claim sky.claims)) above;
+    root = ap (root_of (claim_at here)) above;
     not_empty = λ q. has_none (chosen_of f) (subst (λ (l : Claim). HasBuffer l (chosen_of f)) q
-        (chosen_in I C (last_claim new.claims) lines f all.1 all.0.is_left));
+        (chosen_in I C (claim_at there) lines f all.1 all.0.is_left));
   }
     where
       has_none : (b : ℕ) → HasBuffer [] b → ⊥
       has_none b h = h
 
-      there : 0 < length new.claims
-      there =
-          let m = may_pop lines sky frames after f some d e in
+      some : 0 < length there.sky.claims
+      some =
+          let m = may_pop lines here there.frames f p e in
           let n = ap length claims in
-          let k = length-append new.claims (last_claim sky.claims ∷ []) in
+          let k = length-append there.sky.claims (claim_at here ∷ []) in
           omega arith
 
-      above : above_of sky.claims ≡ last_claim new.claims ∷ above_of new.claims
-      above = ap above_of claims ∙ above_pushed new.claims (last_claim sky.claims) there
+      above : above_of here.sky.claims ≡ claim_at there ∷ above_of there.sky.claims
+      above = ap above_of claims ∙ above_pushed there.sky.claims (claim_at here) some
 
-      rest : reverse frames ≡ f ∷ reverse after
-      rest = ap reverse e ∙ reverse_push after f
+      rest : reverse here.frames ≡ f ∷ reverse there.frames
+      rest = ap reverse e ∙ reverse_push there.frames f
 
-      all : Descends I C lines (last_claim sky.claims) (last_claim new.claims ∷ above_of new.claims)
-          (f ∷ reverse after)
+      all : Descends I C lines (claim_at here) (claim_at there ∷ above_of there.sky.claims) (f ∷ reverse there.frames)
       all = carried (λ (l : Claim) (ps : List Claim) (fs : List Tried). Descends I C lines l ps fs) refl (sym above)
-          (sym rest) d
+          (sym rest) p.descends
 
   -- the choice that led to the last claim is refuted, where a line covers that claim
-  pub back_noted : (lines : List Line) (sky new : Sky) (frames : List Tried) (f : Tried) (k : ℕ) →
-      IsBack lines sky new frames f → IsKnown I C lines (last_claim sky.claims) k →
-      IsTrying I C lines (last_claim new.claims) (noted_by f k)
-  back_noted lines sky new frames f k b known =
-      choice_refuted I C (last_claim new.claims) lines f k b.trying b.standing.is_left
+  pub back_noted : (lines : List Line) (here there : Place) (f : Tried) (k : ℕ) → IsBack lines here there f →
+      IsKnown I C lines (claim_at here) k → IsTrying I C lines (claim_at there) (noted_by f k)
+  back_noted lines here there f k b known =
+      choice_refuted I C (claim_at there) lines f k b.trying b.standing.is_left
       (subst (λ (l : Claim). IsKnown I C lines l k) b.standing.is_child known)
 
   -- and what was left to do is left to do
-  pub back_debt : (lines : List Line) (sky new : Sky) (frames after : List Tried) (f : Tried) (k : ℕ) →
-      IsBack lines sky new after f → IsKnown I C lines (last_claim sky.claims) k → frames ≡ after ++ f ∷ [] →
-      owed I C sky frames (Some k) ≡ debt_of I C new (noted_by f k) after
-  back_debt lines sky new frames after f k b known e =
-      carried (λ (l : Claim) (ps : List Claim) (fs : List Tried). 0 + left_of I C l ps fs
-      ≡ debt_of I C new (noted_by f k) after) refl b.above (ap reverse e ∙ reverse_push after f)
-      (split (first I C (last_claim sky.claims)) known.none)
+  pub back_debt : (lines : List Line) (here there : Place) (f : Tried) (k : ℕ) → IsBack lines here there f →
+      IsKnown I C lines (claim_at here) k → here.line ≡ Some k → here.frames ≡ there.frames ++ f ∷ [] →
+      owed I C here ≡ debt_of I C there (noted_by f k)
+  back_debt lines here there f k b known line e =
+      ap (λ o. cond (is_some o) 0 (work I C (claim_at here))
+      + left_of I C (claim_at here) (above_of here.sky.claims) (reverse here.frames)) line
+      ∙ carried (λ (l : Claim) (ps : List Claim) (fs : List Tried). 0 + left_of I C l ps fs
+      ≡ debt_of I C there (noted_by f k)) refl b.above (ap reverse e ∙ reverse_push there.frames f)
+      (split (first I C (claim_at here)) known.none)
     where
-      later : through I C (last_claim new.claims) (map (entry_of (last_claim new.claims)) (rest_of (noted_by f k))) ≡
-          through I C (last_claim new.claims) (map (entry_of (last_claim new.claims)) (later_of f))
-      later = ap (λ (bs : List ℕ). through I C (last_claim new.claims) (map (entry_of (last_claim new.claims)) bs))
+      later : through I C (claim_at there) (map (entry_of (claim_at there)) (rest_of (noted_by f k))) ≡
+          through I C (claim_at there) (map (entry_of (claim_at there)) (later_of f))
+      later = ap (λ (bs : List ℕ). through I C (claim_at there) (map (entry_of (claim_at there)) bs))
           (rest_of_noted f k)
 
       split : (o : Option (List Entry)) → o ≡ None →
-          0 + (cond (is_some o) 0 (through I C (last_claim new.claims) (map (entry_of (last_claim new.claims))
-          (later_of f))) + left_of I C (last_claim new.claims) (above_of new.claims) (reverse after))
-          ≡ debt_of I C new (noted_by f k) after
+          0 + (cond (is_some o) 0 (through I C (claim_at there) (map (entry_of (claim_at there)) (later_of f)))
+          + left_of I C (claim_at there) (above_of there.sky.claims) (reverse there.frames))
+          ≡ debt_of I C there (noted_by f k)
       split None q = let z = later in omega arith
       split (Some seats) q = absurd cc
 
   -- what the root is said to have
-  pub record IsSeated (top : Claim) (lines : List Line) (sky : Sky) (frames : List Tried) (seats : List Entry) : Type
-      0 where
-    pub subject : sky.instance ≡ I
-    pub some : 0 < length sky.claims
-    pub descends : Descends I C lines (last_claim sky.claims) (above_of sky.claims) (reverse frames)
-    pub root : sky_root sky ≡ top
-    pub found : first I C (last_claim sky.claims) ≡ Some seats
+  pub record IsSeated (top : Claim) (lines : List Line) (here : Place) (seats : List Entry) : Type 0 where
+    pub path : IsPath I C lines here
+    pub root : sky_root here.sky ≡ top
+    pub found : first I C (claim_at here) ≡ Some seats
 
-  pub seated_back : (root : Claim) (lines : List Line) (sky new : Sky) (frames after : List Tried) (f : Tried)
-      (seats all : List Entry) → IsSeated root lines sky frames seats → IsBack lines sky new after f →
-      seated I (last_claim new.claims) (entry_of (last_claim new.claims) (chosen_of f)) (Some seats) ≡ Some all →
-      IsSeated root lines new after all
-  seated_back root lines sky new frames after f seats all s b q = record {
-    subject = b.subject;
-    some = b.some;
-    descends = b.descends;
+  pub seated_back : (root : Claim) (lines : List Line) (here there : Place) (f : Tried) (seats all : List Entry) →
+      IsSeated root lines here seats → IsBack lines here there f →
+      seated I (claim_at there) (entry_of (claim_at there) (chosen_of f)) (Some seats) ≡ Some all →
+      IsSeated root lines there all
+  seated_back root lines here there f seats all s b q = record {
+    path = b.path;
     root = sym b.root ∙ s.root;
-    found = layout_found I C (last_claim new.claims) lines f seats all b.trying b.standing.is_left
+    found = layout_found I C (claim_at there) lines f seats all b.trying b.standing.is_left
         (subst (λ (l : Claim). first I C l ≡ Some seats) b.standing.is_child s.found) q;
   }
 
-  pub seated_root : (root : Claim) (lines : List Line) (sky : Sky) (frames : List Tried) (seats : List Entry) →
-      IsSeated root lines sky frames seats → frames ≡ [] → first I C root ≡ Some seats
-  seated_root root lines sky frames seats s e =
+  pub seated_root : (root : Claim) (lines : List Line) (here : Place) (seats : List Entry) →
+      IsSeated root lines here seats → here.frames ≡ [] → first I C root ≡ Some seats
+  seated_root root lines here seats s e =
       subst (λ (l : Claim). first I C l ≡ Some seats)
-      (sym (no_above lines (last_claim sky.claims) (above_of sky.claims)
-      (subst (λ (fs : List Tried). Descends I C lines (last_claim sky.claims) (above_of sky.claims) (reverse fs)) e
-      s.descends)) ∙ s.root) s.found
+      (sym (no_above lines (claim_at here) (above_of here.sky.claims)
+      (subst (λ (fs : List Tried). Descends I C lines (claim_at here) (above_of here.sky.claims) (reverse fs)) e
+      s.path.descends)) ∙ s.root) s.found

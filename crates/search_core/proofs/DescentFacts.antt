@@ -1,13 +1,13 @@
 -- Where a search is that puts a buffer of size 3 at 0, and looks at what is left of one of size 1 that stands at
 -- multiples of 4 alone.
-use Rattle.std.proofs.Common.{◌≡◌, ℕ, List, [], ◌∷◌, Some, None, refl, sym, ap, arith}
+use Rattle.std.proofs.Common.{◌≡◌, ℕ, List, [], ◌∷◌, length, Option, Some, None, refl, sym, ap, arith}
 use Rattle.dsa_terms.specs.Buffers.{buffer, do_share, have_same_moments, is_live, some_before}
 use Rattle.dsa_terms.specs.Claims.{Claim, child, step, up}
 use Rattle.dsa_terms.specs.Logs.{Line, ends_below, is_twin}
 use Rattle.dsa_terms.specs.Search.{comes_before, first, is_tall, work}
 use Rattle.dsa_terms.proofs.Examples.{small_below}
 use Rattle.skyline.specs.Skies.{Sky}
-use Rattle.search_core.specs.Descents.{Descends, IsPlace, IsStanding, left_of, sky_root, through, turns_left}
+use Rattle.search_core.specs.Descents.{Descends, IsPath, IsPlace, IsStanding, Place, claim_at, left_of, sky_root, through, turns_left}
 use Rattle.search_core.specs.Tries.{Tried}
 use Rattle.search_core.proofs.FoundFacts.{rest_known}
 use Rattle.search_core.proofs.LevelFacts.{differ, rest, root}
@@ -75,48 +75,55 @@ none_left = refl
 the_first_claim : sky_root (sky_of (root ∷ rest ∷ [])) ≡ root
 the_first_claim = refl
 
+-- the search is at what is left, below the root and its choices
+abbrev pub below_root : ℕ → Option ℕ → Place
+below_root n line = record { sky = sky_of (root ∷ rest ∷ []); frames = both_left n ∷ []; line = line }
+
+the_last_claim : claim_at (below_root 0 None) ≡ rest
+the_last_claim = refl
+
 -- three claims, two turns each, and one frame
-pub seven_turns : (n : ℕ) → turns_left small_below 4 (sky_of (root ∷ rest ∷ [])) (both_left n ∷ []) None ≡ 7
+pub seven_turns : (n : ℕ) → turns_left small_below 4 (below_root n None) ≡ 7
 unfolding work through first is_tall comes_before ends_below is_twin have_same_moments child step do_share some_before
     is_live up buffer
 seven_turns n = refl
 
 -- with a line for the last claim one claim less is left, and one turn back
-pub six_turns : (n : ℕ) → turns_left small_below 4 (sky_of (root ∷ rest ∷ [])) (both_left n ∷ []) (Some 0) ≡ 6
+pub six_turns : (n : ℕ) → turns_left small_below 4 (below_root n (Some 0)) ≡ 6
 unfolding work through first is_tall comes_before ends_below is_twin have_same_moments child step do_share some_before
     is_live up buffer
 six_turns n = refl
 
--- ---- the place
-pub before_line : IsPlace small_below 4 [] (sky_of (root ∷ rest ∷ [])) (both_left 0 ∷ []) None
-before_line = record {
-  subject = refl;
-  some = omega arith;
-  descends = down_one [] 0;
-  known = tt;
-  latest = refl;
-}
+-- ---- the way down
+on_the_way : (lines : List Line) (n : ℕ) (line : Option ℕ) → IsPath small_below 4 lines (below_root n line)
+on_the_way lines n line = record { subject = refl; some = omega arith; descends = down_one lines n }
 
-pub after_line : IsPlace small_below 4 (over ∷ []) (sky_of (root ∷ rest ∷ [])) (both_left 0 ∷ []) (Some 0)
-after_line = record {
-  subject = refl;
-  some = omega arith;
-  descends = down_one (over ∷ []) 0;
-  known = rest_known;
-  latest = tt;
-}
+-- a claim below the root has a frame above it
+no_way_without_frame : IsPath small_below 4 [] (record { sky = sky_of (root ∷ rest ∷ []); frames = []; line = None }) →
+    ⊥
+no_way_without_frame p = p.descends
+
+of_another_instance : IsPath [] 4 [] (below_root 0 None) → ⊥
+of_another_instance p = let e = ap length p.subject in omega arith
+
+-- ---- the place
+pub before_line : IsPlace small_below 4 [] (below_root 0 None)
+before_line = record { path = on_the_way [] 0 None; known = tt; latest = refl }
+
+pub after_line : IsPlace small_below 4 (over ∷ []) (below_root 0 (Some 0))
+after_line = record { path = on_the_way (over ∷ []) 0 (Some 0); known = rest_known; latest = tt }
 
 -- the line is not asked at the claim above
-not_asked : IsPlace small_below 4 (over ∷ []) (sky_of (root ∷ rest ∷ [])) (both_left 0 ∷ []) None → ⊥
+not_asked : IsPlace small_below 4 (over ∷ []) (below_root 0 None) → ⊥
 not_asked p = let k = p.latest in omega arith
 
 -- the line is not there
-not_known : IsPlace small_below 4 [] (sky_of (root ∷ rest ∷ [])) (both_left 0 ∷ []) (Some 0) → ⊥
+not_known : IsPlace small_below 4 [] (below_root 0 (Some 0)) → ⊥
 not_known p = let e = p.known.covered.stands in absurd cc
 
-nowhere : (frames : List Tried) → IsPlace small_below 4 [] (sky_of []) frames None → ⊥
-nowhere frames p = let k = p.some in omega arith
+nowhere : (frames : List Tried) → IsPlace small_below 4 [] (record { sky = sky_of []; frames = frames; line = None }) →
+    ⊥
+nowhere frames p = let k = p.path.some in omega arith
 
--- a claim below the root has a frame above it
-not_below : IsPlace small_below 4 [] (sky_of (root ∷ rest ∷ [])) [] None → ⊥
-not_below p = p.descends
+not_below : IsPlace small_below 4 [] (record { sky = sky_of (root ∷ rest ∷ []); frames = []; line = None }) → ⊥
+not_below p = p.path.descends

@@ -1,6 +1,6 @@
 -- Worked facts: a buffer of size 3 beside one of size 1 that stands at multiples of 4 alone, which fit into 4 and
 -- not into 3.
-use Rattle.std.proofs.Common.{◌≡◌, ◌-◌, ◌^◌, ℕ, zero, suc, List, [], ◌∷◌, Some, None, inl, inr, refl, sym, ap, subst, arith}
+use Rattle.std.proofs.Common.{◌≡◌, ◌-◌, ◌^◌, ℕ, zero, suc, List, [], ◌∷◌, Option, Some, None, inl, inr, refl, sym, ap, subst, arith}
 use Rattle.dsa_terms.specs.Buffers.{Buffer, Instance, buffer, do_share, have_same_moments, is_live, some_before}
 use Rattle.dsa_terms.specs.Claims.{Claim, Entry, IsIn, child, step, up}
 use Rattle.dsa_terms.specs.Plans.{layout_height}
@@ -14,7 +14,7 @@ use Rattle.search_core.specs.Cites.{IsCoveredBy}
 use Rattle.search_core.specs.Courses.{at_start}
 use Rattle.search_core.specs.Decisions.{IsGiven, allowance_of, charge_of, turn_of}
 use Rattle.skyline.specs.Skies.{Sky}
-use Rattle.search_core.specs.Descents.{above_of, owed, root_of, through}
+use Rattle.search_core.specs.Descents.{Place, above_of, claim_at, owed, root_of, through}
 use Rattle.search_core.specs.Lifted.{lifted}
 use Rattle.search_core.specs.Tries.{Tried, chosen_of, later_of, noted_by, rest_of, untried}
 use Rattle.search_core.specs.Keys.{key_of}
@@ -177,22 +177,31 @@ the_first_one = refl
 abbrev sky_of : List Claim → Sky
 sky_of claims = record { instance = two; sections = record { sections = []; of_buffers = [] }; claims = claims }
 
+-- the search is at what is left where buffer 0 stands at 0
+abbrev below_first : Option ℕ → Place
+below_first line = record {
+  sky = sky_of (((0, 0) ∷ (1, 0) ∷ []) ∷ ((1, 3) ∷ []) ∷ []);
+  frames = untried (0 ∷ 1 ∷ []) [] 0 ∷ [];
+  line = line;
+}
+
+the_last_claim : claim_at (below_first None) ≡ (1, 3) ∷ []
+the_last_claim = refl
+
 -- four claims in all at 4, of which the first is looked at, and then buffer 0 stands at 0
-four_owed : owed two 4 (sky_of (((0, 0) ∷ (1, 0) ∷ []) ∷ [])) [] None ≡ 4
+four_owed : owed two 4 (record { sky = sky_of (((0, 0) ∷ (1, 0) ∷ []) ∷ []); frames = []; line = None }) ≡ 4
 unfolding work first is_tall comes_before ends_below is_twin have_same_moments child step do_share some_before is_live
     up
     buffer
 four_owed = refl
 
-three_owed : owed two 4 (sky_of (((0, 0) ∷ (1, 0) ∷ []) ∷ ((1, 3) ∷ []) ∷ []))
-    (untried (0 ∷ 1 ∷ []) [] 0 ∷ []) None ≡ 3
+three_owed : owed two 4 (below_first None) ≡ 3
 unfolding work through first is_tall comes_before ends_below is_twin have_same_moments child step do_share some_before
     is_live up buffer
 three_owed = refl
 
 -- once a line covers what is left of it, the other choice is owed
-two_owed : owed two 4 (sky_of (((0, 0) ∷ (1, 0) ∷ []) ∷ ((1, 3) ∷ []) ∷ []))
-    (untried (0 ∷ 1 ∷ []) [] 0 ∷ []) (Some 0) ≡ 2
+two_owed : owed two 4 (below_first (Some 0)) ≡ 2
 unfolding work through first is_tall comes_before ends_below is_twin have_same_moments child step do_share some_before
     is_live up buffer
 two_owed = refl

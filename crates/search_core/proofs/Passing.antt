@@ -9,9 +9,8 @@ use Rattle.canonical_order.specs.Claims.{HasBuffer, entry_of}
 use Rattle.canonical_order.specs.Levels.{AreLevels}
 use Rattle.canonical_order.specs.Stands.{Stands}
 use Rattle.refute_log.specs.Logs.{OpenLog}
-use Rattle.skyline.specs.Skies.{Sky}
 use Rattle.search_core.specs.Cites.{IsCoveredBy}
-use Rattle.search_core.specs.Descents.{IsTrying, through}
+use Rattle.search_core.specs.Descents.{IsTrying, Place, claim_at, through}
 use Rattle.search_core.specs.Logs.{IsSearchLog}
 use Rattle.search_core.specs.Tries.{IsLeft, Tried, chosen_of, later_of, noted_by, rest_of}
 use Rattle.search_core.specs.Turns.{IsAhead}
@@ -71,10 +70,10 @@ module _ (I : Instance) (C : ℕ) (l : Claim) (log : OpenLog) (f : Tried) (k : �
       omega arith
 
 -- what is ahead of less is ahead of more
-pub ahead_of_less : (I : Instance) (C : ℕ) (lines : List Line) (top : Claim) (less most count : ℕ)
-    (sky : Sky) (frames : List Tried) (line : Option ℕ) → less ≤ most →
-    IsAhead I C lines top less count sky frames line → IsAhead I C lines top most count sky frames line
-ahead_of_less I C lines top less most count sky frames line le a = record {
+pub ahead_of_less : (I : Instance) (C : ℕ) (lines : List Line) (before after : Place) (less more : Tried) →
+    left_below I C (claim_at before) less ≤ left_below I C (claim_at before) more →
+    IsAhead I C lines before less after → IsAhead I C lines before more after
+ahead_of_less I C lines before after less more le a = record {
   place = a.place;
   root = a.root;
   owed = let k = a.owed in omega arith;

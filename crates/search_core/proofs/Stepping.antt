@@ -4,15 +4,14 @@ use Rattle.dsa_terms.specs.Buffers.{Instance}
 use Rattle.dsa_terms.specs.Claims.{Claim, IsClaim}
 use Rattle.dsa_terms.specs.Logs.{Line}
 use Rattle.dsa_terms.specs.Search.{first, work}
-use Rattle.skyline.specs.Skies.{Sky, last_claim}
 use Rattle.search_core.specs.Cites.{IsCoveredBy}
-use Rattle.search_core.specs.Descents.{Descends, HasAskedAll, IsKnown, IsPlace, above_of, left_of, owed, sky_root, turns_left}
+use Rattle.search_core.specs.Descents.{Descends, HasAskedAll, IsKnown, IsPath, IsPlace, Place, above_of, claim_at, left_of, owed, sky_root, turns_left}
 use Rattle.search_core.specs.Logs.{Extends}
 use Rattle.search_core.specs.Meters.{Units}
 use Rattle.search_core.specs.Opened.{AreChoices}
 use Rattle.search_core.specs.Tries.{Tried, noted_by}
 use Rattle.search_core.specs.Turns.{IsAhead, IsOn, debt_of}
-use Rattle.search_core.proofs.Descending.{IsBack, back_debt, descends_still, no_above, root_has}
+use Rattle.search_core.proofs.Descending.{IsBack, back_debt, no_above, place_with_line, root_has, with_line}
 use Rattle.search_core.proofs.Growing.{extends_along, extends_none}
 use Rattle.search_core.proofs.Working.{some_work}
 
@@ -21,106 +20,101 @@ nothing_in [] e = refl
 nothing_in (x ∷ xs) e = absurd (omega arith)
 
 -- lines that have only buffers of the last claim have only buffers of the first one
-pub grown_below : (I : Instance) (C : ℕ) (lines after : List Line) (sky : Sky) (fs : List Tried) →
-    Descends I C lines (last_claim sky.claims) (above_of sky.claims) fs →
-    Extends (last_claim sky.claims) lines after → Extends (sky_root sky) lines after
-grown_below I C lines after sky fs d grown =
-    extends_along (last_claim sky.claims) (sky_root sky) lines lines after
-    (λ b h. root_has I C lines (last_claim sky.claims) (above_of sky.claims) fs b d h)
-    (extends_none (sky_root sky) lines) grown
+pub grown_below : (I : Instance) (C : ℕ) (lines after : List Line) (here : Place) → IsPath I C lines here →
+    Extends (claim_at here) lines after → Extends (sky_root here.sky) lines after
+grown_below I C lines after here p grown =
+    extends_along (claim_at here) (sky_root here.sky) lines lines after
+    (λ b h. root_has I C lines (claim_at here) (above_of here.sky.claims) (reverse here.frames) b p.descends h)
+    (extends_none (sky_root here.sky) lines) grown
 
-module _ (I : Instance) (C : ℕ) (lines : List Line) (sky : Sky) (frames : List Tried) (line : Option ℕ)
-    (p : IsPlace I C lines sky frames line) where
+module _ (I : Instance) (C : ℕ) (lines : List Line) (here : Place) (p : IsPlace I C lines here) where
   -- the line that is known
-  pub known_line : (k : ℕ) → line ≡ Some k → IsKnown I C lines (last_claim sky.claims) k
-  known_line k e = subst (λ o. IfSome o (IsKnown I C lines (last_claim sky.claims))) e p.known
+  pub known_line : (k : ℕ) → here.line ≡ Some k → IsKnown I C lines (claim_at here) k
+  known_line k e = subst (λ o. IfSome o (IsKnown I C lines (claim_at here))) e p.known
 
   -- where no line is known, the claim above has asked all lines
-  pub asked_above : line ≡ None → HasAskedAll lines frames
-  asked_above e = subst (λ o. IfNone o (HasAskedAll lines frames)) e p.latest
+  pub asked_above : here.line ≡ None → HasAskedAll lines here.frames
+  asked_above e = subst (λ o. IfNone o (HasAskedAll lines here.frames)) e p.latest
 
   -- where no line is known, the last claim is left to look at
-  pub some_owed : line ≡ None → IsClaim I (last_claim sky.claims) → 1 ≤ owed I C sky frames line
-  some_owed e c =
-      let w = some_work I C (last_claim sky.claims) c in
-      subst (λ o. 1 ≤ owed I C sky frames o) (sym e) (omega arith)
+  none_known : here.line ≡ None → owed I C here ≡ work I C (claim_at here)
+      + left_of I C (claim_at here) (above_of here.sky.claims) (reverse here.frames)
+  none_known e =
+      ap (λ o. cond (is_some o) 0 (work I C (claim_at here))
+      + left_of I C (claim_at here) (above_of here.sky.claims) (reverse here.frames)) e
+
+  pub some_owed : here.line ≡ None → IsClaim I (claim_at here) → 1 ≤ owed I C here
+  some_owed e c = let w = some_work I C (claim_at here) c in let o = none_known e in omega arith
+
+  turns_of : (o : Option ℕ) → here.line ≡ o →
+      turns_left I C here ≡ 2 * owed I C here + length here.frames + cond (is_some o) 1 0
+  turns_of o e = ap (λ o. 2 * owed I C here + length here.frames + cond (is_some o) 1 0) e
 
   -- back, and then on
-  pub on_back : (after : List Line) (popped new : Sky) (rest later : List Tried) (f : Tried) (k : ℕ) (next : Option ℕ)
-      (units : Units) → line ≡ Some k → frames ≡ rest ++ f ∷ [] → IsBack I C lines sky popped rest f →
-      IsAhead I C after (sky_root popped) (debt_of I C popped (noted_by f k) rest) (length rest) new later next →
-      IsOn I C after units units sky frames line new later next
-  on_back after popped new rest later f k next units e parted b a = record {
+  pub on_back : (after : List Line) (popped next : Place) (f : Tried) (k : ℕ) (units : Units) → here.line ≡ Some k →
+      here.frames ≡ popped.frames ++ f ∷ [] → IsBack I C lines here popped f →
+      IsAhead I C after popped (noted_by f k) next →
+      IsOn I C after (record { place = here; units = units }) (record { place = next; units = units })
+  on_back after popped next f k units e parted b a = record {
     place = a.place;
     root = a.root ∙ sym b.root;
     units = let o = a.owed in omega (arith, old, o);
     fewer =
         let t = a.turns in
-        let n : length frames ≡ length rest + 1 = ap length parted ∙ length-append rest (f ∷ []) in
-        let m : turns_left I C sky frames line ≡ 2 * owed I C sky frames line + length frames + 1 =
-        ap (λ o. 2 * owed I C sky frames line + length frames + cond (is_some o) 1 0) e in
+        let n : length here.frames ≡ length popped.frames + 1 =
+        ap length parted ∙ length-append popped.frames (f ∷ []) in
+        let m : turns_left I C here ≡ 2 * owed I C here + length here.frames + 1 = turns_of (Some k) e in
         omega (arith, old, t, n, m);
   }
     where
-      old : owed I C sky frames line ≡ debt_of I C popped (noted_by f k) rest
-      old = ap (owed I C sky frames) e ∙ back_debt I C lines sky popped frames rest f k b (known_line k e) parted
+      old : owed I C here ≡ debt_of I C popped (noted_by f k)
+      old = back_debt I C lines here popped f k b (known_line k e) e parted
 
   -- the last claim was opened, and has these choices
-  pub on_forth : (opened after : List Line) (new : Sky) (later : List Tried) (f : Tried) (next : Option ℕ)
-      (before used : Units) → line ≡ None → AreChoices I C opened (last_claim sky.claims) f →
-      used.used ≤ before.used + 1 →
-      IsAhead I C after (sky_root sky) (debt_of I C sky f frames) (length frames) new later next →
-      IsOn I C after before used sky frames line new later next
-  on_forth opened after new later f next before used e c one a = record {
+  pub on_forth : (opened after : List Line) (next : Place) (f : Tried) (before used : Units) → here.line ≡ None →
+      AreChoices I C opened (claim_at here) f → used.used ≤ before.used + 1 → IsAhead I C after here f next →
+      IsOn I C after (record { place = here; units = before }) (record { place = next; units = used })
+  on_forth opened after next f before used e c one a = record {
     place = a.place;
     root = a.root;
     units = let o = a.owed in omega (arith, old, o, one);
     fewer =
         let t = a.turns in
-        let m : turns_left I C sky frames line ≡ 2 * owed I C sky frames line + length frames + 0 =
-        ap (λ o. 2 * owed I C sky frames line + length frames + cond (is_some o) 1 0) e in
+        let m : turns_left I C here ≡ 2 * owed I C here + length here.frames + 0 = turns_of None e in
         omega (arith, old, t, m);
   }
     where
-      old : owed I C sky frames line ≡ 1 + debt_of I C sky f frames
-      old = ap (owed I C sky frames) e ∙ (let w = c.work in omega arith)
+      old : owed I C here ≡ 1 + debt_of I C here f
+      old = none_known e ∙ (let w = c.work in omega arith)
 
   -- the last claim was opened, and a line covers it
-  pub on_line : (after : List Line) (k : ℕ) (before used : Units) → line ≡ None → IsClaim I (last_claim sky.claims) →
-      Extends (last_claim sky.claims) lines after → IsKnown I C after (last_claim sky.claims) k →
-      used.used ≤ before.used + 1 → IsOn I C after before used sky frames line sky frames (Some k)
+  pub on_line : (after : List Line) (k : ℕ) (before used : Units) → here.line ≡ None → IsClaim I (claim_at here) →
+      Extends (claim_at here) lines after → IsKnown I C after (claim_at here) k → used.used ≤ before.used + 1 →
+      IsOn I C after (record { place = here; units = before }) (record { place = with_line here k; units = used })
   on_line after k before used e c grown known one = record {
-    place = record {
-      subject = p.subject;
-      some = p.some;
-      descends = descends_still I C (last_claim sky.claims) lines after (last_claim sky.claims) (above_of sky.claims)
-          (reverse frames) grown p.descends;
-      known = known;
-      latest = tt;
-    };
+    place = place_with_line I C (claim_at here) lines after here k grown p.path known;
     root = refl;
     units = omega (arith, old, one, w);
     fewer =
-        let m : turns_left I C sky frames line ≡ 2 * owed I C sky frames line + length frames + 0 =
-        ap (λ o. 2 * owed I C sky frames line + length frames + cond (is_some o) 1 0) e in
+        let m : turns_left I C here ≡ 2 * owed I C here + length here.frames + 0 = turns_of None e in
         omega (arith, old, w, m);
   }
     where
-      w : 1 ≤ work I C (last_claim sky.claims)
-      w = some_work I C (last_claim sky.claims) c
+      w : 1 ≤ work I C (claim_at here)
+      w = some_work I C (claim_at here) c
 
-      old : owed I C sky frames line ≡ work I C (last_claim sky.claims)
-          + left_of I C (last_claim sky.claims) (above_of sky.claims) (reverse frames)
-      old = ap (owed I C sky frames) e
+      old : owed I C here ≡ work I C (claim_at here)
+          + left_of I C (claim_at here) (above_of here.sky.claims) (reverse here.frames)
+      old = none_known e
 
   -- the root is refuted, where no frame is left
-  pub root_refuted : (k : ℕ) → line ≡ Some k → frames ≡ [] →
-      (first I C (sky_root sky) ≡ None) × IsCoveredBy I lines (sky_root sky) k
+  pub root_refuted : (k : ℕ) → here.line ≡ Some k → here.frames ≡ [] →
+      (first I C (sky_root here.sky) ≡ None) × IsCoveredBy I lines (sky_root here.sky) k
   root_refuted k e nothing =
-      let r : sky_root sky ≡ last_claim sky.claims =
-      no_above I C lines (last_claim sky.claims) (above_of sky.claims)
-      (subst (λ (fs : List Tried). Descends I C lines (last_claim sky.claims) (above_of sky.claims) (reverse fs))
-      nothing p.descends) in
+      let r : sky_root here.sky ≡ claim_at here =
+      no_above I C lines (claim_at here) (above_of here.sky.claims)
+      (subst (λ (fs : List Tried). Descends I C lines (claim_at here) (above_of here.sky.claims) (reverse fs))
+      nothing p.path.descends) in
       let known = known_line k e in (
         subst (λ (l : Claim). first I C l ≡ None) (sym r) known.none,
         subst (λ (l : Claim). IsCoveredBy I lines l k) (sym r) known.covered,

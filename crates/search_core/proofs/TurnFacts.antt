@@ -1,74 +1,77 @@
 -- Steps of a search that puts a buffer of size 3 at 0, and finds by a line that the other one, of size 1 at multiples
 -- of 4 alone, does not fit beside it within 4.
-use Rattle.std.proofs.Common.{◌≡◌, ℕ, List, [], ◌∷◌, Some, None, refl, sym, ap, ◌∙◌, arith}
+use Rattle.std.proofs.Common.{◌≡◌, ℕ, [], ◌∷◌, Option, Some, None, refl, sym, ap, ◌∙◌, arith}
 use Rattle.std.specs.Global.{Vec}
 use Rattle.dsa_terms.specs.Buffers.{buffer, do_share, have_same_moments, is_live, some_before}
 use Rattle.dsa_terms.specs.Claims.{child, step, up}
 use Rattle.dsa_terms.specs.Logs.{ends_below, is_twin}
 use Rattle.dsa_terms.specs.Search.{comes_before, first, is_tall, work}
 use Rattle.dsa_terms.proofs.Examples.{small_below}
-use Rattle.skyline.specs.Skies.{Sky}
 use Rattle.search_core.specs.declared.found.Found.TheVariants as found
 use Rattle.search_core.specs.declared.turns.Turn.TheVariants as turn
-use Rattle.search_core.specs.Descents.{owed, through}
-use Rattle.search_core.specs.Meters.{Units}
-use Rattle.search_core.specs.Tries.{Tried}
-use Rattle.search_core.specs.Turns.{IfOn, IsAhead, IsOn, IsTurned, UnlessTurnSpent, debt_of}
-use Rattle.search_core.proofs.DescentFacts.{after_line, before_line, seven_turns, six_turns, sky_of}
+use Rattle.search_core.specs.Descents.{Place, owed, through}
+use Rattle.search_core.specs.Turns.{IfOn, IsAhead, IsOn, IsTurned, Stage, UnlessTurnSpent, debt_of, next_of}
+use Rattle.search_core.proofs.DescentFacts.{after_line, before_line, below_root, seven_turns, six_turns, sky_of}
 use Rattle.search_core.proofs.FoundFacts.{root_layout}
 use Rattle.search_core.proofs.LevelFacts.{rest, root}
 use Rattle.search_core.proofs.OverFacts.{over}
 use Rattle.search_core.proofs.TryFacts.{both_left, one_left}
 
-abbrev used : ℕ → Units
-used n = record { most = Some 7; used = n }
+-- the search is at what is left, with n of seven units used
+abbrev below : Option ℕ → Place
+below line = below_root 0 line
 
-abbrev sky : Sky
-sky = sky_of (root ∷ rest ∷ [])
+abbrev stage : Option ℕ → ℕ → Stage
+stage line n = record { place = below line; units = record { most = Some 7; used = n } }
 
-abbrev frames : List Tried
-frames = both_left 0 ∷ []
+-- the search is at the root, or at what is left as at a root
+abbrev at_root : Place
+at_root = record { sky = sky_of (root ∷ []); frames = []; line = None }
+
+abbrev at_rest : Place
+at_rest = record { sky = sky_of (rest ∷ []); frames = []; line = None }
 
 -- ---- what is left to do
-three_owed : owed small_below 4 sky frames None ≡ 3
+three_owed : owed small_below 4 (below None) ≡ 3
 unfolding work through first is_tall comes_before ends_below is_twin have_same_moments child step do_share some_before
     is_live up buffer
 three_owed = refl
 
-two_owed : owed small_below 4 sky frames (Some 0) ≡ 2
+two_owed : owed small_below 4 (below (Some 0)) ≡ 2
 unfolding work through first is_tall comes_before ends_below is_twin have_same_moments child step do_share some_before
     is_live up buffer
 two_owed = refl
 
 -- the root is open: one claim below the first choice, and two below the second
-three_below : debt_of small_below 4 (sky_of (root ∷ [])) (both_left 0) [] ≡ 3
+three_below : debt_of small_below 4 at_root (both_left 0) ≡ 3
 unfolding work through first is_tall comes_before ends_below is_twin have_same_moments child step do_share some_before
     is_live up buffer
 three_below = refl
 
-two_below : debt_of small_below 4 (sky_of (root ∷ [])) one_left [] ≡ 2
+two_below : debt_of small_below 4 at_root one_left ≡ 2
 unfolding work through first is_tall comes_before ends_below is_twin have_same_moments child step do_share some_before
     is_live up buffer
 two_below = refl
 
 -- ---- where the search is once it went down
-ahead : IsAhead small_below 4 [] root 3 0 sky frames None
+ahead : IsAhead small_below 4 [] at_root (both_left 0) (below None)
 ahead = record {
   place = before_line;
   root = refl;
-  owed = let e = three_owed in omega arith;
-  turns = let e = seven_turns 0 in omega arith;
+  owed = let e = three_owed in let f = three_below in omega arith;
+  turns = let e = seven_turns 0 in let f = three_below in omega arith;
 }
 
-more_than_two : IsAhead small_below 4 [] root 2 0 sky frames None → ⊥
-more_than_two a = let k = a.owed in let e = three_owed in omega arith
+-- where the second choice alone is left, no more than two claims are
+more_than_two : IsAhead small_below 4 [] at_root one_left (below None) → ⊥
+more_than_two a = let k = a.owed in let e = three_owed in let f = two_below in omega arith
 
-below_another_root : IsAhead small_below 4 [] rest 3 0 sky frames None → ⊥
+below_another_root : IsAhead small_below 4 [] at_rest (both_left 0) (below None) → ⊥
 below_another_root a = let e = a.root in absurd cc
 
 -- ---- a step that goes on
 -- the line takes a unit, and one claim less is owed
-on_with_line : IsOn small_below 4 (over ∷ []) (used 1) (used 2) sky frames None sky frames (Some 0)
+on_with_line : IsOn small_below 4 (over ∷ []) (stage None 1) (stage (Some 0) 2)
 on_with_line = record {
   place = after_line;
   root = refl;
@@ -76,48 +79,52 @@ on_with_line = record {
   fewer = let e = seven_turns 0 in let f = six_turns 0 in omega arith;
 }
 
-not_by_two_units : IsOn small_below 4 (over ∷ []) (used 1) (used 3) sky frames None sky frames (Some 0) → ⊥
+not_by_two_units : IsOn small_below 4 (over ∷ []) (stage None 1) (stage (Some 0) 3) → ⊥
 not_by_two_units o = let k = o.units in let e = three_owed in let f = two_owed in omega arith
 
 -- a step that changes nothing
-not_in_place : IsOn small_below 4 [] (used 1) (used 1) sky frames None sky frames None → ⊥
+not_in_place : IsOn small_below 4 [] (stage None 1) (stage None 1) → ⊥
 not_in_place o = let k = o.fewer in omega arith
 
 -- ---- what a step comes to
-goes_on : IsTurned small_below 4 (over ∷ []) (used 1) (used 2) sky frames None sky frames (turn.On (Some 0))
+goes_on : IsTurned small_below 4 (over ∷ []) (stage None 1) (stage (Some 0) 2) (turn.On (Some 0))
 goes_on = on_with_line
 
-stays : IsTurned small_below 4 [] (used 1) (used 1) sky frames None sky frames (turn.On None) → ⊥
+stays : IsTurned small_below 4 [] (stage None 1) (stage None 1) (turn.On None) → ⊥
 stays o = not_in_place o
+
+next_line : next_of (turn.On (Some 0)) ≡ Some 0
+next_line = refl
+
+no_next_line : next_of (turn.Done found.Spent) ≡ None
+no_next_line = refl
 
 module _ (seats : Vec (ℕ × ℕ)) where
   -- what is found is the root's layout, and not that of the last claim
   done_with_both : seats.items ≡ (0, 1) ∷ (1, 0) ∷ [] →
-      IsTurned small_below 4 [] (used 1) (used 2) sky frames None sky frames (turn.Done (found.Seats seats))
-  done_with_both e = (root_layout ∙ ap Some (sym e), tt)
+      IsTurned small_below 4 [] (stage None 1) (stage None 2) (turn.Done (found.Seats seats))
+  done_with_both e = record { found = root_layout ∙ ap Some (sym e); spent = tt }
 
   not_done_with_one : seats.items ≡ (0, 1) ∷ [] →
-      IsTurned small_below 4 [] (used 1) (used 2) sky frames None sky frames (turn.Done (found.Seats seats)) → ⊥
-  not_done_with_one e h = let q = sym root_layout ∙ h.0 ∙ ap Some e in absurd cc
+      IsTurned small_below 4 [] (stage None 1) (stage None 2) (turn.Done (found.Seats seats)) → ⊥
+  not_done_with_one e h = let q = sym root_layout ∙ h.found ∙ ap Some e in absurd cc
 
   holds_with_seats : UnlessTurnSpent ⊥ (turn.Done (found.Seats seats)) → ⊥
   holds_with_seats h = h
 
 -- the line covers the last claim, and not the root
-not_done_with_line :
-    IsTurned small_below 4 (over ∷ []) (used 1) (used 2) sky frames None sky frames (turn.Done (found.Line 0)) → ⊥
-not_done_with_line h = let e = sym root_layout ∙ h.0.0 in absurd cc
+not_done_with_line : IsTurned small_below 4 (over ∷ []) (stage None 1) (stage None 2) (turn.Done (found.Line 0)) → ⊥
+not_done_with_line h = let e = sym root_layout ∙ h.found.0 in absurd cc
 
-spent : IsTurned small_below 4 [] (used 7) (used 7) sky frames None sky frames (turn.Done found.Spent)
-spent = (tt, (refl, (let e = three_owed in omega arith)))
+spent : IsTurned small_below 4 [] (stage None 7) (stage None 7) (turn.Done found.Spent)
+spent = record { found = tt; spent = (refl, (let e = three_owed in omega arith)) }
 
-not_spent : IsTurned small_below 4 [] (used 6) (used 6) sky frames None sky frames (turn.Done found.Spent) → ⊥
-not_spent h = let k = h.1.0 in omega arith
+not_spent : IsTurned small_below 4 [] (stage None 6) (stage None 6) (turn.Done found.Spent) → ⊥
+not_spent h = let k = h.spent.0 in omega arith
 
 -- as many units as were owed are not all used up before the end
-not_spent_at_the_end :
-    IsTurned small_below 4 [] (used 4) (used 7) sky frames None sky frames (turn.Done found.Spent) → ⊥
-not_spent_at_the_end h = let k = h.1.1 in let e = three_owed in omega arith
+not_spent_at_the_end : IsTurned small_below 4 [] (stage None 4) (stage None 7) (turn.Done found.Spent) → ⊥
+not_spent_at_the_end h = let k = h.spent.1 in let e = three_owed in omega arith
 
 -- ---- facts that hold in some cases alone
 holds_where_it_goes_on : IfOn ⊥ (turn.On None) → ⊥

@@ -67,27 +67,40 @@ above_of claims = drop 1 (reverse claims)
 abbrev pub sky_root : Sky → Claim
 sky_root sky = root_of (last_claim sky.claims) (above_of sky.claims)
 
+-- where a search stands: the claims down to the one that it is at, the choices of each claim above that one, and the
+-- number of a line that is known to cover it, if there is one
+pub record Place : Type 0 where
+  pub sky : Sky
+  pub frames : List Tried
+  pub line : Option ℕ
+
+-- the claim that the search is at
+abbrev pub claim_at : Place → Claim
+claim_at here = last_claim here.sky.claims
+
 -- how many claims are left to look at in all; the last one is not, where a line is known that covers it
-abbrev pub owed : Instance → ℕ → Sky → List Tried → Option ℕ → ℕ
-owed I C sky frames line =
-    cond (is_some line) 0 (work I C (last_claim sky.claims))
-    + left_of I C (last_claim sky.claims) (above_of sky.claims) (reverse frames)
+abbrev pub owed : Instance → ℕ → Place → ℕ
+owed I C here =
+    cond (is_some here.line) 0 (work I C (claim_at here))
+    + left_of I C (claim_at here) (above_of here.sky.claims) (reverse here.frames)
 
 -- how many turns are left at most
-abbrev pub turns_left : Instance → ℕ → Sky → List Tried → Option ℕ → ℕ
-turns_left I C sky frames line = 2 * owed I C sky frames line + length frames + cond (is_some line) 1 0
+abbrev pub turns_left : Instance → ℕ → Place → ℕ
+turns_left I C here = 2 * owed I C here + length here.frames + cond (is_some here.line) 1 0
 
 -- the claim has no layout, and the line of that number covers it
 pub record IsKnown (I : Instance) (C : ℕ) (lines : List Line) (l : Claim) (k : ℕ) : Type 0 where
   pub none : first I C l ≡ None
   pub covered : IsCoveredBy I lines l k
 
--- the search is at the last claim of the skyline; where there is a line, it covers that claim, and else the claim above
--- has asked all lines
-pub record IsPlace (I : Instance) (C : ℕ) (lines : List Line) (sky : Sky) (frames : List Tried)
-    (line : Option ℕ) : Type 0 where
-  pub subject : sky.instance ≡ I
-  pub some : 0 < length sky.claims
-  pub descends : Descends I C lines (last_claim sky.claims) (above_of sky.claims) (reverse frames)
-  pub known : IfSome line (IsKnown I C lines (last_claim sky.claims))
-  pub latest : IfNone line (HasAskedAll lines frames)
+-- the claim that the search is at is reached from the first one by the choices that stand
+pub record IsPath (I : Instance) (C : ℕ) (lines : List Line) (here : Place) : Type 0 where
+  pub subject : here.sky.instance ≡ I
+  pub some : 0 < length here.sky.claims
+  pub descends : Descends I C lines (claim_at here) (above_of here.sky.claims) (reverse here.frames)
+
+-- the search is there; where a line is known, it covers the claim, and else the claim above has asked all lines
+pub record IsPlace (I : Instance) (C : ℕ) (lines : List Line) (here : Place) : Type 0 where
+  pub path : IsPath I C lines here
+  pub known : IfSome here.line (IsKnown I C lines (claim_at here))
+  pub latest : IfNone here.line (HasAskedAll lines here.frames)

@@ -1,47 +1,57 @@
 -- What one step of the search comes to.
-use Rattle.std.specs.Prelude.{◌≡◌, ℕ, ◌+◌, ◌*◌, ◌<◌, ◌≤◌, ⊤, Option, List, map, reverse}
+use Rattle.std.specs.Prelude.{◌≡◌, ℕ, ◌+◌, ◌*◌, ◌<◌, ◌≤◌, ⊤, Option, None, List, length, map, reverse}
 use Rattle.dsa_terms.specs.Buffers.{Instance}
-use Rattle.dsa_terms.specs.Claims.{Claim}
 use Rattle.dsa_terms.specs.Logs.{Line}
 use Rattle.canonical_order.specs.Claims.{entry_of}
-use Rattle.skyline.specs.Skies.{Sky, last_claim}
+use Rattle.search_core.specs.declared.found.Found.{Found}
 use Rattle.search_core.specs.declared.turns.Turn.{Turn}
 use Rattle.search_core.specs.declared.turns.Turn.TheVariants as turn
-use Rattle.search_core.specs.Descents.{IsPlace, above_of, left_of, owed, sky_root, through, turns_left}
+use Rattle.search_core.specs.Descents.{IsPlace, Place, above_of, claim_at, left_of, owed, sky_root, through, turns_left}
 use Rattle.search_core.specs.Found.{IfSpent, IsFound, UnlessSpent}
 use Rattle.search_core.specs.Meters.{AreSpent, Units}
 use Rattle.search_core.specs.Tries.{Tried, rest_of}
 
--- how many claims are left to look at where the last claim is open and has these choices
-abbrev pub debt_of : Instance → ℕ → Sky → Tried → List Tried → ℕ
-debt_of I C sky f frames =
-    through I C (last_claim sky.claims) (map (entry_of (last_claim sky.claims)) (rest_of f))
-    + left_of I C (last_claim sky.claims) (above_of sky.claims) (reverse frames)
+-- how many claims are left to look at where the claim that the search is at is open and has these choices
+abbrev pub debt_of : Instance → ℕ → Place → Tried → ℕ
+debt_of I C here f =
+    through I C (claim_at here) (map (entry_of (claim_at here)) (rest_of f))
+    + left_of I C (claim_at here) (above_of here.sky.claims) (reverse here.frames)
 
--- the search is at a claim below that root, with so much left to do at most
-pub record IsAhead (I : Instance) (C : ℕ) (lines : List Line) (top : Claim) (debt count : ℕ) (sky : Sky)
-    (frames : List Tried) (line : Option ℕ) : Type 0 where
-  pub place : IsPlace I C lines sky frames line
-  pub root : sky_root sky ≡ top
-  pub owed : owed I C sky frames line ≤ debt
-  pub turns : turns_left I C sky frames line ≤ 2 * debt + count + 1
+-- below the same root, with no more left to do than where the claim at `before` was open and had the choices f
+pub record IsAhead (I : Instance) (C : ℕ) (lines : List Line) (before : Place) (f : Tried) (after : Place) : Type 0
+  where
+    pub place : IsPlace I C lines after
+    pub root : sky_root after.sky ≡ sky_root before.sky
+    pub owed : owed I C after ≤ debt_of I C before f
+    pub turns : turns_left I C after ≤ 2 * debt_of I C before f + length before.frames + 1
+
+-- where a search stands, and its units
+pub record Stage : Type 0 where
+  pub place : Place
+  pub units : Units
 
 -- the search goes on below the same root: no more units are used and left than before, and fewer turns are left
-pub record IsOn (I : Instance) (C : ℕ) (lines : List Line) (before after : Units) (old : Sky) (frames : List Tried)
-    (line : Option ℕ) (new : Sky) (later : List Tried) (next : Option ℕ) : Type 0 where
-  pub place : IsPlace I C lines new later next
-  pub root : sky_root new ≡ sky_root old
-  pub units : after.used + owed I C new later next ≤ before.used + owed I C old frames line
-  pub fewer : turns_left I C new later next < turns_left I C old frames line
+pub record IsOn (I : Instance) (C : ℕ) (lines : List Line) (before after : Stage) : Type 0 where
+  pub place : IsPlace I C lines after.place
+  pub root : sky_root after.place.sky ≡ sky_root before.place.sky
+  pub units : after.units.used + owed I C after.place ≤ before.units.used + owed I C before.place
+  pub fewer : turns_left I C after.place < turns_left I C before.place
 
--- the search goes on, or what it was to find of the root is found
-abbrev pub IsTurned : Instance → ℕ → List Line → Units → Units → Sky → List Tried → Option ℕ → Sky → List Tried →
-    Turn → Type 0
-IsTurned I C lines before after old frames line new later (turn.On next) =
-    IsOn I C lines before after old frames line new later next
-IsTurned I C lines before after old frames line new later (turn.Done found) =
-    IsFound I C (sky_root old) lines found
-    × IfSpent (AreSpent after × (after.used < before.used + owed I C old frames line)) found
+-- what was to be found of the root is found, or all units are used before as many as were owed
+pub record IsDone (I : Instance) (C : ℕ) (lines : List Line) (before : Stage) (after : Units) (what : Found) : Type 0
+  where
+    pub found : IsFound I C (sky_root before.place.sky) lines what
+    pub spent : IfSpent (AreSpent after × (after.used < before.units.used + owed I C before.place)) what
+
+-- the search goes on, or it is done
+abbrev pub IsTurned : Instance → ℕ → List Line → Stage → Stage → Turn → Type 0
+IsTurned I C lines before after (turn.On next) = IsOn I C lines before after
+IsTurned I C lines before after (turn.Done found) = IsDone I C lines before after.units found
+
+-- the line that is known where the search goes on
+abbrev pub next_of : Turn → Option ℕ
+next_of (turn.On next) = next
+next_of (turn.Done found) = None
 
 -- the fact holds where the search goes on
 abbrev pub IfOn : Type 0 → Turn → Type 0

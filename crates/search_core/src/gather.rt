@@ -3,7 +3,7 @@
 ghost use Rattle.std.specs.Prelude.{◌≡◌, [], List, Some, None, IfOk, OnOk};
 ghost use Rattle.dsa_terms.specs.Logs.{Line};
 ghost use Rattle.dsa_terms.specs.Search.{first};
-ghost use Rattle.search_core.specs.Descents.{IsPlace, sky_root};
+ghost use Rattle.search_core.specs.Descents.{IsPath, Place, sky_root};
 ghost use Rattle.skyline.specs.Skies.{last_claim};
 
 use crate::frame::Frame;
@@ -20,8 +20,9 @@ pub(crate) fn seats(
     sky: &mut Skyline,
     frames: &mut Vec<Frame>,
 ) -> Result<Vec<(u32, u64)>, NoMemory>
-    requires place { let I = task.now.instance.now in
-        (lines : List Line) × IsPlace I task.now.capacity lines sky.old frames.old.items None }
+    requires path { let I = task.now.instance.now in
+        let here : Place = record { sky = sky.old; frames = frames.old.items; line = None } in
+        (lines : List Line) × IsPath I task.now.capacity lines here }
     requires found { let I = task.now.instance.now in
         first I task.now.capacity (last_claim sky.old.claims) ≡ Some [] }
     ensures value { let I = task.now.instance.now in

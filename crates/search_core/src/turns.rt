@@ -6,11 +6,11 @@ ghost use Rattle.dsa_terms.specs.Claims.{Rises};
 ghost use Rattle.dsa_terms.specs.Parts.{whole};
 ghost use Rattle.dsa_terms.specs.Search.{work};
 ghost use Rattle.lifetime.specs.SectionList.{AreSectionsOf};
-ghost use Rattle.search_core.specs.Descents.{IsPlace, owed, sky_root};
+ghost use Rattle.search_core.specs.Descents.{IsPlace, Place, owed, sky_root};
 ghost use Rattle.search_core.specs.Found.{IfSpent, IsFound, UnlessSpent};
 ghost use Rattle.search_core.specs.Logs.{Extends, IsSearchLog};
 ghost use Rattle.search_core.specs.Meters.{AreCounted, AreMore, AreSpent};
-ghost use Rattle.search_core.specs.Turns.{IfOn, IsTurned, UnlessTurnSpent};
+ghost use Rattle.search_core.specs.Turns.{IfOn, IsTurned, UnlessTurnSpent, next_of};
 ghost use Rattle.search_core.specs.Watches.{AreWatchedAt};
 ghost use Rattle.skyline.specs.Skies.{last_claim};
 
@@ -52,8 +52,8 @@ fn step(
     line: Option<u64>,
 ) -> Result<Turn, NoMemory>
     requires log { IsSearchLog task.now.instance.now task.now.capacity log.old }
-    requires place { IsPlace task.now.instance.now task.now.capacity log.old.lines sky.old
-        frames.old.items line }
+    requires place { let here : Place = record { sky = sky.old; frames = frames.old.items; line = line } in
+        IsPlace task.now.instance.now task.now.capacity log.old.lines here }
     requires room { length (last_claim sky.old.claims) + length frames.old.items ≤
         vec_capacity frames.old }
     requires watched { AreWatchedAt log.old.lines watches.old frames.old.items }
@@ -61,15 +61,20 @@ fn step(
     ensures grown { OnOk result (Extends (sky_root sky.old) log.old.lines log.new.lines) }
     ensures most { meter.new.most ≡ meter.old.most }
     ensures units { meter.old.used ≤ meter.new.used }
-    ensures used { let I = task.now.instance.now in let C = task.now.capacity in
-        meter.new.used ≤ meter.old.used + owed I C sky.old frames.old.items line }
+    ensures used { let I = task.now.instance.now in
+        let here : Place = record { sky = sky.old; frames = frames.old.items; line = line } in
+        meter.new.used ≤ meter.old.used + owed I task.now.capacity here }
     ensures taken { line ≡ None → log.old.lines ≡ [] →
         IfOk result (UnlessTurnSpent (AreMore meter.old meter.new)) }
     ensures room { IfOk result (IfOn (length (last_claim sky.new.claims) + length frames.new.items ≤
         vec_capacity frames.new)) }
-    ensures turned { let I = task.now.instance.now in let C = task.now.capacity in
-        IfOk result (IsTurned I C log.new.lines meter.old meter.new sky.old frames.old.items line
-        sky.new frames.new.items) }
+    ensures turned { let I = task.now.instance.now in
+        let before : Place = record { sky = sky.old; frames = frames.old.items; line = line } in
+        IfOk result (λ turn.
+        let after : Place = record { sky = sky.new; frames = frames.new.items; line = next_of turn } in
+        IsTurned I task.now.capacity log.new.lines
+        (record { place = before; units = meter.old })
+        (record { place = after; units = meter.new }) turn) }
     ensures watched { IfOk result (IfOn
         (AreWatchedAt log.new.lines watches.new frames.new.items)) }
     ensures counted { OnOk result (AreCounted meter.old meter.new

@@ -1,12 +1,12 @@
 //! On from a claim that no line covers: down by its next choice, or back with a line for it.
 
-ghost use Rattle.std.specs.Prelude.{◌≡◌, ◌≢◌, ◌+◌, ◌<◌, ◌≤◌, [], List, IfOk, OnOk, length, map, reverse, vec_capacity};
+ghost use Rattle.std.specs.Prelude.{◌≡◌, ◌≢◌, ◌+◌, ◌<◌, ◌≤◌, [], List, None, IfOk, OnOk, length, map, reverse, vec_capacity};
 ghost use Rattle.dsa_terms.specs.Claims.{Entry};
 ghost use Rattle.canonical_order.specs.Claims.{entry_of};
-ghost use Rattle.search_core.specs.Descents.{Descends, IsTrying, above_of, sky_root, through};
+ghost use Rattle.search_core.specs.Descents.{Descends, IsTrying, Place, above_of, through};
 ghost use Rattle.search_core.specs.Logs.{Extends, IsSearchLog, NoneCovers};
 ghost use Rattle.search_core.specs.Tries.{rest_of};
-ghost use Rattle.search_core.specs.Turns.{IsAhead, debt_of};
+ghost use Rattle.search_core.specs.Turns.{IsAhead};
 ghost use Rattle.search_core.specs.Watches.{AreWatched, AreWatchedAt};
 ghost use Rattle.skyline.specs.Skies.{last_claim};
 
@@ -49,9 +49,9 @@ fn advance(
     ensures room { OnOk result (length (last_claim sky.new.claims) + length frames.new.items ≤
         vec_capacity frames.new) }
     ensures ahead { let I = task.now.instance.now in let C = task.now.capacity in
-        IfOk result (IsAhead I C log.new.lines (sky_root sky.old)
-        (debt_of I C sky.old frame frames.old.items) (length frames.old.items)
-        sky.new frames.new.items) }
+        let before : Place = record { sky = sky.old; frames = frames.old.items; line = None } in
+        IfOk result (λ line. IsAhead I C log.new.lines before frame
+        (record { sky = sky.new; frames = frames.new.items; line = line })) }
     ensures watched { (watches : List Entry) → AreWatchedAt log.old.lines watches frames.old.items →
         AreWatched log.old.lines watches frame.levels frame.asked →
         OnOk result (AreWatchedAt log.new.lines watches frames.new.items) }
@@ -121,9 +121,9 @@ pub(crate) fn proceed(
     ensures room { OnOk result (length (last_claim sky.new.claims) + length frames.new.items ≤
         vec_capacity frames.new) }
     ensures ahead { let I = task.now.instance.now in let C = task.now.capacity in
-        IfOk result (IsAhead I C log.new.lines (sky_root sky.old)
-        (debt_of I C sky.old frame frames.old.items) (length frames.old.items)
-        sky.new frames.new.items) }
+        let before : Place = record { sky = sky.old; frames = frames.old.items; line = None } in
+        IfOk result (λ line. IsAhead I C log.new.lines before frame
+        (record { sky = sky.new; frames = frames.new.items; line = line })) }
     ensures watched { (watches : List Entry) → AreWatchedAt log.old.lines watches frames.old.items →
         AreWatched log.old.lines watches frame.levels frame.asked →
         OnOk result (AreWatchedAt log.new.lines watches frames.new.items) }
@@ -165,9 +165,9 @@ pub(crate) fn resume(
     ensures room { OnOk result (length (last_claim sky.new.claims) + length frames.new.items ≤
         vec_capacity frames.new) }
     ensures ahead { let I = task.now.instance.now in let C = task.now.capacity in
-        IfOk result (IsAhead I C log.new.lines (sky_root sky.old)
-        (debt_of I C sky.old frame frames.old.items) (length frames.old.items)
-        sky.new frames.new.items) }
+        let before : Place = record { sky = sky.old; frames = frames.old.items; line = None } in
+        IfOk result (λ line. IsAhead I C log.new.lines before frame
+        (record { sky = sky.new; frames = frames.new.items; line = line })) }
     ensures watched { OnOk result (AreWatchedAt log.new.lines watches.new frames.new.items) }
     ensures counted { OnOk result (length log.new.lines + length frames.new.items ≤
         length log.old.lines + length frames.old.items + 1) }

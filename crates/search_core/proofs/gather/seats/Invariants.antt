@@ -1,4 +1,4 @@
-use Rattle.std.proofs.Common.{List, vec_len}
+use Rattle.std.proofs.Common.{List, None, vec_len}
 use Rattle.dsa_terms.specs.Logs.{Line}
 use Rattle.search_core.specs.Descents.{sky_root}
 use Rattle.search_core.proofs.Descending.{IsSeated}
@@ -9,4 +9,5 @@ decreases-loop-frame l = vec_len l.frames
 
 abbrev pub invariant-loop-frame : goal.invariant-loop-frame
 invariant-loop-frame l = (lines : List Line) ×
-    IsSeated l.task.instance.now l.task.capacity (sky_root l.fn.sky) lines l.sky l.frames.items l.seats.items
+    IsSeated l.task.instance.now l.task.capacity (sky_root l.fn.sky) lines
+    (record { sky = l.sky; frames = l.frames.items; line = None }) l.seats.items

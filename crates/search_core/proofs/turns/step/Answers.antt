@@ -1,9 +1,9 @@
-use Rattle.std.proofs.Common.{◌+◌, ap, arith, length, reverse}
+use Rattle.std.proofs.Common.{◌+◌, None, ap, arith, length}
 use Rattle.skyline.specs.Skies.{last_claim}
-use Rattle.search_core.specs.Descents.{above_of}
+use Rattle.search_core.specs.Descents.{Place, above_of, claim_at}
 use Rattle.search_core.proofs.Counting.{counted_with}
 use Rattle.search_core.proofs.Descent.{is_instance, shorter}
-use Rattle.search_core.proofs.Descending.{are_raised, back_noted, descends_still, is_back}
+use Rattle.search_core.proofs.Descending.{are_raised, back_noted, is_back, path_still}
 use Rattle.search_core.proofs.Growing.{extends_along}
 use Rattle.search_core.proofs.Searching.{chosen_in}
 use Rattle.search_core.proofs.Stepping.{asked_above, grown_below, known_line, nothing_in, on_back, on_line, root_refuted, some_owed}
@@ -12,10 +12,15 @@ use Rattle.search_core.proofs.turns.step.Goals as goal
 -- ---- back
 pub chosen-requires : goal.chosen-requires
 chosen-requires c =
+    let I = c.args.task.now.instance.now in
+    let C = c.args.task.now.capacity in
     let p = c.requires.place in
-    let b = is_back c.args.task.now.instance.now c.args.task.now.capacity c.args.log.now.lines c.args.sky.now
-    c.pop-in-Some-pop.new.self c.args.frames.now.items c.pop.new.self.items c.in-Some-pop.frame p.subject p.some
-    p.descends c.in-Some-pop.ensures.items c.pop-in-Some-pop.ensures.instance c.pop-in-Some-pop.ensures.claims in
+    let f = c.in-Some-pop.frame in
+    let lines = c.args.log.now.lines in
+    let here : Place = record { sky = c.args.sky.now; frames = c.args.frames.now.items; line = c.args.line } in
+    let popped : Place = record { sky = c.pop-in-Some-pop.new.self; frames = c.pop.new.self.items; line = None } in
+    let b = is_back I C lines here popped f p.path c.in-Some-pop.ensures.items c.pop-in-Some-pop.ensures.instance
+    c.pop-in-Some-pop.ensures.claims in
     b.standing.is_left
 
 pub resume-requires-clause-trying : goal.resume-requires-clause-trying
@@ -25,12 +30,12 @@ resume-requires-clause-trying c =
     let p = c.requires.place in
     let f = c.in-Some-pop.frame in
     let lines = c.args.log.now.lines in
-    let b = is_back I C lines c.args.sky.now c.pop-in-Some-pop.new.self c.args.frames.now.items c.pop.new.self.items f
-    p.subject p.some p.descends c.in-Some-pop.ensures.items c.pop-in-Some-pop.ensures.instance
+    let here : Place = record { sky = c.args.sky.now; frames = c.args.frames.now.items; line = c.args.line } in
+    let popped : Place = record { sky = c.pop-in-Some-pop.new.self; frames = c.pop.new.self.items; line = None } in
+    let b = is_back I C lines here popped f p.path c.in-Some-pop.ensures.items c.pop-in-Some-pop.ensures.instance
     c.pop-in-Some-pop.ensures.claims in
-    rw c.note-in-Some-pop.ensures (back_noted I C lines c.args.sky.now c.pop-in-Some-pop.new.self c.pop.new.self.items f
-    c.in-Some.k b
-    (known_line I C lines c.args.sky.now c.args.frames.now.items c.args.line p c.in-Some.k c.in-Some.is))
+    rw c.note-in-Some-pop.ensures
+    (back_noted I C lines here popped f c.in-Some.k b (known_line I C lines here p c.in-Some.k c.in-Some.is))
 
 pub resume-requires-clause-room : goal.resume-requires-clause-room
 resume-requires-clause-room c =
@@ -39,11 +44,12 @@ resume-requires-clause-room c =
     let p = c.requires.place in
     let f = c.in-Some-pop.frame in
     let lines = c.args.log.now.lines in
-    let b = is_back I C lines c.args.sky.now c.pop-in-Some-pop.new.self c.args.frames.now.items c.pop.new.self.items f
-    p.subject p.some p.descends c.in-Some-pop.ensures.items c.pop-in-Some-pop.ensures.instance
+    let here : Place = record { sky = c.args.sky.now; frames = c.args.frames.now.items; line = c.args.line } in
+    let popped : Place = record { sky = c.pop-in-Some-pop.new.self; frames = c.pop.new.self.items; line = None } in
+    let b = is_back I C lines here popped f p.path c.in-Some-pop.ensures.items c.pop-in-Some-pop.ensures.instance
     c.pop-in-Some-pop.ensures.claims in
     let above = last_claim c.pop-in-Some-pop.new.self.claims in
-    let s = rw (c.instance-in-Some-pop.ensures.value, b.subject) at c.instance-in-Some-pop.ensures.stands in
+    let s = rw (c.instance-in-Some-pop.ensures.value, b.path.subject) at c.instance-in-Some-pop.ensures.stands in
     let has = chosen_in I C above lines f b.trying b.standing.is_left in
     let len = shorter I above _ s.claim.rises has in
     let n = ap length b.standing.is_child in
@@ -65,11 +71,11 @@ returns-in_ok-next-in-Some-pop-clause-grown c =
     let p = c.requires.place in
     let f = c.in-Some-pop.frame in
     let lines = c.args.log.now.lines in
-    let b = is_back I C lines c.args.sky.now c.pop-in-Some-pop.new.self c.args.frames.now.items c.pop.new.self.items f
-    p.subject p.some p.descends c.in-Some-pop.ensures.items c.pop-in-Some-pop.ensures.instance
+    let here : Place = record { sky = c.args.sky.now; frames = c.args.frames.now.items; line = c.args.line } in
+    let popped : Place = record { sky = c.pop-in-Some-pop.new.self; frames = c.pop.new.self.items; line = None } in
+    let b = is_back I C lines here popped f p.path c.in-Some-pop.ensures.items c.pop-in-Some-pop.ensures.instance
     c.pop-in-Some-pop.ensures.claims in
-    rw b.root (grown_below I C lines c.resume.new.log.lines c.pop-in-Some-pop.new.self (reverse c.pop.new.self.items)
-    b.descends c.in_ok-next-in-Some-pop.ensures.grown)
+    rw b.root (grown_below I C lines c.resume.new.log.lines popped b.path c.in_ok-next-in-Some-pop.ensures.grown)
 
 pub returns-in_ok-next-in-Some-pop-clause-turned : goal.returns-in_ok-next-in-Some-pop-clause-turned
 returns-in_ok-next-in-Some-pop-clause-turned c =
@@ -78,35 +84,39 @@ returns-in_ok-next-in-Some-pop-clause-turned c =
     let p = c.requires.place in
     let f = c.in-Some-pop.frame in
     let lines = c.args.log.now.lines in
-    let b = is_back I C lines c.args.sky.now c.pop-in-Some-pop.new.self c.args.frames.now.items c.pop.new.self.items f
-    p.subject p.some p.descends c.in-Some-pop.ensures.items c.pop-in-Some-pop.ensures.instance
+    let here : Place = record { sky = c.args.sky.now; frames = c.args.frames.now.items; line = c.args.line } in
+    let popped : Place = record { sky = c.pop-in-Some-pop.new.self; frames = c.pop.new.self.items; line = None } in
+    let b = is_back I C lines here popped f p.path c.in-Some-pop.ensures.items c.pop-in-Some-pop.ensures.instance
     c.pop-in-Some-pop.ensures.claims in
-    on_back I C lines c.args.sky.now c.args.frames.now.items c.args.line p c.resume.new.log.lines
-    c.pop-in-Some-pop.new.self c.resume.new.sky c.pop.new.self.items c.resume.new.frames.items f c.in-Some.k
-    c.in_ok-next-in-Some-pop.next c.args.meter.now c.in-Some.is c.in-Some-pop.ensures.items b
+    on_back I C lines here p c.resume.new.log.lines popped
+    (record { sky = c.resume.new.sky; frames = c.resume.new.frames.items; line = c.in_ok-next-in-Some-pop.next }) f
+    c.in-Some.k c.args.meter.now c.in-Some.is c.in-Some-pop.ensures.items b
     (rw c.note-in-Some-pop.ensures at c.in_ok-next-in-Some-pop.ensures.ahead)
 
 pub returns-in-None-pop-clause-turned : goal.returns-in-None-pop-clause-turned
 returns-in-None-pop-clause-turned c =
-    let k = c.in-None-pop.ensures.cases in (
-      root_refuted c.args.task.now.instance.now c.args.task.now.capacity c.args.log.now.lines c.args.sky.now
-          c.args.frames.now.items c.args.line c.requires.place c.in-Some.k c.in-Some.is
-          (nothing_in c.args.frames.now.items (omega (arith, k.0, c.args.frames.now.ok.0))),
-      tt,
-    )
+    let k = c.in-None-pop.ensures.cases in
+    let here : Place = record { sky = c.args.sky.now; frames = c.args.frames.now.items; line = c.args.line } in
+    record {
+      found = root_refuted c.args.task.now.instance.now c.args.task.now.capacity c.args.log.now.lines here
+          c.requires.place c.in-Some.k c.in-Some.is
+          (nothing_in c.args.frames.now.items (omega (arith, k.0, c.args.frames.now.ok.0)));
+      spent = tt;
+    }
 
 -- ---- forth
 pub open-requires-clause-latest : goal.open-requires-clause-latest
 open-requires-clause-latest c =
+    let here : Place = record { sky = c.args.sky.now; frames = c.args.frames.now.items; line = c.args.line } in
     rw c.as_slice.ensures.value
-    (asked_above c.args.task.now.instance.now c.args.task.now.capacity c.args.log.now.lines c.args.sky.now
-    c.args.frames.now.items c.args.line c.requires.place c.in-None.is)
+    (asked_above c.args.task.now.instance.now c.args.task.now.capacity c.args.log.now.lines here c.requires.place
+    c.in-None.is)
 
 pub open-requires-clause-raised : goal.open-requires-clause-raised
 open-requires-clause-raised c = λ levels a.
     let I = c.args.task.now.instance.now in
     let l = last_claim c.args.sky.now.claims in
-    let p = c.requires.place in
+    let p = c.requires.place.path in
     let s = rw (c.instance.ensures.value, p.subject) at c.instance.ensures.stands in
     rw c.as_slice.ensures.value
     (are_raised I c.args.task.now.capacity c.args.log.now.lines l levels (above_of c.args.sky.now.claims)
@@ -115,82 +125,91 @@ open-requires-clause-raised c = λ levels a.
 pub returns-in_err-k-in-None-clause-used : goal.returns-in_err-k-in-None-clause-used
 returns-in_err-k-in-None-clause-used c =
     let p = c.requires.place in
-    let s = rw (c.instance.ensures.value, p.subject) at c.instance.ensures.stands in
-    let o = some_owed c.args.task.now.instance.now c.args.task.now.capacity c.args.log.now.lines c.args.sky.now
-    c.args.frames.now.items c.args.line p c.in-None.is s.claim in
+    let s = rw (c.instance.ensures.value, p.path.subject) at c.instance.ensures.stands in
+    let here : Place = record { sky = c.args.sky.now; frames = c.args.frames.now.items; line = c.args.line } in
+    let o = some_owed c.args.task.now.instance.now c.args.task.now.capacity c.args.log.now.lines here p c.in-None.is
+    s.claim in
     omega (arith, o, c.open.ensures.one)
 
 pub proceed-requires-clause-descends : goal.proceed-requires-clause-descends
 proceed-requires-clause-descends c =
-    let l = last_claim c.args.sky.now.claims in
-    descends_still c.args.task.now.instance.now c.args.task.now.capacity l c.args.log.now.lines c.open.new.log.lines l
-    (above_of c.args.sky.now.claims) (reverse c.args.frames.now.items) c.in_ok-k-in-None.ensures.grown
-    c.requires.place.descends
+    let here : Place = record { sky = c.args.sky.now; frames = c.args.frames.now.items; line = c.args.line } in
+    let p = path_still c.args.task.now.instance.now c.args.task.now.capacity (claim_at here) c.args.log.now.lines
+    c.open.new.log.lines here c.in_ok-k-in-None.ensures.grown c.requires.place.path in
+    p.descends
 
 pub returns-in_err-seats-in-Empty-clause-used : goal.returns-in_err-seats-in-Empty-clause-used
 returns-in_err-seats-in-Empty-clause-used c =
     let p = c.requires.place in
-    let s = rw (c.instance.ensures.value, p.subject) at c.instance.ensures.stands in
-    let o = some_owed c.args.task.now.instance.now c.args.task.now.capacity c.args.log.now.lines c.args.sky.now
-    c.args.frames.now.items c.args.line p c.in-None.is s.claim in
+    let s = rw (c.instance.ensures.value, p.path.subject) at c.instance.ensures.stands in
+    let here : Place = record { sky = c.args.sky.now; frames = c.args.frames.now.items; line = c.args.line } in
+    let o = some_owed c.args.task.now.instance.now c.args.task.now.capacity c.args.log.now.lines here p c.in-None.is
+    s.claim in
     omega (arith, o, c.open.ensures.one)
 
 pub returns-in-Line-clause-grown : goal.returns-in-Line-clause-grown
 returns-in-Line-clause-grown c =
-    grown_below c.args.task.now.instance.now c.args.task.now.capacity c.args.log.now.lines c.open.new.log.lines
-    c.args.sky.now (reverse c.args.frames.now.items) c.requires.place.descends c.in_ok-k-in-None.ensures.grown
+    let here : Place = record { sky = c.args.sky.now; frames = c.args.frames.now.items; line = c.args.line } in
+    grown_below c.args.task.now.instance.now c.args.task.now.capacity c.args.log.now.lines c.open.new.log.lines here
+    c.requires.place.path c.in_ok-k-in-None.ensures.grown
 
 pub returns-in-Line-clause-used : goal.returns-in-Line-clause-used
 returns-in-Line-clause-used c =
     let p = c.requires.place in
-    let s = rw (c.instance.ensures.value, p.subject) at c.instance.ensures.stands in
-    let o = some_owed c.args.task.now.instance.now c.args.task.now.capacity c.args.log.now.lines c.args.sky.now
-    c.args.frames.now.items c.args.line p c.in-None.is s.claim in
+    let s = rw (c.instance.ensures.value, p.path.subject) at c.instance.ensures.stands in
+    let here : Place = record { sky = c.args.sky.now; frames = c.args.frames.now.items; line = c.args.line } in
+    let o = some_owed c.args.task.now.instance.now c.args.task.now.capacity c.args.log.now.lines here p c.in-None.is
+    s.claim in
     omega (arith, o, c.open.ensures.one)
 
 pub returns-in-Line-clause-turned : goal.returns-in-Line-clause-turned
 returns-in-Line-clause-turned c =
     let p = c.requires.place in
-    let s = rw (c.instance.ensures.value, p.subject) at c.instance.ensures.stands in
-    on_line c.args.task.now.instance.now c.args.task.now.capacity c.args.log.now.lines c.args.sky.now
-    c.args.frames.now.items c.args.line p c.open.new.log.lines c.in-Line.k c.args.meter.now c.open.new.meter
-    c.in-None.is
-    s.claim c.in_ok-k-in-None.ensures.grown (rw c.in-Line.is at c.in_ok-k-in-None.ensures.opened) c.open.ensures.one
+    let s = rw (c.instance.ensures.value, p.path.subject) at c.instance.ensures.stands in
+    let here : Place = record { sky = c.args.sky.now; frames = c.args.frames.now.items; line = c.args.line } in
+    on_line c.args.task.now.instance.now c.args.task.now.capacity c.args.log.now.lines here p c.open.new.log.lines
+    c.in-Line.k c.args.meter.now c.open.new.meter c.in-None.is s.claim c.in_ok-k-in-None.ensures.grown
+    (rw c.in-Line.is at c.in_ok-k-in-None.ensures.opened) c.open.ensures.one
 
 pub returns-in_ok-next-in-Choices-clause-grown : goal.returns-in_ok-next-in-Choices-clause-grown
 returns-in_ok-next-in-Choices-clause-grown c =
-    let l = last_claim c.args.sky.now.claims in
-    grown_below c.args.task.now.instance.now c.args.task.now.capacity c.args.log.now.lines
-    c.proceed.new.log.lines c.args.sky.now (reverse c.args.frames.now.items) c.requires.place.descends
+    let here : Place = record { sky = c.args.sky.now; frames = c.args.frames.now.items; line = c.args.line } in
+    let l = claim_at here in
+    grown_below c.args.task.now.instance.now c.args.task.now.capacity c.args.log.now.lines c.proceed.new.log.lines here
+    c.requires.place.path
     (extends_along l l c.args.log.now.lines c.open.new.log.lines c.proceed.new.log.lines (λ b h. h)
     c.in_ok-k-in-None.ensures.grown c.in_ok-next-in-Choices.ensures.grown)
 
 pub returns-in_ok-seats-in-Empty-clause-grown : goal.returns-in_ok-seats-in-Empty-clause-grown
 returns-in_ok-seats-in-Empty-clause-grown c =
-    grown_below c.args.task.now.instance.now c.args.task.now.capacity c.args.log.now.lines c.open.new.log.lines
-    c.args.sky.now (reverse c.args.frames.now.items) c.requires.place.descends c.in_ok-k-in-None.ensures.grown
+    let here : Place = record { sky = c.args.sky.now; frames = c.args.frames.now.items; line = c.args.line } in
+    grown_below c.args.task.now.instance.now c.args.task.now.capacity c.args.log.now.lines c.open.new.log.lines here
+    c.requires.place.path c.in_ok-k-in-None.ensures.grown
 
 pub returns-in_ok-seats-in-Empty-clause-used : goal.returns-in_ok-seats-in-Empty-clause-used
 returns-in_ok-seats-in-Empty-clause-used c =
     let p = c.requires.place in
-    let s = rw (c.instance.ensures.value, p.subject) at c.instance.ensures.stands in
-    let o = some_owed c.args.task.now.instance.now c.args.task.now.capacity c.args.log.now.lines c.args.sky.now
-    c.args.frames.now.items c.args.line p c.in-None.is s.claim in
+    let s = rw (c.instance.ensures.value, p.path.subject) at c.instance.ensures.stands in
+    let here : Place = record { sky = c.args.sky.now; frames = c.args.frames.now.items; line = c.args.line } in
+    let o = some_owed c.args.task.now.instance.now c.args.task.now.capacity c.args.log.now.lines here p c.in-None.is
+    s.claim in
     omega (arith, o, c.open.ensures.one)
 
 pub returns-in-Spent-clause-grown : goal.returns-in-Spent-clause-grown
 returns-in-Spent-clause-grown c =
-    grown_below c.args.task.now.instance.now c.args.task.now.capacity c.args.log.now.lines c.open.new.log.lines
-    c.args.sky.now (reverse c.args.frames.now.items) c.requires.place.descends c.in_ok-k-in-None.ensures.grown
+    let here : Place = record { sky = c.args.sky.now; frames = c.args.frames.now.items; line = c.args.line } in
+    grown_below c.args.task.now.instance.now c.args.task.now.capacity c.args.log.now.lines c.open.new.log.lines here
+    c.requires.place.path c.in_ok-k-in-None.ensures.grown
 
 pub returns-in-Spent-clause-turned : goal.returns-in-Spent-clause-turned
 returns-in-Spent-clause-turned c =
     let p = c.requires.place in
-    let s = rw (c.instance.ensures.value, p.subject) at c.instance.ensures.stands in
-    let o = some_owed c.args.task.now.instance.now c.args.task.now.capacity c.args.log.now.lines c.args.sky.now
-    c.args.frames.now.items c.args.line p c.in-None.is s.claim in
+    let s = rw (c.instance.ensures.value, p.path.subject) at c.instance.ensures.stands in
+    let here : Place = record { sky = c.args.sky.now; frames = c.args.frames.now.items; line = c.args.line } in
+    let o = some_owed c.args.task.now.instance.now c.args.task.now.capacity c.args.log.now.lines here p c.in-None.is
+    s.claim in
     let h = rw c.in-Spent.is at c.in_ok-k-in-None.ensures.opened in
-    (tt, (h.0, omega (arith, o, h.1)))
+    record { found = tt; spent = (h.0, omega (arith, o, h.1)) }
 
 pub returns-in-Line-clause-taken : goal.returns-in-Line-clause-taken
 returns-in-Line-clause-taken c _ e = rw c.in-Line.is at c.in_ok-k-in-None.ensures.taken e

@@ -1,9 +1,9 @@
-use Rattle.std.proofs.Common.{◌≡◌, ◌∙◌, ◌++◌, ◌∷◌, [], map, length, sym, ap, arith}
+use Rattle.std.proofs.Common.{◌≡◌, ◌∙◌, ◌++◌, ◌∷◌, [], None, map, length, refl, sym, ap, arith}
 use Rattle.canonical_order.proofs.NumberTests.{equal}
 use Rattle.dsa_terms.specs.Claims.{child}
 use Rattle.canonical_order.specs.Claims.{entry_of}
 use Rattle.skyline.specs.Skies.{last_claim}
-use Rattle.search_core.specs.Descents.{buffer_of}
+use Rattle.search_core.specs.Descents.{Place, buffer_of}
 use Rattle.search_core.specs.Tries.{chosen_of}
 use Rattle.search_core.proofs.Stacks.{last_of_append, when_ok}
 use Rattle.search_core.proofs.Descent.{is_instance, shorter}
@@ -99,9 +99,11 @@ returns-then-is_done-clause-ahead c =
     (rw c.levels.ensures c.requires.trying.levels) in
     let done : length f.refuted ≡ length f.order = equal (length f.refuted) (length f.order)
     (sym c.if-is_done.ensures) in
-    ahead_covered I C l c.args.log.now.lines c.refute.new.log.lines c.args.sky.now c.args.frames.now.items f
-    c.in_ok-refute.field-0 c.requires.subject c.requires.some (returns-then-is_done-clause-grown c)
-    c.requires.descends (record {
+    let here : Place = record { sky = c.args.sky.now; frames = c.args.frames.now.items; line = None } in
+    ahead_covered I C l c.args.log.now.lines c.refute.new.log.lines here f c.in_ok-refute.field-0
+    (returns-then-is_done-clause-grown c)
+    (record { subject = c.requires.subject; some = c.requires.some; descends = c.requires.descends })
+    (record {
       none = all_refuted I C l c.args.log.now.lines f c.requires.trying done;
       covered = covered_from_lifted I c.refute.new.log.lines l c.in_ok-refute.field-0 (is_instance I l s)
           (rw q at c.in_ok-refute.ensures.covered);
@@ -158,11 +160,13 @@ returns-clause-ahead c =
     let len = shorter I l (chosen_of f) s.claim.rises
     (chosen_in I c.args.task.now.capacity l c.args.log.now.lines f c.requires.trying left) in
     let claims = rw (c.chosen.ensures, c.requires.subject) at c.push.ensures.claims in
-    ahead_deeper I c.args.task.now.capacity c.args.log.now.lines c.args.sky.now c.push.new.self
-    c.args.frames.now.items c.push-2.new.self.items f c.requires.subject c.requires.some c.requires.trying left
-    c.requires.asked c.requires.descends c.push.ensures.instance claims
+    ahead_deeper I c.args.task.now.capacity c.args.log.now.lines
+    (record { sky = c.args.sky.now; frames = c.args.frames.now.items; line = None })
+    (record { sky = c.push.new.self; frames = c.push-2.new.self.items; line = None }) f
+    (record { subject = c.requires.subject; some = c.requires.some; descends = c.requires.descends })
+    c.requires.trying left c.requires.asked c.push.ensures.instance claims
     (when_ok c.push-2.result (c.args.frames.now.items ++ f ∷ []) c.args.frames.now.items c.push-2.new.self.items
-    c.push-2.ensures.items (c.push-2.ensures.succeeds (omega (arith, len, c.requires.room, c.args.frames.now.ok.0))))
+    c.push-2.ensures.items (c.push-2.ensures.succeeds (omega (arith, len, c.requires.room, c.args.frames.now.ok.0)))) refl
 
 pub returns-clause-watched : goal.returns-clause-watched
 returns-clause-watched c = λ watches h held.

@@ -1,5 +1,6 @@
+use Rattle.std.proofs.Common.{None}
 use Rattle.skyline.specs.Skies.{last_claim}
-use Rattle.search_core.specs.Descents.{above_of}
+use Rattle.search_core.specs.Descents.{Place, above_of}
 use Rattle.search_core.proofs.Descending.{ahead_covered, are_raised}
 use Rattle.search_core.proofs.Descent.{is_instance}
 use Rattle.search_core.proofs.Growing.{extends_none}
@@ -18,8 +19,10 @@ returns-in-Some-clause-ahead c =
     let s = rw (c.instance.ensures.value, c.requires.subject) at c.instance.ensures.stands in
     let h = rw (c.in-Some.is, c.log.ensures)
     at (c.in_ok-line.ensures.some I l (rw c.levels.ensures c.requires.trying.levels)) in
-    ahead_covered I C l c.args.log.now.lines c.args.log.now.lines c.args.sky.now c.args.frames.now.items c.args.frame
-    c.in-Some.line c.requires.subject c.requires.some (extends_none l c.args.log.now.lines) c.requires.descends
+    let here : Place = record { sky = c.args.sky.now; frames = c.args.frames.now.items; line = None } in
+    ahead_covered I C l c.args.log.now.lines c.args.log.now.lines here c.args.frame c.in-Some.line
+    (extends_none l c.args.log.now.lines)
+    (record { subject = c.requires.subject; some = c.requires.some; descends = c.requires.descends })
     (record { none = covered_has_none I C l c.args.log.now c.in-Some.line s c.requires.log h; covered = h })
 
 pub returns-in-Some-clause-watched : goal.returns-in-Some-clause-watched
