@@ -10,7 +10,7 @@ use Rattle.dsa_terms.proofs.Examples.{small_below}
 use Rattle.search_core.specs.declared.found.Found.TheVariants as found
 use Rattle.search_core.specs.declared.turns.Turn.TheVariants as turn
 use Rattle.search_core.specs.Descents.{Place, owed, through}
-use Rattle.search_core.specs.Turns.{IfOn, IsAhead, IsOn, IsTurned, Stage, UnlessTurnSpent, debt_of, next_of}
+use Rattle.search_core.specs.Turns.{IfOn, IsAhead, IsOn, IsTurned, Stage, UnlessTurnSpent, debt_of}
 use Rattle.search_core.proofs.DescentFacts.{after_line, before_line, below_root, seven_turns, six_turns, sky_of}
 use Rattle.search_core.proofs.FoundFacts.{root_layout}
 use Rattle.search_core.proofs.LevelFacts.{rest, root}
@@ -87,17 +87,11 @@ not_in_place : IsOn small_below 4 [] (stage None 1) (stage None 1) → ⊥
 not_in_place o = let k = o.fewer in omega arith
 
 -- ---- what a step comes to
-goes_on : IsTurned small_below 4 (over ∷ []) (stage None 1) (stage (Some 0) 2) (turn.On (Some 0))
+goes_on : IsTurned small_below 4 (over ∷ []) (stage None 1) (stage (Some 0) 2) turn.On
 goes_on = on_with_line
 
-stays : IsTurned small_below 4 [] (stage None 1) (stage None 1) (turn.On None) → ⊥
+stays : IsTurned small_below 4 [] (stage None 1) (stage None 1) turn.On → ⊥
 stays o = not_in_place o
-
-next_line : next_of (turn.On (Some 0)) ≡ Some 0
-next_line = refl
-
-no_next_line : next_of (turn.Done found.Spent) ≡ None
-no_next_line = refl
 
 module _ (seats : Vec (ℕ × ℕ)) where
   -- what is found is the root's layout, and not that of the last claim
@@ -127,13 +121,13 @@ not_spent_at_the_end : IsTurned small_below 4 [] (stage None 4) (stage None 7) (
 not_spent_at_the_end h = let k = h.spent.1 in let e = three_owed in omega arith
 
 -- ---- facts that hold in some cases alone
-holds_where_it_goes_on : IfOn ⊥ (turn.On None) → ⊥
+holds_where_it_goes_on : IfOn ⊥ turn.On → ⊥
 holds_where_it_goes_on h = h
 
 nothing_once_done : IfOn ⊥ (turn.Done found.Spent)
 nothing_once_done = tt
 
-holds_on_the_way : UnlessTurnSpent ⊥ (turn.On None) → ⊥
+holds_on_the_way : UnlessTurnSpent ⊥ turn.On → ⊥
 holds_on_the_way h = h
 
 nothing_once_spent : UnlessTurnSpent ⊥ (turn.Done found.Spent)

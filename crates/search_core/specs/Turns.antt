@@ -1,13 +1,14 @@
 -- What one step of the search comes to.
-use Rattle.std.specs.Prelude.{◌≡◌, ℕ, ◌+◌, ◌*◌, ◌<◌, ◌≤◌, ⊤, Option, None, List, length, map, reverse}
+use Rattle.std.specs.Prelude.{◌≡◌, ◌≢◌, ℕ, ◌+◌, ◌*◌, ◌<◌, ◌≤◌, ⊤, List, [], length, map, reverse}
 use Rattle.dsa_terms.specs.Buffers.{Instance}
 use Rattle.dsa_terms.specs.Logs.{Line}
 use Rattle.canonical_order.specs.Claims.{entry_of}
 use Rattle.search_core.specs.declared.found.Found.{Found}
 use Rattle.search_core.specs.declared.turns.Turn.{Turn}
 use Rattle.search_core.specs.declared.turns.Turn.TheVariants as turn
-use Rattle.search_core.specs.Descents.{IsPlace, Place, above_of, claim_at, left_of, owed, sky_root, through, turns_left}
+use Rattle.search_core.specs.Descents.{IsPath, IsPlace, IsTrying, Place, above_of, claim_at, left_of, owed, sky_root, through, turns_left}
 use Rattle.search_core.specs.Found.{IfSpent, IsFound, UnlessSpent}
+use Rattle.search_core.specs.Logs.{NoneCovers}
 use Rattle.search_core.specs.Meters.{AreSpent, Units}
 use Rattle.search_core.specs.Tries.{Tried, rest_of}
 
@@ -16,6 +17,18 @@ abbrev pub debt_of : Instance → ℕ → Place → Tried → ℕ
 debt_of I C here f =
     through I C (claim_at here) (map (entry_of (claim_at here)) (rest_of f))
     + left_of I C (claim_at here) (above_of here.sky.claims) (reverse here.frames)
+
+-- the claim that the search is at has some buffers, and these choices of it are tried
+pub record IsOpen (I : Instance) (C : ℕ) (lines : List Line) (here : Place) (f : Tried) : Type 0 where
+  pub path : IsPath I C lines here
+  pub not_empty : claim_at here ≢ []
+  pub trying : IsTrying I C lines (claim_at here) f
+
+-- besides, no line covers the claim, and all were asked
+pub record IsReady (I : Instance) (C : ℕ) (lines : List Line) (here : Place) (f : Tried) : Type 0 where
+  pub opened : IsOpen I C lines here f
+  pub fresh : NoneCovers I lines (claim_at here)
+  pub asked : f.asked ≡ length lines
 
 -- below the same root, with no more left to do than where the claim at `before` was open and had the choices f
 pub record IsAhead (I : Instance) (C : ℕ) (lines : List Line) (before : Place) (f : Tried) (after : Place) : Type 0
@@ -45,20 +58,15 @@ pub record IsDone (I : Instance) (C : ℕ) (lines : List Line) (before : Stage) 
 
 -- the search goes on, or it is done
 abbrev pub IsTurned : Instance → ℕ → List Line → Stage → Stage → Turn → Type 0
-IsTurned I C lines before after (turn.On next) = IsOn I C lines before after
+IsTurned I C lines before after turn.On = IsOn I C lines before after
 IsTurned I C lines before after (turn.Done found) = IsDone I C lines before after.units found
-
--- the line that is known where the search goes on
-abbrev pub next_of : Turn → Option ℕ
-next_of (turn.On next) = next
-next_of (turn.Done found) = None
 
 -- the fact holds where the search goes on
 abbrev pub IfOn : Type 0 → Turn → Type 0
-IfOn P (turn.On next) = P
+IfOn P turn.On = P
 IfOn P (turn.Done found) = ⊤
 
 -- the fact holds unless the budget is spent
 abbrev pub UnlessTurnSpent : Type 0 → Turn → Type 0
-UnlessTurnSpent P (turn.On next) = P
+UnlessTurnSpent P turn.On = P
 UnlessTurnSpent P (turn.Done found) = UnlessSpent P found

@@ -22,6 +22,7 @@ mod meter;
 mod opening;
 mod over;
 mod part;
+mod path;
 mod recent;
 mod search;
 mod seats;

@@ -20,12 +20,12 @@ use crate::levels::Levels;
 use crate::lines::append;
 use crate::meter::Meter;
 use crate::over::over_line;
+use crate::path::Path;
 use crate::task::Task;
 use crate::watches::Watches;
 use canonical_order::Lows;
 use dsa_model::NoMemory;
 use refute_log::Log;
-use skyline::Skyline;
 use std::alloc::Global;
 
 /// What is found where a claim is opened.
@@ -64,42 +64,40 @@ fn covering(
     }
 }
 
-/// Opens the last claim of the skyline, unless a line covers it; the frames are those of the claims
-/// above. Its lows are written down first, so that no rule needs to go over sections.
+/// Opens the claim that the search is at, unless a line covers it. Its lows are written down first, so that no rule needs to go over sections.
 pub(crate) fn open(
     alloc: Global,
     task: &Task,
     log: &mut Learned,
-    watches: &mut Watches,
     meter: &mut Meter,
-    sky: &Skyline,
-    frames: &[Frame],
+    watches: &mut Watches,
+    path: &Path,
 ) -> Result<Opened, NoMemory>
-    requires subject { sky.now.instance ≡ task.now.instance.now }
+    requires subject { path.now.sky.instance ≡ task.now.instance.now }
     requires log { IsSearchLog task.now.instance.now task.now.capacity log.old }
-    requires watched { AreWatchedAt log.old.lines watches.old frames.now }
+    requires watched { AreWatchedAt log.old.lines watches.old path.now.frames.items }
     requires raised { let I = task.now.instance.now in
-        (levels : List ℕ) → AreLevels I (last_claim sky.now.claims) levels →
-        AreRaisedFrom frames.now levels }
-    requires latest { HasAskedAll log.old.lines frames.now }
+        (levels : List ℕ) → AreLevels I (last_claim path.now.sky.claims) levels →
+        AreRaisedFrom path.now.frames.items levels }
+    requires latest { HasAskedAll log.old.lines path.now.frames.items }
     ensures log { OnOk result (IsSearchLog task.now.instance.now task.now.capacity log.new) }
-    ensures grown { OnOk result (Extends (last_claim sky.now.claims) log.old.lines log.new.lines) }
+    ensures grown { OnOk result (Extends (last_claim path.now.sky.claims) log.old.lines log.new.lines) }
     ensures most { meter.new.most ≡ meter.old.most }
     ensures units { meter.old.used ≤ meter.new.used }
     ensures one { meter.new.used ≤ meter.old.used + 1 }
     ensures taken { log.old.lines ≡ [] →
         IfOk result (UnlessUnopened (AreMore meter.old meter.new)) }
     ensures opened { let I = task.now.instance.now in
-        let l = last_claim sky.now.claims in
+        let l = last_claim path.now.sky.claims in
         IfOk result (IsOpened I task.now.capacity log.new.lines l meter.old meter.new) }
-    ensures watched { OnOk result (AreWatchedAt log.new.lines watches.new frames.now) }
+    ensures watched { OnOk result (AreWatchedAt log.new.lines watches.new path.now.frames.items) }
     ensures asked { IfOk result (IfChoices (AreAllAsked log.new.lines watches.new)) }
     ensures counted { IfOk result (λ o. AreCounted meter.old meter.new
         (length log.old.lines) (length log.new.lines + left_open o)) }
 {
-    let _count = sky.instance().len();
-    let levels = Levels::of(alloc, sky)?;
-    if let Some(line) = covering(log.log(), &levels, watches, frames)? {
+    let _count = path.sky.instance().len();
+    let levels = Levels::of(alloc, &path.sky)?;
+    if let Some(line) = covering(log.log(), &levels, watches, path.frames.as_slice())? {
         return Ok(Opened::Line(line));
     }
     if !meter.take() {
@@ -109,7 +107,7 @@ pub(crate) fn open(
     if claim.len() == 0 {
         return Ok(Opened::Empty);
     }
-    if let Some(line) = over_line(alloc, task, sky, &claim, &levels)? {
+    if let Some(line) = over_line(alloc, task, &path.sky, &claim, &levels)? {
         return Ok(Opened::Line(append(alloc, task, log, line)?));
     }
     let view = Leveled {

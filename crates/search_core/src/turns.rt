@@ -1,28 +1,28 @@
 //! The search through the claims of one part, one step after another.
 
-ghost use Rattle.std.specs.Prelude.{◌≡◌, ◌+◌, ◌<◌, ◌≤◌, [], None, IfOk, OnOk, length, vec_capacity};
+ghost use Rattle.std.specs.Prelude.{◌≡◌, ◌+◌, ◌<◌, ◌≤◌, [], None, IfOk, OnOk, length};
 ghost use Rattle.std.specs.List.{All};
 ghost use Rattle.dsa_terms.specs.Claims.{Rises};
 ghost use Rattle.dsa_terms.specs.Parts.{whole};
 ghost use Rattle.dsa_terms.specs.Search.{work};
 ghost use Rattle.lifetime.specs.SectionList.{AreSectionsOf};
-ghost use Rattle.search_core.specs.Descents.{IsPlace, Place, owed, sky_root};
+ghost use Rattle.search_core.specs.Descents.{IsPlace, owed, sky_root};
 ghost use Rattle.search_core.specs.Found.{IfSpent, IsFound, UnlessSpent};
 ghost use Rattle.search_core.specs.Logs.{Extends, IsSearchLog};
 ghost use Rattle.search_core.specs.Meters.{AreCounted, AreMore, AreSpent};
-ghost use Rattle.search_core.specs.Turns.{IfOn, IsTurned, UnlessTurnSpent, next_of};
+ghost use Rattle.search_core.specs.Turns.{IfOn, IsTurned, UnlessTurnSpent};
+ghost use Rattle.search_core.specs.Walks.{HasRoom, place_of, stage_of};
 ghost use Rattle.search_core.specs.Watches.{AreWatchedAt};
-ghost use Rattle.skyline.specs.Skies.{last_claim};
 
 use crate::found::Found;
-use crate::frame::Frame;
 use crate::gather::seats;
 use crate::learned::Learned;
 use crate::meter::Meter;
 use crate::opening::{Opened, open};
+use crate::path::Path;
 use crate::recent::Recent;
 use crate::task::Task;
-use crate::walk::{proceed, resume};
+use crate::walk::Walk;
 use crate::watches::Watches;
 use canonical_order::Lows;
 use dsa_model::NoMemory;
@@ -34,75 +34,75 @@ use std::alloc::Global;
 #[derive(Drop)]
 enum Turn {
     /// It is at another claim, or has a line for its claim.
-    On(Option<u64>),
+    On,
     /// It is done.
     Done(Found),
 }
 
-/// One step: down from the last claim, or back from it where a line is known that covers it.
-fn step(
-    alloc: Global,
-    task: &Task,
-    log: &mut Learned,
-    recent: &mut Recent,
-    watches: &mut Watches,
-    meter: &mut Meter,
-    sky: &mut Skyline,
-    frames: &mut Vec<Frame>,
-    line: Option<u64>,
-) -> Result<Turn, NoMemory>
-    requires log { IsSearchLog task.now.instance.now task.now.capacity log.old }
-    requires place { let here : Place = record { sky = sky.old; frames = frames.old.items; line = line } in
-        IsPlace task.now.instance.now task.now.capacity log.old.lines here }
-    requires room { length (last_claim sky.old.claims) + length frames.old.items ≤
-        vec_capacity frames.old }
-    requires watched { AreWatchedAt log.old.lines watches.old frames.old.items }
-    ensures log { OnOk result (IsSearchLog task.now.instance.now task.now.capacity log.new) }
-    ensures grown { OnOk result (Extends (sky_root sky.old) log.old.lines log.new.lines) }
-    ensures most { meter.new.most ≡ meter.old.most }
-    ensures units { meter.old.used ≤ meter.new.used }
-    ensures used { let I = task.now.instance.now in
-        let here : Place = record { sky = sky.old; frames = frames.old.items; line = line } in
-        meter.new.used ≤ meter.old.used + owed I task.now.capacity here }
-    ensures taken { line ≡ None → log.old.lines ≡ [] →
-        IfOk result (UnlessTurnSpent (AreMore meter.old meter.new)) }
-    ensures room { IfOk result (IfOn (length (last_claim sky.new.claims) + length frames.new.items ≤
-        vec_capacity frames.new)) }
-    ensures turned { let I = task.now.instance.now in
-        let before : Place = record { sky = sky.old; frames = frames.old.items; line = line } in
-        IfOk result (λ turn.
-        let after : Place = record { sky = sky.new; frames = frames.new.items; line = next_of turn } in
-        IsTurned I task.now.capacity log.new.lines
-        (record { place = before; units = meter.old })
-        (record { place = after; units = meter.new }) turn) }
-    ensures watched { IfOk result (IfOn
-        (AreWatchedAt log.new.lines watches.new frames.new.items)) }
-    ensures counted { OnOk result (AreCounted meter.old meter.new
-        (length log.old.lines + length frames.old.items)
-        (length log.new.lines + length frames.new.items)) }
-{
-    let _count = sky.instance().len();
-    match line {
-        Some(k) => match frames.pop() {
-            Some(mut frame) => {
-                sky.pop();
-                let _count = sky.instance().len();
-                recent.note(frame.chosen(), k);
-                frame.note(k);
-                let next = resume(alloc, task, log, recent, watches, sky, frames, frame)?;
-                Ok(Turn::On(next))
-            }
-            None => Ok(Turn::Done(Found::Line(k))),
-        },
-        None => match open(alloc, task, log, watches, meter, sky, frames.as_slice())? {
-            Opened::Line(k) => Ok(Turn::On(Some(k))),
-            Opened::Choices(frame) => {
-                let next = proceed(alloc, task, log, recent, sky, frames, frame)?;
-                Ok(Turn::On(next))
-            }
-            Opened::Empty => Ok(Turn::Done(Found::Seats(seats(alloc, task, sky, frames)?))),
-            Opened::Spent => Ok(Turn::Done(Found::Spent)),
-        },
+impl<'a> Walk<'a> {
+    /// One step: down from the claim that the search is at, or back from it where a line is known
+    /// that covers it.
+    fn step(
+        &mut self,
+        alloc: Global,
+        task: &Task,
+        log: &mut Learned,
+        meter: &mut Meter,
+    ) -> Result<Turn, NoMemory>
+        requires log { IsSearchLog task.now.instance.now task.now.capacity log.old }
+        requires place { let I = task.now.instance.now in
+            IsPlace I task.now.capacity log.old.lines (place_of self.old) }
+        requires room { HasRoom self.old.path }
+        requires watched { let frames = self.old.path.frames.items in
+            AreWatchedAt log.old.lines self.old.watches frames }
+        ensures log { OnOk result (IsSearchLog task.now.instance.now task.now.capacity log.new) }
+        ensures grown { let root = sky_root self.old.path.sky in
+            OnOk result (Extends root log.old.lines log.new.lines) }
+        ensures most { meter.new.most ≡ meter.old.most }
+        ensures units { meter.old.used ≤ meter.new.used }
+        ensures used { let most = owed task.now.instance.now task.now.capacity (place_of self.old) in
+            meter.new.used ≤ meter.old.used + most }
+        ensures taken { self.old.line ≡ None → log.old.lines ≡ [] →
+            IfOk result (UnlessTurnSpent (AreMore meter.old meter.new)) }
+        ensures room { IfOk result (IfOn (HasRoom self.new.path)) }
+        ensures turned { let I = task.now.instance.now in
+            let before = stage_of self.old meter.old in let after = stage_of self.new meter.new in
+            IfOk result (IsTurned I task.now.capacity log.new.lines before after) }
+        ensures watched { let frames = self.new.path.frames.items in
+            IfOk result (IfOn (AreWatchedAt log.new.lines self.new.watches frames)) }
+        ensures counted { OnOk result (AreCounted meter.old meter.new
+            (length log.old.lines + length self.old.path.frames.items)
+            (length log.new.lines + length self.new.path.frames.items)) }
+    {
+        let _count = self.path.sky.instance().len();
+        match self.line {
+            Some(k) => match self.path.frames.pop() {
+                Some(mut frame) => {
+                    self.path.sky.pop();
+                    let _count = self.path.sky.instance().len();
+                    self.recent.note(frame.chosen(), k);
+                    frame.note(k);
+                    self.resume(alloc, task, log, frame)?;
+                    Ok(Turn::On)
+                }
+                None => Ok(Turn::Done(Found::Line(k))),
+            },
+            None => match open(alloc, task, log, meter, &mut self.watches, &self.path)? {
+                Opened::Line(k) => {
+                    self.line = Some(k);
+                    Ok(Turn::On)
+                }
+                Opened::Choices(frame) => {
+                    self.proceed(alloc, task, log, frame)?;
+                    Ok(Turn::On)
+                }
+                Opened::Empty => {
+                    let seats = seats(alloc, task, &mut self.path)?;
+                    Ok(Turn::Done(Found::Seats(seats)))
+                }
+                Opened::Spent => Ok(Turn::Done(Found::Spent)),
+            },
+        }
     }
 }
 
@@ -135,24 +135,19 @@ pub(crate) fn search(
     ensures counted { OnOk result (AreCounted meter.old meter.new
         (length log.old.lines) (length log.new.lines)) }
 {
-    let mut sky = Skyline::new(alloc, task.instance, sections, members)?;
-    let mut frames = Vec::with_capacity(alloc, members.len())?;
-    let mut recent = Recent::new(alloc, task.instance.len())?;
-    let mut watches = Watches::new(alloc)?;
-    let mut line = None;
+    let sky = Skyline::new(alloc, task.instance, sections, members)?;
+    let frames = Vec::with_capacity(alloc, members.len())?;
+    let recent = Recent::new(alloc, task.instance.len())?;
+    let watches = Watches::new(alloc)?;
+    let mut walk = Walk {
+        path: Path { sky, frames },
+        line: None,
+        recent,
+        watches,
+    };
     'turns: loop {
-        match step(
-            alloc,
-            task,
-            log,
-            &mut recent,
-            &mut watches,
-            meter,
-            &mut sky,
-            &mut frames,
-            line,
-        )? {
-            Turn::On(next) => line = next,
+        match walk.step(alloc, task, log, meter)? {
+            Turn::On => {}
             Turn::Done(found) => return Ok(found),
         }
     }

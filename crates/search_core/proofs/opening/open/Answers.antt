@@ -18,7 +18,7 @@ use Rattle.search_core.proofs.opening.open.Goals as goal
 pub returns-in-Some-clause-opened : goal.returns-in-Some-clause-opened
 returns-in-Some-clause-opened c =
     let I = c.args.task.now.instance.now in
-    let l = last_claim c.args.sky.now.claims in
+    let l = last_claim c.args.path.now.sky.claims in
     let s = rw (c.instance.ensures.value, c.requires.subject) at c.instance.ensures.stands in
     let h = rw (c.in-Some.is, c.log.ensures)
     at (c.in_ok-line.ensures.some I l (rw c.requires.subject at c.in_ok-levels.ensures)) in
@@ -30,7 +30,7 @@ returns-in-Some-clause-opened c =
 pub returns-in-Some-clause-taken : goal.returns-in-Some-clause-taken
 returns-in-Some-clause-taken c e =
     let I = c.args.task.now.instance.now in
-    let l = last_claim c.args.sky.now.claims in
+    let l = last_claim c.args.path.now.sky.claims in
     absurd (none_covers I l c.args.log.now.lines c.in-Some.line e
     (rw (c.in-Some.is, c.log.ensures)
     at (c.in_ok-line.ensures.some I l (rw c.requires.subject at c.in_ok-levels.ensures))))
@@ -39,13 +39,13 @@ returns-in-Some-clause-taken c e =
 pub over_line-requires-clause-lifted : goal.over_line-requires-clause-lifted
 over_line-requires-clause-lifted c =
     let I = c.args.task.now.instance.now in
-    let l = last_claim c.args.sky.now.claims in
+    let l = last_claim c.args.path.now.sky.claims in
     c.in_ok-claim.ensures.value I l (rw c.requires.subject at c.in_ok-levels.ensures)
 
 pub over_line-requires-clause-levels : goal.over_line-requires-clause-levels
 over_line-requires-clause-levels c =
     let I = c.args.task.now.instance.now in
-    let l = last_claim c.args.sky.now.claims in
+    let l = last_claim c.args.path.now.sky.claims in
     let s = rw (c.instance.ensures.value, c.requires.subject) at c.instance.ensures.stands in
     let a = rw c.requires.subject at c.in_ok-levels.ensures in
     let q = c.in_ok-claim.ensures.value I l a in
@@ -55,7 +55,7 @@ over_line-requires-clause-levels c =
 pub returns-then-len-eq0-clause-opened : goal.returns-then-len-eq0-clause-opened
 returns-then-len-eq0-clause-opened c =
     let I = c.args.task.now.instance.now in
-    let l = last_claim c.args.sky.now.claims in
+    let l = last_claim c.args.path.now.sky.claims in
     let q = c.in_ok-claim.ensures.value I l (rw c.requires.subject at c.in_ok-levels.ensures) in
     rw (lifted_nothing I l (sym (ap length q) ∙ sym c.len.ensures.value ∙ c.if-len-eq0.true))
     (first_of_nothing I c.args.task.now.capacity [] refl)
@@ -71,7 +71,7 @@ append-requires-clause-within c = let r = rw c.in-Some-2.is at c.in_ok-line-2.en
 pub append-requires-clause-fresh : goal.append-requires-clause-fresh
 append-requires-clause-fresh c =
     let I = c.args.task.now.instance.now in
-    let l = last_claim c.args.sky.now.claims in
+    let l = last_claim c.args.path.now.sky.claims in
     let s = rw (c.instance.ensures.value, c.requires.subject) at c.instance.ensures.stands in
     let r = rw c.in-Some-2.is at c.in_ok-line-2.ensures.some in
     covers_less I c.args.log.now.lines (claim_of (line_value c.in-Some-2.line)) l (is_instance I l s) r.covers
@@ -82,13 +82,13 @@ append-requires-clause-fresh c =
 pub returns-in-Some-2-clause-grown : goal.returns-in-Some-2-clause-grown
 returns-in-Some-2-clause-grown c =
     let r = rw c.in-Some-2.is at c.in_ok-line-2.ensures.some in
-    c.in_ok-append.ensures.grown (last_claim c.args.sky.now.claims) r.covers
+    c.in_ok-append.ensures.grown (last_claim c.args.path.now.sky.claims) r.covers
 
 pub returns-in-Some-2-clause-opened : goal.returns-in-Some-2-clause-opened
 returns-in-Some-2-clause-opened c =
     let I = c.args.task.now.instance.now in
     let C = c.args.task.now.capacity in
-    let l = last_claim c.args.sky.now.claims in
+    let l = last_claim c.args.path.now.sky.claims in
     let s = rw (c.instance.ensures.value, c.requires.subject) at c.instance.ensures.stands in
     let r = rw c.in-Some-2.is at c.in_ok-line-2.ensures.some in
     let h = c.in_ok-append.ensures.covered l r.covers in
@@ -99,14 +99,15 @@ returns-in-Some-2-clause-opened c =
 
 pub returns-in-Some-2-clause-watched : goal.returns-in-Some-2-clause-watched
 returns-in-Some-2-clause-watched c =
-    let l = last_claim c.args.sky.now.claims in
-    all_watched_more l c.args.log.now.lines c.append.new.log.lines c.covering.new.watches c.args.frames.now
-    (returns-in-Some-2-clause-grown c) (rw c.log.ensures at c.in_ok-line.ensures.watched)
+    let l = last_claim c.args.path.now.sky.claims in
+    all_watched_more l c.args.log.now.lines c.append.new.log.lines c.covering.new.watches c.args.path.now.frames.items
+    (returns-in-Some-2-clause-grown c)
+    (rw (c.log.ensures, c.as_slice.ensures.value) at c.in_ok-line.ensures.watched)
 
 pub invariant_of-view : goal.invariant_of-view
 invariant_of-view c =
     let I = c.args.task.now.instance.now in
-    let l = last_claim c.args.sky.now.claims in
+    let l = last_claim c.args.path.now.sky.claims in
     let s = rw (c.instance.ensures.value, c.requires.subject) at c.instance.ensures.stands in
     let a = rw c.requires.subject at c.in_ok-levels.ensures in
     let q = c.in_ok-claim.ensures.value I l a in
@@ -117,7 +118,7 @@ pub returns-clause-opened : goal.returns-clause-opened
 returns-clause-opened c =
     let I = c.args.task.now.instance.now in
     let C = c.args.task.now.capacity in
-    let l = last_claim c.args.sky.now.claims in
+    let l = last_claim c.args.path.now.sky.claims in
     let s = rw (c.instance.ensures.value, c.requires.subject) at c.instance.ensures.stands in
     let q = c.in_ok-claim.ensures.value I l (rw c.requires.subject at c.in_ok-levels.ensures) in
     let none = rw c.in_default-2.is at c.in_ok-line-2.ensures.none in

@@ -8,33 +8,33 @@ use Rattle.search_core.proofs.turns.search.Goals as goal
 pub turns-preserved : goal.turns-preserved
 turns-preserved c =
     let i = c.turns.invariant in
-    let on = rw c.in-On.is at c.in_ok-next.ensures.turned in
+    let on = rw c.in-On.is at c.in_ok-step.ensures.turned in
     record {
-      log = c.in_ok-next.ensures.log;
+      log = c.in_ok-step.ensures.log;
       grown = extends_along (whole c.args.members.now) (whole c.args.members.now) c.args.log.now.lines c.turns.log.lines
-          c.step.new.log.lines (λ b h. h) i.grown (rw i.root at c.in_ok-next.ensures.grown);
+          c.step.new.log.lines (λ b h. h) i.grown (rw i.root at c.in_ok-step.ensures.grown);
       place = on.place;
       root = on.root ∙ i.root;
-      room = rw c.in-On.is at c.in_ok-next.ensures.room;
-      watched = rw c.in-On.is at c.in_ok-next.ensures.watched;
+      room = rw c.in-On.is at c.in_ok-step.ensures.room;
+      watched = rw c.in-On.is at c.in_ok-step.ensures.watched;
       most = c.step.ensures.most ∙ i.most;
       taken = λ e. elim (i.taken e) [
         | inl n ↦ inr (more_after c.args.meter.now c.turns.meter c.step.new.meter i.most i.units
-            (rw c.in-On.is at c.in_ok-next.ensures.taken n.0 n.1))
+            (rw c.in-On.is at c.in_ok-step.ensures.taken n.0 n.1))
         | inr m ↦ inr (more_still c.args.meter.now c.turns.meter c.step.new.meter m c.step.ensures.units)
       ];
       units = let u = c.step.ensures.units in let v = i.units in omega arith;
       left = let u = on.units in let v = i.left in omega arith;
       counted = counted_along c.args.meter.now c.turns.meter c.step.new.meter (length c.args.log.now.lines)
-          (length c.turns.log.lines + length c.turns.frames.items)
-          (length c.step.new.log.lines + length c.step.new.frames.items) i.most i.counted c.in_ok-next.ensures.counted;
+          (length c.turns.log.lines + length c.turns.walk.path.frames.items)
+          (length c.step.new.log.lines + length c.step.new.self.path.frames.items) i.most i.counted c.in_ok-step.ensures.counted;
     }
 
 pub returns-in-Done-clause-grown : goal.returns-in-Done-clause-grown
 returns-in-Done-clause-grown c =
     let i = c.turns.invariant in
     extends_along (whole c.args.members.now) (whole c.args.members.now) c.args.log.now.lines c.turns.log.lines
-    c.step.new.log.lines (λ b h. h) i.grown (rw i.root at c.in_ok-next.ensures.grown)
+    c.step.new.log.lines (λ b h. h) i.grown (rw i.root at c.in_ok-step.ensures.grown)
 
 pub returns-in-Done-clause-taken : goal.returns-in-Done-clause-taken
 returns-in-Done-clause-taken c e =
@@ -42,7 +42,7 @@ returns-in-Done-clause-taken c e =
     elim (i.taken e) [
       | inl n ↦ unless_along c.in-Done.found
           (more_after c.args.meter.now c.turns.meter c.step.new.meter i.most i.units)
-          (rw c.in-Done.is at c.in_ok-next.ensures.taken n.0 n.1)
+          (rw c.in-Done.is at c.in_ok-step.ensures.taken n.0 n.1)
       | inr m ↦ unless_always c.in-Done.found
           (more_still c.args.meter.now c.turns.meter c.step.new.meter m c.step.ensures.units)
     ]
@@ -51,8 +51,8 @@ pub returns-in-Done-clause-counted : goal.returns-in-Done-clause-counted
 returns-in-Done-clause-counted c =
     let i = c.turns.invariant in
     counted_less c.args.meter.now c.step.new.meter (length c.args.log.now.lines)
-    (length c.step.new.log.lines + length c.step.new.frames.items) (length c.step.new.log.lines)
+    (length c.step.new.log.lines + length c.step.new.self.path.frames.items) (length c.step.new.log.lines)
     (counted_along c.args.meter.now c.turns.meter c.step.new.meter (length c.args.log.now.lines)
-    (length c.turns.log.lines + length c.turns.frames.items)
-    (length c.step.new.log.lines + length c.step.new.frames.items) i.most i.counted c.in_ok-next.ensures.counted)
+    (length c.turns.log.lines + length c.turns.walk.path.frames.items)
+    (length c.step.new.log.lines + length c.step.new.self.path.frames.items) i.most i.counted c.in_ok-step.ensures.counted)
     (omega arith)

@@ -7,7 +7,7 @@ use Rattle.search_core.specs.Cites.{IsCoveredBy}
 use Rattle.search_core.specs.Tries.{Tried, chosen_of}
 use Rattle.search_core.proofs.Passing.{IsPassing, passed_less, passed_one, passed_trying, some_level}
 use Rattle.search_core.proofs.Searching.{chosen_in, one_is_left}
-use Rattle.search_core.proofs.walk.pass_over.Goals as goal
+use Rattle.search_core.proofs.walk.Walk.pass_over.Goals as goal
 
 pub find-requires-clause-count : goal.find-requires-clause-count
 find-requires-clause-count c = rw c.levels.ensures c.choices.invariant.trying.levels.count
@@ -16,7 +16,7 @@ pub find-requires-clause-b_in : goal.find-requires-clause-b_in
 find-requires-clause-b_in c =
     let I = c.args.task.now.instance.now in
     let C = c.args.task.now.capacity in
-    let l = last_claim c.args.sky.now.claims in
+    let l = last_claim c.args.self.now.path.sky.claims in
     let f = c.choices.frame in
     let lines = c.args.log.now.lines in
     let t = c.choices.invariant.trying in
@@ -29,7 +29,7 @@ pub choices-preserved : goal.choices-preserved
 choices-preserved c =
     let I = c.args.task.now.instance.now in
     let C = c.args.task.now.capacity in
-    let l = last_claim c.args.sky.now.claims in
+    let l = last_claim c.args.self.now.path.sky.claims in
     let f = c.choices.frame in
     let t = c.choices.invariant.trying in
     let s = rw (c.instance.ensures.value, c.requires.subject) at c.instance.ensures.stands in
@@ -48,7 +48,7 @@ pub choices-smaller : goal.choices-smaller
 choices-smaller c =
     let I = c.args.task.now.instance.now in
     let C = c.args.task.now.capacity in
-    let l = last_claim c.args.sky.now.claims in
+    let l = last_claim c.args.self.now.path.sky.claims in
     let f = c.choices.frame in
     let t = c.choices.invariant.trying in
     let s = rw (c.instance.ensures.value, c.requires.subject) at c.instance.ensures.stands in

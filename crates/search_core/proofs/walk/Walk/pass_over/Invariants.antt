@@ -1,11 +1,11 @@
 use Rattle.std.proofs.Common.{◌-◌, length}
 use Rattle.skyline.specs.Skies.{last_claim}
 use Rattle.search_core.proofs.Passing.{IsPassing}
-use Rattle.search_core.proofs.walk.pass_over.Given as goal
+use Rattle.search_core.proofs.walk.Walk.pass_over.Given as goal
 
 abbrev pub decreases-choices : goal.decreases-choices
 decreases-choices l = length l.frame.order - length l.frame.refuted
 
 abbrev pub invariant-choices : goal.invariant-choices
 invariant-choices l =
-    IsPassing l.task.instance.now l.task.capacity l.log.lines (last_claim l.sky.claims) l.fn.frame l.frame
+    IsPassing l.task.instance.now l.task.capacity l.log.lines (last_claim l.self.path.sky.claims) l.fn.frame l.frame

@@ -1,0 +1,184 @@
+use Rattle.std.proofs.Common.{◌≡◌, ◌∙◌, ◌++◌, ◌∷◌, [], None, map, length, refl, sym, ap, arith}
+use Rattle.canonical_order.proofs.NumberTests.{equal}
+use Rattle.dsa_terms.specs.Claims.{child}
+use Rattle.canonical_order.specs.Claims.{entry_of}
+use Rattle.skyline.specs.Skies.{last_claim}
+use Rattle.search_core.specs.Descents.{buffer_of}
+use Rattle.search_core.specs.Tries.{chosen_of}
+use Rattle.search_core.specs.Walks.{place_of}
+use Rattle.search_core.proofs.Stacks.{last_of_append, when_ok}
+use Rattle.search_core.proofs.Descent.{is_instance, shorter}
+use Rattle.search_core.proofs.Descending.{ahead_covered, ahead_deeper}
+use Rattle.search_core.proofs.Leveling.{lifted_levels}
+use Rattle.search_core.proofs.LiftedChoices.{lifted_nothing}
+use Rattle.search_core.proofs.Lifting.{covered_from_lifted, lifted_covered, lifted_extends, lifted_fresh, lifted_noted, lifted_stands}
+use Rattle.search_core.proofs.Watched.{all_watched_more, all_watched_push}
+use Rattle.search_core.proofs.Searching.{all_refuted, chosen_in, each_noted, one_is_left, refuted_in}
+use Rattle.search_core.proofs.walk.Walk.advance.Goals as goal
+
+-- ---- no choice is left
+pub refute-requires-clause-levels : goal.refute-requires-clause-levels
+refute-requires-clause-levels c =
+    let I = c.args.task.now.instance.now in
+    let l = last_claim c.args.self.now.path.sky.claims in
+    let s = rw (c.instance.ensures.value, c.requires.ready.opened.path.subject) at c.instance.ensures.stands in
+    let q = c.in_ok-claim.ensures.value I l (rw c.levels.ensures c.requires.ready.opened.trying.levels) in
+    rw (q, c.levels-then-is_done.ensures)
+    (lifted_levels I l c.args.frame.levels (is_instance I l s) c.requires.ready.opened.trying.levels)
+
+pub refute-requires-clause-stands : goal.refute-requires-clause-stands
+refute-requires-clause-stands c =
+    let I = c.args.task.now.instance.now in
+    let l = last_claim c.args.self.now.path.sky.claims in
+    let s = rw (c.instance.ensures.value, c.requires.ready.opened.path.subject) at c.instance.ensures.stands in
+    let q = c.in_ok-claim.ensures.value c.args.task.now.instance.now (last_claim c.args.self.now.path.sky.claims)
+    (rw c.levels.ensures c.requires.ready.opened.trying.levels) in
+    rw q (lifted_stands I l s (rw q at c.in_ok-claim.ensures.low))
+
+pub refute-requires-clause-not_empty : goal.refute-requires-clause-not_empty
+refute-requires-clause-not_empty c e =
+    let I = c.args.task.now.instance.now in
+    let l = last_claim c.args.self.now.path.sky.claims in
+    let q = c.in_ok-claim.ensures.value I l (rw c.levels.ensures c.requires.ready.opened.trying.levels) in
+    c.requires.ready.opened.not_empty (lifted_nothing I l (sym (ap length q) ∙ ap length e))
+
+pub refute-requires-clause-low : goal.refute-requires-clause-low
+refute-requires-clause-low c = c.in_ok-claim.ensures.low
+
+pub refute-requires-clause-noted : goal.refute-requires-clause-noted
+refute-requires-clause-noted c =
+    let I = c.args.task.now.instance.now in
+    let C = c.args.task.now.capacity in
+    let l = last_claim c.args.self.now.path.sky.claims in
+    let f = c.args.frame in
+    let s = rw (c.instance.ensures.value, c.requires.ready.opened.path.subject) at c.instance.ensures.stands in
+    let q = c.in_ok-claim.ensures.value c.args.task.now.instance.now (last_claim c.args.self.now.path.sky.claims)
+    (rw c.levels.ensures c.requires.ready.opened.trying.levels) in
+    let done : length f.refuted ≡ length f.order = equal (length f.refuted) (length f.order)
+    (sym c.if-is_done.ensures) in
+    rw (q, c.refuted.ensures)
+    (lifted_noted I l (map buffer_of f.refuted) (is_instance I l s)
+    (each_noted I C l c.args.log.now.lines f c.requires.ready.opened.trying done))
+
+pub refute-requires-clause-covered : goal.refute-requires-clause-covered
+refute-requires-clause-covered c =
+    let I = c.args.task.now.instance.now in
+    let C = c.args.task.now.capacity in
+    let l = last_claim c.args.self.now.path.sky.claims in
+    let f = c.args.frame in
+    let lines = c.args.log.now.lines in
+    let s = rw (c.instance.ensures.value, c.requires.ready.opened.path.subject) at c.instance.ensures.stands in
+    let q = c.in_ok-claim.ensures.value c.args.task.now.instance.now (last_claim c.args.self.now.path.sky.claims)
+    (rw c.levels.ensures c.requires.ready.opened.trying.levels) in
+    rw (q, c.refuted.ensures) (λ r i. lifted_covered I lines l r (is_instance I l s) s.claim.rises
+    (refuted_in I C l lines f c.requires.ready.opened.trying r i) (c.requires.ready.opened.trying.covered r i))
+
+pub refute-requires-clause-fresh : goal.refute-requires-clause-fresh
+refute-requires-clause-fresh c =
+    let I = c.args.task.now.instance.now in
+    let l = last_claim c.args.self.now.path.sky.claims in
+    let s = rw (c.instance.ensures.value, c.requires.ready.opened.path.subject) at c.instance.ensures.stands in
+    let q = c.in_ok-claim.ensures.value c.args.task.now.instance.now (last_claim c.args.self.now.path.sky.claims)
+    (rw c.levels.ensures c.requires.ready.opened.trying.levels) in
+    rw q (lifted_fresh I c.args.log.now.lines l (is_instance I l s) c.requires.ready.fresh)
+
+pub returns-then-is_done-clause-grown : goal.returns-then-is_done-clause-grown
+returns-then-is_done-clause-grown c =
+    let q = c.in_ok-claim.ensures.value c.args.task.now.instance.now (last_claim c.args.self.now.path.sky.claims)
+    (rw c.levels.ensures c.requires.ready.opened.trying.levels) in
+    lifted_extends c.args.task.now.instance.now (last_claim c.args.self.now.path.sky.claims) c.args.log.now.lines
+    c.refute.new.log.lines (rw q at c.in_ok-line.ensures.grown)
+
+pub returns-then-is_done-clause-ahead : goal.returns-then-is_done-clause-ahead
+returns-then-is_done-clause-ahead c =
+    let I = c.args.task.now.instance.now in
+    let C = c.args.task.now.capacity in
+    let l = last_claim c.args.self.now.path.sky.claims in
+    let f = c.args.frame in
+    let s = rw (c.instance.ensures.value, c.requires.ready.opened.path.subject) at c.instance.ensures.stands in
+    let q = c.in_ok-claim.ensures.value c.args.task.now.instance.now (last_claim c.args.self.now.path.sky.claims)
+    (rw c.levels.ensures c.requires.ready.opened.trying.levels) in
+    let done : length f.refuted ≡ length f.order = equal (length f.refuted) (length f.order)
+    (sym c.if-is_done.ensures) in
+    ahead_covered I C l c.args.log.now.lines c.refute.new.log.lines (place_of c.args.self.now) f c.in_ok-line.line
+    (returns-then-is_done-clause-grown c)
+    c.requires.ready.opened.path
+    (record {
+      none = all_refuted I C l c.args.log.now.lines f c.requires.ready.opened.trying done;
+      covered = covered_from_lifted I c.refute.new.log.lines l c.in_ok-line.line (is_instance I l s)
+          (rw q at c.in_ok-line.ensures.covered);
+    })
+
+pub returns-then-is_done-clause-watched : goal.returns-then-is_done-clause-watched
+returns-then-is_done-clause-watched c = λ h held.
+    all_watched_more (last_claim c.args.self.now.path.sky.claims) c.args.log.now.lines c.refute.new.log.lines c.args.self.now.watches
+    c.args.self.now.path.frames.items (returns-then-is_done-clause-grown c) h
+
+-- ---- a choice deeper
+pub push-requires : goal.push-requires
+push-requires c =
+    let I = c.args.task.now.instance.now in
+    let l = last_claim c.args.self.now.path.sky.claims in
+    let f = c.args.frame in
+    let left = one_is_left I c.args.task.now.capacity l c.args.log.now.lines f c.requires.ready.opened.trying
+    (sym c.if-is_done.ensures) in
+    rw c.chosen.ensures (chosen_in I c.args.task.now.capacity l c.args.log.now.lines f c.requires.ready.opened.trying left)
+
+pub returns-clause-room : goal.returns-clause-room
+returns-clause-room c =
+    let I = c.args.task.now.instance.now in
+    let l = last_claim c.args.self.now.path.sky.claims in
+    let f = c.args.frame in
+    let s = rw (c.instance.ensures.value, c.requires.ready.opened.path.subject) at c.instance.ensures.stands in
+    let left = one_is_left I c.args.task.now.capacity l c.args.log.now.lines f c.requires.ready.opened.trying
+    (sym c.if-is_done.ensures) in
+    let len = shorter I l (chosen_of f) s.claim.rises
+    (chosen_in I c.args.task.now.capacity l c.args.log.now.lines f c.requires.ready.opened.trying left) in
+    let claims = rw (c.chosen.ensures, c.requires.ready.opened.path.subject) at c.push.ensures.claims in
+    let last : last_claim c.push.new.self.claims ≡ child I l (entry_of l (chosen_of f)) =
+    ap last_claim claims ∙ last_of_append c.args.self.now.path.sky.claims (child I l (entry_of l (chosen_of f))) in
+    let n = ap length last in
+    omega (
+      arith,
+      len,
+      n,
+      c.requires.room,
+      c.push-2.ensures.upper_bound,
+      c.push-2.ensures.capacity,
+      c.args.self.now.path.frames.ok.0,
+      c.push-2.new.self.ok.0,
+    )
+
+pub returns-clause-ahead : goal.returns-clause-ahead
+returns-clause-ahead c =
+    let I = c.args.task.now.instance.now in
+    let l = last_claim c.args.self.now.path.sky.claims in
+    let f = c.args.frame in
+    let s = rw (c.instance.ensures.value, c.requires.ready.opened.path.subject) at c.instance.ensures.stands in
+    let left = one_is_left I c.args.task.now.capacity l c.args.log.now.lines f c.requires.ready.opened.trying
+    (sym c.if-is_done.ensures) in
+    let len = shorter I l (chosen_of f) s.claim.rises
+    (chosen_in I c.args.task.now.capacity l c.args.log.now.lines f c.requires.ready.opened.trying left) in
+    let claims = rw (c.chosen.ensures, c.requires.ready.opened.path.subject) at c.push.ensures.claims in
+    ahead_deeper I c.args.task.now.capacity c.args.log.now.lines
+    (place_of c.args.self.now)
+    (record { sky = c.push.new.self; frames = c.push-2.new.self.items; line = None }) f
+    c.requires.ready.opened.path
+    c.requires.ready.opened.trying left c.requires.ready.asked c.push.ensures.instance claims
+    (when_ok c.push-2.result (c.args.self.now.path.frames.items ++ f ∷ []) c.args.self.now.path.frames.items c.push-2.new.self.items
+    c.push-2.ensures.items (c.push-2.ensures.succeeds (omega (arith, len, c.requires.room, c.args.self.now.path.frames.ok.0)))) refl
+
+pub returns-clause-watched : goal.returns-clause-watched
+returns-clause-watched c = λ h held.
+    let I = c.args.task.now.instance.now in
+    let l = last_claim c.args.self.now.path.sky.claims in
+    let f = c.args.frame in
+    let s = rw (c.instance.ensures.value, c.requires.ready.opened.path.subject) at c.instance.ensures.stands in
+    let left = one_is_left I c.args.task.now.capacity l c.args.log.now.lines f c.requires.ready.opened.trying
+    (sym c.if-is_done.ensures) in
+    let len = shorter I l (chosen_of f) s.claim.rises
+    (chosen_in I c.args.task.now.capacity l c.args.log.now.lines f c.requires.ready.opened.trying left) in
+    all_watched_push c.args.log.now.lines c.args.self.now.watches c.args.self.now.path.frames.items c.push-2.new.self.items f
+    (when_ok c.push-2.result (c.args.self.now.path.frames.items ++ f ∷ []) c.args.self.now.path.frames.items c.push-2.new.self.items
+    c.push-2.ensures.items (c.push-2.ensures.succeeds (omega (arith, len, c.requires.room, c.args.self.now.path.frames.ok.0))))
+    h held

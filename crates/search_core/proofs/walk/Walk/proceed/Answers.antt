@@ -1,0 +1,26 @@
+use Rattle.search_core.specs.Walks.{place_of}
+use Rattle.search_core.proofs.Passing.{ahead_of_less}
+use Rattle.search_core.proofs.walk.Walk.proceed.Goals as goal
+
+pub advance-requires-clause-ready : goal.advance-requires-clause-ready
+advance-requires-clause-ready c =
+    let r = c.requires.ready in
+    record {
+      opened = record {
+        path = r.opened.path;
+        not_empty = r.opened.not_empty;
+        trying = c.pass_over.ensures.trying;
+      };
+      fresh = r.fresh;
+      asked = rw c.pass_over.ensures.asked r.asked;
+    }
+
+pub returns-clause-ahead : goal.returns-clause-ahead
+returns-clause-ahead c =
+    ahead_of_less c.args.task.now.instance.now c.args.task.now.capacity c.advance.new.log.lines
+    (place_of c.args.self.now) (place_of c.advance.new.self) c.pass_over.new.frame c.args.frame
+    c.pass_over.ensures.less c.in_ok-advance.ensures.ahead
+
+pub returns-clause-watched : goal.returns-clause-watched
+returns-clause-watched c = λ h held.
+    (rw (c.pass_over.ensures.levels, c.pass_over.ensures.asked) at (c.in_ok-advance.ensures.watched h)) held

@@ -1,0 +1,68 @@
+use Rattle.skyline.specs.Skies.{last_claim}
+use Rattle.search_core.specs.Descents.{above_of}
+use Rattle.search_core.specs.Walks.{place_of}
+use Rattle.search_core.proofs.Descending.{ahead_covered, are_raised}
+use Rattle.search_core.proofs.Descent.{is_instance}
+use Rattle.search_core.proofs.Growing.{extends_none}
+use Rattle.search_core.proofs.Searching.{trying_asked}
+use Rattle.search_core.proofs.Uncovered.{covered_has_none}
+use Rattle.search_core.proofs.Watched.{all_watched_still, watched_to}
+use Rattle.search_core.proofs.WatchLemmas.{watched_none}
+use Rattle.search_core.proofs.walk.Walk.resume.Goals as goal
+
+-- ---- a line covers the claim
+pub returns-in-Some-clause-ahead : goal.returns-in-Some-clause-ahead
+returns-in-Some-clause-ahead c =
+    let I = c.args.task.now.instance.now in
+    let C = c.args.task.now.capacity in
+    let l = last_claim c.args.self.now.path.sky.claims in
+    let s = rw (c.instance.ensures.value, c.requires.opened.path.subject) at c.instance.ensures.stands in
+    let h = rw (c.in-Some.is, c.log.ensures)
+    at (c.in_ok-line.ensures.some I l (rw c.levels.ensures c.requires.opened.trying.levels)) in
+    ahead_covered I C l c.args.log.now.lines c.args.log.now.lines (place_of c.args.self.now) c.args.frame c.in-Some.line
+    (extends_none l c.args.log.now.lines)
+    c.requires.opened.path
+    (record { none = covered_has_none I C l c.args.log.now c.in-Some.line s c.requires.log h; covered = h })
+
+pub returns-in-Some-clause-watched : goal.returns-in-Some-clause-watched
+returns-in-Some-clause-watched c =
+    let I = c.args.task.now.instance.now in
+    let l = last_claim c.args.self.now.path.sky.claims in
+    let s = rw (c.instance.ensures.value, c.requires.opened.path.subject) at c.instance.ensures.stands in
+    all_watched_still c.args.log.now.lines c.args.self.now.watches c.ask.new.self c.args.frame.levels
+    c.args.self.now.path.frames.items
+    (are_raised I c.args.task.now.capacity c.args.log.now.lines l c.args.frame.levels (above_of c.args.self.now.path.sky.claims)
+    c.args.self.now.path.frames.items (is_instance I l s) c.requires.opened.path.descends c.requires.opened.trying.levels)
+    (rw (c.levels.ensures, c.log.ensures) at c.in_ok-line.ensures.kept) c.requires.watched
+
+-- ---- no line does
+pub proceed-requires-clause-ready : goal.proceed-requires-clause-ready
+proceed-requires-clause-ready c =
+    let k = rw (c.levels.ensures, c.asked.ensures, c.log.ensures, c.in_default.is) at c.in_ok-line.ensures.none in
+    let o = c.requires.opened in
+    rw c.ask_to.ensures (record {
+      opened = record {
+        path = o.path;
+        not_empty = o.not_empty;
+        trying = trying_asked c.args.task.now.instance.now c.args.task.now.capacity
+            (last_claim c.args.self.now.path.sky.claims) c.args.log.now.lines c.args.frame c.len.result o.trying;
+      };
+      fresh = watched_none c.args.task.now.instance.now c.args.log.now.lines c.ask.new.self
+          (last_claim c.args.self.now.path.sky.claims) c.args.frame.levels o.trying.levels (k c.requires.held);
+      asked = rw c.log-2.ensures at c.len.ensures.value;
+    })
+
+pub returns-clause-watched : goal.returns-clause-watched
+returns-clause-watched c =
+    let I = c.args.task.now.instance.now in
+    let l = last_claim c.args.self.now.path.sky.claims in
+    let s = rw (c.instance.ensures.value, c.requires.opened.path.subject) at c.instance.ensures.stands in
+    let k = rw (c.levels.ensures, c.asked.ensures, c.log.ensures, c.in_default.is) at c.in_ok-line.ensures.none in
+    c.proceed.ensures.watched
+    (all_watched_still c.args.log.now.lines c.args.self.now.watches c.ask.new.self c.args.frame.levels
+    c.args.self.now.path.frames.items
+    (are_raised I c.args.task.now.capacity c.args.log.now.lines l c.args.frame.levels (above_of c.args.self.now.path.sky.claims)
+    c.args.self.now.path.frames.items (is_instance I l s) c.requires.opened.path.descends c.requires.opened.trying.levels)
+    (rw (c.levels.ensures, c.log.ensures) at c.in_ok-line.ensures.kept) c.requires.watched)
+    (rw c.ask_to.ensures (watched_to c.args.log.now.lines c.ask.new.self c.args.frame.levels c.len.result
+    (rw c.log-2.ensures at c.len.ensures.value) (k c.requires.held)))
