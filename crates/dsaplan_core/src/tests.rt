@@ -186,9 +186,7 @@ fn what_is_read_is_judged(rt: HostRuntime) -> Result<(), Fail> {
         ),
         (
             "verify --capacity 12 --input five --layout log",
-            Status::Wrong(WrongCause::Offsets(OffsetsFault::MissingColumn {
-                column: Column::Id,
-            })),
+            Status::Wrong(WrongCause::Offsets(OffsetsFault::MissingColumn { column: Column::Id })),
             "wrong missing column id\n",
         ),
         (
