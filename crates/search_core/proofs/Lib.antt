@@ -48,4 +48,5 @@ mod TryFacts
 mod DescentFacts
 mod OpenedFacts
 mod TurnFacts
+mod WalkFacts
 mod NoTwinFacts

@@ -64,7 +64,8 @@ fn covering(
     }
 }
 
-/// Opens the claim that the search is at, unless a line covers it. Its lows are written down first, so that no rule needs to go over sections.
+/// Opens the claim that the search is at, unless a line covers it. Its lows are written down first,
+/// so that no rule needs to go over sections.
 pub(crate) fn open(
     alloc: Global,
     task: &Task,
@@ -81,7 +82,8 @@ pub(crate) fn open(
         AreRaisedFrom path.now.frames.items levels }
     requires latest { HasAskedAll log.old.lines path.now.frames.items }
     ensures log { OnOk result (IsSearchLog task.now.instance.now task.now.capacity log.new) }
-    ensures grown { OnOk result (Extends (last_claim path.now.sky.claims) log.old.lines log.new.lines) }
+    ensures grown { let l = last_claim path.now.sky.claims in
+        OnOk result (Extends l log.old.lines log.new.lines) }
     ensures most { meter.new.most ≡ meter.old.most }
     ensures units { meter.old.used ≤ meter.new.used }
     ensures one { meter.new.used ≤ meter.old.used + 1 }

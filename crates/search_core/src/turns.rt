@@ -11,8 +11,7 @@ ghost use Rattle.search_core.specs.Found.{IfSpent, IsFound, UnlessSpent};
 ghost use Rattle.search_core.specs.Logs.{Extends, IsSearchLog};
 ghost use Rattle.search_core.specs.Meters.{AreCounted, AreMore, AreSpent};
 ghost use Rattle.search_core.specs.Turns.{IfOn, IsTurned, UnlessTurnSpent};
-ghost use Rattle.search_core.specs.Walks.{HasRoom, place_of, stage_of};
-ghost use Rattle.search_core.specs.Watches.{AreWatchedAt};
+ghost use Rattle.search_core.specs.Walks.{HasRoom, HasWatches, due_lines, place_of, stage_of};
 
 use crate::found::Found;
 use crate::gather::seats;
@@ -53,8 +52,7 @@ impl<'a> Walk<'a> {
         requires place { let I = task.now.instance.now in
             IsPlace I task.now.capacity log.old.lines (place_of self.old) }
         requires room { HasRoom self.old.path }
-        requires watched { let frames = self.old.path.frames.items in
-            AreWatchedAt log.old.lines self.old.watches frames }
+        requires watched { HasWatches log.old.lines self.old }
         ensures log { OnOk result (IsSearchLog task.now.instance.now task.now.capacity log.new) }
         ensures grown { let root = sky_root self.old.path.sky in
             OnOk result (Extends root log.old.lines log.new.lines) }
@@ -68,11 +66,9 @@ impl<'a> Walk<'a> {
         ensures turned { let I = task.now.instance.now in
             let before = stage_of self.old meter.old in let after = stage_of self.new meter.new in
             IfOk result (IsTurned I task.now.capacity log.new.lines before after) }
-        ensures watched { let frames = self.new.path.frames.items in
-            IfOk result (IfOn (AreWatchedAt log.new.lines self.new.watches frames)) }
+        ensures watched { IfOk result (IfOn (HasWatches log.new.lines self.new)) }
         ensures counted { OnOk result (AreCounted meter.old meter.new
-            (length log.old.lines + length self.old.path.frames.items)
-            (length log.new.lines + length self.new.path.frames.items)) }
+            (due_lines log.old.lines self.old.path) (due_lines log.new.lines self.new.path)) }
     {
         let _count = self.path.sky.instance().len();
         match self.line {

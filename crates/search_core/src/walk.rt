@@ -1,13 +1,13 @@
 //! A search on its way: where it is, and what it keeps at hand.
 
-ghost use Rattle.std.specs.Prelude.{◌≡◌, ◌+◌, ◌≤◌, IfOk, OnOk, length, map};
+ghost use Rattle.std.specs.Prelude.{◌≡◌, ◌+◌, ◌≤◌, OnOk, map};
 ghost use Rattle.canonical_order.specs.Claims.{entry_of};
 ghost use Rattle.search_core.specs.Descents.{IsTrying, claim_at, through};
-ghost use Rattle.search_core.specs.Logs.{Extends, IsSearchLog, NoneCovers};
+ghost use Rattle.search_core.specs.Logs.{Extends, IsSearchLog};
 ghost use Rattle.search_core.specs.Tries.{rest_of};
 ghost use Rattle.search_core.specs.Turns.{IsAhead, IsOpen, IsReady};
-ghost use Rattle.search_core.specs.Walks.{HasRoom, place_of};
-ghost use Rattle.search_core.specs.Watches.{AreWatched, AreWatchedAt};
+ghost use Rattle.search_core.specs.Walks.{HasRoom, HasWatches, due_lines, place_of};
+ghost use Rattle.search_core.specs.Watches.{AreWatched};
 
 use crate::cases::refute;
 use crate::frame::Frame;
@@ -51,12 +51,11 @@ impl<'a> Walk<'a> {
         ensures ahead { let I = task.now.instance.now in let C = task.now.capacity in
             let after = log.new.lines in
             OnOk result (IsAhead I C after (place_of self.old) frame (place_of self.new)) }
-        ensures watched { let lines = log.old.lines in
-            AreWatchedAt lines self.old.watches self.old.path.frames.items →
-            AreWatched lines self.old.watches frame.levels frame.asked →
-            OnOk result (AreWatchedAt log.new.lines self.new.watches self.new.path.frames.items) }
-        ensures counted { OnOk result (length log.new.lines + length self.new.path.frames.items ≤
-            length log.old.lines + length self.old.path.frames.items + 1) }
+        ensures watched { HasWatches log.old.lines self.old →
+            AreWatched log.old.lines self.old.watches frame.levels frame.asked →
+            OnOk result (HasWatches log.new.lines self.new) }
+        ensures counted { let due = due_lines log.old.lines self.old.path in
+            OnOk result (due_lines log.new.lines self.new.path ≤ due + 1) }
     {
         let _count = self.path.sky.instance().len();
         if frame.is_done() {
@@ -119,12 +118,11 @@ impl<'a> Walk<'a> {
         ensures ahead { let I = task.now.instance.now in let C = task.now.capacity in
             let after = log.new.lines in
             OnOk result (IsAhead I C after (place_of self.old) frame (place_of self.new)) }
-        ensures watched { let lines = log.old.lines in
-            AreWatchedAt lines self.old.watches self.old.path.frames.items →
-            AreWatched lines self.old.watches frame.levels frame.asked →
-            OnOk result (AreWatchedAt log.new.lines self.new.watches self.new.path.frames.items) }
-        ensures counted { OnOk result (length log.new.lines + length self.new.path.frames.items ≤
-            length log.old.lines + length self.old.path.frames.items + 1) }
+        ensures watched { HasWatches log.old.lines self.old →
+            AreWatched log.old.lines self.old.watches frame.levels frame.asked →
+            OnOk result (HasWatches log.new.lines self.new) }
+        ensures counted { let due = due_lines log.old.lines self.old.path in
+            OnOk result (due_lines log.new.lines self.new.path ≤ due + 1) }
     {
         self.pass_over(task, log, &mut frame);
         self.advance(alloc, task, log, frame)?;
@@ -144,8 +142,7 @@ impl<'a> Walk<'a> {
         requires opened { let I = task.now.instance.now in
             IsOpen I task.now.capacity log.old.lines (place_of self.old) frame }
         requires room { HasRoom self.old.path }
-        requires watched { let frames = self.old.path.frames.items in
-            AreWatchedAt log.old.lines self.old.watches frames }
+        requires watched { HasWatches log.old.lines self.old }
         requires held { AreWatched log.old.lines self.old.watches frame.levels frame.asked }
         ensures log { OnOk result (IsSearchLog task.now.instance.now task.now.capacity log.new) }
         ensures grown { let l = claim_at (place_of self.old) in
@@ -154,10 +151,9 @@ impl<'a> Walk<'a> {
         ensures ahead { let I = task.now.instance.now in let C = task.now.capacity in
             let after = log.new.lines in
             OnOk result (IsAhead I C after (place_of self.old) frame (place_of self.new)) }
-        ensures watched { let frames = self.new.path.frames.items in
-            OnOk result (AreWatchedAt log.new.lines self.new.watches frames) }
-        ensures counted { OnOk result (length log.new.lines + length self.new.path.frames.items ≤
-            length log.old.lines + length self.old.path.frames.items + 1) }
+        ensures watched { OnOk result (HasWatches log.new.lines self.new) }
+        ensures counted { let due = due_lines log.old.lines self.old.path in
+            OnOk result (due_lines log.new.lines self.new.path ≤ due + 1) }
     {
         let _count = self.path.sky.instance().len();
         if let Some(line) = self.watches.ask(log.log(), frame.levels(), frame.asked())? {

@@ -4,8 +4,7 @@ use Rattle.dsa_terms.specs.Search.{work}
 use Rattle.search_core.specs.Descents.{IsPlace, owed, sky_root, turns_left}
 use Rattle.search_core.specs.Logs.{Extends, IsSearchLog}
 use Rattle.search_core.specs.Meters.{AreCounted, AreMore}
-use Rattle.search_core.specs.Walks.{HasRoom, place_of}
-use Rattle.search_core.specs.Watches.{AreWatchedAt}
+use Rattle.search_core.specs.Walks.{HasRoom, HasWatches, due_lines, place_of}
 use Rattle.search_core.proofs.turns.search.Given as goal
 
 abbrev pub decreases-turns : goal.decreases-turns
@@ -15,16 +14,14 @@ abbrev pub invariant-turns : goal.invariant-turns
 invariant-turns l = record {
   log : IsSearchLog l.task.instance.now l.task.capacity l.log;
   grown : Extends (whole l.members) l.fn.log.lines l.log.lines;
-  place : IsPlace l.task.instance.now l.task.capacity l.log.lines
-      (place_of l.walk);
+  place : IsPlace l.task.instance.now l.task.capacity l.log.lines (place_of l.walk);
   root : sky_root l.walk.path.sky ≡ whole l.members;
   room : HasRoom l.walk.path;
-  watched : AreWatchedAt l.log.lines l.walk.watches l.walk.path.frames.items;
+  watched : HasWatches l.log.lines l.walk;
   most : l.meter.most ≡ l.fn.meter.most;
   taken : l.fn.log.lines ≡ [] → ((l.walk.line ≡ None) × (l.log.lines ≡ [])) ⊎ AreMore l.fn.meter l.meter;
   units : l.fn.meter.used ≤ l.meter.used;
-  left : l.meter.used
-      + owed l.task.instance.now l.task.capacity (place_of l.walk) ≤
+  left : l.meter.used + owed l.task.instance.now l.task.capacity (place_of l.walk) ≤
       l.fn.meter.used + work l.task.instance.now l.task.capacity (whole l.members);
-  counted : AreCounted l.fn.meter l.meter (length l.fn.log.lines) (length l.log.lines + length l.walk.path.frames.items);
+  counted : AreCounted l.fn.meter l.meter (length l.fn.log.lines) (due_lines l.log.lines l.walk.path);
 }

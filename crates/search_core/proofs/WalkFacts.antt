@@ -1,0 +1,52 @@
+-- A search that is at what is left of one buffer, below a root of two.
+use Rattle.std.proofs.Common.{◌≡◌, [], ◌∷◌, Some, None, length, refl, ap, arith, vec_capacity}
+use Rattle.skyline.specs.Skies.{last_claim}
+use Rattle.search_core.specs.declared.path.Path.{Path}
+use Rattle.search_core.specs.declared.walk.Walk.{Walk}
+use Rattle.search_core.specs.Meters.{Units}
+use Rattle.search_core.specs.Walks.{HasRoom, HasWatches, due_lines, place_of, place_on, stage_of}
+use Rattle.search_core.specs.Watches.{AreWatchedAt}
+use Rattle.search_core.proofs.LevelFacts.{rest, root}
+use Rattle.search_core.proofs.OverFacts.{over}
+use Rattle.search_core.proofs.TryFacts.{both_left}
+
+module _ (path : Path) (claims : path.sky.claims ≡ root ∷ rest ∷ []) (frames : path.frames.items ≡ both_left 0 ∷ []) where
+  -- ---- the place
+  its_claims : (place_on path None).sky.claims ≡ root ∷ rest ∷ []
+  its_claims = claims
+
+  its_frames : (place_on path None).frames ≡ both_left 0 ∷ []
+  its_frames = frames
+
+  its_line : (place_on path (Some 3)).line ≡ Some 3
+  its_line = refl
+
+  -- ---- room for one buffer, beside one frame
+  room_for_two : vec_capacity path.frames ≡ 2 → HasRoom path
+  room_for_two e =
+      let n : length (last_claim path.sky.claims) ≡ 1 = ap (λ ls. length (last_claim ls)) claims in
+      let m : length path.frames.items ≡ 1 = ap length frames in
+      omega arith
+
+  no_room_in_one : vec_capacity path.frames ≡ 1 → HasRoom path → ⊥
+  no_room_in_one e h =
+      let n : length (last_claim path.sky.claims) ≡ 1 = ap (λ ls. length (last_claim ls)) claims in
+      let m : length path.frames.items ≡ 1 = ap length frames in
+      omega arith
+
+  -- ---- one line, and one to come
+  two_due : due_lines (over ∷ []) path ≡ 2
+  two_due = let m : length path.frames.items ≡ 1 = ap length frames in omega arith
+
+module _ (walk : Walk) (units : Units) where
+  with_its_line : walk.line ≡ Some 3 → (place_of walk).line ≡ Some 3
+  with_its_line e = e
+
+  with_its_units : (stage_of walk units).units ≡ units
+  with_its_units = refl
+
+  at_its_place : (stage_of walk units).place ≡ place_of walk
+  at_its_place = refl
+
+  its_watches : AreWatchedAt (over ∷ []) walk.watches walk.path.frames.items → HasWatches (over ∷ []) walk
+  its_watches h = h
