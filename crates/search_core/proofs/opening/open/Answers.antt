@@ -1,4 +1,4 @@
-use Rattle.std.proofs.Common.{◌∙◌, [], ap, length, refl, sym}
+use Rattle.std.proofs.Common.{◌≡◌, ◌≤◌, ◌∙◌, ℕ, [], ap, arith, length, refl, sym}
 use Rattle.dsa_terms.specs.Claims.{Claim}
 use Rattle.dsa_terms.specs.Logs.{claim_of}
 use Rattle.search_core.specs.Lifted.{lifted}
@@ -96,6 +96,12 @@ returns-in-Some-2-clause-opened c =
       none = covered_has_none I C l c.append.new.log c.in_ok-append.field-0 s c.in_ok-append.ensures.log h;
       covered = h;
     }
+
+pub returns-in-Some-2-clause-taken : goal.returns-in-Some-2-clause-taken
+returns-in-Some-2-clause-taken c e = just _ _ (rw c.if-not-take.false at c.take.ensures.taken)
+  where
+    just : (m n : ℕ) → n ≡ m → m ≤ n
+    just m n same = omega (arith, same)
 
 pub returns-in-Some-2-clause-watched : goal.returns-in-Some-2-clause-watched
 returns-in-Some-2-clause-watched c =
