@@ -9,6 +9,8 @@ mod entry;
 mod fault_texts;
 mod file_texts;
 mod judged;
+#[cfg(test)]
+mod judging_tests;
 mod least;
 mod lines;
 mod open;
