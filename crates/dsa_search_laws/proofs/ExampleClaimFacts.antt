@@ -1,4 +1,4 @@
--- Numbers that rise, claims, sound buffers and instances, and least weight: what holds of small ones, and what does not.
+-- Numbers that rise, claims, sound buffers and instances, least weight: what holds of small ones, and what does not.
 use Rattle.std.proofs.Common.{◌≡◌, ℕ, List, zero, suc, ◌+◌, ◌≤◌, ◌<◌, inl, inr, [], ◌∷◌, slice_index_or, refl, sym, ap, subst, arith}
 use Rattle.dsa_terms.specs.Buffers.{Buffer, IsSound, IsInstance, buffer}
 use Rattle.dsa_terms.specs.Claims.{Entry, Claim, IsClaim, IsFirst, IsIn, IsPlacement, Rises, number_of, weight}
