@@ -173,10 +173,11 @@ fn between(low: u64, high: u64, offsets: &'static [u64]) -> Ends {
 
 #[test]
 fn the_least_capacity_is_found_or_stays_open(rt: HostRuntime) {
-    let cases: [(Rows, Option<u64>, bool, Ends); 10] = [
+    let cases: [(Rows, Option<u64>, bool, Ends); 11] = [
         (FIVE, None, true, at(12, &[0, 0, 4, 0, 8])),
         (EVENS, None, true, at(5, &[2, 4, 0])),
         (EVENS, Some(6), true, at(5, &[2, 4, 0])),
+        (EVENS, Some(5), true, at(5, &[2, 4, 0])),
         (EVENS, Some(0), false, between(4, 5, &[2, 4, 0])),
         (BELOW, None, true, at(4, &[1, 0])),
         (FOURS, None, true, at(7, &[0, 4])),

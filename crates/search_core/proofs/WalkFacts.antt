@@ -10,7 +10,11 @@ use Rattle.search_core.proofs.LevelFacts.{rest, root}
 use Rattle.search_core.proofs.OverFacts.{over}
 use Rattle.search_core.proofs.TryFacts.{both_left}
 
-module _ (path : Path) (claims : path.sky.claims ≡ root ∷ rest ∷ []) (frames : path.frames.items ≡ both_left 0 ∷ []) where
+module _
+    (path : Path)
+    (claims : path.sky.claims ≡ root ∷ rest ∷ [])
+    (frames : path.frames.items ≡ both_left 0 ∷ [])
+  where
   -- ---- the place
   its_claims : (place_on path None).sky.claims ≡ root ∷ rest ∷ []
   its_claims = claims
@@ -50,3 +54,10 @@ module _ (walk : Walk) (units : Units) where
 
   its_watches : AreWatchedAt (over ∷ []) walk.watches walk.path.frames.items → HasWatches (over ∷ []) walk
   its_watches h = h
+
+  -- ---- a line that was asked, and is not watched
+  not_watched : walk.path.frames.items ≡ both_left 1 ∷ [] → walk.watches ≡ [] → HasWatches (over ∷ []) walk → ⊥
+  not_watched e w h =
+      let k : AreWatchedAt (over ∷ []) [] (both_left 1 ∷ []) = rw (e, w) at h in
+      let r = (k 0 (both_left 1) (omega arith)).each 0 over (omega arith) refl in
+      cc

@@ -21,7 +21,7 @@ place_of walk = place_on walk.path walk.line
 abbrev pub stage_of : Walk → Units → Stage
 stage_of walk units = record { place = place_of walk; units = units }
 
--- the stack of frames has room for one of each buffer of the last claim
+-- beside the frames that stand on it, the stack has room for one of each buffer of the last claim
 abbrev pub HasRoom : Path → Type 0
 HasRoom path = length (last_claim path.sky.claims) + length path.frames.items ≤ vec_capacity path.frames
 
@@ -29,6 +29,6 @@ HasRoom path = length (last_claim path.sky.claims) + length path.frames.items �
 abbrev pub HasWatches : List Line → Walk → Type 0
 HasWatches lines walk = AreWatchedAt lines walk.watches walk.path.frames.items
 
--- how many lines there are, and claims above the last one, each of which is due to have one more
+-- how many lines there would be with one more for each claim above the last one
 abbrev pub due_lines : List Line → Path → ℕ
 due_lines lines path = length lines + length path.frames.items

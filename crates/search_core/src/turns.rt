@@ -58,7 +58,8 @@ impl<'a> Walk<'a> {
             OnOk result (Extends root log.old.lines log.new.lines) }
         ensures most { meter.new.most ≡ meter.old.most }
         ensures units { meter.old.used ≤ meter.new.used }
-        ensures used { let most = owed task.now.instance.now task.now.capacity (place_of self.old) in
+        ensures used { let I = task.now.instance.now in
+            let most = owed I task.now.capacity (place_of self.old) in
             meter.new.used ≤ meter.old.used + most }
         ensures taken { self.old.line ≡ None → log.old.lines ≡ [] →
             IfOk result (UnlessTurnSpent (AreMore meter.old meter.new)) }

@@ -1,5 +1,6 @@
 use Rattle.std.proofs.Common.{◌∙◌, ◌+◌, length, arith, inl, inr}
 use Rattle.dsa_terms.specs.Parts.{whole}
+use Rattle.search_core.specs.Walks.{due_lines}
 use Rattle.search_core.proofs.Counting.{counted_along, counted_less}
 use Rattle.search_core.proofs.Growing.{extends_along}
 use Rattle.search_core.proofs.Taking.{more_after, more_still, unless_along, unless_always}
@@ -26,8 +27,8 @@ turns-preserved c =
       units = let u = c.step.ensures.units in let v = i.units in omega arith;
       left = let u = on.units in let v = i.left in omega arith;
       counted = counted_along c.args.meter.now c.turns.meter c.step.new.meter (length c.args.log.now.lines)
-          (length c.turns.log.lines + length c.turns.walk.path.frames.items)
-          (length c.step.new.log.lines + length c.step.new.self.path.frames.items) i.most i.counted c.in_ok-step.ensures.counted;
+          (due_lines c.turns.log.lines c.turns.walk.path) (due_lines c.step.new.log.lines c.step.new.self.path) i.most
+          i.counted c.in_ok-step.ensures.counted;
     }
 
 pub returns-in-Done-clause-grown : goal.returns-in-Done-clause-grown
@@ -50,9 +51,7 @@ returns-in-Done-clause-taken c e =
 pub returns-in-Done-clause-counted : goal.returns-in-Done-clause-counted
 returns-in-Done-clause-counted c =
     let i = c.turns.invariant in
-    counted_less c.args.meter.now c.step.new.meter (length c.args.log.now.lines)
-    (length c.step.new.log.lines + length c.step.new.self.path.frames.items) (length c.step.new.log.lines)
+    let due = due_lines c.step.new.log.lines c.step.new.self.path in
+    counted_less c.args.meter.now c.step.new.meter (length c.args.log.now.lines) due (length c.step.new.log.lines)
     (counted_along c.args.meter.now c.turns.meter c.step.new.meter (length c.args.log.now.lines)
-    (length c.turns.log.lines + length c.turns.walk.path.frames.items)
-    (length c.step.new.log.lines + length c.step.new.self.path.frames.items) i.most i.counted c.in_ok-step.ensures.counted)
-    (omega arith)
+    (due_lines c.turns.log.lines c.turns.walk.path) due i.most i.counted c.in_ok-step.ensures.counted) (omega arith)

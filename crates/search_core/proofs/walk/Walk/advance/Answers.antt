@@ -111,8 +111,9 @@ returns-then-is_done-clause-ahead c =
 
 pub returns-then-is_done-clause-watched : goal.returns-then-is_done-clause-watched
 returns-then-is_done-clause-watched c = λ h held.
-    all_watched_more (last_claim c.args.self.now.path.sky.claims) c.args.log.now.lines c.refute.new.log.lines c.args.self.now.watches
-    c.args.self.now.path.frames.items (returns-then-is_done-clause-grown c) h
+    let path = c.args.self.now.path in
+    all_watched_more (last_claim path.sky.claims) c.args.log.now.lines c.refute.new.log.lines c.args.self.now.watches
+    path.frames.items (returns-then-is_done-clause-grown c) h
 
 -- ---- a choice deeper
 pub push-requires : goal.push-requires
@@ -120,9 +121,9 @@ push-requires c =
     let I = c.args.task.now.instance.now in
     let l = last_claim c.args.self.now.path.sky.claims in
     let f = c.args.frame in
-    let left = one_is_left I c.args.task.now.capacity l c.args.log.now.lines f c.requires.ready.opened.trying
-    (sym c.if-is_done.ensures) in
-    rw c.chosen.ensures (chosen_in I c.args.task.now.capacity l c.args.log.now.lines f c.requires.ready.opened.trying left)
+    let trying = c.requires.ready.opened.trying in
+    let left = one_is_left I c.args.task.now.capacity l c.args.log.now.lines f trying (sym c.if-is_done.ensures) in
+    rw c.chosen.ensures (chosen_in I c.args.task.now.capacity l c.args.log.now.lines f trying left)
 
 pub returns-clause-room : goal.returns-clause-room
 returns-clause-room c =
@@ -160,13 +161,14 @@ returns-clause-ahead c =
     let len = shorter I l (chosen_of f) s.claim.rises
     (chosen_in I c.args.task.now.capacity l c.args.log.now.lines f c.requires.ready.opened.trying left) in
     let claims = rw (c.chosen.ensures, c.requires.ready.opened.path.subject) at c.push.ensures.claims in
+    let frames = c.args.self.now.path.frames.items in
     ahead_deeper I c.args.task.now.capacity c.args.log.now.lines
     (place_of c.args.self.now)
     (record { sky = c.push.new.self; frames = c.push-2.new.self.items; line = None }) f
     c.requires.ready.opened.path
     c.requires.ready.opened.trying left c.requires.ready.asked c.push.ensures.instance claims
-    (when_ok c.push-2.result (c.args.self.now.path.frames.items ++ f ∷ []) c.args.self.now.path.frames.items c.push-2.new.self.items
-    c.push-2.ensures.items (c.push-2.ensures.succeeds (omega (arith, len, c.requires.room, c.args.self.now.path.frames.ok.0)))) refl
+    (when_ok c.push-2.result (frames ++ f ∷ []) frames c.push-2.new.self.items c.push-2.ensures.items
+    (c.push-2.ensures.succeeds (omega (arith, len, c.requires.room, c.args.self.now.path.frames.ok.0)))) refl
 
 pub returns-clause-watched : goal.returns-clause-watched
 returns-clause-watched c = λ h held.
@@ -178,7 +180,8 @@ returns-clause-watched c = λ h held.
     (sym c.if-is_done.ensures) in
     let len = shorter I l (chosen_of f) s.claim.rises
     (chosen_in I c.args.task.now.capacity l c.args.log.now.lines f c.requires.ready.opened.trying left) in
-    all_watched_push c.args.log.now.lines c.args.self.now.watches c.args.self.now.path.frames.items c.push-2.new.self.items f
-    (when_ok c.push-2.result (c.args.self.now.path.frames.items ++ f ∷ []) c.args.self.now.path.frames.items c.push-2.new.self.items
-    c.push-2.ensures.items (c.push-2.ensures.succeeds (omega (arith, len, c.requires.room, c.args.self.now.path.frames.ok.0))))
+    let frames = c.args.self.now.path.frames.items in
+    all_watched_push c.args.log.now.lines c.args.self.now.watches frames c.push-2.new.self.items f
+    (when_ok c.push-2.result (frames ++ f ∷ []) frames c.push-2.new.self.items c.push-2.ensures.items
+    (c.push-2.ensures.succeeds (omega (arith, len, c.requires.room, c.args.self.now.path.frames.ok.0))))
     h held

@@ -29,10 +29,13 @@ returns-in-Some-clause-watched c =
     let I = c.args.task.now.instance.now in
     let l = last_claim c.args.self.now.path.sky.claims in
     let s = rw (c.instance.ensures.value, c.requires.opened.path.subject) at c.instance.ensures.stands in
-    all_watched_still c.args.log.now.lines c.args.self.now.watches c.ask.new.self c.args.frame.levels
-    c.args.self.now.path.frames.items
-    (are_raised I c.args.task.now.capacity c.args.log.now.lines l c.args.frame.levels (above_of c.args.self.now.path.sky.claims)
-    c.args.self.now.path.frames.items (is_instance I l s) c.requires.opened.path.descends c.requires.opened.trying.levels)
+    let o = c.requires.opened in
+    let levels = c.args.frame.levels in
+    let above = above_of c.args.self.now.path.sky.claims in
+    let frames = c.args.self.now.path.frames.items in
+    all_watched_still c.args.log.now.lines c.args.self.now.watches c.ask.new.self levels frames
+    (are_raised I c.args.task.now.capacity c.args.log.now.lines l levels above frames (is_instance I l s)
+    o.path.descends o.trying.levels)
     (rw (c.levels.ensures, c.log.ensures) at c.in_ok-line.ensures.kept) c.requires.watched
 
 -- ---- no line does
@@ -58,11 +61,14 @@ returns-clause-watched c =
     let l = last_claim c.args.self.now.path.sky.claims in
     let s = rw (c.instance.ensures.value, c.requires.opened.path.subject) at c.instance.ensures.stands in
     let k = rw (c.levels.ensures, c.asked.ensures, c.log.ensures, c.in_default.is) at c.in_ok-line.ensures.none in
+    let o = c.requires.opened in
+    let levels = c.args.frame.levels in
+    let above = above_of c.args.self.now.path.sky.claims in
+    let frames = c.args.self.now.path.frames.items in
     c.proceed.ensures.watched
-    (all_watched_still c.args.log.now.lines c.args.self.now.watches c.ask.new.self c.args.frame.levels
-    c.args.self.now.path.frames.items
-    (are_raised I c.args.task.now.capacity c.args.log.now.lines l c.args.frame.levels (above_of c.args.self.now.path.sky.claims)
-    c.args.self.now.path.frames.items (is_instance I l s) c.requires.opened.path.descends c.requires.opened.trying.levels)
+    (all_watched_still c.args.log.now.lines c.args.self.now.watches c.ask.new.self levels frames
+    (are_raised I c.args.task.now.capacity c.args.log.now.lines l levels above frames (is_instance I l s)
+    o.path.descends o.trying.levels)
     (rw (c.levels.ensures, c.log.ensures) at c.in_ok-line.ensures.kept) c.requires.watched)
-    (rw c.ask_to.ensures (watched_to c.args.log.now.lines c.ask.new.self c.args.frame.levels c.len.result
+    (rw c.ask_to.ensures (watched_to c.args.log.now.lines c.ask.new.self levels c.len.result
     (rw c.log-2.ensures at c.len.ensures.value) (k c.requires.held)))

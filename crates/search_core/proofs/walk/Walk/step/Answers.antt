@@ -1,6 +1,7 @@
-use Rattle.std.proofs.Common.{◌+◌, ap, arith, length}
-use Rattle.skyline.specs.Skies.{last_claim}
+use Rattle.std.proofs.Common.{ℕ, ◌+◌, List, Option, ap, arith, length}
+use Rattle.skyline.specs.Skies.{Sky, last_claim}
 use Rattle.search_core.specs.Descents.{Place, above_of, claim_at}
+use Rattle.search_core.specs.Tries.{Tried}
 use Rattle.search_core.specs.Walks.{place_of}
 use Rattle.search_core.proofs.Counting.{counted_with}
 use Rattle.search_core.proofs.Descent.{is_instance, shorter}
@@ -9,6 +10,9 @@ use Rattle.search_core.proofs.Growing.{extends_along}
 use Rattle.search_core.proofs.Searching.{chosen_in}
 use Rattle.search_core.proofs.Stepping.{asked_above, grown_below, known_line, nothing_in, on_back, on_line, root_refuted, some_owed}
 use Rattle.search_core.proofs.walk.Walk.step.Goals as goal
+
+abbrev at_place : Sky → List Tried → Option ℕ → Place
+at_place sky frames line = record { sky = sky; frames = frames; line = line }
 
 -- ---- back
 pub chosen-requires : goal.chosen-requires
@@ -19,11 +23,7 @@ chosen-requires c =
     let f = c.in-Some-pop.frame in
     let lines = c.args.log.now.lines in
     let here = place_of c.args.self.now in
-    let popped : Place = record {
-      sky = c.pop-in-Some-pop.new.self;
-      frames = c.pop.new.self.items;
-      line = c.args.self.now.line;
-    } in
+    let popped = at_place c.pop-in-Some-pop.new.self c.pop.new.self.items c.args.self.now.line in
     let b = is_back I C lines here popped f p.path c.in-Some-pop.ensures.items c.pop-in-Some-pop.ensures.instance
     c.pop-in-Some-pop.ensures.claims in
     b.standing.is_left
@@ -36,11 +36,7 @@ resume-requires-clause-opened c =
     let f = c.in-Some-pop.frame in
     let lines = c.args.log.now.lines in
     let here = place_of c.args.self.now in
-    let popped : Place = record {
-      sky = c.pop-in-Some-pop.new.self;
-      frames = c.pop.new.self.items;
-      line = c.args.self.now.line;
-    } in
+    let popped = at_place c.pop-in-Some-pop.new.self c.pop.new.self.items c.args.self.now.line in
     let b = is_back I C lines here popped f p.path c.in-Some-pop.ensures.items c.pop-in-Some-pop.ensures.instance
     c.pop-in-Some-pop.ensures.claims in
     rw c.note-in-Some-pop.ensures (record {
@@ -58,11 +54,7 @@ resume-requires-clause-room c =
     let f = c.in-Some-pop.frame in
     let lines = c.args.log.now.lines in
     let here = place_of c.args.self.now in
-    let popped : Place = record {
-      sky = c.pop-in-Some-pop.new.self;
-      frames = c.pop.new.self.items;
-      line = c.args.self.now.line;
-    } in
+    let popped = at_place c.pop-in-Some-pop.new.self c.pop.new.self.items c.args.self.now.line in
     let b = is_back I C lines here popped f p.path c.in-Some-pop.ensures.items c.pop-in-Some-pop.ensures.instance
     c.pop-in-Some-pop.ensures.claims in
     let above = last_claim c.pop-in-Some-pop.new.self.claims in
@@ -89,11 +81,7 @@ returns-in_ok-resume-in-Some-pop-clause-grown c =
     let f = c.in-Some-pop.frame in
     let lines = c.args.log.now.lines in
     let here = place_of c.args.self.now in
-    let popped : Place = record {
-      sky = c.pop-in-Some-pop.new.self;
-      frames = c.pop.new.self.items;
-      line = c.args.self.now.line;
-    } in
+    let popped = at_place c.pop-in-Some-pop.new.self c.pop.new.self.items c.args.self.now.line in
     let b = is_back I C lines here popped f p.path c.in-Some-pop.ensures.items c.pop-in-Some-pop.ensures.instance
     c.pop-in-Some-pop.ensures.claims in
     rw b.root (grown_below I C lines c.resume.new.log.lines popped b.path c.in_ok-resume-in-Some-pop.ensures.grown)
@@ -106,11 +94,7 @@ returns-in_ok-resume-in-Some-pop-clause-turned c =
     let f = c.in-Some-pop.frame in
     let lines = c.args.log.now.lines in
     let here = place_of c.args.self.now in
-    let popped : Place = record {
-      sky = c.pop-in-Some-pop.new.self;
-      frames = c.pop.new.self.items;
-      line = c.args.self.now.line;
-    } in
+    let popped = at_place c.pop-in-Some-pop.new.self c.pop.new.self.items c.args.self.now.line in
     let b = is_back I C lines here popped f p.path c.in-Some-pop.ensures.items c.pop-in-Some-pop.ensures.instance
     c.pop-in-Some-pop.ensures.claims in
     on_back I C lines here p c.resume.new.log.lines popped
