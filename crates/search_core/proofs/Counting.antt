@@ -35,6 +35,14 @@ counted_with before after m n x q h le =
     let d = counted_beside before.most m x in
     omega (arith, c, d, h, k)
 
+-- one thing more, for one unit more
+pub counted_one_more : (before after : Units) (m n : ℕ) → after.used ≡ before.used + counted before.most 1 →
+    n ≡ m + 1 → AreCounted before after m n
+counted_one_more before after m n u e =
+    let a = ap (counted before.most) e in
+    let b = counted_beside before.most m 1 in
+    omega (arith, a, b, u)
+
 -- from nothing on, each thing took a unit
 pub counted_from_nothing : (before after : Units) (m n : ℕ) → AreCounted before after m n → m ≡ 0 →
     AreMoreBy n before after

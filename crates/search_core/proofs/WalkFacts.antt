@@ -15,32 +15,32 @@ module _
     (claims : path.sky.claims ≡ root ∷ rest ∷ [])
     (frames : path.frames.items ≡ both_left 0 ∷ [])
   where
-  -- ---- the place
-  its_claims : (place_on path None).sky.claims ≡ root ∷ rest ∷ []
-  its_claims = claims
+    -- ---- the place
+    its_claims : (place_on path None).sky.claims ≡ root ∷ rest ∷ []
+    its_claims = claims
 
-  its_frames : (place_on path None).frames ≡ both_left 0 ∷ []
-  its_frames = frames
+    its_frames : (place_on path None).frames ≡ both_left 0 ∷ []
+    its_frames = frames
 
-  its_line : (place_on path (Some 3)).line ≡ Some 3
-  its_line = refl
+    its_line : (place_on path (Some 3)).line ≡ Some 3
+    its_line = refl
 
-  -- ---- room for one buffer, beside one frame
-  room_for_two : vec_capacity path.frames ≡ 2 → HasRoom path
-  room_for_two e =
-      let n : length (last_claim path.sky.claims) ≡ 1 = ap (λ ls. length (last_claim ls)) claims in
-      let m : length path.frames.items ≡ 1 = ap length frames in
-      omega arith
+    -- ---- room for one buffer, beside one frame
+    room_for_two : vec_capacity path.frames ≡ 2 → HasRoom path
+    room_for_two e =
+        let n : length (last_claim path.sky.claims) ≡ 1 = ap (λ ls. length (last_claim ls)) claims in
+        let m : length path.frames.items ≡ 1 = ap length frames in
+        omega arith
 
-  no_room_in_one : vec_capacity path.frames ≡ 1 → HasRoom path → ⊥
-  no_room_in_one e h =
-      let n : length (last_claim path.sky.claims) ≡ 1 = ap (λ ls. length (last_claim ls)) claims in
-      let m : length path.frames.items ≡ 1 = ap length frames in
-      omega arith
+    no_room_in_one : vec_capacity path.frames ≡ 1 → HasRoom path → ⊥
+    no_room_in_one e h =
+        let n : length (last_claim path.sky.claims) ≡ 1 = ap (λ ls. length (last_claim ls)) claims in
+        let m : length path.frames.items ≡ 1 = ap length frames in
+        omega arith
 
-  -- ---- one line, and one to come
-  two_due : due_lines (over ∷ []) path ≡ 2
-  two_due = let m : length path.frames.items ≡ 1 = ap length frames in omega arith
+    -- ---- one line, and one to come
+    two_due : due_lines (over ∷ []) path ≡ 2
+    two_due = let m : length path.frames.items ≡ 1 = ap length frames in omega arith
 
 module _ (walk : Walk) (units : Units) where
   with_its_line : walk.line ≡ Some 3 → (place_of walk).line ≡ Some 3

@@ -102,7 +102,8 @@ pub(crate) fn open(
     if let Some(line) = covering(log.log(), &levels, watches, path.frames.as_slice())? {
         return Ok(Opened::Line(line));
     }
-    if !meter.take() {
+    let taken = meter.take();
+    if !taken {
         return Ok(Opened::Spent);
     }
     let claim = levels.lifted(alloc)?;

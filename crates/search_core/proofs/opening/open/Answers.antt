@@ -1,9 +1,10 @@
-use Rattle.std.proofs.Common.{◌≡◌, ◌≤◌, ◌∙◌, ℕ, [], ap, arith, length, refl, sym}
+use Rattle.std.proofs.Common.{◌≡◌, ◌+◌, ◌≤◌, ◌∙◌, ℕ, [], ap, arith, length, refl, sym}
 use Rattle.dsa_terms.specs.Claims.{Claim}
 use Rattle.dsa_terms.specs.Logs.{claim_of}
 use Rattle.search_core.specs.Lifted.{lifted}
 use Rattle.refute_log.specs.Lines.{line_value}
 use Rattle.skyline.specs.Skies.{last_claim}
+use Rattle.search_core.proofs.Counting.{counted_one_more}
 use Rattle.search_core.proofs.Descent.{is_instance}
 use Rattle.search_core.proofs.Leveling.{lifted_levels}
 use Rattle.search_core.proofs.LiftedChoices.{lifted_nothing, lifted_order}
@@ -98,10 +99,17 @@ returns-in-Some-2-clause-opened c =
     }
 
 pub returns-in-Some-2-clause-taken : goal.returns-in-Some-2-clause-taken
-returns-in-Some-2-clause-taken c e = just _ _ (rw c.if-not-take.false at c.take.ensures.taken)
+returns-in-Some-2-clause-taken c e = just _ _ (rw c.if-not-taken.false at c.take-taken.ensures.taken)
   where
     just : (m n : ℕ) → n ≡ m → m ≤ n
     just m n same = omega (arith, same)
+
+pub returns-in-Some-2-clause-counted : goal.returns-in-Some-2-clause-counted
+returns-in-Some-2-clause-counted c =
+    let taken = rw c.if-not-taken.false at c.take-taken.ensures.taken in
+    let n = c.in_ok-append.ensures.counted in
+    counted_one_more c.args.meter.now c.take-taken.new.self (length c.args.log.now.lines) (length c.append.new.log.lines + 0)
+    taken (omega (arith, n))
 
 pub returns-in-Some-2-clause-watched : goal.returns-in-Some-2-clause-watched
 returns-in-Some-2-clause-watched c =

@@ -1,4 +1,4 @@
-use Rattle.std.proofs.Common.{◌∙◌, ◌+◌, length, arith, inl, inr}
+use Rattle.std.proofs.Common.{◌∙◌, length, arith, inl, inr}
 use Rattle.dsa_terms.specs.Parts.{whole}
 use Rattle.search_core.specs.Walks.{due_lines}
 use Rattle.search_core.proofs.Counting.{counted_along, counted_less}
