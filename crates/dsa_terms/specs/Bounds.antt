@@ -8,7 +8,7 @@ use Rattle.dsa_terms.specs.Claims.{IsIn}
 use Rattle.dsa_terms.specs.Logs.{greatest, Log, Over}
 use Rattle.dsa_terms.specs.Parts.{numbers, whole}
 
--- the buffers that are live at t and start at multiples of G alone
+-- the buffers that are live at t and have an alignment that is a multiple of G
 unfoldable pub counted : Instance → ℕ → ℕ → List ℕ
 counted I t G = filter (λ b. is_live (buffer I b) t && ((buffer I b).alignment % G == 0)) (numbers (length I))
 

@@ -13,7 +13,7 @@ IsOwnCite (ByLine k) = ⊥
 IsOwnCite (Below c) = Unit {0}
 IsOwnCite (Twin c) = Unit {0}
 
--- the cite of an entry that another one ends below, or before which a twin stands, says so
+-- where another entry ends below this one or a twin stands before it, its cite is a below or a twin cite
 abbrev pub CitesOwn : Instance → Claim → Entry → Cite → Type 0
 CitesOwn I l e cite = (list_any (λ f. ends_below I f e) l || list_any (λ f. is_twin I f e) l) ≡ true → IsOwnCite cite
 

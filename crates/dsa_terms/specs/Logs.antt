@@ -7,7 +7,7 @@ use Rattle.dsa_terms.specs.Buffers.{Instance, buffer, is_live, have_same_moments
 use Rattle.dsa_terms.specs.Layouts.{IsMultiple}
 use Rattle.dsa_terms.specs.Claims.{Claim, Entry, IsIn, IsClaim, up, child, Covers, IsWhole, IsRefuted}
 
--- the entry's buffer is live at moment T, can start at H or above alone, and starts at multiples of G alone
+-- the entry's buffer is live at moment T, can start at H or above alone, and has an alignment that is a multiple of G
 unfoldable pub is_stacked : Instance → ℕ → ℕ → ℕ → Entry → Bool
 is_stacked I T H G e = is_live (buffer I e.0) T && nat_le H (up I e) && ((buffer I e.0).alignment % G == 0)
 
@@ -49,7 +49,7 @@ pub data Cite : Type 0 where
   Below : (other : ℕ) → Cite
   Twin : (other : ℕ) → Cite
 
--- a line: its claim with how it is refuted, by one stack or by a cite for each buffer that may come first
+-- a line: its claim with how it is refuted, by one stack or by a cite for each of its buffers
 pub data Line : Type 0 where
   Over : (claim : Claim) (moment height modulus : ℕ) → Line
   Cases : (claim : Claim) (cites : List Cite) → Line

@@ -19,7 +19,8 @@ abbrev pub IsOrdered : (ℕ → ℕ → Bool) → List ℕ → Type 0
 IsOrdered before [] = Unit {0}
 IsOrdered before (b ∷ bs) = ((c : ℕ) → IsIn c bs → before b c ≡ true) × IsOrdered before bs
 
--- of two numbers one comes before the other, and what comes before it comes before the other too
+-- of two numbers just one comes before the other, none comes before itself, and what comes before the one comes before
+-- the other too
 pub record IsOrder (before : ℕ → ℕ → Bool) : Type 0 where
   pub total : (b c : ℕ) → b ≢ c → (before b c ≡ true) ⊎ (before c b ≡ true)
   pub one_way : (b c : ℕ) → before b c ≡ true → before c b ≡ true → ⊥

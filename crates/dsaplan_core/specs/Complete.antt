@@ -44,7 +44,7 @@ pub record HoldsLog (I : Instance) (log : Log) (files : FilesSeen) (name : Word)
   pub text : IsTextOf (log_text log) (raw_log_of log)
   pub accepted : IsAccepted I log
 
--- the status of a log that is accepted at the capacity
+-- the status says that a log is accepted at the capacity, or that memory ran out
 abbrev pub IsAcceptedAt : ℕ → Status → Type 0
 IsAcceptedAt C (status.Accepted D) = D ≡ C
 IsAcceptedAt C status.NoMemory = Unit {0}
@@ -56,7 +56,7 @@ pub record IsUndisturbed (command : Command) (old new : FilesSeen) (before after
   pub sink : ¬ Rose before.faults after.faults
 
 -- the statuses that conclude a command on an instance: a layout where there is one and a refutation where there is
--- none, the least capacity, or neither where the command's steps are too few
+-- none, the least capacity, or neither where the command's steps are too few; or memory ran out
 abbrev pub IsConcluded : Command → Instance → Status → Type 0
 IsConcluded (Solve C input output log steps) I (status.Feasible D) = (D ≡ C) × IsFeasible I C
 IsConcluded (Solve C input output log steps) I (status.Infeasible D) = (D ≡ C) × IsInfeasible I C

@@ -94,7 +94,7 @@ Headline words old new (status.Open L H) =
     RunsOut words old L H × HoldsLayout words old new H × HoldsRefutation words old new (L - 1)
 Headline words old new status = Unit {0}
 
--- the status of words that are no command, for their first fault
+-- the status of words that are no command tells their first fault, or that printing failed or memory ran out
 abbrev pub IsMisuse : UsageFault → Status → Type 0
 IsMisuse fault (status.Usage told) = told ≡ fault
 IsMisuse fault status.PrintFault = Unit {0}

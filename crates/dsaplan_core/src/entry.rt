@@ -57,8 +57,8 @@ pub fn run<F: Files, S: Sink>(alloc: Global, words: &[String], files: &mut F, ou
         (record { held = F.held files.old; faults = F.faults files.old })
         (record { held = F.held files.new; faults = F.faults files.new }) C }
 
-    // Where `refute` reads the text of an accepted log, and nothing outside fails, the log is
-    // accepted, unless memory runs out.
+    // Where `refute` reads the text of an accepted log from a file within its limit, and nothing
+    // outside fails, the log is accepted, unless memory runs out.
     ensures checks { (input log : Word) (I : Instance) (g : LogTerm) →
         IsReady (map string_bytes words.now)
         (record { held = F.held files.old; faults = F.faults files.old }) (Refute input log) I →
@@ -83,15 +83,16 @@ pub fn run<F: Files, S: Sink>(alloc: Global, words: &[String], files: &mut F, ou
         (record { held = F.held files.old; faults = F.faults files.old })
         (record { held = F.held files.new; faults = F.faults files.new }) }
 
-    // Words that are no command are answered by their first fault.
+    // Words that are no command are answered by their first fault, unless printing fails or memory
+    // runs out.
     ensures refused { (fault : UsageTerm) →
         command_of (map string_bytes words.now) ≡ Err fault → IsMisuse fault result }
 
     ensures print_fault { result ≡ Status.PrintFault → Rose (S.faults out.old) (S.faults out.new) }
 
-    // Where the words are a command, its files are there and within their limits, its input is an
-    // instance, and nothing outside fails, the command is concluded, unless memory runs out;
-    // without steps 'open' never comes.
+    // Where the words are a command, the files that it reads are there and within their limits, its
+    // input is an instance, and nothing outside fails, the command is concluded, unless memory runs
+    // out; without steps 'open' never comes.
     ensures complete { (command : Command) (I : Instance) →
         IsReady (map string_bytes words.now)
         (record { held = F.held files.old; faults = F.faults files.old }) command I →

@@ -17,11 +17,11 @@ pub record AreTaken (I : Instance) (placed : List Entry) (spans : List Span) : T
   pub each : (s : Span) → IsIn s spans → (e : Entry) × IsIn e placed × IsSpanOf I e s
   pub all : (e : Entry) → IsIn e placed → (s : Span) × IsIn s spans × IsSpanOf I e s
 
--- a buffer of the instance that ends at or below an address that no placing reaches
+-- a buffer of the instance, placed so that it ends at 2^50 or below
 pub record IsSeat (I : Instance) (e : Entry) : Type 0 where
   pub in_range : e.0 < length I
   pub limit : top I e ≤ 2 ^ 50
 
--- the addresses end where no sum can leave 64 bits
+-- the addresses end at 2^50 or below, so that no sum leaves 64 bits
 pub record IsLow (s : Span) : Type 0 where
   pub limit : s.stop ≤ 2 ^ 50

@@ -42,7 +42,7 @@ pub record AreRowsAt (I : Instance) (offsets : List ℕ) (t height : ℕ) (rows 
   pub buffers : (b : ℕ) → b < length I → IsLive (buffer I b) t → IsIn (buffer_row I offsets b) rows
   pub ranges : (r : Range) → IsFreeAt I offsets t height r → IsIn (free_row r) rows
 
--- the rows of addresses from x on that have some, each above the one before it
+-- each row has some addresses, from x on, and above those of the row before it
 abbrev pub AreStacked : ℕ → List Row → Type 0
 AreStacked x [] = Unit {0}
 AreStacked x (row ∷ rows) = (x ≤ row.place) × (0 < row.size) × AreStacked (row.place + row.size) rows

@@ -22,5 +22,5 @@ live_few I t =
     omega arith
 
 pub few_members : (I : Instance) (S : SectionList) (s : ℕ) (members : List ℕ) → AreSectionsOf I S → s < count_of S →
-    members ≡ members_of S s → length I ≤ 512 → length members ≤ 4096
+    members ≡ members_of S s → length I ≤ 512 → length members ≤ 512
 few_members I S s members a lt e few = rw (e, a.live s lt) (let k = live_few I (start_of S s) in omega arith)

@@ -12,7 +12,7 @@ use std::alloc::{AllocError, Global};
 /// The sum of the sizes of these buffers.
 fn load_of(instance: &Instance, members: &[u32]) -> u64
     requires in_range { All (λ b. b < length instance.now) members.now }
-    requires few { length members.now ≤ 4096 }
+    requires few { length members.now ≤ 512 }
     ensures { result ≡ load_of instance.now members.now }
 {
     let mut load = 0;

@@ -7,7 +7,7 @@ use Rattle.log_text.specs.declared.raw.RawLine.{RawLine}
 use Rattle.log_text.specs.declared.raw.RawLine.TheVariants as raw_line
 use Rattle.log_text.specs.declared.raw.RawLog.{RawLog}
 
--- a buffer with its bound, or with its cite: both numbers are at most 2^60
+-- a buffer with its bound: both numbers are at most 2^60
 abbrev pub IsPairWithin : Entry → Type 0
 IsPairWithin e = (e.0 ≤ 2 ^ 60) × (e.1 ≤ 2 ^ 60)
 

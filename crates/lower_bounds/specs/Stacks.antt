@@ -5,7 +5,7 @@ use Rattle.dsa_terms.specs.Bounds.{rounded_size}
 use Rattle.dsa_terms.specs.Buffers.{Instance, buffer, is_live}
 use Rattle.dsa_terms.specs.Logs.{greatest}
 
--- b starts at multiples of G alone
+-- the alignment of b is a multiple of G
 abbrev pub is_counted : Instance → ℕ → ℕ → Bool
 is_counted I G b = (buffer I b).alignment % G == 0
 
@@ -13,7 +13,7 @@ is_counted I G b = (buffer I b).alignment % G == 0
 abbrev pub rounding_of : Instance → ℕ → ℕ → ℕ
 rounding_of I G b = rounded_size I G b - (buffer I b).size
 
--- the sum of the rounded sizes of these buffers that start at multiples of G alone
+-- the sum of the rounded sizes of those of these buffers whose alignment is a multiple of G
 abbrev pub total_of : Instance → ℕ → List ℕ → ℕ
 total_of I G members = sum_by (rounded_size I G) (filter (is_counted I G) members)
 
@@ -25,7 +25,7 @@ spare_of I G members = greatest (map (rounding_of I G) (filter (is_counted I G) 
 abbrev pub stack_of : Instance → ℕ → List ℕ → ℕ
 stack_of I G members = total_of I G members - spare_of I G members
 
--- b is live at t, and starts at multiples of G alone
+-- b is live at t, and its alignment is a multiple of G
 abbrev pub counts_at : Instance → ℕ → ℕ → ℕ → Bool
 counts_at I t G b = is_live (buffer I b) t && is_counted I G b
 

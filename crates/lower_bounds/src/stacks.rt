@@ -10,7 +10,7 @@ use dsa_model::Instance;
 /// rounding. Buffers whose alignment is no multiple of the modulus are passed over.
 pub(crate) fn stack_of(instance: &Instance, members: &[u32], modulus: u64) -> u64
     requires in_range { All (λ b. b < length instance.now) members.now }
-    requires few { length members.now ≤ 4096 }
+    requires few { length members.now ≤ 512 }
     requires modulus { IsModulus modulus }
     ensures { result ≡ stack_of instance.now modulus members.now }
 {

@@ -11,7 +11,7 @@ use Rattle.min_capacity.specs.declared.brackets.Bracket.{Bracket}
 use Rattle.min_capacity.specs.declared.brackets.Least.{Least}
 use Rattle.min_capacity.specs.declared.brackets.Least.TheVariants.{Exact, Open}
 
--- no capacity below `low` has a layout: there is none to refute where `low` is 0, and else the log is one at `low - 1`
+-- no capacity below `low` has a layout: there is none to refute where `low` is 0, and else a log is accepted at low - 1
 abbrev pub Refutes : Instance → ℕ → Option Log → Type 0
 Refutes I low None = low ≡ 0
 Refutes I low (Some log) = IsAccepted I log × (low ≡ log.capacity + 1)
@@ -78,7 +78,7 @@ abbrev pub IfExact : Least → Type 0 → Type 0
 IfExact (Exact b) P = P
 IfExact (Open b) P = Unit {0}
 
--- the fact holds where the budget is spent
+-- the fact holds where the bracket stays open
 abbrev pub IfOpen : Least → Type 0 → Type 0
 IfOpen (Exact b) P = Unit {0}
 IfOpen (Open b) P = P

@@ -24,7 +24,7 @@ pub record IsBoundLog (I : Instance) (C : ℕ) (log : Log) : Type 0 where
   pub reached : stack I moment (bound_modulus I) ≡ lower_bound I
   pub one_line : log ≡ stack_log I moment (bound_modulus I) C
 
--- and no layout fits by it
+-- a log that refutes the capacity by the one line of the lower bound's stack
 pub record IsStackRefutation (I : Instance) (C : ℕ) (log : Log) : Type 0 where
   pub refutation : IsRefutation I C log
   pub by_bound : IsBoundLog I C log

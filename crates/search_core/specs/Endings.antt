@@ -6,7 +6,8 @@ use Rattle.canonical_order.specs.Claims.{HasBuffer, entry_of}
 use Rattle.conflicts.specs.Ends.{end_of}
 use Rattle.search_core.specs.declared.ending.Ending.{Ending}
 
--- none of the claim's buffers below n ends lower, and where it is below 2^63 it is the end of its buffer
+-- no buffer of the claim below n ends below the end of x; where that is below 2^63, it is the end of the buffer of x,
+-- which is one of the claim
 pub record IsLeastEnd (I : Instance) (l : Claim) (n : ℕ) (x : Ending) : Type 0 where
   pub least : (e : Entry) → IsIn e l → e.0 < n → x.end ≤ end_of I e
   pub is_end : x.end < 2 ^ 63 → HasBuffer l x.buffer × (x.end ≡ end_of I (entry_of l x.buffer))

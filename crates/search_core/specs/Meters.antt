@@ -6,7 +6,7 @@ pub record Units : Type 0 where
   pub most : Option ℕ
   pub used : ℕ
 
--- where there is no number, none is counted
+-- no more are used than there are, and where there is no number, none is counted
 abbrev pub AreWithin : Units → Type 0
 AreWithin u = MatchOption u.most (u.used ≡ 0) (λ k. u.used ≤ k)
 

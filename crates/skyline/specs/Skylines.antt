@@ -4,7 +4,7 @@ use Rattle.dsa_terms.specs.Buffers.{Instance}
 use Rattle.lifetime.specs.SectionList.{SectionList}
 use Rattle.skyline.specs.Carried.{Carries}
 
--- `depth` buffers stand, the first ones of the stack, and there is a place for each member
+-- n buffers stand, the first ones of the stack, and there is a place for each member
 pub record IsSkyline (I : Instance) (S : SectionList) (members : List ℕ) (n : ℕ) (stack floors hs : List ℕ)
     (rows : List (List ℕ)) (flags : List Bool) : Type 0 where
   pub depth : n ≤ length members
