@@ -4,7 +4,7 @@ use Rattle.dsa_terms.specs.Buffers.{Buffer, Instance, buffer, is_live}
 use Rattle.dsa_terms.specs.Plans.{load}
 use Rattle.dsa_model.proofs.Live.{not_live_after}
 use Rattle.lifetime.specs.SectionList.{SectionList, start_of}
-use Rattle.load_profile.specs.LoadProfile.{Exceeds, IsFirstGreatest, IsGreatestOf, IsPeakOf, load_of, loads_of}
+use Rattle.load_profile.specs.LoadProfile.{Exceeds, IsFirstGreatest, IsGreatestOf, IsPeakOf, LoadProfile, load_of, loads_of}
 
 abbrev sized : ℕ → Buffer
 sized size = record { lower = 0; upper = 1; size = size; alignment = 1; gaps = [] }
@@ -57,6 +57,17 @@ not_the_later h = go h.place h.start h.first
 
 greatest_of_both : IsGreatestOf both (6 ∷ 1 ∷ []) 2 (Some (0, 6))
 greatest_of_both = first_section
+
+-- the loads of both sections, and the first of the greatest
+abbrev profile : LoadProfile
+profile = record { loads = 6 ∷ 1 ∷ []; peak = Some (0, 6) }
+
+its_loads : profile.loads ≡ loads_of three both
+unfolding buffer
+its_loads = refl
+
+its_peak : IsGreatestOf both profile.loads 2 profile.peak
+its_peak = first_section
 
 greatest_of_none : IsGreatestOf both (6 ∷ 1 ∷ []) 0 None
 greatest_of_none = refl
