@@ -1,12 +1,12 @@
 -- Worked lines: how low an Over line may be, lowered claims, and cites of other buffers.
-use Rattle.std.proofs.Common.{◌≡◌, ◌≤◌, ℕ, false, true, inl, inr, [], ◌∷◌, map, List, Some, None, refl, subst, lit≤, arith}
+use Rattle.std.proofs.Common.{◌≡◌, ◌∙◌, ◌≤◌, ℕ, false, true, inl, inr, [], ◌∷◌, map, length, List, Some, None, refl, sym, ap, subst, lit≤, arith}
 use Rattle.dsa_terms.specs.Buffers.{Buffer, Instance, is_live, buffer, do_share, have_same_moments, some_before}
 use Rattle.dsa_terms.specs.Claims.{Claim, Covers, Entry, IsIn, child, step, up}
 use Rattle.dsa_terms.specs.Lean.{CitesOwn}
 use Rattle.dsa_terms.specs.Logs.{ByLine, Below, Twin, Cases, IsLegalCite, Over, Line, claim_of, ends_below, is_stacked, is_twin, rounded, rounding}
 use Rattle.conflicts.specs.Covering.{IsCoveringLine}
 use Rattle.conflicts.specs.Eased.{HasNoOwn, IsLower, IsLowerCases, IsNoHigher, IsOwnOf, cut, eased_over, from_height, least_height, least_over, lowered, reach}
-use Rattle.conflicts.specs.Easing.{IsOfKind}
+use Rattle.conflicts.specs.Easing.{IsEasedFrom}
 use Rattle.conflicts.specs.Ends.{IsLeastEnd, end_of}
 use Rattle.conflicts.specs.Walks.{IsWalk}
 
@@ -174,21 +174,26 @@ not_of_the_claim h = elim (h.of_claim 0 0 (omega arith)) [ inl q ↦ cc | inr n 
 too_few_marks : IsWalk four ((1, 1) ∷ []) (false ∷ true ∷ false ∷ []) (1 ∷ []) → ⊥
 too_few_marks h = let k = h.count in cc
 
--- ---- kinds
-over_of_kind : IsOfKind (Over ((2, 9) ∷ []) 0 9 1) (Over ((2, 3) ∷ []) 0 3 1)
-over_of_kind = (refl, refl)
+-- ---- what an eased line comes from
+eased_from_four : IsEasedFrom four 4 (Over ((0, 9) ∷ (1, 10) ∷ (2, 10) ∷ (3, 0) ∷ []) 0 10 2) (Over ((0, 2) ∷ (1, 2) ∷ []) 0 2 2)
+eased_from_four = sym too_high
 
-other_moment : IsOfKind (Over ((2, 9) ∷ []) 0 9 1) (Over ((2, 3) ∷ []) 1 3 1) → ⊥
-other_moment k = let q = k.0 in omega arith
+abbrev moment_of : Line → ℕ
+moment_of (Over l T H G) = T
+moment_of (Cases l cites) = 0
 
-other_modulus : IsOfKind (Over ((2, 9) ∷ []) 0 9 1) (Over ((2, 3) ∷ []) 0 3 3) → ⊥
-other_modulus k = let q = k.1 in omega arith
+other_moment : IsEasedFrom four 4 (Over ((2, 3) ∷ []) 0 3 1) (Over ((2, 3) ∷ []) 1 3 1) → ⊥
+other_moment e = let q : 1 ≡ 0 = ap moment_of (e ∙ low_enough) in omega (arith, q)
 
-other_kind : IsOfKind (Over ((2, 9) ∷ []) 0 9 1) (Cases ((2, 3) ∷ []) (ByLine 0 ∷ [])) → ⊥
-other_kind k = k
+-- buffer 1 is left out, which stands on buffer 0
+one_left_out : IsEasedFrom four 4 (Over ((0, 9) ∷ (1, 10) ∷ (2, 10) ∷ (3, 0) ∷ []) 0 10 2) (Over ((0, 4) ∷ []) 0 4 2) → ⊥
+one_left_out e = let q : 1 ≡ 2 = ap (λ line. length (claim_of line)) (e ∙ too_high) in omega (arith, q)
 
-cases_of_kind : IsOfKind (Cases ((2, 3) ∷ []) (ByLine 0 ∷ [])) (Cases ((2, 3) ∷ []) (Below 1 ∷ []))
-cases_of_kind = tt
+cases_from_cases : IsEasedFrom four 4 (Cases ((2, 3) ∷ []) (ByLine 0 ∷ [])) (Cases ((2, 3) ∷ []) (Below 1 ∷ []))
+cases_from_cases = tt
+
+over_from_cases : IsEasedFrom four 4 (Cases ((2, 3) ∷ []) (ByLine 0 ∷ [])) (Over ((2, 3) ∷ []) 0 3 1) → ⊥
+over_from_cases k = k
 
 -- ---- covering lines
 abbrev two_lines : List Line

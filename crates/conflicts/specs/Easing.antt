@@ -1,10 +1,12 @@
 -- What easing a line may change.
-use Rattle.std.specs.Prelude.{◌≡◌}
+use Rattle.std.specs.Prelude.{◌≡◌, ℕ}
+use Rattle.dsa_terms.specs.Buffers.{Instance}
 use Rattle.dsa_terms.specs.Logs.{Line, Over, Cases}
+use Rattle.conflicts.specs.Eased.{eased_over}
 
--- an eased Over line has the moment and the modulus of the given one, and an eased Cases line comes from a Cases line
-abbrev pub IsOfKind : Line → Line → Type 0
-IsOfKind (Over l T H G) (Over k U F E) = (U ≡ T) × (E ≡ G)
-IsOfKind (Over l T H G) (Cases k cites) = ⊥
-IsOfKind (Cases l cites) (Over k U F E) = ⊥
-IsOfKind (Cases l cites) (Cases k others) = Unit {0}
+-- an Over line becomes the line of just the buffers that it stacks, from their least height above C on, and a Cases line
+-- stays one
+abbrev pub IsEasedFrom : Instance → ℕ → Line → Line → Type 0
+IsEasedFrom I C (Over l T H G) eased = eased ≡ eased_over I C l T H G
+IsEasedFrom I C (Cases l cites) (Over k T H G) = ⊥
+IsEasedFrom I C (Cases l cites) (Cases k others) = Unit {0}

@@ -10,7 +10,7 @@ ghost use Rattle.canonical_order.specs.Stands.{Stands};
 ghost use Rattle.refute_log.specs.Lines.{IsWithin, cite_value, line_value};
 ghost use Rattle.refute_log.specs.Logs.{Belongs};
 ghost use Rattle.conflicts.specs.Eased.{IsLowerCases};
-ghost use Rattle.conflicts.specs.Easing.{IsOfKind};
+ghost use Rattle.conflicts.specs.Easing.{IsEasedFrom};
 
 use crate::cites::eased_cites;
 use crate::lowering::lowered;
@@ -150,7 +150,8 @@ pub fn ease(alloc: Global, instance: &Instance, log: &Log, line: Line) -> Result
         Covers instance.now (claim_of (line_value eased)) (claim_of (line_value line))) }
     ensures lean { IfOk result (λ eased.
         IsLeanLine instance.now log.now.capacity log.now.lines (line_value eased)) }
-    ensures kind { IfOk result (λ eased. IsOfKind (line_value line) (line_value eased)) }
+    ensures kind { IfOk result (λ eased.
+        IsEasedFrom instance.now log.now.capacity (line_value line) (line_value eased)) }
     ensures among { IfOk result (λ eased. (b : ℕ) → HasBuffer (claim_of (line_value eased)) b →
         HasBuffer (claim_of (line_value line)) b) }
 {

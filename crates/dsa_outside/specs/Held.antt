@@ -9,7 +9,7 @@ use Rattle.std.specs.FinMap.{FinMap, get, insert, remove}
 abbrev pub FileMap : Type 0
 FileMap = FinMap (slice_cmp nat_cmp) (List ℕ)
 
--- the bytes under a name, where they are told and there are some
+-- the bytes under a name, where what is held is told and the name is there
 abbrev pub file_at : Option FileMap → List ℕ → Option (List ℕ)
 file_at held name = option_and_then (λ m. get m name) held
 
@@ -21,7 +21,7 @@ with_file held name bytes = option_map (λ m. insert m name bytes) held
 abbrev pub without_file : Option FileMap → List ℕ → Option FileMap
 without_file held name = option_map (λ m. remove m name) held
 
--- it is told that the name holds nothing
+-- it is told that the name is not there
 abbrev pub IsMissing : Option FileMap → List ℕ → Type 0
 IsMissing held name = IsSomeAnd held (λ m. get m name ≡ None)
 

@@ -7,7 +7,7 @@ use std::alloc::AllocError;
 /// Why a file was not read or written.
 #[derive(Clone, Copy, Debug, PartialEq, Eq)]
 pub enum FileFault {
-    /// The call failed: a fault of that name, or a read of a name that holds nothing.
+    /// The call failed: a fault of that name, or a read of a name that is not there.
     Failed,
     /// Memory has run out. Nothing changed.
     NoMemory,

@@ -60,7 +60,7 @@ impl MemoryFiles {
         self.store.set(name, bytes)
     }
 
-    /// The bytes under a name, and `None` exactly where it holds nothing. It is no call that is
+    /// The bytes under a name, and `None` exactly where it is not there. It is no call that is
     /// counted, and it takes no memory.
     pub fn get(&self, name: &str) -> Option<&[u8]>
         ensures { option_copied result ≡ finite.get self.now.files name.now }

@@ -47,7 +47,7 @@ impl SoundFiles {
         self.store.set(name, bytes)
     }
 
-    /// The bytes under a name, and `None` exactly where it holds nothing. It takes no memory.
+    /// The bytes under a name, and `None` exactly where it is not there. It takes no memory.
     pub fn get(&self, name: &str) -> Option<&[u8]>
         ensures { option_copied result ≡ finite.get self.now name.now }
     {

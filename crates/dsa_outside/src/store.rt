@@ -48,7 +48,7 @@ impl Store {
         }
     }
 
-    /// A copy of the first `most` bytes under a name. `Failed`: the name holds nothing.
+    /// A copy of the first `most` bytes under a name. `Failed`: the name is not there.
     pub(crate) fn read(&self, name: &str, most: u64) -> Result<Vec<u8>, FileFault>
         ensures bytes { IfOk result (λ bytes.
             option_map (take most) (finite.get self.now name.now) ≡ Some bytes.items) }

@@ -59,6 +59,10 @@ returns-in-Over-clause-covers c = covers_of line_value _ _ _ _ _ (over_whole c)
 pub returns-in-Over-clause-lean : goal.returns-in-Over-clause-lean
 returns-in-Over-clause-lean c = lean_of line_value _ _ _ _ _ (over_whole c)
 
+pub returns-in-Over-clause-kind : goal.returns-in-Over-clause-kind
+returns-in-Over-clause-kind c =
+    rw c.in-Over.is (rw c.capacity-capacity.ensures.value at c.ease_over.ensures)
+
 pub returns-in-Over-clause-among : goal.returns-in-Over-clause-among
 returns-in-Over-clause-among c = among_of line_value _ _ _ _ _ (over_whole c)
 
