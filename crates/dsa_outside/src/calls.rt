@@ -1,4 +1,5 @@
-// Which calls fail, by their numbers.
+//! Which calls fail, by their numbers.
+
 ghost use Rattle.std.specs.Prelude.{◌≡◌, [], ◌≤◌};
 ghost use Rattle.dsa_outside.specs.Calls.{after_call, is_due};
 

@@ -1,4 +1,5 @@
-// The files of the system.
+//! The files of the system.
+
 ghost use Rattle.std.specs.Prelude.{◌≡◌, ◌≤◌, None, IfOk, OnOk, IsErrOf, length};
 ghost use Rattle.dsa_outside.specs.Faults.{one_more};
 

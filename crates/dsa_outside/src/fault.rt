@@ -1,4 +1,5 @@
-// How a call on files or on a sink fails.
+//! How a call on files or on a sink fails.
+
 ghost use Rattle.std.specs.Prelude.{◌≡◌};
 
 use dsa_model::NoMemory;

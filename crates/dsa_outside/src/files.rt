@@ -1,4 +1,5 @@
-// Files as the planner sees them.
+//! Files as the planner sees them.
+
 ghost use Rattle.std.specs.Prelude.{◌≡◌, ◌≤◌, ◌⊎◌, List, ℕ, Option, length, IfOk, OnOk, IsErrOf};
 ghost use Rattle.dsa_outside.specs.Held.{FileMap, IsReadOf, IsMissing, with_file, without_file};
 ghost use Rattle.dsa_outside.specs.Faults.{Rose, NoneFell, AllStay};

@@ -1,4 +1,5 @@
-// A sink in memory of which chosen puts fail.
+//! A sink in memory of which chosen puts fail.
+
 ghost use Rattle.std.specs.Prelude.{◌≡◌, ◌≤◌, ◌++◌, ◌↔◌, [], Some, OnOk, IsErrOf, IsTrue};
 ghost use Rattle.dsa_outside.specs.Calls.{after_call, is_due};
 

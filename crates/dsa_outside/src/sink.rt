@@ -1,4 +1,5 @@
-// A sink of bytes as the planner sees it.
+//! A sink of bytes as the planner sees it.
+
 ghost use Rattle.std.specs.Prelude.{◌≡◌, ◌≤◌, List, ℕ, Option, take, OnOk, IsErrOf};
 ghost use Rattle.dsa_outside.specs.Held.{with_text};
 ghost use Rattle.dsa_outside.specs.Faults.{Rose};

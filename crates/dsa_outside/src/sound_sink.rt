@@ -1,4 +1,5 @@
-// A sink in memory that never fails.
+//! A sink in memory that never fails.
+
 ghost use Rattle.std.specs.Prelude.{◌≡◌, ◌++◌, [], Some, OnOk, OnErr, IsErrOf};
 
 use crate::{Sink, SinkFault};

@@ -1,4 +1,5 @@
-// The standard output.
+//! The standard output.
+
 ghost use Rattle.std.specs.Prelude.{◌≡◌, ◌≤◌, None, OnOk, IsErrOf};
 ghost use Rattle.dsa_outside.specs.Faults.{one_more};
 

@@ -1,4 +1,5 @@
-// Whole reads and writes, in pieces, over any reader and writer.
+//! Whole reads and writes, in pieces, over any reader and writer.
+
 ghost use Rattle.std.specs.Prelude.{◌≡◌, ◌≤◌, ℕ, Ok, IfOk, IfSome, IsErr, OnErr, OnOk, IsErrOf, length, take};
 ghost use Rattle.std.specs.Io.KnownBytes.{Appends};
 ghost use Rattle.dsa_outside.specs.Faults.{one_more};
