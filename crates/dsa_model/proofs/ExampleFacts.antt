@@ -1,8 +1,9 @@
 -- Worked facts of the definitions.
-use Rattle.std.proofs.Common.{◌≡◌, [], ◌∷◌, Some, None, replicate, refl}
+use Rattle.std.proofs.Common.{◌≡◌, ◌-◌, ◌^◌, [], ◌∷◌, Some, None, replicate, refl, arith}
 use Rattle.dsa_terms.specs.Buffers.{Instance, is_live, buffer, some_before}
 use Rattle.dsa_model.specs.Buffer.{buffer_fault, buffer_of, is_ever_live}
 use Rattle.dsa_model.specs.Moments.{first_common}
+use Rattle.dsa_model.specs.Counts.{Rose, one_more}
 use Rattle.dsa_model.specs.LayoutFaults.{layout_fault, first_unaligned, first_above, first_overlap, overlap_after, overlap}
 use Rattle.dsa_model.specs.declared.buffer_fault.BufferFault.TheVariants as fault
 use Rattle.dsa_model.specs.declared.layout.LayoutFault.TheVariants.{WrongCount, Unaligned, Above, Overlap}
@@ -109,3 +110,19 @@ gap_is_overrun = refl
 nothing_to_lay_out : layout_fault [] 0 [] ≡ None
 unfolding first_unaligned first_above first_overlap
 nothing_to_lay_out = refl
+
+-- ---- counts: they stop at the end of their type, where a rise can't be seen
+last_number_stays : one_more (2 ^ 64 - 1) ≡ 2 ^ 64 - 1
+last_number_stays = refl
+
+one_is_a_rise : Rose 0 1
+one_is_a_rise = omega arith
+
+none_is_no_rise : Rose 0 0 → ⊥
+none_is_no_rise rose = omega (arith, rose)
+
+rose_to_the_end : Rose (2 ^ 64 - 1) (2 ^ 64 - 1)
+rose_to_the_end = omega arith
+
+no_rise_before_the_end : Rose (2 ^ 64 - 2) (2 ^ 64 - 2) → ⊥
+no_rise_before_the_end rose = omega (arith, rose)

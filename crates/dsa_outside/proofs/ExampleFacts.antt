@@ -1,9 +1,9 @@
 -- Worked rows: what the definitions say of small files and sinks.
-use Rattle.std.proofs.Common.{◌≡◌, ◌-◌, ◌^◌, ℕ, true, false, [], ◌∷◌, length, None, Some, take, refl, ap, arith, rules}
+use Rattle.std.proofs.Common.{◌≡◌, ℕ, true, false, [], ◌∷◌, length, None, Some, take, refl, ap, arith, rules}
 use Rattle.std.specs.Option.{option_map}
 use Rattle.std.specs.FinMap.{empty, gets, insert}
 use Rattle.dsa_outside.specs.Held.{FileMap, file_at, with_file, without_file, with_text, IsMissing, IsReadOf}
-use Rattle.dsa_outside.specs.Faults.{AllStay, NoneFell, one_more, Rose}
+use Rattle.dsa_outside.specs.Faults.{AllStay, NoneFell}
 use Rattle.dsa_outside.specs.Calls.{CallState, after_call, is_due}
 
 -- the name 'i' holds three bytes
@@ -57,16 +57,6 @@ first_call_fails = refl
 second_call_passes : after_call (listed 1 1) ≡ listed 2 1
 unfolding listed
 second_call_passes = refl
-
--- counts stop at the end of their type, where a rise can't be seen
-last_number_stays : one_more (2 ^ 64 - 1) ≡ 2 ^ 64 - 1
-last_number_stays = refl
-
-one_is_a_rise : Rose 0 1
-one_is_a_rise = omega arith
-
-none_is_no_rise : Rose 0 0 → ⊥
-none_is_no_rise rose = omega (arith, rose)
 
 -- ---- the numbers of all names: here a name's number is none, or the length of the name
 none_fell : NoneFell (λ name. 0) length

@@ -2,7 +2,7 @@
 use Rattle.std.proofs.Common.{◌≡◌, ℕ, List, None, Result, Ok, Err, IfOk, OnOk, Vec, arith}
 use Rattle.std.specs.declared.alloc.Global.{Global}
 use Rattle.dsa_outside.specs.Held.{IsReadOf}
-use Rattle.dsa_outside.specs.Faults.{Rose, one_more}
+use Rattle.dsa_model.specs.Counts.{Rose, one_more}
 
 -- the count rose where it is one more
 pub rose_by_one : (before now : ℕ) → now ≡ one_more before → Rose before now

@@ -1,7 +1,7 @@
 -- Calls that are to fail, by their numbers.
 use Rattle.std.specs.Prelude.{ℕ, ◌==◌, Bool, cond, List}
 use Rattle.std.specs.List.{list_any}
-use Rattle.dsa_outside.specs.Faults.{one_more}
+use Rattle.dsa_model.specs.Counts.{one_more}
 
 -- the numbers of the calls that are to fail, the number of the next call, and how many calls were made to fail
 pub record CallState : Type 0 where

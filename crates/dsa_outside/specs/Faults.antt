@@ -1,13 +1,5 @@
--- Counts of faults.
-use Rattle.std.specs.Prelude.{ℕ, ◌+◌, ◌-◌, ◌^◌, ◌≤◌, ◌≡◌, min, List}
-
--- one more, up to the end of the type
-abbrev pub one_more : ℕ → ℕ
-one_more n = min (n + 1) (2 ^ 64 - 1)
-
--- the count is greater than before, or stands at the end of its type
-abbrev pub Rose : ℕ → ℕ → Type 0
-Rose before now = one_more before ≤ now
+-- Counts of faults by name.
+use Rattle.std.specs.Prelude.{ℕ, ◌≤◌, ◌≡◌, List}
 
 -- no name's number has fallen
 abbrev pub NoneFell : (List ℕ → ℕ) → (List ℕ → ℕ) → Type 0

@@ -1,7 +1,7 @@
 //! The files of the system.
 
 ghost use Rattle.std.specs.Prelude.{◌≡◌, ◌≤◌, None, IfOk, OnOk, IsErrOf, length};
-ghost use Rattle.dsa_outside.specs.Faults.{one_more};
+ghost use Rattle.dsa_model.specs.Counts.{one_more};
 
 use crate::transfer::{counted, read_up_to, write_whole};
 use crate::{FileFault, Files};

@@ -2,7 +2,8 @@
 
 ghost use Rattle.std.specs.Prelude.{◌≡◌, ◌≤◌, ◌⊎◌, List, ℕ, Option, length, IfOk, OnOk, IsErrOf};
 ghost use Rattle.dsa_outside.specs.Held.{FileMap, IsReadOf, IsMissing, with_file, without_file};
-ghost use Rattle.dsa_outside.specs.Faults.{Rose, NoneFell, AllStay};
+ghost use Rattle.dsa_model.specs.Counts.{Rose};
+ghost use Rattle.dsa_outside.specs.Faults.{NoneFell, AllStay};
 
 use crate::FileFault;
 

@@ -2,7 +2,7 @@
 
 ghost use Rattle.std.specs.Prelude.{◌≡◌, ◌≤◌, List, ℕ, Option, take, OnOk, IsErrOf};
 ghost use Rattle.dsa_outside.specs.Held.{with_text};
-ghost use Rattle.dsa_outside.specs.Faults.{Rose};
+ghost use Rattle.dsa_model.specs.Counts.{Rose};
 
 use crate::SinkFault;
 

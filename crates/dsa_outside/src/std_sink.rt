@@ -1,7 +1,7 @@
 //! The standard output.
 
 ghost use Rattle.std.specs.Prelude.{◌≡◌, ◌≤◌, None, OnOk, IsErrOf};
-ghost use Rattle.dsa_outside.specs.Faults.{one_more};
+ghost use Rattle.dsa_model.specs.Counts.{one_more};
 
 use crate::transfer::write_whole;
 use crate::{Sink, SinkFault};

@@ -2,7 +2,7 @@
 
 ghost use Rattle.std.specs.Prelude.{◌≡◌, ◌≤◌, ℕ, Ok, IfOk, IfSome, IsErr, OnErr, OnOk, IsErrOf, length, take};
 ghost use Rattle.std.specs.Io.KnownBytes.{Appends};
-ghost use Rattle.dsa_outside.specs.Faults.{one_more};
+ghost use Rattle.dsa_model.specs.Counts.{one_more};
 
 use crate::{FileFault, SinkFault};
 use std::alloc::Global;

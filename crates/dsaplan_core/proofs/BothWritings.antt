@@ -5,7 +5,7 @@ use Rattle.dsa_terms.specs.Layouts.{IsLayout, IsLeast}
 use Rattle.dsa_terms.specs.Logs.{Log}
 use Rattle.dsa_terms.specs.Starts.{best_start, planned}
 use Rattle.dsa_outside.specs.Held.{FileMap, with_file, without_file}
-use Rattle.dsa_outside.specs.Faults.{Rose}
+use Rattle.dsa_model.specs.Counts.{Rose}
 use Rattle.dsa_outside.proofs.FileMaps.{remove-insert}
 use Rattle.csv_instance.specs.Records.{Record}
 use Rattle.csv_instance.specs.Layout.{layout_text}

@@ -4,7 +4,7 @@ use Rattle.dsa_terms.specs.Buffers.{Instance}
 use Rattle.dsa_terms.specs.Claims.{IsIn}
 use Rattle.dsa_terms.specs.Layouts.{IsLayout, IsInfeasible, IsLeast}
 use Rattle.dsa_outside.specs.Held.{FileMap, file_at, IsMissing}
-use Rattle.dsa_outside.specs.Faults.{Rose}
+use Rattle.dsa_model.specs.Counts.{Rose}
 use Rattle.csv_instance.specs.Records.{Record, table_of}
 use Rattle.csv_instance.specs.Parse.{parse}
 use Rattle.csv_instance.specs.declared.fault.InstanceFault.{InstanceFault}

@@ -2,7 +2,8 @@
 use Rattle.std.proofs.Common.{◌≡◌, ℕ, ◌≤◌, inl, inr, List, IsSome, Some, Ok, sym, subst, arith}
 use Rattle.dsa_terms.specs.Buffers.{Instance}
 use Rattle.dsa_outside.specs.Held.{file_at, IsMissing}
-use Rattle.dsa_outside.specs.Faults.{Rose, NoneFell}
+use Rattle.dsa_model.specs.Counts.{Rose}
+use Rattle.dsa_outside.specs.Faults.{NoneFell}
 use Rattle.csv_instance.specs.Records.{Record}
 use Rattle.csv_instance.specs.Parse.{parse}
 use Rattle.command_words.specs.Options.{Word}

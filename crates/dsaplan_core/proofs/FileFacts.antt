@@ -3,7 +3,7 @@ use Rattle.std.proofs.Common.{◌≡◌, ℕ, List, Option, unwrap_or, ◌<◌, 
 use Rattle.std.specs.Str.{bytes_eq}
 use Rattle.dsa_terms.specs.Claims.{IsIn}
 use Rattle.dsa_outside.specs.Held.{IsMissing}
-use Rattle.dsa_outside.specs.Faults.{Rose}
+use Rattle.dsa_model.specs.Counts.{Rose}
 use Rattle.command_words.specs.Commands.{Bounds, Verify}
 use Rattle.command_words.specs.Options.{Word}
 use Rattle.dsaplan_core.specs.Complete.{HoldsLog, IsReadable, IsReady, IsUndisturbed}

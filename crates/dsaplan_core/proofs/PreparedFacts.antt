@@ -3,7 +3,7 @@ use Rattle.std.proofs.Common.{◌≡◌, ◌∙◌, ◌<◌, ℕ, slice_index, L
 use Rattle.std.specs.FinMap.{empty, insert}
 use Rattle.std.specs.Fmt.{digits}
 use Rattle.std.specs.Str.{bytes_eq}
-use Rattle.dsa_outside.specs.Faults.{Rose}
+use Rattle.dsa_model.specs.Counts.{Rose}
 use Rattle.dsa_outside.specs.Held.{FileMap, file_at, with_file, without_file}
 use Rattle.dsa_outside.proofs.FileMaps.{remove-insert}
 use Rattle.dsa_outside.proofs.Lookups.{file_at-with_file, file_at-with_other}

@@ -5,7 +5,7 @@ use Rattle.dsa_terms.specs.Bounds.{lower_bound}
 use Rattle.dsa_terms.specs.Logs.{Log}
 use Rattle.dsa_terms.specs.Starts.{planned}
 use Rattle.dsa_outside.specs.Held.{with_file, without_file}
-use Rattle.dsa_outside.specs.Faults.{Rose}
+use Rattle.dsa_model.specs.Counts.{Rose}
 use Rattle.csv_instance.specs.Records.{Record}
 use Rattle.csv_instance.specs.Layout.{layout_text}
 use Rattle.log_text.specs.Faults.{IsTextOf}

@@ -1,7 +1,7 @@
 -- What a run leaves, by its answer.
 use Rattle.std.specs.Prelude.{◌≡◌, ◌≢◌, ℕ, ◌⊎◌, List, take}
 use Rattle.dsa_outside.specs.Held.{with_file, with_text}
-use Rattle.dsa_outside.specs.Faults.{Rose}
+use Rattle.dsa_model.specs.Counts.{Rose}
 use Rattle.command_words.specs.Options.{Word}
 use Rattle.dsaplan_core.specs.Seen.{FilesSeen, SinkSeen}
 use Rattle.dsaplan_core.specs.Lines.{line}

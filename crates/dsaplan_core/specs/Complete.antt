@@ -5,7 +5,7 @@ use Rattle.dsa_terms.specs.Claims.{IsIn}
 use Rattle.dsa_terms.specs.Layouts.{IsFeasible, IsInfeasible, IsLeast}
 use Rattle.dsa_terms.specs.Logs.{Log, IsAccepted}
 use Rattle.dsa_outside.specs.Held.{file_at}
-use Rattle.dsa_outside.specs.Faults.{Rose}
+use Rattle.dsa_model.specs.Counts.{Rose}
 use Rattle.csv_instance.specs.Records.{table_of}
 use Rattle.csv_instance.specs.Parse.{parse, buffer_limit}
 use Rattle.log_text.specs.Faults.{IsTextOf}

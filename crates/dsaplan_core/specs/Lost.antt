@@ -1,7 +1,7 @@
 -- What the answers say where a file could not be written.
 use Rattle.std.specs.Prelude.{◌≡◌, ◌≤◌, List, Some, Ok}
 use Rattle.dsa_outside.specs.Held.{without_file}
-use Rattle.dsa_outside.specs.Faults.{Rose}
+use Rattle.dsa_model.specs.Counts.{Rose}
 use Rattle.command_words.specs.Options.{Word}
 use Rattle.command_words.specs.Commands.{Command, command_of}
 use Rattle.dsaplan_core.specs.Seen.{FilesSeen}

@@ -2,7 +2,7 @@
 use Rattle.std.specs.Prelude.{◌≡◌, ℕ, ◌^◌, ◌≤◌, ◌<◌, ◌⊎◌, List, length, Some, IsSome, Ok}
 use Rattle.dsa_terms.specs.Buffers.{Instance}
 use Rattle.dsa_outside.specs.Held.{file_at, IsMissing}
-use Rattle.dsa_outside.specs.Faults.{Rose}
+use Rattle.dsa_model.specs.Counts.{Rose}
 use Rattle.csv_instance.specs.Records.{Record, table_of}
 use Rattle.csv_instance.specs.Parse.{parse}
 use Rattle.command_words.specs.Options.{Word}

@@ -2,7 +2,7 @@
 
 ghost use Rattle.std.specs.Prelude.{◌≡◌, ℕ, List, map, string_bytes, Err};
 ghost use Rattle.dsa_terms.specs.Buffers.{Instance};
-ghost use Rattle.dsa_outside.specs.Faults.{Rose};
+ghost use Rattle.dsa_model.specs.Counts.{Rose};
 ghost use Rattle.dsa_terms.specs.Logs.{Log as LogTerm};
 ghost use Rattle.command_words.specs.Options.{Word};
 ghost use Rattle.command_words.specs.Commands.{Command, Refute, command_of};

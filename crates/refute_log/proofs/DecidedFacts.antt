@@ -11,7 +11,7 @@ use Rattle.dsa_model.proofs.LayoutFaults.{layout_exactly}
 use Rattle.refute_log.specs.Answers.{Offsets, Refutation, NoAnswer}
 use Rattle.refute_log.specs.Decided.{answer_of, IsRight, TurnsOut, IfSpent}
 use Rattle.refute_log.specs.Logs.{ended}
-use Rattle.refute_log.specs.Hunts.{Rose, after_turn, hunt_within}
+use Rattle.refute_log.specs.Hunts.{after_turn, hunt_within}
 use Rattle.refute_log.specs.declared.decided.Decided.{Decided}
 use Rattle.refute_log.specs.declared.decided.Decided.TheVariants.{Layout, Refuted, Spent}
 
@@ -115,21 +115,6 @@ spent_is = omega arith
 
 spent_is_not : IfSpent Spent ⊥ → ⊥
 spent_is_not h = h
-
--- ---- counts that rose: to a greater number, or where they are at the end of 64 bits
-one_more : Rose 3 4
-one_more = inl (omega arith)
-
-no_more : Rose 3 3 → ⊥
-no_more (inl h) = omega arith
-no_more (inr h) = omega arith
-
-at_the_end : Rose 18446744073709551615 18446744073709551615
-at_the_end = inr (omega arith)
-
-before_the_end : Rose 18446744073709551614 18446744073709551614 → ⊥
-before_the_end (inl h) = omega arith
-before_the_end (inr h) = omega arith
 
 -- ---- the hunt in 4..9 after its middle 6: on to 7..9 without a height, else to 4 and that height, or 6 if it is above
 turn_of_none : after_turn (λ a b. 10 * a + b) 4 9 6 None ≡ 79

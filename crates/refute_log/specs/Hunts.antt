@@ -1,13 +1,9 @@
 -- The units that halving a bracket can take.
-use Rattle.std.specs.Prelude.{ℕ, zero, suc, ◌+◌, ◌-◌, ◌/◌, ◌<◌, ◌≤◌, ◌^◌, ◌⊎◌, cond, nat_le, min, Option}
+use Rattle.std.specs.Prelude.{ℕ, zero, suc, ◌+◌, ◌-◌, ◌/◌, cond, nat_le, min, Option}
 use Rattle.std.specs.declared.option.Option.TheVariants.{Some, None}
 
--- a count rose from `before` to `after`: it is greater, or at the end of 64 bits
-abbrev pub Rose : ℕ → ℕ → Type 0
-Rose before after = (before < after) ⊎ (2 ^ 64 - 1 ≤ after)
-
--- what is left after the turn at m: none raises the lower end past m; a height lowers the upper end to it, or to m where
--- it is greater
+-- what is left after the turn at m: none raises the lower end past m; a height lowers the upper end to it, or to m
+-- where it is greater
 abbrev pub after_turn : (ℕ → ℕ → ℕ) → ℕ → ℕ → ℕ → Option ℕ → ℕ
 after_turn hunt_on a b m None = hunt_on (m + 1) b
 after_turn hunt_on a b m (Some t) = hunt_on a (min t m)

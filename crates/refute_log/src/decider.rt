@@ -2,9 +2,9 @@
 
 ghost use Rattle.std.specs.Prelude.{◌≡◌, ℕ, ◌+◌, ◌<◌, ◌≤◌, ◌^◌, IfOk, Option};
 ghost use Rattle.dsa_terms.specs.Buffers.{Instance};
+ghost use Rattle.dsa_model.specs.Counts.{Rose};
 ghost use Rattle.refute_log.specs.Answers.{Answer};
 ghost use Rattle.refute_log.specs.Decided.{answer_of, IsRight, TurnsOut, IfSpent};
-ghost use Rattle.refute_log.specs.Hunts.{Rose};
 
 use crate::Decided;
 use dsa_model::NoMemory;

@@ -1,7 +1,8 @@
 -- What is found of all parts.
-use Rattle.std.specs.Prelude.{◌≡◌, ℕ, ◌+◌, ◌-◌, ◌^◌, ⊤, Some, None, length, min}
+use Rattle.std.specs.Prelude.{◌≡◌, ℕ, ⊤, Some, None, length}
 use Rattle.dsa_terms.specs.Buffers.{Instance}
 use Rattle.dsa_terms.specs.Parts.{searched}
+use Rattle.dsa_model.specs.Counts.{one_more}
 use Rattle.refute_log.specs.declared.decided.Decided.{Decided}
 use Rattle.refute_log.specs.declared.decided.Decided.TheVariants.{Layout, Refuted, Spent}
 use Rattle.search_core.specs.Decisions.{IsRefutation}
@@ -29,4 +30,4 @@ LinesAreCounted before after Spent = ⊤
 abbrev pub spends_after : ℕ → Decided → ℕ
 spends_after n (Layout offsets) = n
 spends_after n (Refuted log) = n
-spends_after n Spent = min (n + 1) (2 ^ 64 - 1)
+spends_after n Spent = one_more n

@@ -83,8 +83,8 @@ impl<'a> Search<'a> {
 impl<'a> Decider for Search<'a> {
     ghost use Rattle.std.specs.Prelude.{◌≡◌, ◌+◌, ◌<◌, ◌≤◌, ◌^◌, IfOk, OnErr, length};
     ghost use Rattle.dsa_terms.specs.Parts.{whole_work};
+    ghost use Rattle.dsa_model.specs.Counts.{Rose};
     ghost use Rattle.refute_log.specs.Decided.{IfSpent, IsRight, TurnsOut, answer_of};
-    ghost use Rattle.refute_log.specs.Hunts.{Rose};
     ghost use Rattle.search_core.specs.Decisions.{IsGiven, allowance_of, charge_of, turn_of};
     ghost use Rattle.search_core.specs.Meters.{AreMore};
     ghost use Rattle.search_core.specs.Outcomes.{LinesAreCounted, UnlessSpent, spends_after};
