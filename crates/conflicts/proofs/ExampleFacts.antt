@@ -175,7 +175,8 @@ too_few_marks : IsWalk four ((1, 1) ∷ []) (false ∷ true ∷ false ∷ []) (1
 too_few_marks h = let k = h.count in cc
 
 -- ---- what an eased line comes from
-eased_from_four : IsEasedFrom four 4 (Over ((0, 9) ∷ (1, 10) ∷ (2, 10) ∷ (3, 0) ∷ []) 0 10 2) (Over ((0, 2) ∷ (1, 2) ∷ []) 0 2 2)
+eased_from_four : IsEasedFrom four 4 (Over ((0, 9) ∷ (1, 10) ∷ (2, 10) ∷ (3, 0) ∷ []) 0 10 2)
+    (Over ((0, 2) ∷ (1, 2) ∷ []) 0 2 2)
 eased_from_four = sym too_high
 
 abbrev moment_of : Line → ℕ
@@ -186,8 +187,19 @@ other_moment : IsEasedFrom four 4 (Over ((2, 3) ∷ []) 0 3 1) (Over ((2, 3) ∷
 other_moment e = let q : 1 ≡ 0 = ap moment_of (e ∙ low_enough) in omega (arith, q)
 
 -- buffer 1 is left out, which stands on buffer 0
-one_left_out : IsEasedFrom four 4 (Over ((0, 9) ∷ (1, 10) ∷ (2, 10) ∷ (3, 0) ∷ []) 0 10 2) (Over ((0, 4) ∷ []) 0 4 2) → ⊥
+one_left_out : IsEasedFrom four 4 (Over ((0, 9) ∷ (1, 10) ∷ (2, 10) ∷ (3, 0) ∷ []) 0 10 2)
+    (Over ((0, 4) ∷ []) 0 4 2) → ⊥
 one_left_out e = let q : 1 ≡ 2 = ap (λ line. length (claim_of line)) (e ∙ too_high) in omega (arith, q)
+
+abbrev modulus_of : Line → ℕ
+modulus_of (Over l T H G) = G
+modulus_of (Cases l cites) = 0
+
+other_modulus : IsEasedFrom four 4 (Over ((2, 3) ∷ []) 0 3 1) (Over ((2, 3) ∷ []) 0 3 2) → ⊥
+other_modulus e = let q : 2 ≡ 1 = ap modulus_of (e ∙ low_enough) in omega (arith, q)
+
+cases_from_over : IsEasedFrom four 4 (Over ((2, 3) ∷ []) 0 3 1) (Cases ((2, 3) ∷ []) (ByLine 0 ∷ [])) → ⊥
+cases_from_over e = let q = e ∙ low_enough in cc
 
 cases_from_cases : IsEasedFrom four 4 (Cases ((2, 3) ∷ []) (ByLine 0 ∷ [])) (Cases ((2, 3) ∷ []) (Below 1 ∷ []))
 cases_from_cases = tt

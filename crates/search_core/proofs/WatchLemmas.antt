@@ -10,8 +10,8 @@ use Rattle.canonical_order.proofs.NumberTests.{below_or_from}
 use Rattle.search_core.specs.Cites.{IsCoveredBy}
 use Rattle.search_core.specs.Logs.{NoneCovers}
 use Rattle.search_core.specs.Looks.{IsLacked, IsUnmet}
-use Rattle.search_core.specs.Watches.{AreRaised, AreWatched, HasLevels, RulesOut}
-use Rattle.search_core.specs.Watching.{AreMoved, AreOwnMoved, Fails, FailAt, IsWatched}
+use Rattle.search_core.specs.Watches.{AreRaised, AreWatched, Fails, HasLevels, RulesOut}
+use Rattle.search_core.specs.Watching.{AreMoved, AreOwnMoved, FailAt, IsWatched}
 use Rattle.search_core.proofs.Growing.{get_before}
 use Rattle.search_core.proofs.Meeting.{is_met, meets}
 

@@ -10,7 +10,8 @@ use Rattle.canonical_order.proofs.CoverLemmas.{in_at}
 use Rattle.canonical_order.proofs.NumberTests.{below_or_from}
 use Rattle.search_core.specs.declared.watch_row.Mark.{Mark}
 use Rattle.search_core.specs.Looks.{IsLacked, IsUnmet}
-use Rattle.search_core.specs.Watching.{AreAppended, AreFiled, AreMoved, Fails, FailsAtMark, IsUnwatched, mark_of, row_of}
+use Rattle.search_core.specs.Watches.{Fails}
+use Rattle.search_core.specs.Watching.{AreAppended, AreFiled, AreMoved, FailsAtMark, IsUnwatched, mark_of, row_of}
 use Rattle.search_core.proofs.Growing.{get_before}
 use Rattle.search_core.proofs.WatchLemmas.{get_set_same, lacked_fails}
 

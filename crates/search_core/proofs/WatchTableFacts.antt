@@ -4,8 +4,8 @@ use Rattle.dsa_terms.specs.Claims.{Entry, IsIn}
 use Rattle.dsa_terms.specs.Logs.{Line, Over, claim_of}
 use Rattle.search_core.specs.declared.watch_row.Mark.{Mark}
 use Rattle.search_core.specs.Looks.{IsUnmet}
-use Rattle.search_core.specs.Watches.{HasLevels, RulesOut}
-use Rattle.search_core.specs.Watching.{AreAppended, AreExtended, AreFiled, AreMoved, AreOwnMoved, Fails, FailAt, FailsAtMark, IsUnwatched, IsWatched, Table, mark_of, row_of}
+use Rattle.search_core.specs.Watches.{Fails, HasLevels, RulesOut}
+use Rattle.search_core.specs.Watching.{AreAppended, AreExtended, AreFiled, AreMoved, AreOwnMoved, FailAt, FailsAtMark, IsUnwatched, IsWatched, Table, mark_of, row_of}
 
 abbrev first_line : Line
 first_line = Over ((0, 2) ∷ (1, 5) ∷ []) 0 5 1

@@ -24,7 +24,8 @@ pub record IsOpen (I : Instance) (C : ℕ) (lines : List Line) (here : Place) (f
   pub not_empty : claim_at here ≢ []
   pub trying : IsTrying I C lines (claim_at here) f
 
--- the claim that the search is at is open with these choices, no line covers it, and all lines were asked whether they do
+-- the claim that the search is at is open with these choices, no line covers it, and all lines were asked whether they
+-- do
 pub record IsReady (I : Instance) (C : ℕ) (lines : List Line) (here : Place) (f : Tried) : Type 0 where
   pub opened : IsOpen I C lines here f
   pub fresh : NoneCovers I lines (claim_at here)

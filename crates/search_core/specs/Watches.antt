@@ -9,10 +9,14 @@ use Rattle.search_core.specs.Tries.{Tried}
 abbrev pub HasLevels : List ℕ → Claim → Type 0
 HasLevels levels k = (f : Entry) → IsIn f k → 0 < slice_index levels f.0
 
+-- where each buffer of k has a level, that of the entry's buffer does not meet its bound
+abbrev pub Fails : List ℕ → Claim → Entry → Type 0
+Fails levels k e = HasLevels levels k → slice_index levels e.0 ≤ e.1
+
 -- the entry is one of k, and where each buffer of k has a level, that of the entry's buffer does not meet its bound
 pub record RulesOut (levels : List ℕ) (k : Claim) (e : Entry) : Type 0 where
   pub among : IsIn e k
-  pub unmet : HasLevels levels k → slice_index levels e.0 ≤ e.1
+  pub unmet : Fails levels k e
 
 -- there are n lines at least, and the watch of each of the first n rules out that it covers the claim of the levels
 pub record AreWatched (lines : List Line) (watches : List Entry) (levels : List ℕ) (n : ℕ) : Type 0 where

@@ -1,10 +1,10 @@
 -- Watches in rows, one a buffer.
 use Rattle.std.specs.Prelude.{◌≡◌, ℕ, ◌<◌, ◌≤◌, ◌⊎◌, List, [], ◌++◌, length, slice_get, slice_index, slice_index_or, Some}
-use Rattle.dsa_terms.specs.Claims.{Claim, Entry, IsIn}
+use Rattle.dsa_terms.specs.Claims.{Entry, IsIn}
 use Rattle.dsa_terms.specs.Logs.{Line, claim_of}
 use Rattle.search_core.specs.declared.watch_row.Mark.{Mark}
 use Rattle.search_core.specs.Looks.{IsUnmet}
-use Rattle.search_core.specs.Watches.{HasLevels, RulesOut}
+use Rattle.search_core.specs.Watches.{Fails, RulesOut}
 
 -- the watches by line, and the marks of lines by buffer
 pub record Table : Type 0 where
@@ -55,10 +55,6 @@ AreOwnMoved lines levels before after = (k : ℕ) (line : Line) (e : Entry) → 
 abbrev pub IsWatched : List Line → List Entry → List ℕ → ℕ → Type 0
 IsWatched lines watches levels k = (line : Line) → slice_get lines k ≡ Some line →
     (e : Entry) × (slice_get watches k ≡ Some e) × RulesOut levels (claim_of line) e
-
--- where each buffer of k has a level, that of the entry's buffer does not meet its bound
-abbrev pub Fails : List ℕ → Claim → Entry → Type 0
-Fails levels k e = HasLevels levels k → slice_index levels e.0 ≤ e.1
 
 -- the watches of buffer b with bounds from `low` on and below its level fail at the levels
 abbrev pub FailAt : List Line → List Entry → List ℕ → ℕ → ℕ → Type 0

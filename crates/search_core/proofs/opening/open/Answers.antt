@@ -108,8 +108,8 @@ pub returns-in-Some-2-clause-counted : goal.returns-in-Some-2-clause-counted
 returns-in-Some-2-clause-counted c =
     let taken = rw c.if-not-taken.false at c.take-taken.ensures.taken in
     let n = c.in_ok-append.ensures.counted in
-    counted_one_more c.args.meter.now c.take-taken.new.self (length c.args.log.now.lines) (length c.append.new.log.lines + 0)
-    taken (omega (arith, n))
+    counted_one_more c.args.meter.now c.take-taken.new.self (length c.args.log.now.lines)
+    (length c.append.new.log.lines + 0) taken (omega (arith, n))
 
 pub returns-in-Some-2-clause-watched : goal.returns-in-Some-2-clause-watched
 returns-in-Some-2-clause-watched c =
