@@ -34,23 +34,21 @@ more I b placed k e h = rw (
     (map-append (span_of I) (filter (λ (e : Entry). do_share (buffer I b) (buffer I e.0)) (take k placed))
     (cond (do_share (buffer I b) (buffer I e.0)) (e ∷ []) []))
 
-pub one_more : (I : Instance) (b : ℕ) (placed : List Entry) (k : ℕ) (e d : Entry) (x y : Buffer) (s : Span)
+pub one_more : (I : Instance) (b : ℕ) (placed : List Entry) (k : ℕ) (e d : Entry) (s : Span)
     (spans now : List Span) →
-    k < length placed → e ≡ slice_index_or placed k d → x ≡ buffer I b → y ≡ buffer I e.0 → do_share x y ≡ true →
+    k < length placed → e ≡ slice_index_or placed k d → do_share (buffer I b) (buffer I e.0) ≡ true →
     s ≡ span_of I e → spans ≡ spans_before I b placed k → now ≡ spans ++ s ∷ [] → now ≡ spans_before I b placed (k + 1)
-one_more I b placed k e d x y s spans now lt is bx by shared made h grown =
+one_more I b placed k e d s spans now lt is shared made h grown =
     let m = more I b placed k e (take_more placed k d lt ∙ ap (λ (e : Entry). take k placed ++ e ∷ []) (sym is)) in
-    let t : do_share (buffer I b) (buffer I e.0) ≡ true = rw (← bx, ← by) shared in
     grown ∙ rw (h, made) (sym (m ∙ ap (λ (c : Bool). spans_before I b placed k ++ map (span_of I) (cond c (e ∷ []) []))
-    t))
+    shared))
 
-pub no_more : (I : Instance) (b : ℕ) (placed : List Entry) (k : ℕ) (e d : Entry) (x y : Buffer) (spans : List Span) →
-    k < length placed → e ≡ slice_index_or placed k d → x ≡ buffer I b → y ≡ buffer I e.0 → do_share x y ≡ false →
+pub no_more : (I : Instance) (b : ℕ) (placed : List Entry) (k : ℕ) (e d : Entry) (spans : List Span) →
+    k < length placed → e ≡ slice_index_or placed k d → do_share (buffer I b) (buffer I e.0) ≡ false →
     spans ≡ spans_before I b placed k → spans ≡ spans_before I b placed (k + 1)
-no_more I b placed k e d x y spans lt is bx by shared h =
+no_more I b placed k e d spans lt is shared h =
     let m = more I b placed k e (take_more placed k d lt ∙ ap (λ (e : Entry). take k placed ++ e ∷ []) (sym is)) in
-    let t : do_share (buffer I b) (buffer I e.0) ≡ false = rw (← bx, ← by) shared in
-    h ∙ sym (m ∙ (ap (λ (c : Bool). spans_before I b placed k ++ map (span_of I) (cond c (e ∷ []) [])) t
+    h ∙ sym (m ∙ (ap (λ (c : Bool). spans_before I b placed k ++ map (span_of I) (cond c (e ∷ []) [])) shared
     ∙ append-nil (spans_before I b placed k)))
 
 -- all of them in order

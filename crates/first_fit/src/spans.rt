@@ -1,12 +1,11 @@
 //! The addresses that placed buffers take.
 
 ghost use Rattle.std.specs.Prelude.{◌≡◌, ◌<◌, ◌≤◌, length, IfOk};
-ghost use Rattle.dsa_terms.specs.Buffers.{do_share};
 ghost use Rattle.std.specs.List.{All};
 ghost use Rattle.dsa_terms.specs.Fits.{neighbours};
 ghost use Rattle.first_fit.specs.Taken.{AreTaken, IsLow, IsSeat};
 
-use dsa_model::{Buffer, Instance};
+use dsa_model::Instance;
 use std::alloc::{AllocError, Global};
 
 /// The addresses from one up to and not including another.
@@ -14,13 +13,6 @@ use std::alloc::{AllocError, Global};
 pub(crate) struct Span {
     pub(crate) start: u64,
     pub(crate) stop: u64,
-}
-
-/// Whether the two buffers are both live at some moment.
-fn do_share(b: &Buffer, c: &Buffer) -> bool
-    ensures { result ≡ do_share b.now c.now }
-{
-    b.first_common(c).is_some()
 }
 
 /// The addresses of the placed buffers that share a moment with `b`, by rising start. A placed
@@ -37,13 +29,11 @@ pub(crate) fn taken(
         AreTaken instance.now (neighbours instance.now b placed.now) spans.items) }
     ensures limit { IfOk result (λ spans. All IsLow spans.items) }
 {
-    let buffer = instance.buffer(b);
     let mut spans = Vec::new(alloc);
     for seat in placed {
         let (c, start) = *seat;
-        let other = instance.buffer(c);
-        if do_share(buffer, other) {
-            let stop = start + other.size();
+        if instance.do_share(b, c) {
+            let stop = start + instance.buffer(c).size();
             spans.push(Span { start, stop })?;
         }
     }

@@ -10,18 +10,16 @@ use Rattle.first_fit.proofs.spans.taken.Goals as goal
 pub overflow_add-stop : goal.overflow_add-stop
 overflow_add-stop c =
     let l = seat_fits _ _ _ _ (c.requires.seats c.loop-seat.seat-index (0, 0) c.loop-seat-test.true)
-    c.buffer-other.ensures.value c.size.ensures.value in
+    c.buffer.ensures.value c.size.ensures.value in
     omega arith
 
 pub loop-seat-preserved : goal.loop-seat-preserved
 loop-seat-preserved c = elim c.if-do_share.branch [
-  | then-do_share+in_ok-push w ↦ one_more _ _ _ _ _ (0, 0) _ _ _ _ _ c.loop-seat-test.true refl
-      c.buffer-buffer.ensures.value c.buffer-other.ensures.value
+  | then-do_share+in_ok-push w ↦ one_more _ _ _ _ _ (0, 0) _ _ _ c.loop-seat-test.true refl
       (sym c.do_share.ensures ∙ w.if-do_share.true)
-      (span_is _ _ _ _ c.buffer-other.ensures.value w.size.ensures.value) c.loop-seat.invariant
+      (span_is _ _ _ _ w.buffer.ensures.value w.size.ensures.value) c.loop-seat.invariant
       (ap (λ v. v.items) w.spans-is ∙ w.in_ok-push.ensures.items)
-  | else-do_share w ↦ no_more _ _ _ _ _ (0, 0) _ _ _ c.loop-seat-test.true refl c.buffer-buffer.ensures.value
-      c.buffer-other.ensures.value
+  | else-do_share w ↦ no_more _ _ _ _ _ (0, 0) _ c.loop-seat-test.true refl
       (sym c.do_share.ensures ∙ w.if-do_share.false)
       (ap (λ v. v.items) w.spans-is ∙ c.loop-seat.invariant)
 ]
