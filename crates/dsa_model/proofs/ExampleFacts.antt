@@ -1,11 +1,23 @@
 -- Worked facts of the definitions.
-use Rattle.std.proofs.Common.{◌≡◌, [], ◌∷◌, Some, None, replicate, refl}
+use Rattle.std.proofs.Common.{◌≡◌, ℕ, [], ◌∷◌, Some, None, replicate, refl}
+use Rattle.std.specs.Global.{Vec}
 use Rattle.dsa_terms.specs.Buffers.{Instance, is_live, buffer, some_before}
 use Rattle.dsa_model.specs.Buffer.{buffer_fault, buffer_of, is_ever_live}
+use Rattle.dsa_model.specs.Lists.{items_of, pair_at}
 use Rattle.dsa_model.specs.Moments.{first_common}
 use Rattle.dsa_model.specs.LayoutFaults.{layout_fault, first_unaligned, first_above, first_overlap, overlap_after, overlap}
 use Rattle.dsa_model.specs.declared.buffer_fault.BufferFault.TheVariants as fault
 use Rattle.dsa_model.specs.declared.layout.LayoutFault.TheVariants.{WrongCount, Unaligned, Above, Overlap}
+
+-- ---- lists
+its_items : (v : Vec ℕ) → items_of v ≡ v.items
+its_items v = refl
+
+second_pair : pair_at ((0, 1) ∷ (3, 2) ∷ (5, 0) ∷ []) 1 ≡ (3, 2)
+second_pair = refl
+
+past_the_end : pair_at ((0, 1) ∷ (3, 2) ∷ []) 2 ≡ (0, 0)
+past_the_end = refl
 
 -- ---- buffers
 sound_with_a_gap : buffer_fault (buffer_of 0 10 4 1 ((4, 6) ∷ [])) ≡ None

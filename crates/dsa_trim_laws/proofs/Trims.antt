@@ -4,7 +4,8 @@ use Rattle.std.specs.List.{flat_map}
 use Rattle.dsa_terms.specs.Buffers.{Instance}
 use Rattle.dsa_terms.specs.Claims.{IsIn, IsWhole}
 use Rattle.dsa_terms.specs.Logs.{Cite, ByLine, Below, Twin, Line, Over, Cases, claim_of, IsLegal, Log, IsAccepted}
-use Rattle.dsa_terms.specs.Trims.{cited_line, cited, IsKept, at_end, by_cite, has, needed, renumbered, moved_cite, moved_line, picked, kept_lines, trimmed, IsCited}
+use Rattle.dsa_terms.specs.Parts.{has}
+use Rattle.dsa_terms.specs.Trims.{cited_line, cited, IsKept, at_end, by_cite, needed, renumbered, moved_cite, moved_line, picked, kept_lines, trimmed, IsCited}
 use Rattle.dsa_terms.proofs.Lists.{true_or_false}
 use Rattle.dsa_search_laws.proofs.Logs.{from_take}
 use Rattle.dsa_terms.proofs.Lists.{left_append, right_append}
