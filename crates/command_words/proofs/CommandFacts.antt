@@ -1,6 +1,6 @@
 -- Commands of the code, names of files and limits of numbers, and what the definitions say of them.
 use Rattle.std.proofs.Common.{◌≡◌, Bor, [], ◌∷◌, Some, None, codes, refl, lit≤, true, false, arith}
-use Rattle.command_words.specs.Options.{Word, is_file, is_number, needed_by, optional_for, options_of}
+use Rattle.command_words.specs.Options.{Word, is_file, needed_by, optional_for, options_of}
 use Rattle.command_words.specs.Pairs.{missing_fault, pair_value, pairs_of, value_of}
 use Rattle.command_words.specs.Commands.{Bounds, IsWithinLimit, Least, Refute, Report, Solve, Trial, Trim, Verify, command_value, names_of}
 use Rattle.command_words.specs.declared.command.Command.TheVariants as written
@@ -91,15 +91,6 @@ steps_of_trial_past_the_limit : IsWithinLimit (Trial 1 1 1152921504606846977) �
 steps_of_trial_past_the_limit h = let k = h.2 in omega arith
 
 -- ---- options
-twenty_digits_are_a_number : is_number (codes "00000000000000000012") ≡ true
-twenty_digits_are_a_number = refl
-
-twenty_one_are_none : is_number (codes "000000000000000000012") ≡ false
-twenty_one_are_none = refl
-
-a_number_has_digits_alone : is_number (codes "1x") ≡ false
-a_number_has_digits_alone = refl
-
 a_layout_is_a_file : is_file option.Layout ≡ true
 a_layout_is_a_file = refl
 

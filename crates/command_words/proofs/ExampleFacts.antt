@@ -1,6 +1,6 @@
 -- Command lines, and what the definitions say of them.
 use Rattle.std.proofs.Common.{◌≡◌, true, false, List, [], ◌∷◌, ◌++◌, Some, None, Ok, Err, codes, refl, lit≤}
-use Rattle.command_words.specs.Options.{Word, is_bad, number_of, option_of}
+use Rattle.command_words.specs.Options.{Word, is_bad, option_of}
 use Rattle.command_words.specs.Pairs.{has_equal, pairs_of, place_after}
 use Rattle.command_words.specs.Commands.{Bounds, IsWithinLimit, Least, Refute, Report, Solve, Trial, Trim, Verify, command_of, names_of}
 use Rattle.command_words.specs.declared.option.OptionName.TheVariants as option
@@ -9,23 +9,11 @@ use Rattle.command_words.specs.declared.fault.UsageFault.TheVariants as fault
 
 -- ---- values
 
-twenty_digits : number_of (codes "00000000000000000012") ≡ Some 12
-twenty_digits = refl
-
-twenty_one_digits : number_of (codes "000000000000000000012") ≡ None
-twenty_one_digits = refl
-
-greatest_number : number_of (codes "1152921504606846976") ≡ Some 1152921504606846976
+greatest_number : is_bad option.Capacity (codes "1152921504606846976") ≡ false
 greatest_number = refl
 
-too_great : number_of (codes "1152921504606846977") ≡ None
+too_great : is_bad option.Capacity (codes "1152921504606846977") ≡ true
 too_great = refl
-
-no_digits : number_of [] ≡ None
-no_digits = refl
-
-a_sign : number_of (codes "+1") ≡ None
-a_sign = refl
 
 no_name : is_bad option.Log [] ≡ true
 no_name = refl

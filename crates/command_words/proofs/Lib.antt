@@ -1,4 +1,3 @@
 mod CommandFacts
 mod ExampleFacts
-pub mod NumberLemmas
 pub mod PairLemmas

@@ -1,10 +1,8 @@
 -- The words of commands and options, and the options that each command needs and takes.
-use Rattle.std.specs.Prelude.{ℕ, ◌^◌, Bool, true, false, not, ◌&&◌, List, [], ◌∷◌, ◌++◌, codes, length, nat_le, Option, Some, None, is_some, if◌then◌else◌, find}
-use Rattle.std.specs.List.{list_all}
-use Rattle.std.specs.Char.{is_ascii_digit}
+use Rattle.std.specs.Prelude.{ℕ, ◌^◌, Bool, true, false, not, List, [], ◌∷◌, ◌++◌, codes, Option, is_some, if◌then◌else◌, find}
 use Rattle.std.specs.Str.{bytes_eq}
-use Rattle.std.specs.Str.Parse.{digits_value}
 use Rattle.dsa_terms.specs.Parts.{is_empty}
+use Rattle.dsa_model.specs.Numbers.{number_of}
 use Rattle.command_words.specs.declared.option.OptionName.{OptionName}
 use Rattle.command_words.specs.declared.option.OptionName.TheVariants.{Capacity, Input, Output, Log, Layout, Steps, Seed, Count}
 use Rattle.command_words.specs.declared.verb.Verb.{Verb}
@@ -73,15 +71,6 @@ is_file Log = true
 is_file Layout = true
 is_file other = false
 
--- 1 to 20 digits
-abbrev pub is_number : Word → Bool
-is_number word = nat_le 1 (length word) && nat_le (length word) 20 && list_all is_ascii_digit word
-
--- the number that a word of 1 to 20 digits writes, where it is at most 2^60
-abbrev pub number_of : Word → Option ℕ
-number_of word =
-    if is_number word && nat_le (digits_value 10 word) (2 ^ 60) then Some (digits_value 10 word) else None
-
 -- a value that the option can't have: an empty name, or a word that writes no number where one is wanted
 abbrev pub is_bad : OptionName → Word → Bool
-is_bad option value = if is_file option then is_empty value else not (is_some (number_of value))
+is_bad option value = if is_file option then is_empty value else not (is_some (number_of (2 ^ 60) value))

@@ -7,9 +7,10 @@ use Rattle.csv.specs.Reading.{records_from, strip_bom}
 use Rattle.dsa_model.specs.Buffer.{is_ever_live}
 use Rattle.dsa_terms.specs.Buffers.{is_live, some_before}
 use Rattle.dsa_model.specs.declared.buffer_fault.BufferFault.TheVariants as buffer
+use Rattle.dsa_model.specs.Numbers.{number_of}
 use Rattle.csv_instance.specs.Gaps.{gaps_of}
 use Rattle.csv_instance.specs.Layout.{layout_text}
-use Rattle.csv_instance.specs.Numbers.{number_of, time_limit}
+use Rattle.csv_instance.specs.Numbers.{time_limit}
 use Rattle.csv_instance.specs.Offsets.{ids_of, layout_header_fault, offsets_of}
 use Rattle.csv_instance.specs.Parse.{alignment_of, header_fault, parse}
 use Rattle.csv_instance.specs.Records.{Record, table_of}
@@ -19,23 +20,11 @@ use Rattle.csv_instance.specs.declared.fault.OffsetsFault.TheVariants as offsets
 
 -- ---- fields
 
-twenty_digits : number_of time_limit (codes "00000000000000000007") ≡ Some 7
-twenty_digits = refl
-
-twenty_one_digits : number_of time_limit (codes "000000000000000000007") ≡ None
-twenty_one_digits = refl
-
 greatest_moment : number_of time_limit (codes "4611686018427387903") ≡ Some 4611686018427387903
 greatest_moment = refl
 
 too_late : number_of time_limit (codes "4611686018427387904") ≡ None
 too_late = refl
-
-no_digits : number_of time_limit [] ≡ None
-no_digits = refl
-
-a_sign : number_of time_limit (codes "+1") ≡ None
-a_sign = refl
 
 no_alignment : alignment_of [] ≡ Some 1
 no_alignment = refl

@@ -7,7 +7,6 @@ use Rattle.std.specs.Fmt.{decimal}
 use Rattle.std.specs.List.{list_any, position_from}
 use Rattle.std.specs.Str.{bytes_eq}
 use Rattle.std.specs.Prelude.{⊤, nat_le, ◌==◌}
-use Rattle.csv_instance.specs.Numbers.{number_of}
 use Rattle.csv_instance.specs.Columns.{field_of, name_of, place_of, stands_twice, has_column}
 use Rattle.csv_instance.specs.Layout.{layout_records, layout_text, rows_with}
 use Rattle.csv_instance.specs.Offsets.{AreOffsets, ids_of, is_of, layout_header_fault, layout_row_fault, layout_rows_fault, offset_in, offset_limit, offset_of, offsets_of}
@@ -16,6 +15,7 @@ use Rattle.csv_instance.specs.Records.{Record, table_of}
 use Rattle.csv_instance.proofs.Basics.{any_after, counted_last, find_after, find_none, none_counted, none_if, not_false, some_if, text_same}
 use Rattle.csv_instance.proofs.ReadBack.{layout-read}
 use Rattle.dsa_terms.specs.Buffers.{Buffer}
+use Rattle.dsa_model.specs.Numbers.{number_of}
 use Rattle.std.specs.Option.{option_map_or, option_or}
 use Rattle.csv_instance.specs.declared.fault.InstanceFault.TheVariants as fault
 use Rattle.csv_instance.specs.declared.columns.Column.{Column}

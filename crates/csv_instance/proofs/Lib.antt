@@ -6,7 +6,6 @@ pub mod Short
 pub mod GapLemmas
 pub mod Left
 pub mod GivesLemmas
-pub mod NumberLemmas
 pub mod FieldLemmas
 pub mod IdLemmas
 pub mod TableLemmas

@@ -9,11 +9,11 @@ use Rattle.std.specs.Option.{option_map_or}
 use Rattle.dsa_terms.specs.Buffers.{Buffer}
 use Rattle.dsa_model.specs.Fails.{UnlessNoMemory}
 use Rattle.dsa_model.specs.declared.fail.Fail.{Fail}
+use Rattle.dsa_model.specs.Numbers.{is_number, number_of}
 use Rattle.csv_instance.specs.Columns.{field_of}
 use Rattle.csv_instance.specs.Parse.{parse}
 use Rattle.csv_instance.specs.declared.columns.Column.TheVariants.{Id, Offset}
 use Rattle.csv_instance.proofs.FailLemmas.{UnlessNoMemory-map}
-use Rattle.csv_instance.specs.Numbers.{is_number, number_of}
 use Rattle.csv_instance.specs.Offsets.{AreOffsets, ids_of, is_of, offset_in, offset_limit, offset_of, offsets_of}
 use Rattle.csv_instance.specs.Records.{Record}
 

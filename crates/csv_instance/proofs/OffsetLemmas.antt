@@ -9,11 +9,11 @@ use Rattle.std.specs.Fmt.{decimal}
 use Rattle.std.specs.List.{position_from}
 use Rattle.std.specs.Str.{all_ascii_digits, bytes_eq}
 use Rattle.std.specs.Str.Parse.{digits_value}
+use Rattle.dsa_model.specs.Numbers.{number_of}
+use Rattle.dsa_model.proofs.NumberLemmas.{own}
 use Rattle.csv_instance.specs.Columns.{field_of, name_of, place_of}
-use Rattle.csv_instance.specs.Numbers.{number_of}
 use Rattle.csv_instance.specs.Records.{Record}
 use Rattle.csv_instance.specs.declared.columns.Column.TheVariants.{Id, Offset}
-use Rattle.csv_instance.proofs.NumberLemmas.{own}
 
 number-is : (most : ℕ) (field : List ℕ) (v : ℕ) → 0 < length field → length field ≤ 20 → all_ascii_digits field ≡ true
     → digits_value 10 field ≡ v → v ≤ most → number_of most field ≡ Some v

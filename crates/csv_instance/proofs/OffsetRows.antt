@@ -6,11 +6,11 @@ use Rattle.std.proofs.lemmas.List.{length-map, map-append}
 use Rattle.std.specs.List.{list_any, position_from}
 use Rattle.std.specs.Map.{keys_of}
 use Rattle.std.specs.Str.{bytes_eq}
+use Rattle.dsa_model.specs.Numbers.{number_of}
 use Rattle.indexmap.specs.IndexMap.{insert_entry}
 use Rattle.csv_instance.specs.Columns.{field_of}
 use Rattle.csv_instance.specs.Found.{AreColumns, AreOf, Entries}
 use Rattle.csv_instance.specs.Offsets.{layout_row_fault, layout_row_faults, offset_in, offset_limit}
-use Rattle.csv_instance.specs.Numbers.{number_of}
 use Rattle.csv_instance.specs.Records.{Record}
 use Rattle.csv_instance.specs.declared.columns.Column.TheVariants.{Id}
 use Rattle.csv_instance.specs.declared.fault.OffsetsFault.TheVariants as fault

@@ -1,7 +1,8 @@
 -- The gaps that a field writes.
 use Rattle.std.specs.Prelude.{ℕ, ◌+◌, List, [], ◌∷◌, ◌==◌, if◌then◌else◌, Option, Some, option_map, option_and_then, length, take, drop, map, position}
 use Rattle.std.specs.List.{slice_split}
-use Rattle.csv_instance.specs.Numbers.{number_of, time_limit}
+use Rattle.dsa_model.specs.Numbers.{number_of}
+use Rattle.csv_instance.specs.Numbers.{time_limit}
 
 -- both values, where there are both
 abbrev pub both : {A B : Type 0} → Option A → Option B → Option (A × B)

@@ -4,8 +4,8 @@ use Rattle.std.specs.List.{All, list_any}
 use Rattle.std.specs.Option.{option_or, option_map_or}
 use Rattle.std.specs.Str.{bytes_eq}
 use Rattle.dsa_model.specs.Buffer.{first_fault, when}
+use Rattle.dsa_model.specs.Numbers.{number_of}
 use Rattle.csv_instance.specs.Records.{Record}
-use Rattle.csv_instance.specs.Numbers.{number_of}
 use Rattle.csv_instance.specs.Columns.{field_of, has_column, stands_twice}
 use Rattle.csv_instance.specs.declared.columns.Column.{Column}
 use Rattle.csv_instance.specs.declared.columns.Column.TheVariants.{Id, Offset}

@@ -4,9 +4,10 @@ use Rattle.std.specs.List.{starts_with}
 use Rattle.std.specs.Option.{option_or, option_map_or}
 use Rattle.std.specs.Str.{bytes_eq}
 use Rattle.dsa_model.specs.Buffer.{first_fault, when, buffer_fault}
+use Rattle.dsa_model.specs.Numbers.{number_of}
 use Rattle.dsa_terms.specs.Buffers.{Buffer}
 use Rattle.csv_instance.specs.Records.{Record}
-use Rattle.csv_instance.specs.Numbers.{number_of, time_limit}
+use Rattle.csv_instance.specs.Numbers.{time_limit}
 use Rattle.csv_instance.specs.Gaps.{gaps_of}
 use Rattle.csv_instance.specs.Columns.{named_columns, needed_columns, has_column, stands_twice, field_of}
 use Rattle.csv_instance.specs.declared.columns.Column.{Column}

@@ -3,8 +3,8 @@
 ghost use Rattle.std.specs.Prelude.{◌≡◌, ◌==◌, ◌+◌, ◌≤◌, IfOk, IfSome, length, map, option_map, position};
 ghost use Rattle.csv_instance.specs.Gaps.{gap_of, gaps_of, pieces_of};
 
-use crate::numbers::{TIME_LIMIT, parse_number};
-use dsa_model::NoMemory;
+use crate::numbers::TIME_LIMIT;
+use dsa_model::{NoMemory, parse_number};
 use std::alloc::Global;
 
 /// Where the first hyphen of a piece stands.

@@ -10,9 +10,8 @@ ghost use Rattle.csv_instance.specs.Records.{Record};
 use crate::columns::{Column, field_at, find_column};
 use crate::fault::OffsetsFault;
 use crate::header::first_twice;
-use crate::numbers::parse_number;
 use csv::ByteRecord;
-use dsa_model::Fail;
+use dsa_model::{Fail, parse_number};
 use indexmap::{IndexMap, IndexSet};
 use std::alloc::Global;
 

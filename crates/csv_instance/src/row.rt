@@ -15,9 +15,9 @@ ghost use Rattle.csv_instance.specs.declared.columns.Column.TheVariants.{Id};
 use crate::columns::{Column, Places, field_under};
 use crate::fault::InstanceFault;
 use crate::gaps::read_gaps;
-use crate::numbers::{TIME_LIMIT, parse_number};
+use crate::numbers::TIME_LIMIT;
 use csv::ByteRecord;
-use dsa_model::{BUFFER_LIMIT, Buffer, Fail, NoMemory};
+use dsa_model::{BUFFER_LIMIT, Buffer, Fail, NoMemory, parse_number};
 use indexmap::IndexSet;
 use std::alloc::Global;
 

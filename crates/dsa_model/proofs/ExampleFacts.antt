@@ -1,12 +1,56 @@
 -- Worked facts of the definitions.
-use Rattle.std.proofs.Common.{◌≡◌, ◌-◌, ◌^◌, [], ◌∷◌, Some, None, replicate, refl, arith}
+use Rattle.std.proofs.Common.{◌≡◌, ℕ, ◌-◌, ◌^◌, [], ◌∷◌, true, false, Some, None, codes, replicate, refl, arith}
+use Rattle.std.specs.Global.{Vec}
 use Rattle.dsa_terms.specs.Buffers.{Instance, is_live, buffer, some_before}
 use Rattle.dsa_model.specs.Buffer.{buffer_fault, buffer_of, is_ever_live}
+use Rattle.dsa_model.specs.Lists.{items_of, pair_at}
 use Rattle.dsa_model.specs.Moments.{first_common}
 use Rattle.dsa_model.specs.Counts.{Rose, one_more}
+use Rattle.dsa_model.specs.Numbers.{is_number, number_of}
 use Rattle.dsa_model.specs.LayoutFaults.{layout_fault, first_unaligned, first_above, first_overlap, overlap_after, overlap}
 use Rattle.dsa_model.specs.declared.buffer_fault.BufferFault.TheVariants as fault
 use Rattle.dsa_model.specs.declared.layout.LayoutFault.TheVariants.{WrongCount, Unaligned, Above, Overlap}
+
+-- ---- lists
+its_items : (v : Vec ℕ) → items_of v ≡ v.items
+its_items v = refl
+
+second_pair : pair_at ((0, 1) ∷ (3, 2) ∷ (5, 0) ∷ []) 1 ≡ (3, 2)
+second_pair = refl
+
+past_the_end : pair_at ((0, 1) ∷ (3, 2) ∷ []) 2 ≡ (0, 0)
+past_the_end = refl
+
+-- ---- numbers
+twenty_digits : number_of 9 (codes "00000000000000000007") ≡ Some 7
+twenty_digits = refl
+
+twenty_one_digits : number_of 9 (codes "000000000000000000007") ≡ None
+twenty_one_digits = refl
+
+greatest_number : number_of 1152921504606846976 (codes "1152921504606846976") ≡ Some 1152921504606846976
+greatest_number = refl
+
+too_great : number_of 1152921504606846976 (codes "1152921504606846977") ≡ None
+too_great = refl
+
+no_digits : number_of 9 [] ≡ None
+no_digits = refl
+
+a_sign : number_of 9 (codes "+1") ≡ None
+a_sign = refl
+
+twenty_digits_are_a_number : is_number 12 (codes "00000000000000000012") ≡ true
+twenty_digits_are_a_number = refl
+
+twenty_one_are_none : is_number 12 (codes "000000000000000000012") ≡ false
+twenty_one_are_none = refl
+
+a_number_has_digits_alone : is_number 12 (codes "1x") ≡ false
+a_number_has_digits_alone = refl
+
+a_number_is_within : is_number 11 (codes "12") ≡ false
+a_number_is_within = refl
 
 -- ---- buffers
 sound_with_a_gap : buffer_fault (buffer_of 0 10 4 1 ((4, 6) ∷ [])) ≡ None

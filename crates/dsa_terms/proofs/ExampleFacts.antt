@@ -5,6 +5,7 @@ use Rattle.dsa_terms.specs.Buffers.{Buffer, is_live, buffer, do_share, have_same
 use Rattle.dsa_terms.specs.Layouts.{IsLayout}
 use Rattle.dsa_terms.specs.Claims.{up, number_of, weight, step, child}
 use Rattle.dsa_terms.specs.Logs.{greatest, ends_below, is_twin}
+use Rattle.dsa_terms.specs.Parts.{has}
 use Rattle.dsa_terms.specs.Search.{comes_before, in_order, most_work}
 use Rattle.dsa_terms.specs.Plans.{layout_height}
 use Rattle.dsa_terms.proofs.Examples.{plain, evens, gapped, filled, overrun, made, one_by_one}
@@ -172,6 +173,14 @@ no_fault = refl
 -- ---- lists of numbers and of entries
 sevens : greatest (3 ∷ 7 ∷ 5 ∷ []) ≡ 7
 sevens = refl
+
+has_of_numbers : has 5 (2 ∷ 5 ∷ []) ≡ true
+unfolding has
+has_of_numbers = refl
+
+has_not : has 3 (2 ∷ 5 ∷ []) ≡ false
+unfolding has
+has_not = refl
 
 numbers_of : map (number_of ((1, 4) ∷ (2, 5) ∷ [])) (0 ∷ 1 ∷ 2 ∷ []) ≡ 0 ∷ 4 ∷ 5 ∷ []
 numbers_of = refl

@@ -1,9 +1,11 @@
 -- Membership in a list, and the lists that are made of others.
-use Rattle.std.proofs.Common.{◌≡◌, ◌<◌, ◌≤◌, ◌⊎◌, inl, inr, Bool, true, false, cond, ◌||◌, List, [], ◌∷◌, ◌++◌, map, length, filter, Option, Some, None, refl, ap, ◌∙◌, arith}
+use Rattle.std.proofs.Common.{◌≡◌, ◌<◌, ◌≤◌, ◌⊎◌, inl, inr, ℕ, Bool, true, false, cond, ◌==◌, ◌||◌, List, [], ◌∷◌, ◌++◌, map, length, filter, Option, Some, None, refl, ap, ◌∙◌, subst, arith}
 use Rattle.std.specs.List.{list_any, list_all}
 use Rattle.std.specs.Option.{option_or}
+use Rattle.std.proofs.lemmas.Bool.Decides.{nat_tests}
 use Rattle.dsa_terms.specs.Claims.{IsIn, Entry}
 use Rattle.dsa_terms.specs.Buffers.{Instance}
+use Rattle.dsa_terms.specs.Parts.{has}
 use Rattle.dsa_terms.specs.Search.{comes_before, put_in, in_order, first_some}
 use Rattle.dsa_terms.proofs.Moments.{and_true}
 
@@ -182,3 +184,18 @@ all_at p (y ∷ ys) x h (inr i) = all_at p ys x (and_true (p y) (list_all p ys) 
 pub all_from : {X : Type 0} (p : X → Bool) (xs : List X) → ((x : X) → IsIn x xs → p x ≡ true) → list_all p xs ≡ true
 all_from p [] h = refl
 all_from p (y ∷ ys) h = rw (h y (inl refl)) (all_from p ys (λ x i. h x (inr i)))
+
+-- ---- lists that have a number
+pub has_in : (k : ℕ) (ks : List ℕ) → has k ks ≡ true → IsIn k ks
+unfolding has
+has_in k ks h = let r = any_gives (λ j. j == k) ks h in subst (λ (j : ℕ). IsIn j ks) (eq r.0 k r.2) r.1
+  where
+    eq : (m n : ℕ) → (m == n) ≡ true → m ≡ n
+    eq m n q = grind (arith, nat_tests)
+
+pub in_has : (k : ℕ) (ks : List ℕ) → IsIn k ks → has k ks ≡ true
+unfolding has
+in_has k ks i = any_from (λ j. j == k) ks k i (same k)
+  where
+    same : (m : ℕ) → (m == m) ≡ true
+    same m = grind (arith, nat_tests)

@@ -4,7 +4,8 @@ use Rattle.dsa_terms.specs.Buffers.{is_live, IsLive, buffer, do_share, have_same
 use Rattle.dsa_terms.specs.Claims.{Entry, Claim, IsIn, up, step, child, Covers}
 use Rattle.dsa_terms.specs.Logs.{is_stacked, rounded, rounding, ends_below, is_twin, ByLine, Below, Twin, Line, Over, Cases, claim_of, IsLegalCite, IsLegalReason, IsLegal, Log}
 use Rattle.dsa_terms.specs.Lean.{IsOwnCite, IsLeanOver}
-use Rattle.dsa_terms.specs.Trims.{cited_line, cited, IsKept, at_end, by_cite, has, with_cited, needed_from, moved_cite, moved_line, picked, IsCited}
+use Rattle.dsa_terms.specs.Parts.{has}
+use Rattle.dsa_terms.specs.Trims.{cited_line, cited, IsKept, at_end, by_cite, with_cited, needed_from, moved_cite, moved_line, picked, IsCited}
 use Rattle.dsa_terms.proofs.Examples.{evens, over_2, over_1, case_12, over_01, case_all, sample}
 
 abbrev all_three : Claim

@@ -1,7 +1,8 @@
 -- Trimmed logs: a line that nothing cites goes, with what only it cites, and the cites are renumbered.
 use Rattle.std.proofs.Common.{◌≡◌, [], ◌∷◌, map, refl}
 use Rattle.dsa_terms.specs.Logs.{ByLine, Twin, Over, Cases, Log}
-use Rattle.dsa_terms.specs.Trims.{has, with_cited, needed, renumbered, kept_lines, trimmed}
+use Rattle.dsa_terms.specs.Parts.{has}
+use Rattle.dsa_terms.specs.Trims.{with_cited, needed, renumbered, kept_lines, trimmed}
 use Rattle.dsa_terms.proofs.Examples.{over_2, over_1, case_12, over_01, sample}
 
 -- the sample log after a line that nothing cites

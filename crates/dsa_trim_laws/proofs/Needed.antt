@@ -4,10 +4,10 @@ use Rattle.std.specs.List.{flat_map, AllZip}
 use Rattle.dsa_terms.specs.Buffers.{Instance}
 use Rattle.dsa_terms.specs.Claims.{Entry, Claim, IsIn, Covers, child}
 use Rattle.dsa_terms.specs.Logs.{Cite, ByLine, Below, Twin, Line, Over, Cases, claim_of, IsLegalCite, IsLegalReason, IsLegal, Log, IsAccepted}
-use Rattle.dsa_terms.specs.Trims.{cited_line, cited, IsKept, at_end, by_cite, has, with_cited, needed_from, needed, moved_cite, moved_line}
+use Rattle.dsa_terms.specs.Parts.{has}
+use Rattle.dsa_terms.specs.Trims.{cited_line, cited, IsKept, at_end, by_cite, with_cited, needed_from, needed, moved_cite, moved_line}
 use Rattle.dsa_search_laws.proofs.Logs.{from_take}
-use Rattle.dsa_terms.proofs.Lists.{from_append, left_append, right_append}
-use Rattle.dsa_trim_laws.proofs.Picked.{has_in, in_has}
+use Rattle.dsa_terms.proofs.Lists.{from_append, has_in, in_has, left_append, right_append}
 
 -- ---- what is needed
 -- each line cites earlier lines alone

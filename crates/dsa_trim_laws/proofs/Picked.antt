@@ -3,24 +3,10 @@ use Rattle.std.proofs.Common.{◌≡◌, ℕ, zero, suc, ◌+◌, ◌<◌, ◌�
 use Rattle.std.specs.List.{range_with_len}
 use Rattle.std.proofs.lemmas.Bool.Decides.{nat_tests}
 use Rattle.dsa_terms.specs.Claims.{IsIn}
-use Rattle.dsa_terms.specs.Trims.{has, picked}
-use Rattle.dsa_terms.proofs.Lists.{any_gives, any_from}
+use Rattle.dsa_terms.specs.Parts.{has}
+use Rattle.dsa_terms.specs.Trims.{picked}
 
 -- ---- lists
-pub has_in : (k : ℕ) (ks : List ℕ) → has k ks ≡ true → IsIn k ks
-unfolding has
-has_in k ks h = let r = any_gives (λ j. j == k) ks h in subst (λ (j : ℕ). IsIn j ks) (eq r.0 k r.2) r.1
-  where
-    eq : (m n : ℕ) → (m == n) ≡ true → m ≡ n
-    eq m n q = grind (arith, nat_tests)
-
-pub in_has : (k : ℕ) (ks : List ℕ) → IsIn k ks → has k ks ≡ true
-unfolding has
-in_has k ks i = any_from (λ j. j == k) ks k i (same k)
-  where
-    same : (m : ℕ) → (m == m) ≡ true
-    same m = grind (arith, nat_tests)
-
 pub get_in : {X : Type 0} (xs : List X) (k : ℕ) (x : X) → slice_get xs k ≡ Some x → k < length xs
 get_in [] k x h = absurd cc
 get_in (y ∷ ys) zero x h = omega arith

@@ -3,7 +3,8 @@
 ghost use Rattle.std.specs.Prelude.{◌≡◌, true, ℕ, ◌+◌, ◌<◌, ◌↔◌, length, slice_get, Some};
 ghost use Rattle.dsa_terms.specs.Buffers.{Instance};
 ghost use Rattle.dsa_terms.specs.Logs.{IsAccepted, Line, Log, claim_of};
-ghost use Rattle.dsa_terms.specs.Trims.{has, IsCited, IsKept, needed, trimmed};
+ghost use Rattle.dsa_terms.specs.Parts.{has};
+ghost use Rattle.dsa_terms.specs.Trims.{IsCited, IsKept, needed, trimmed};
 
 /// Trimming an accepted log leaves an accepted one, of the lines that the end needs alone; trimming
 /// it again changes nothing.

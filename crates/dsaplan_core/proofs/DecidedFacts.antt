@@ -1,7 +1,8 @@
 -- What answers that write files come to, in the small world.
 use Rattle.std.proofs.Common.{◌≡◌, Some, None, codes, refl, ap, lit<, lit≤, arith}
 use Rattle.std.specs.FinMap.{insert}
-use Rattle.dsa_terms.specs.Trims.{has, kept_lines, needed, renumbered, trimmed, with_cited}
+use Rattle.dsa_terms.specs.Parts.{has}
+use Rattle.dsa_terms.specs.Trims.{kept_lines, needed, renumbered, trimmed, with_cited}
 use Rattle.dsaplan_core.specs.Decided.{LaysOut, WritesRefutationBelow, RefutesCapacity, with_log}
 use Rattle.dsaplan_core.specs.Seen.{FilesSeen}
 use Rattle.dsaplan_core.specs.Steps.{IsWhole, log_limit}

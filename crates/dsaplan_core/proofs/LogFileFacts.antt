@@ -5,7 +5,8 @@ use Rattle.std.specs.FinMap.{empty, gets, insert}
 use Rattle.dsa_terms.specs.Claims.{Entry, IsIn}
 use Rattle.dsa_terms.specs.Layouts.{IsLayout}
 use Rattle.dsa_terms.specs.Logs.{IsAccepted, IsLegal, Line, Log, Over}
-use Rattle.dsa_terms.specs.Trims.{has, kept_lines, needed, renumbered, trimmed, with_cited}
+use Rattle.dsa_terms.specs.Parts.{has}
+use Rattle.dsa_terms.specs.Trims.{kept_lines, needed, renumbered, trimmed, with_cited}
 use Rattle.dsa_outside.specs.Held.{FileMap, file_at, with_file}
 use Rattle.dsa_outside.proofs.Lookups.{file_at-with_file}
 use Rattle.log_text.specs.Faults.{HasCite, IsTextOf}

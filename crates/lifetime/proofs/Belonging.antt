@@ -10,12 +10,13 @@ use Rattle.dsa_terms.specs.Parts.{numbers}
 use Rattle.dsa_terms.specs.Plans.{IsPeak, load}
 use Rattle.dsa_terms.proofs.Lists.{from_filter, into_filter, nil_or_not}
 use Rattle.dsa_model.specs.Buffer.{IsBuffer}
+use Rattle.dsa_model.specs.Lists.{items_of}
 use Rattle.lifetime.specs.Edges.{has_member, places_of}
 use Rattle.lifetime.specs.Places.{AreMembersBelow, HasMembersBelow}
 use Rattle.lifetime.specs.Runs.{ArePlainRuns, AreRuns, BeginsRun, starts_of}
 use Rattle.lifetime.specs.SectionList.{AreSectionsOf, HasAllAt, IsKept, Section, SectionList, ShareSection, count_of, live_at, members_of, no_section, sections_of, start_of}
 use Rattle.lifetime.specs.Thin.{AreAmong, IsThinnedTo, StandForAll, StandsFor}
-use Rattle.lifetime.specs.Views.{items_of, list_of, section_of}
+use Rattle.lifetime.specs.Views.{list_of, section_of}
 use Rattle.lifetime.specs.declared.section_list.Section.{Section as Declared}
 use Rattle.lifetime.proofs.Lists.{all_from_in, among, below, filter_same, in_at, rises-numbers, rises_at}
 use Rattle.lifetime.proofs.Live.{into_live, rises_live}

@@ -1,12 +1,12 @@
 -- The definitions at small instances.
-use Rattle.std.proofs.Common.{◌≡◌, ℕ, ◌<◌, ◌⊎◌, inl, inr, true, false, List, [], ◌∷◌, refl, sym, ◌∙◌, arith}
+use Rattle.std.proofs.Common.{◌≡◌, ℕ, ◌<◌, ◌⊎◌, inl, inr, false, List, [], ◌∷◌, refl, sym, ◌∙◌, arith}
 use Rattle.dsa_terms.specs.Buffers.{Buffer, Instance, buffer, is_live}
 use Rattle.dsa_terms.specs.Claims.{IsIn}
+use Rattle.dsa_terms.specs.Parts.{has}
 use Rattle.lifetime.specs.Edges.{edge_moments, edges_of, has_member, places_of}
 use Rattle.lifetime.specs.Places.{ends_with}
 use Rattle.lifetime.specs.Runs.{live_before, starts_of, was_live}
 use Rattle.lifetime.specs.SectionList.{Section, SectionList, live_at}
-use Rattle.lifetime.specs.Switching.{has_number}
 use Rattle.lifetime.specs.Thin.{AreAmong, IsBetween, IsThin, StandsFor, last_of}
 
 -- a buffer with a gap, which another one fills and outlasts
@@ -42,6 +42,7 @@ numbered_edges : edges_of filling 1 ≡ (4, 1) ∷ (7, 1) ∷ []
 numbered_edges = refl
 
 one_noted : ends_with (1 ∷ []) 7 ((3 ∷ []) ∷ (4 ∷ []) ∷ []) ≡ (3 ∷ []) ∷ (4 ∷ 7 ∷ []) ∷ []
+unfolding has
 one_noted = refl
 
 abbrev pub first : Section
@@ -54,19 +55,16 @@ starts_of_both : starts_of (first ∷ second ∷ []) ≡ 0 ∷ 6 ∷ []
 starts_of_both = refl
 
 places_of_first : places_of (first ∷ second ∷ []) 0 ≡ 0 ∷ 1 ∷ []
+unfolding has
 places_of_first = refl
 
 places_of_second : places_of (first ∷ second ∷ []) 1 ≡ 1 ∷ []
+unfolding has
 places_of_second = refl
 
 not_a_member : has_member first 1 ≡ false
+unfolding has
 not_a_member = refl
-
-has_of_numbers : has_number (2 ∷ 5 ∷ []) 5 ≡ true
-has_of_numbers = refl
-
-has_not : has_number (2 ∷ 5 ∷ []) 3 ≡ false
-has_not = refl
 
 -- ---- thin lists
 abbrev list_with : List Section → SectionList

@@ -6,18 +6,18 @@ use Rattle.std.proofs.lemmas.List.FromFn.{fill_by_all, get_or-map-range_with_len
 use Rattle.std.specs.Global.{Vec}
 use Rattle.std.specs.List.{All}
 use Rattle.dsa_terms.specs.Claims.{IsIn, Rises}
-use Rattle.dsa_terms.specs.Parts.{numbers}
+use Rattle.dsa_terms.specs.Parts.{has, numbers}
+use Rattle.dsa_model.specs.Lists.{items_of}
 use Rattle.lifetime.specs.Edges.{has_member}
 use Rattle.lifetime.specs.Places.{HasMembersBelow, ends_with}
 use Rattle.lifetime.specs.SectionList.{Section, no_section}
-use Rattle.lifetime.specs.Switching.{has_number}
-use Rattle.lifetime.specs.Views.{items_of, section_of}
+use Rattle.lifetime.specs.Views.{section_of}
 use Rattle.lifetime.specs.declared.section_list.Section.{Section as Declared}
 use Rattle.lifetime.proofs.Lists.{below, filter_more, map-append}
 
 -- s put last in the list where b is one of the members
 abbrev pub with_last : List ℕ → ℕ → ℕ → List ℕ → List ℕ
-with_last members s b places = places ++ cond (has_number members b) (s ∷ []) []
+with_last members s b places = places ++ cond (has b members) (s ∷ []) []
 
 -- the lists once the members up to place i have been gone over: what is left is as it was, with what is still to come
 pub record IsNoting (members : List ℕ) (s i : ℕ) (old lists : List (Vec ℕ)) : Type 0 where
@@ -39,7 +39,8 @@ rises_drop xs zero r = r
 rises_drop [] (suc i) r = tt
 rises_drop (x ∷ xs) (suc i) r = rises_drop xs i r.1
 
-not_among : (xs : List ℕ) (x : ℕ) → ((y : ℕ) → IsIn y xs → x < y) → has_number xs x ≡ false
+not_among : (xs : List ℕ) (x : ℕ) → ((y : ℕ) → IsIn y xs → x < y) → has x xs ≡ false
+unfolding has
 not_among [] x h = refl
 not_among (y ∷ ys) x h = let k = h y (inl refl) in rw (differs y x k) (not_among ys x (λ z i. h z (inr i)))
   where
@@ -53,6 +54,7 @@ pub noted_more : (members : List ℕ) (s i x : ℕ) (old lists more : List (Vec 
     IsNoting members s i old lists → i < length members → x ≡ slice_index_or members i 0 →
     x < length old → w ≡ slice_index_or lists x w → v.items ≡ w.items ++ s ∷ [] → more ≡ slice_set lists x v →
     IsNoting members s (i + 1) old more
+unfolding has
 noted_more members s i x old lists more v w r n lt at xn is pushed e = record {
   count = ap length e ∙ (length-set lists x v ∙ n.count);
   left = λ b d bn. n.left b d bn ∙ (ap (λ ms. with_last ms s b (slice_index_or lists b d).items) dropped ∙ step b d bn
@@ -62,7 +64,7 @@ noted_more members s i x old lists more v w r n lt at xn is pushed e = record {
     dropped : drop i members ≡ x ∷ drop (i + 1) members
     dropped = rw at (drop_at members i lt)
 
-    later : has_number (drop (i + 1) members) x ≡ false
+    later : has x (drop (i + 1) members) ≡ false
     later = not_among (drop (i + 1) members) x (rw dropped at (rises_drop members i r)).0
 
     default : (lists : List (Vec ℕ)) (x : ℕ) (v d : Vec ℕ) → x < length lists →
@@ -98,6 +100,7 @@ noted_more members s i x old lists more v w r n lt at xn is pushed e = record {
 -- all members have been gone over
 pub noted_all : (members : List ℕ) (s i : ℕ) (old lists : List (Vec ℕ)) → length members ≤ i →
     IsNoting members s i old lists → map items_of lists ≡ ends_with members s (map items_of old)
+unfolding has
 noted_all members s i old lists le n = rw (length-map old items_of)
     (fill_by_all (λ b. with_last members s b (slice_index_or (map items_of old) b [])) (map items_of lists)
     (length old) [] (length-map lists items_of ∙ n.count) at)

@@ -4,7 +4,9 @@ use Rattle.std.proofs.lemmas.Bool.Decides.{nat_tests}
 use Rattle.std.proofs.lemmas.List.Elements.{All-cons, All-nil}
 use Rattle.dsa_terms.specs.Buffers.{Buffer, Instance, buffer, is_live}
 use Rattle.dsa_terms.specs.Claims.{IsIn}
-use Rattle.lifetime.specs.Edges.{AreEdges, AreRunsBefore, IsAfter, IsPassed, edge_at, edge_moments}
+use Rattle.dsa_terms.specs.Parts.{has}
+use Rattle.dsa_model.specs.Lists.{pair_at}
+use Rattle.lifetime.specs.Edges.{AreEdges, AreRunsBefore, IsAfter, IsPassed, edge_moments}
 use Rattle.lifetime.specs.Runs.{ArePlainRuns, BeginsRun, live_before, was_live}
 use Rattle.lifetime.specs.SectionList.{Section, live_at, section_with}
 use Rattle.lifetime.specs.Switching.{IsSwitched}
@@ -27,9 +29,6 @@ abbrev run : Section
 run = section_with 0 (0 ∷ [])
 
 -- ---- edges
-second_edge : edge_at edges 1 ≡ (2, 0)
-second_edge = refl
-
 both_edges : AreEdges one edges
 unfolding buffer
 both_edges = record {
@@ -66,11 +65,11 @@ without_end h = elim (h.complete 0 2 (lit< tt) (inr (inl refl))) [
 after_first : IsAfter edges 1 0
 after_first = record { within = lit≤ tt; passed = passed; later = later }
   where
-    passed : (k : ℕ) → k < 1 → (edge_at edges k).0 ≤ 0
+    passed : (k : ℕ) → k < 1 → (pair_at edges k).0 ≤ 0
     passed zero lt = lit≤ tt
     passed (suc k) lt = absurd (omega arith)
 
-    later : (k : ℕ) → 1 ≤ k → k < 2 → 0 < (edge_at edges k).0
+    later : (k : ℕ) → 1 ≤ k → k < 2 → 0 < (pair_at edges k).0
     later zero le lt = absurd (omega arith)
     later (suc zero) le lt = lit< tt
     later (suc (suc k)) le lt = absurd (omega arith)
@@ -137,8 +136,8 @@ run_before_second = record {
 }
   where
     there : (t : ℕ) → IsIn t (0 ∷ []) →
-        BeginsRun one t × ((k : ℕ) → 1 ≤ k → k < 2 → t < (edge_at edges k).0)
-    there t (inl e) = subst (λ t. BeginsRun one t × ((k : ℕ) → 1 ≤ k → k < 2 → t < (edge_at edges k).0)) (sym e)
+        BeginsRun one t × ((k : ℕ) → 1 ≤ k → k < 2 → t < (pair_at edges k).0)
+    there t (inl e) = subst (λ t. BeginsRun one t × ((k : ℕ) → 1 ≤ k → k < 2 → t < (pair_at edges k).0)) (sym e)
         (run_at_0, after_first.later)
     there t (inr i) = absurd i
 
@@ -148,7 +147,9 @@ none_before_first h = let k = ((h.runs 0).0 (inl refl)).1 0 (lit≤ tt) (lit< tt
 
 -- ---- switches
 put_in : IsSwitched [] 3 true (3 ∷ [])
+unfolding has
 put_in = record { rises = ((λ y i. absurd i), tt); own = refl; others = λ c n. grind (arith, nat_tests) }
 
 not_put_in : IsSwitched (2 ∷ 5 ∷ []) 3 true (2 ∷ 5 ∷ []) → ⊥
+unfolding has
 not_put_in s = let e = s.own in absurd cc

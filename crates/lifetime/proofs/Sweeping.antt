@@ -3,8 +3,9 @@ use Rattle.std.proofs.Common.{◌≡◌, ◌≢◌, ℕ, suc, ◌<◌, ◌≤◌
 use Rattle.dsa_terms.specs.Buffers.{Instance, buffer, is_live}
 use Rattle.dsa_terms.specs.Claims.{IsIn}
 use Rattle.dsa_terms.specs.Parts.{numbers}
+use Rattle.dsa_model.specs.Lists.{pair_at}
 use Rattle.dsa_terms.proofs.Lists.{from_append, nil_or_not, left_append, right_append}
-use Rattle.lifetime.specs.Edges.{AreEdges, AreRunsBefore, IsPassed, edge_at, edge_moments}
+use Rattle.lifetime.specs.Edges.{AreEdges, AreRunsBefore, IsPassed, edge_moments}
 use Rattle.lifetime.specs.Runs.{BeginsRun, live_before, starts_of, was_live}
 use Rattle.lifetime.specs.SectionList.{Section, live_at}
 use Rattle.lifetime.proofs.Lists.{below, filter_same, map-append, place_of, rises-push}
@@ -14,8 +15,8 @@ use Rattle.lifetime.proofs.Stays.{not_before, not_live_before_lower, quiet, was_
 pub record IsSweeping (I : Instance) (edges : List (ℕ × ℕ)) (next : ℕ) (live : List ℕ) (sections : List Section) :
     Type 0 where
   pub within : next ≤ length edges
-  pub fresh : (k : ℕ) → k < next → next < length edges → (edge_at edges k).0 < (edge_at edges next).0
-  pub were : next < length edges → live ≡ live_before I (edge_at edges next).0
+  pub fresh : (k : ℕ) → k < next → next < length edges → (pair_at edges k).0 < (pair_at edges next).0
+  pub were : next < length edges → live ≡ live_before I (pair_at edges next).0
   pub runs : AreRunsBefore I edges next sections
   pub limit : length sections ≤ next
 
@@ -28,14 +29,14 @@ which m n = grind arith
 -- the edge of a buffer stands somewhere
 edge_place : (I : Instance) (edges : List (ℕ × ℕ)) (b t : ℕ) → AreEdges I edges → b < length I →
     IsIn t (edge_moments (buffer I b)) →
-    (k : ℕ) × (k < length edges) × ((edge_at edges k).0 ≡ t)
+    (k : ℕ) × (k < length edges) × ((pair_at edges k).0 ≡ t)
 edge_place I edges b t a bn i =
     let r = place_of edges (t, b) (0, 0) (a.complete b t bn i) in
     (r.0, r.1, ap (λ (e : ℕ × ℕ). e.0) r.2)
 
 -- before all edges nothing is live
 nothing_before : (I : Instance) (edges : List (ℕ × ℕ)) (t : ℕ) → AreEdges I edges →
-    ((k : ℕ) → k < length edges → t < (edge_at edges k).0) → live_at I t ≡ []
+    ((k : ℕ) → k < length edges → t < (pair_at edges k).0) → live_at I t ≡ []
 unfolding live_at
 nothing_before I edges t a h = none (numbers (length I)) (λ b i. i)
   where
@@ -52,7 +53,7 @@ nothing_before I edges t a h = none (numbers (length I)) (λ b i. i)
 
 -- where no edge is, what is live stays
 stays_at : (I : Instance) (edges : List (ℕ × ℕ)) (t : ℕ) → AreEdges I edges →
-    ((k : ℕ) → k < length edges → (edge_at edges k).0 ≢ t) → live_at I t ≡ live_before I t
+    ((k : ℕ) → k < length edges → (pair_at edges k).0 ≢ t) → live_at I t ≡ live_before I t
 unfolding live_at live_before
 stays_at I edges t a h = filter_same (λ b. is_live (buffer I b) t) (λ b. was_live (buffer I b) t) (numbers (length I))
     (λ b i. let bn = below (length I) b i in quiet (buffer I b) t
@@ -60,18 +61,18 @@ stays_at I edges t a h = filter_same (λ b. is_live (buffer I b) t) (λ b. was_l
 
 -- nor was it before them
 none_before : (I : Instance) (edges : List (ℕ × ℕ)) → AreEdges I edges → 0 < length edges →
-    [] ≡ live_before I (edge_at edges 0).0
+    [] ≡ live_before I (pair_at edges 0).0
 unfolding live_before
 none_before I edges a lt = sym (none (numbers (length I)) (λ b i. i))
   where
-    dead : (b : ℕ) → b < length I → was_live (buffer I b) (edge_at edges 0).0 ≡ false
+    dead : (b : ℕ) → b < length I → was_live (buffer I b) (pair_at edges 0).0 ≡ false
     dead b bn =
         let r = edge_place I edges b (buffer I b).lower a bn (inl refl) in
         let k = a.sorted 0 r.0 (0, 0) (omega arith) r.1 in let z = r.2 in
-        not_live_before_lower (buffer I b) (edge_at edges 0).0 (omega arith)
+        not_live_before_lower (buffer I b) (pair_at edges 0).0 (omega arith)
 
     none : (bs : List ℕ) → ((b : ℕ) → IsIn b bs → IsIn b (numbers (length I))) →
-        filter (λ b. was_live (buffer I b) (edge_at edges 0).0) bs ≡ []
+        filter (λ b. was_live (buffer I b) (pair_at edges 0).0) bs ≡ []
     none [] h = refl
     none (b ∷ bs) h = rw (dead b (below (length I) b (h b (inl refl)))) (none bs (λ c i. h c (inr i)))
 
@@ -112,29 +113,29 @@ pub record MovesOn (I : Instance) (edges : List (ℕ × ℕ)) (first next : ℕ)
 module _ (I : Instance) (edges : List (ℕ × ℕ)) (first next : ℕ) (live now : List ℕ) (sections more : List Section)
     (changed : Bool) (m : MovesOn I edges first next live now sections more changed) where
   moment : ℕ
-  moment = (edge_at edges first).0
+  moment = (pair_at edges first).0
 
   -- where a run begins before the next edges it begins before this moment or at it
-  none_between : (t : ℕ) → (edge_at edges first).0 < t →
-      ((k : ℕ) → next ≤ k → k < length edges → t < (edge_at edges k).0) → live_at I t ≡ live_before I t
+  none_between : (t : ℕ) → (pair_at edges first).0 < t →
+      ((k : ℕ) → next ≤ k → k < length edges → t < (pair_at edges k).0) → live_at I t ≡ live_before I t
   none_between t low high = stays_at I edges t m.edges_of_it (λ k lt. elim (cases k next) [
     | inl q ↦ (λ e. let z = m.passed.after.passed k q in absurd (omega arith))
     | inr q ↦ (λ e. let z = high k q lt in absurd (omega arith))
   ])
 
-  before_first : (t : ℕ) → t < (edge_at edges first).0 → (k : ℕ) → first ≤ k → k < length edges →
-      t < (edge_at edges k).0
+  before_first : (t : ℕ) → t < (pair_at edges first).0 → (k : ℕ) → first ≤ k → k < length edges →
+      t < (pair_at edges k).0
   before_first t lt k le kn = let z = m.edges_of_it.sorted first k (0, 0) le kn in omega arith
 
-  before_next : (t : ℕ) → t ≤ (edge_at edges first).0 → (k : ℕ) → next ≤ k → k < length edges → t < (edge_at edges k).0
+  before_next : (t : ℕ) → t ≤ (pair_at edges first).0 → (k : ℕ) → next ≤ k → k < length edges → t < (pair_at edges k).0
   before_next t le k low kn = let z = m.passed.after.later k low kn in omega arith
 
-  first_before : (t : ℕ) → ((k : ℕ) → first ≤ k → k < length edges → t < (edge_at edges k).0) →
-      t < (edge_at edges first).0
+  first_before : (t : ℕ) → ((k : ℕ) → first ≤ k → k < length edges → t < (pair_at edges k).0) →
+      t < (pair_at edges first).0
   first_before t h = h first (omega arith) m.in_edges
 
-  pub runs_same : (live_at I (edge_at edges first).0 ≡ live_before I (edge_at edges first).0) ⊎
-      (live_at I (edge_at edges first).0 ≡ []) → AreRunsBefore I edges next sections
+  pub runs_same : (live_at I (pair_at edges first).0 ≡ live_before I (pair_at edges first).0) ⊎
+      (live_at I (pair_at edges first).0 ≡ []) → AreRunsBefore I edges next sections
   runs_same quiet = record {
     each = m.before.runs.each;
     rise = m.before.runs.rise;
@@ -142,12 +143,12 @@ module _ (I : Instance) (edges : List (ℕ × ℕ)) (first next : ℕ) (live now
   }
     where
       forth : (t : ℕ) → IsIn t (starts_of sections) → BeginsRun I t ×
-          ((k : ℕ) → next ≤ k → k < length edges → t < (edge_at edges k).0)
+          ((k : ℕ) → next ≤ k → k < length edges → t < (pair_at edges k).0)
       forth t i = let q = (m.before.runs.runs t).0 i in (q.0, before_next t (let z = first_before t q.1 in omega arith))
 
-      back : (t : ℕ) → BeginsRun I t × ((k : ℕ) → next ≤ k → k < length edges → t < (edge_at edges k).0) →
+      back : (t : ℕ) → BeginsRun I t × ((k : ℕ) → next ≤ k → k < length edges → t < (pair_at edges k).0) →
           IsIn t (starts_of sections)
-      back t q = elim (which t (edge_at edges first).0) [
+      back t q = elim (which t (pair_at edges first).0) [
         | inl less ↦ (m.before.runs.runs t).1 (q.0, before_first t less)
         | inr r ↦ elim r [
           | inl same ↦ elim quiet [
@@ -158,20 +159,20 @@ module _ (I : Instance) (edges : List (ℕ × ℕ)) (first next : ℕ) (live now
         ]
       ]
 
-  pub runs_more : live_at I (edge_at edges first).0 ≢ live_before I (edge_at edges first).0 →
-      live_at I (edge_at edges first).0 ≢ [] →
-      more ≡ sections ++ (record { start = (edge_at edges first).0; members = live_at I (edge_at edges first).0 }) ∷ []
+  pub runs_more : live_at I (pair_at edges first).0 ≢ live_before I (pair_at edges first).0 →
+      live_at I (pair_at edges first).0 ≢ [] →
+      more ≡ sections ++ (record { start = (pair_at edges first).0; members = live_at I (pair_at edges first).0 }) ∷ []
       → AreRunsBefore I edges next more
   runs_more changes something e = rw e (record {
     each = each;
     rise = rw (map-append (λ (x : Section). x.start) sections (added ∷ []))
-        (rises-push (starts_of sections) (edge_at edges first).0 m.before.runs.rise
+        (rises-push (starts_of sections) (pair_at edges first).0 m.before.runs.rise
         (λ t i. first_before t ((m.before.runs.runs t).0 i).1));
     runs = λ t. (forth t, back t);
   })
     where
       added : Section
-      added = record { start = (edge_at edges first).0; members = live_at I (edge_at edges first).0 }
+      added = record { start = (pair_at edges first).0; members = live_at I (pair_at edges first).0 }
 
       each : (x : Section) → IsIn x (sections ++ added ∷ []) → x.members ≡ live_at I x.start
       each x i = elim (from_append sections (added ∷ []) x i) [
@@ -179,38 +180,38 @@ module _ (I : Instance) (edges : List (ℕ × ℕ)) (first next : ℕ) (live now
         | inr j ↦ elim j [ inl f ↦ rw f refl | inr k ↦ absurd k ]
       ]
 
-      begins : BeginsRun I (edge_at edges first).0
+      begins : BeginsRun I (pair_at edges first).0
       begins = record { something = something; changed = changes }
 
       forth : (t : ℕ) → IsIn t (starts_of (sections ++ added ∷ [])) →
-          BeginsRun I t × ((k : ℕ) → next ≤ k → k < length edges → t < (edge_at edges k).0)
-      forth t i = elim (from_append (starts_of sections) ((edge_at edges first).0 ∷ []) t
+          BeginsRun I t × ((k : ℕ) → next ≤ k → k < length edges → t < (pair_at edges k).0)
+      forth t i = elim (from_append (starts_of sections) ((pair_at edges first).0 ∷ []) t
           (rw (map-append (λ (x : Section). x.start) sections (added ∷ [])) at i)) [
             | inl j ↦ let q = (m.before.runs.runs t).0 j in
                 (q.0, before_next t (let z = first_before t q.1 in omega arith))
             | inr j ↦ elim j [ inl f ↦ (rw f begins, before_next t (omega arith)) | inr k ↦ absurd k ]
           ]
 
-      put : (t : ℕ) → IsIn t (starts_of sections) ⊎ (t ≡ (edge_at edges first).0) →
+      put : (t : ℕ) → IsIn t (starts_of sections) ⊎ (t ≡ (pair_at edges first).0) →
           IsIn t (starts_of (sections ++ added ∷ []))
       put t (inl i) = rw (map-append (λ (x : Section). x.start) sections (added ∷ []))
-          (left_append (starts_of sections) ((edge_at edges first).0 ∷ []) t i)
+          (left_append (starts_of sections) ((pair_at edges first).0 ∷ []) t i)
       put t (inr f) = rw (map-append (λ (x : Section). x.start) sections (added ∷ []))
-          (right_append (starts_of sections) ((edge_at edges first).0 ∷ []) t (inl f))
+          (right_append (starts_of sections) ((pair_at edges first).0 ∷ []) t (inl f))
 
-      back : (t : ℕ) → BeginsRun I t × ((k : ℕ) → next ≤ k → k < length edges → t < (edge_at edges k).0) →
+      back : (t : ℕ) → BeginsRun I t × ((k : ℕ) → next ≤ k → k < length edges → t < (pair_at edges k).0) →
           IsIn t (starts_of (sections ++ added ∷ []))
-      back t q = elim (which t (edge_at edges first).0) [
+      back t q = elim (which t (pair_at edges first).0) [
         | inl less ↦ put t (inl ((m.before.runs.runs t).1 (q.0, before_first t less)))
         | inr r ↦ elim r [ inl same ↦ put t (inr same) | inr later ↦ absurd (q.0.changed (none_between t later q.1)) ]
       ]
 
   -- what is live now was live before the next edges
-  pub were_next : next < length edges → now ≡ live_before I (edge_at edges next).0
-  were_next lt = m.passed.are ∙ stays_until I (edge_at edges first).0 (edge_at edges next).0
+  pub were_next : next < length edges → now ≡ live_before I (pair_at edges next).0
+  were_next lt = m.passed.are ∙ stays_until I (pair_at edges first).0 (pair_at edges next).0
       (m.passed.after.later next (omega arith) lt) between
     where
-      between : (b : ℕ) → b < length I → (u : ℕ) → (edge_at edges first).0 < u → u < (edge_at edges next).0 →
+      between : (b : ℕ) → b < length I → (u : ℕ) → (pair_at edges first).0 < u → u < (pair_at edges next).0 →
           IsIn u (edge_moments (buffer I b)) → ⊥
       between b bn u low high i =
           let r = edge_place I edges b u m.edges_of_it bn i in
@@ -243,11 +244,11 @@ module _ (I : Instance) (edges : List (ℕ × ℕ)) (first next : ℕ) (live now
 
   -- what is live changed: a section more, unless nothing is
   pub moved_changed : (given : List ℕ) → given ≡ now → (given ≡ [] → more ≡ sections) →
-      (given ≢ [] → more ≡ sections ++ (record { start = (edge_at edges first).0; members = given }) ∷ []) →
+      (given ≢ [] → more ≡ sections ++ (record { start = (pair_at edges first).0; members = given }) ∷ []) →
       changed ≡ true → IsSweeping I edges next now more
   moved_changed given same none some e = go (nil_or_not given)
     where
-      is_live_now : given ≡ live_at I (edge_at edges first).0
+      is_live_now : given ≡ live_at I (pair_at edges first).0
       is_live_now = same ∙ m.passed.are
 
       not_nil : (xs : List ℕ) (x : ℕ) → IsIn x xs → xs ≢ []
@@ -257,8 +258,8 @@ module _ (I : Instance) (edges : List (ℕ × ℕ)) (first next : ℕ) (live now
       go : (given ≡ []) ⊎ ((x : ℕ) × IsIn x given) → IsSweeping I edges next now more
       go (inl f) = rw (none f) (moved_on_same (inr (sym is_live_now ∙ f)))
         where
-          moved_on_same : (live_at I (edge_at edges first).0 ≡ live_before I (edge_at edges first).0) ⊎
-              (live_at I (edge_at edges first).0 ≡ []) → IsSweeping I edges next now sections
+          moved_on_same : (live_at I (pair_at edges first).0 ≡ live_before I (pair_at edges first).0) ⊎
+              (live_at I (pair_at edges first).0 ≡ []) → IsSweeping I edges next now sections
           moved_on_same q = record {
             within = m.passed.after.within;
             fresh = λ k lt nl. let a = m.passed.after.passed k lt in let b = m.passed.after.later next (omega arith) nl
@@ -270,18 +271,18 @@ module _ (I : Instance) (edges : List (ℕ × ℕ)) (first next : ℕ) (live now
       go (inr r) =
           let nonempty : given ≢ [] = not_nil given r.0 r.1 in
           let added : more ≡ sections ++ (record {
-            start = (edge_at edges first).0;
+            start = (pair_at edges first).0;
             members = live_at I
-                (edge_at edges first).0;
+                (pair_at edges first).0;
           }) ∷ [] =
           some nonempty
-          ∙ ap (λ ms. sections ++ (record { start = (edge_at edges first).0; members = ms }) ∷ []) is_live_now in
+          ∙ ap (λ ms. sections ++ (record { start = (pair_at edges first).0; members = ms }) ∷ []) is_live_now in
           moved_on (runs_more (m.passed.differs e) (rw (← is_live_now) nonempty) added)
           (rw (
             added,
             length-append sections ((record {
-              start = (edge_at edges first).0;
+              start = (pair_at edges first).0;
               members = live_at I
-                  (edge_at edges first).0;
+                  (pair_at edges first).0;
             }) ∷ []),
           ) (omega arith))

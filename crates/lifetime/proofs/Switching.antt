@@ -7,44 +7,32 @@ use Rattle.std.specs.List.{insert, remove}
 use Rattle.std.specs.List.Sorted.{IsBinarySearchResult, IsNonDecreasingBy, IsSearchInRange}
 use Rattle.std.specs.Ordering.{nat_cmp, ordering_index}
 use Rattle.dsa_terms.specs.Claims.{IsIn, Rises}
-use Rattle.dsa_terms.specs.Parts.{numbers}
-use Rattle.dsa_terms.proofs.Lists.{any_from, any_gives, from_filter, into_filter, true_or_false}
-use Rattle.lifetime.specs.Switching.{IsSwitched, has_number}
+use Rattle.dsa_terms.specs.Parts.{has, numbers}
+use Rattle.dsa_terms.proofs.Lists.{from_filter, has_in, in_has, into_filter, true_or_false}
+use Rattle.lifetime.specs.Switching.{IsSwitched}
 use Rattle.lifetime.proofs.Among.{same_members}
 use Rattle.lifetime.proofs.Lists.{among, below, in_at, place_of, rises-numbers, rises_at}
 
 -- ---- tests of membership
-pub has_in : (xs : List ℕ) (b : ℕ) → IsIn b xs → has_number xs b ≡ true
-has_in xs b i = any_from (λ c. c == b) xs b i (same b)
+pub has_is : (xs : List ℕ) (b : ℕ) (p : Bool) → (IsIn b xs → p ≡ true) → (p ≡ true → IsIn b xs) → has b xs ≡ p
+has_is xs b p forth back = go (true_or_false (has b xs)) (true_or_false p)
   where
-    same : (b : ℕ) → (b == b) ≡ true
-    same b = grind (arith, nat_tests)
-
-pub in_has : (xs : List ℕ) (b : ℕ) → has_number xs b ≡ true → IsIn b xs
-in_has xs b h = let r = any_gives (λ c. c == b) xs h in subst (λ (c : ℕ). IsIn c xs) (sym (equal r.0 b r.2)) r.1
-  where
-    equal : (c b : ℕ) → (c == b) ≡ true → b ≡ c
-    equal c b h = grind (arith, nat_tests)
-
-pub has_is : (xs : List ℕ) (b : ℕ) (p : Bool) → (IsIn b xs → p ≡ true) → (p ≡ true → IsIn b xs) → has_number xs b ≡ p
-has_is xs b p forth back = go (true_or_false (has_number xs b)) (true_or_false p)
-  where
-    go : (has_number xs b ≡ true) ⊎ (has_number xs b ≡ false) → (p ≡ true) ⊎ (p ≡ false) → has_number xs b ≡ p
+    go : (has b xs ≡ true) ⊎ (has b xs ≡ false) → (p ≡ true) ⊎ (p ≡ false) → has b xs ≡ p
     go (inl x) (inl y) = x ∙ sym y
     go (inr x) (inr y) = x ∙ sym y
-    go (inl x) (inr y) = let k = forth (in_has xs b x) in absurd cc
-    go (inr x) (inl y) = let k = has_in xs b (back y) in absurd cc
+    go (inl x) (inr y) = let k = forth (has_in b xs x) in absurd cc
+    go (inr x) (inl y) = let k = in_has b xs (back y) in absurd cc
 
 -- a test of the numbers below n
-pub has_filter : (f : ℕ → Bool) (n b : ℕ) → b < n → has_number (filter f (numbers n)) b ≡ f b
+pub has_filter : (f : ℕ → Bool) (n b : ℕ) → b < n → has b (filter f (numbers n)) ≡ f b
 has_filter f n b lt = has_is (filter f (numbers n)) b (f b) (λ i. (from_filter f (numbers n) b i).1)
     (λ h. into_filter f (numbers n) b (among n b lt) h)
 
 pub filter_is : (f : ℕ → Bool) (n : ℕ) (xs : List ℕ) → Rises xs → ((b : ℕ) → IsIn b xs → b < n) →
-    ((b : ℕ) → b < n → has_number xs b ≡ f b) → xs ≡ filter f (numbers n)
+    ((b : ℕ) → b < n → has b xs ≡ f b) → xs ≡ filter f (numbers n)
 filter_is f n xs r small h = same_members xs (filter f (numbers n)) r (rises-numbers f n)
-    (λ b i. into_filter f (numbers n) b (among n b (small b i)) (sym (h b (small b i)) ∙ has_in xs b i))
-    (λ b i. let q = from_filter f (numbers n) b i in in_has xs b (h b (below n b q.0) ∙ q.1))
+    (λ b i. into_filter f (numbers n) b (among n b (small b i)) (sym (h b (small b i)) ∙ in_has b xs i))
+    (λ b i. let q = from_filter f (numbers n) b i in has_in b xs (h b (below n b q.0) ∙ q.1))
 
 -- ---- a number more
 head_other : (x c b : ℕ) → c ≢ b → x ≡ b → (x == c) ≡ false
@@ -147,10 +135,10 @@ pub record WouldStandAt (xs : List ℕ) (b place : ℕ) : Type 0 where
   pub less : (k : ℕ) → k < length xs → k < place → slice_index_or xs k 0 < b
   pub greater : (k : ℕ) → k < length xs → place ≤ k → b < slice_index_or xs k 0
 
-has_found : (xs : List ℕ) (b place : ℕ) → StandsAt xs b place → has_number xs b ≡ true
-has_found xs b place s = has_in xs b (subst (λ (c : ℕ). IsIn c xs) s.here (in_at xs place 0 s.within))
+has_found : (xs : List ℕ) (b place : ℕ) → StandsAt xs b place → has b xs ≡ true
+has_found xs b place s = in_has b xs (subst (λ (c : ℕ). IsIn c xs) s.here (in_at xs place 0 s.within))
 
-has_none : (xs : List ℕ) (b place : ℕ) → WouldStandAt xs b place → has_number xs b ≡ false
+has_none : (xs : List ℕ) (b place : ℕ) → WouldStandAt xs b place → has b xs ≡ false
 has_none xs b place s = has_is xs b false (λ i. absurd (not_in i)) (λ h. absurd cc)
   where
     cases : (m n : ℕ) → (m < n) ⊎ (n ≤ m)
@@ -176,27 +164,27 @@ taken_out xs b place s = record {
   rises = rises_remove xs place s.rises;
   own = has_is (remove xs place) b false (λ i. absurd (not_in_remove xs place s.rises s.within (rw s.here i)))
       (λ h. absurd cc);
-  others = λ c n. has_is (remove xs place) c (has_number xs c) (λ i. has_in xs c (in_remove xs place c i))
-      (λ h. into_remove xs place c (λ e. n (e ∙ s.here)) (in_has xs c h));
+  others = λ c n. has_is (remove xs place) c (has c xs) (λ i. in_has c xs (in_remove xs place c i))
+      (λ h. into_remove xs place c (λ e. n (e ∙ s.here)) (has_in c xs h));
 }
 
 pub put_in : (xs : List ℕ) (b place : ℕ) → WouldStandAt xs b place → IsSwitched xs b true (insert xs place b)
 put_in xs b place s = record {
   rises = rises_insert xs place b s.rises s.less s.greater;
-  own = has_in (insert xs place b) b (into_insert xs place b b (inl refl));
-  others = λ c n. has_is (insert xs place b) c (has_number xs c)
-      (λ i. elim (in_insert xs place b c i) [ inl e ↦ absurd (n e) | inr j ↦ has_in xs c j ])
-      (λ h. into_insert xs place b c (inr (in_has xs c h)));
+  own = in_has b (insert xs place b) (into_insert xs place b b (inl refl));
+  others = λ c n. has_is (insert xs place b) c (has c xs)
+      (λ i. elim (in_insert xs place b c i) [ inl e ↦ absurd (n e) | inr j ↦ in_has c xs j ])
+      (λ h. into_insert xs place b c (inr (has_in c xs h)));
 }
 
 -- whether it changed
 pub changed_found : (xs : List ℕ) (b place : ℕ) (wanted : Bool) → StandsAt xs b place →
-    IsTrue (not wanted) ↔ (has_number xs b ≢ wanted)
+    IsTrue (not wanted) ↔ (has b xs ≢ wanted)
 changed_found xs b place true s = (λ h. absurd cc, λ n. absurd (n (has_found xs b place s)))
 changed_found xs b place false s = (λ h e. (let k = has_found xs b place s in absurd cc), λ n. refl)
 
 pub changed_none : (xs : List ℕ) (b place : ℕ) (wanted : Bool) → WouldStandAt xs b place →
-    IsTrue wanted ↔ (has_number xs b ≢ wanted)
+    IsTrue wanted ↔ (has b xs ≢ wanted)
 changed_none xs b place true s = (λ h e. (let k = has_none xs b place s in absurd cc), λ n. refl)
 changed_none xs b place false s = (λ h. absurd cc, λ n. absurd (n (has_none xs b place s)))
 

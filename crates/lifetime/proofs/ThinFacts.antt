@@ -12,16 +12,13 @@ use Rattle.lifetime.specs.Places.{AreMembersBelow, HasMembersBelow}
 use Rattle.lifetime.specs.Runs.{AreRuns, live_before, was_live}
 use Rattle.lifetime.specs.SectionList.{AreSectionsOf, HasAllAt, Section, SectionList, ShareSection, live_at, members_of, no_section, section_with, sections_of, start_of}
 use Rattle.lifetime.specs.Thin.{AreAmong, AreThin, IsThinnedTo, StandForAll, StandsIn}
-use Rattle.lifetime.specs.Views.{items_of, list_of, section_of}
+use Rattle.lifetime.specs.Views.{list_of, section_of}
 use Rattle.lifetime.proofs.ExampleFacts.{among_both, first, not_among, second}
 use Rattle.lifetime.proofs.RunFacts.{both, kept, listed, placed, rising}
 use Rattle.lifetime.proofs.SweepFacts.{not_later, one, run_at_0}
 
 -- ---- views
 module _ (v w : Vec ℕ) where
-  its_items : items_of v ≡ v.items
-  its_items = refl
-
   a_section : section_of (record { start = 6; members = v }) ≡ section_with 6 v.items
   a_section = refl
 

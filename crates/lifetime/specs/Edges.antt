@@ -4,9 +4,9 @@ use Rattle.std.specs.List.{All, filter, flat_map}
 use Rattle.std.specs.List.Sorted.{IsNonDecreasingBy}
 use Rattle.dsa_terms.specs.Buffers.{Buffer, Instance, buffer}
 use Rattle.dsa_terms.specs.Claims.{IsIn, Rises}
-use Rattle.dsa_terms.specs.Parts.{numbers}
+use Rattle.dsa_terms.specs.Parts.{has, numbers}
+use Rattle.dsa_model.specs.Lists.{pair_at}
 use Rattle.lifetime.specs.SectionList.{Section, live_at, no_section}
-use Rattle.lifetime.specs.Switching.{has_number}
 use Rattle.lifetime.specs.Runs.{BeginsRun, live_before, starts_of}
 
 -- the ends of the gaps
@@ -28,36 +28,32 @@ pub record AreEdges (I : Instance) (edges : List (ℕ × ℕ)) : Type 0 where
   pub complete : (b t : ℕ) → b < length I → IsIn t (edge_moments (buffer I b)) → IsIn (t, b) edges
   pub limit : length edges ≤ 18 * length I
 
--- the edge at a place
-abbrev pub edge_at : List (ℕ × ℕ) → ℕ → ℕ × ℕ
-edge_at edges k = slice_index_or edges k (0, 0)
-
 -- from this place on all edges are later than t, and before it none is
 pub record IsAfter (edges : List (ℕ × ℕ)) (next t : ℕ) : Type 0 where
   pub within : next ≤ length edges
-  pub passed : (k : ℕ) → k < next → (edge_at edges k).0 ≤ t
-  pub later : (k : ℕ) → next ≤ k → k < length edges → t < (edge_at edges k).0
+  pub passed : (k : ℕ) → k < next → (pair_at edges k).0 ≤ t
+  pub later : (k : ℕ) → next ≤ k → k < length edges → t < (pair_at edges k).0
 
 -- the edges from the first up to the next are those of one moment, the list has what is live then, and it is told
 -- whether that is a change
 pub record IsPassed (I : Instance) (edges : List (ℕ × ℕ)) (first next : ℕ) (changed : Bool) (live : List ℕ) : Type 0
   where
-    pub after : IsAfter edges next (edge_at edges first).0
+    pub after : IsAfter edges next (pair_at edges first).0
     pub later : first < next
-    pub are : live ≡ live_at I (edge_at edges first).0
-    pub same : changed ≡ false → live_at I (edge_at edges first).0 ≡ live_before I (edge_at edges first).0
-    pub differs : changed ≡ true → live_at I (edge_at edges first).0 ≢ live_before I (edge_at edges first).0
+    pub are : live ≡ live_at I (pair_at edges first).0
+    pub same : changed ≡ false → live_at I (pair_at edges first).0 ≡ live_before I (pair_at edges first).0
+    pub differs : changed ≡ true → live_at I (pair_at edges first).0 ≢ live_before I (pair_at edges first).0
 
 -- each section has what is live at its start, and the starts are the moments before the given edge at which runs begin
 pub record AreRunsBefore (I : Instance) (edges : List (ℕ × ℕ)) (next : ℕ) (sections : List Section) : Type 0 where
   pub each : (x : Section) → IsIn x sections → x.members ≡ live_at I x.start
   pub rise : Rises (starts_of sections)
   pub runs : (t : ℕ) → IsIn t (starts_of sections) ↔
-      (BeginsRun I t × ((k : ℕ) → next ≤ k → k < length edges → t < (edge_at edges k).0))
+      (BeginsRun I t × ((k : ℕ) → next ≤ k → k < length edges → t < (pair_at edges k).0))
 
 -- the section has the buffer
 abbrev pub has_member : Section → ℕ → Bool
-has_member x b = has_number x.members b
+has_member x b = has b x.members
 
 -- the places of the sections that have the buffer
 abbrev pub places_of : List Section → ℕ → List ℕ

@@ -2,9 +2,8 @@
 use Rattle.std.specs.Prelude.{ℕ, ◌<◌, cond, List, [], ◌∷◌, ◌++◌, length, map, slice_index_or}
 use Rattle.std.specs.List.{All}
 use Rattle.dsa_terms.specs.Claims.{Rises}
-use Rattle.dsa_terms.specs.Parts.{numbers}
+use Rattle.dsa_terms.specs.Parts.{has, numbers}
 use Rattle.lifetime.specs.SectionList.{Section}
-use Rattle.lifetime.specs.Switching.{has_number}
 
 -- the members of each section rise, and are below the count
 pub record HasMembersBelow (count : ℕ) (x : Section) : Type 0 where
@@ -18,4 +17,4 @@ AreMembersBelow count sections = All (HasMembersBelow count) sections
 -- the lists with s put last in that of each member
 abbrev pub ends_with : List ℕ → ℕ → List (List ℕ) → List (List ℕ)
 ends_with members s lists =
-    map (λ b. slice_index_or lists b [] ++ cond (has_number members b) (s ∷ []) []) (numbers (length lists))
+    map (λ b. slice_index_or lists b [] ++ cond (has b members) (s ∷ []) []) (numbers (length lists))

@@ -4,9 +4,10 @@ ghost use Rattle.std.specs.Prelude.{◌≡◌, ◌<◌, ◌^◌, [], length, map
 ghost use Rattle.std.specs.List.{All};
 ghost use Rattle.dsa_terms.specs.Claims.{Rises};
 ghost use Rattle.dsa_terms.specs.Parts.{numbers};
+ghost use Rattle.dsa_model.specs.Lists.{items_of};
 ghost use Rattle.lifetime.specs.Edges.{places_of};
 ghost use Rattle.lifetime.specs.Places.{AreMembersBelow, ends_with};
-ghost use Rattle.lifetime.specs.Views.{items_of, section_of};
+ghost use Rattle.lifetime.specs.Views.{section_of};
 
 use crate::section_list::Section;
 use std::alloc::{AllocError, Global};

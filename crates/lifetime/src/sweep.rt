@@ -2,10 +2,12 @@
 
 ghost use Rattle.std.specs.Prelude.{◌≡◌, ◌≢◌, ◌<◌, ◌≤◌, ◌++◌, ◌∷◌, ◌↔◌, ℕ, [], length, map, IfOk, IsTrue, OnOk};
 ghost use Rattle.dsa_terms.specs.Claims.{Rises};
-ghost use Rattle.lifetime.specs.Edges.{AreEdges, AreRunsBefore, IsPassed, edge_at};
+ghost use Rattle.dsa_terms.specs.Parts.{has};
+ghost use Rattle.dsa_model.specs.Lists.{pair_at};
+ghost use Rattle.lifetime.specs.Edges.{AreEdges, AreRunsBefore, IsPassed};
 ghost use Rattle.lifetime.specs.Runs.{live_before};
 ghost use Rattle.lifetime.specs.SectionList.{section_with};
-ghost use Rattle.lifetime.specs.Switching.{IsSwitched, has_number};
+ghost use Rattle.lifetime.specs.Switching.{IsSwitched};
 ghost use Rattle.lifetime.specs.Views.{section_of};
 
 use crate::section_list::Section;
@@ -25,7 +27,7 @@ fn switch(numbers: &mut Vec<u32>, b: u32, wanted: bool) -> Result<bool, AllocErr
     requires { Rises numbers.old.items }
     ensures switched { OnOk result (IsSwitched numbers.old.items b wanted numbers.new.items) }
     ensures changed { IfOk result (λ changed.
-        IsTrue changed ↔ (has_number numbers.old.items b ≢ wanted)) }
+        IsTrue changed ↔ (has b numbers.old.items ≢ wanted)) }
 {
     match numbers.binary_search(&b) {
         Ok(place) => {
@@ -52,8 +54,8 @@ fn pass(
 ) -> Result<Passed, AllocError>
     requires edges { AreEdges instance.now edges.now }
     requires in_edges { first < length edges.now }
-    requires fresh { (k : ℕ) → k < first → (edge_at edges.now k).0 < (edge_at edges.now first).0 }
-    requires were { live.old.items ≡ live_before instance.now (edge_at edges.now first).0 }
+    requires fresh { (k : ℕ) → k < first → (pair_at edges.now k).0 < (pair_at edges.now first).0 }
+    requires were { live.old.items ≡ live_before instance.now (pair_at edges.now first).0 }
     ensures { IfOk result (λ passed.
         IsPassed instance.now edges.now first passed.next passed.changed live.new.items) }
 {

@@ -6,7 +6,8 @@ use Rattle.std.proofs.lemmas.List.{drop_all, take_at, flat_map_more, map_more, g
 use Rattle.std.proofs.lemmas.List.FromFn.{fill_by_all, get_or-map-range_with_len, length-map-range_with_len}
 use Rattle.dsa_terms.specs.Claims.{IsIn}
 use Rattle.dsa_terms.specs.Logs.{Cite, Line, Log}
-use Rattle.dsa_terms.specs.Trims.{cited, cited_line, has, needed, needed_from, with_cited}
+use Rattle.dsa_terms.specs.Parts.{has}
+use Rattle.dsa_terms.specs.Trims.{cited, cited_line, needed, needed_from, with_cited}
 use Rattle.dsa_terms.proofs.Lists.{left_append, right_append}
 use Rattle.dsa_trim_laws.proofs.Picked.{get_in}
 use Rattle.dsa_trim_laws.proofs.Trims.{get_some}

@@ -2,8 +2,8 @@
 use Rattle.std.specs.Prelude.{◌≡◌, ℕ, ◌<◌, Bool, List, ◌++◌, map, slice_get, Some}
 use Rattle.dsa_terms.specs.Claims.{IsIn}
 use Rattle.dsa_terms.specs.Logs.{Line}
-use Rattle.dsa_terms.specs.Parts.{numbers}
-use Rattle.dsa_terms.specs.Trims.{cited, has}
+use Rattle.dsa_terms.specs.Parts.{has, numbers}
+use Rattle.dsa_terms.specs.Trims.{cited}
 
 -- each line cites earlier ones alone
 abbrev pub CiteEarlier : List Line → Type 0

@@ -8,8 +8,8 @@ use Rattle.std.specs.Fmt.{decimal}
 use Rattle.std.specs.List.{join_with_byte, list_any}
 use Rattle.std.specs.Prelude.{⊤, Bool, ◌&&◌}
 use Rattle.std.specs.Str.{all_ascii_digits}
+use Rattle.dsa_model.proofs.NumberLemmas.{own}
 use Rattle.csv.specs.Writing.{default_writer, field_text, fields_text, is_blank, needs_byte, row_text}
-use Rattle.csv_instance.proofs.NumberLemmas.{own}
 use Rattle.csv_instance.specs.Records.{Record}
 use Rattle.make_instance.specs.Made.{line_text, pair_text}
 

@@ -12,12 +12,12 @@ use Rattle.std.specs.Str.{bytes_eq}
 use Rattle.std.specs.Str.Parse.{digits_value}
 use Rattle.dsa_terms.specs.Buffers.{Buffer}
 use Rattle.dsa_terms.specs.Parts.{numbers}
+use Rattle.dsa_model.proofs.NumberLemmas.{own}
 use Rattle.csv_instance.specs.Columns.{field_of}
 use Rattle.csv_instance.specs.Parse.{buffer_of, id_fault, id_faults, parse, row_fault, rows_fault}
 use Rattle.csv_instance.specs.Records.{Record, table_of}
 use Rattle.csv_instance.specs.declared.columns.Column.TheVariants.{Id}
 use Rattle.csv_instance.specs.declared.fault.InstanceFault.TheVariants as fault
-use Rattle.csv_instance.proofs.NumberLemmas.{own}
 use Rattle.make_instance.specs.Made.{header, made_record, made_table, made_text}
 use Rattle.make_instance.specs.Rows.{made_row}
 use Rattle.make_instance.proofs.MadeRows.{made}

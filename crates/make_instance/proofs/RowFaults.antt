@@ -7,9 +7,10 @@ use Rattle.std.specs.List.{list_any}
 use Rattle.std.specs.Option.{option_to_list}
 use Rattle.dsa_terms.specs.Buffers.{Buffer, is_within}
 use Rattle.dsa_model.specs.Buffer.{first_fault, when, buffer_fault, buffer_of, gap_fault, is_ever_live, number_fault}
+use Rattle.dsa_model.specs.Numbers.{number_of}
 use Rattle.dsa_model.proofs.Live.{is_ever, live_from}
 use Rattle.csv_instance.specs.Gaps.{gaps_of}
-use Rattle.csv_instance.specs.Numbers.{number_of, time_limit}
+use Rattle.csv_instance.specs.Numbers.{time_limit}
 use Rattle.csv_instance.specs.Parse.{alignment_of, bad_column, buffer_of as buffer_in, content_fault}
 use Rattle.csv_instance.specs.declared.fault.InstanceFault.TheVariants as fault
 use Rattle.csv_instance.proofs.IdLemmas.{AllNone}

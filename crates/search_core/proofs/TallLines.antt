@@ -3,12 +3,10 @@ use Rattle.std.proofs.Common.{◌≡◌, ℕ, ◌+◌, ◌-◌, ◌%◌, ◌<◌
 use Rattle.std.proofs.lemmas.Bool.Decides.{nat_tests}
 use Rattle.std.specs.List.{sum_by}
 use Rattle.std.specs.Int.{next_multiple_of}
-use Rattle.dsa_terms.specs.Buffers.{Buffer, Instance, buffer, do_share, is_live}
+use Rattle.dsa_terms.specs.Buffers.{Buffer, Instance, buffer, is_live}
 use Rattle.dsa_terms.specs.Claims.{Claim, Entry, IsClaim, up}
 use Rattle.dsa_terms.specs.Logs.{Line, Over, IsLegal, is_stacked, rounded, rounding, greatest}
 use Rattle.dsa_terms.proofs.Numbers.{next_at_or_above, next_is_below}
-use Rattle.dsa_terms.proofs.Moments.{do_share-false}
-use Rattle.dsa_model.specs.Buffer.{IsBuffer}
 
 next_of_one : (x : ℕ) → next_multiple_of x 1 ≡ x
 next_of_one x = let a : x ≤ next_multiple_of x 1 = next_at_or_above x 1 (omega arith) in
@@ -75,11 +73,3 @@ tall_is_legal I C b T earlier s h live = record {
 
     stacked : filter (is_stacked I T H 1) (Alone b H) ≡ Alone b H
     stacked = stacked_alone I b T H s live
-
--- ---- a buffer shares a moment with itself
-pub shares_with_itself : (b : Buffer) → IsBuffer b → do_share b b ≡ true
-shares_with_itself b s = go (do_share b b) refl
-  where
-    go : (t : Bool) → do_share b b ≡ t → t ≡ true
-    go true q = refl
-    go false q = absurd (let m = s.lives in do_share-false b b m.0 q m.1 m.1)

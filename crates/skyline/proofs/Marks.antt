@@ -7,9 +7,9 @@ use Rattle.dsa_terms.specs.Buffers.{Instance}
 use Rattle.dsa_terms.specs.Claims.{IsIn, Rises}
 use Rattle.dsa_search_laws.proofs.Members.{buffers_of-whole}
 use Rattle.dsa_model.specs.Buffer.{IsBuffer}
+use Rattle.dsa_model.specs.Lists.{items_of}
 use Rattle.lifetime.specs.SectionList.{count_of, sections_of, AreSectionsOf, SectionList}
 use Rattle.skyline.specs.Skylines.{IsSkyline}
-use Rattle.lifetime.specs.Views.{items_of}
 
 in_append : (xs : List ℕ) (y c : ℕ) → IsIn c (xs ++ y ∷ []) → IsIn c xs ⊎ (c ≡ y)
 in_append [] y c (inl e) = inr e

@@ -8,6 +8,7 @@ use Rattle.lifetime.specs.SectionList.{count_of, sections_of, SectionList}
 use Rattle.dsa_terms.specs.Buffers.{Instance, buffer}
 use Rattle.dsa_terms.specs.Claims.{Claim, child}
 use Rattle.dsa_terms.specs.Parts.{whole}
+use Rattle.dsa_model.specs.Lists.{items_of}
 use Rattle.skyline.specs.Standing.{claim_after, offset_after}
 use Rattle.skyline.specs.Places.{set_each, at_places}
 use Rattle.skyline.specs.Carried.{claims_of, Carries}
@@ -17,7 +18,6 @@ use Rattle.skyline.proofs.Lefts.{reverse_take_more, get_in}
 use Rattle.skyline.proofs.Tops.{length-heights_after}
 use Rattle.canonical_order.specs.Claims.{entry_of, HasBuffer}
 use Rattle.skyline.specs.Skies.{Sky, last_claim}
-use Rattle.lifetime.specs.Views.{items_of}
 use Rattle.skyline.proofs.SectionFacts.{section_in_range}
 
 -- a list of the same length, written over the whole of another

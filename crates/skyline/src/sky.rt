@@ -37,7 +37,7 @@ pub struct Skyline<'a> {
 impl<'a> Model for Skyline<'a> {
     ghost use Rattle.std.specs.Prelude.{map, reverse, take};
     ghost use Rattle.dsa_terms.specs.Parts.{whole};
-    ghost use Rattle.lifetime.specs.Views.{items_of};
+    ghost use Rattle.dsa_model.specs.Lists.{items_of};
     ghost use Rattle.skyline.specs.Carried.{claims_of};
     ghost use Rattle.skyline.specs.Loads.{IsLoaded};
     ghost use Rattle.skyline.specs.Skies.{Sky};

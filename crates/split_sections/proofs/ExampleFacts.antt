@@ -3,8 +3,9 @@ use Rattle.std.proofs.Common.{◌≡◌, ℕ, zero, suc, ◌<◌, ◌≤◌, inl
 use Rattle.dsa_terms.specs.Buffers.{Buffer, Instance, buffer}
 use Rattle.dsa_terms.specs.Claims.{IsIn}
 use Rattle.dsa_terms.specs.Parts.{is_cut, last_cut, part_of, parts}
+use Rattle.dsa_model.specs.Lists.{pair_at}
 use Rattle.split_sections.specs.PartList.{AreInRange, IsPart}
-use Rattle.split_sections.specs.Sweep.{BeginsAt, IsRun, entry_at, lower_entry}
+use Rattle.split_sections.specs.Sweep.{BeginsAt, IsRun, lower_entry}
 use Rattle.split_sections.proofs.Kept.{in_range_at}
 
 abbrev pub lives : ℕ → ℕ → Buffer
@@ -25,9 +26,6 @@ entry_of_first = refl
 abbrev pub order : List (ℕ × ℕ)
 order = (0, 1) ∷ (3, 2) ∷ (5, 0) ∷ []
 
-entry_in_order : entry_at order 1 ≡ (3, 2)
-entry_in_order = refl
-
 -- the second of the order begins where the first ends
 second_begins : BeginsAt three order 1
 unfolding buffer
@@ -43,7 +41,7 @@ first_is_run : IsRun three order 0 1
 unfolding part_of last_cut is_cut buffer
 first_is_run = record { some = omega arith; within = omega arith; same = same; ended = λ _. second_begins }
   where
-    same : (k : ℕ) → 0 ≤ k → k < 1 → part_of three (entry_at order k).1 ≡ (entry_at order 0).0
+    same : (k : ℕ) → 0 ≤ k → k < 1 → part_of three (pair_at order k).1 ≡ (pair_at order 0).0
     same zero le lt = refl
     same (suc k) le lt = absurd (omega arith)
 

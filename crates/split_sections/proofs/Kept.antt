@@ -4,9 +4,10 @@ use Rattle.std.specs.List.{All}
 use Rattle.dsa_terms.specs.Buffers.{Instance}
 use Rattle.dsa_terms.specs.Claims.{IsIn}
 use Rattle.dsa_terms.specs.Parts.{members, parts, numbers, part_of}
+use Rattle.dsa_model.specs.Lists.{items_of}
 use Rattle.dsa_terms.proofs.Lists.{from_filter}
 use Rattle.dsa_search_laws.proofs.Parts.{from_range, part_is_members}
-use Rattle.split_sections.specs.PartList.{AreInRange, IsPart, items_of}
+use Rattle.split_sections.specs.PartList.{AreInRange, IsPart}
 use Rattle.std.specs.Global.{Vec}
 
 -- a fact of each item, by membership

@@ -1,10 +1,9 @@
 -- Worked orders of buffers by lower, and lists of parts.
-use Rattle.std.proofs.Common.{◌≡◌, ℕ, zero, suc, ◌<◌, ◌≤◌, inl, inr, [], ◌∷◌, slice_index_or, refl, lit<, lit≤, arith}
+use Rattle.std.proofs.Common.{ℕ, zero, suc, ◌<◌, ◌≤◌, inl, inr, [], ◌∷◌, slice_index_or, refl, lit<, lit≤, arith}
 use Rattle.std.proofs.lemmas.List.Elements.{All-cons, All-nil}
-use Rattle.std.specs.Global.{Vec}
 use Rattle.dsa_terms.specs.Buffers.{buffer}
 use Rattle.dsa_terms.specs.Claims.{IsIn}
-use Rattle.split_sections.specs.PartList.{ArePartsKept, IsPart, items_of}
+use Rattle.split_sections.specs.PartList.{ArePartsKept, IsPart}
 use Rattle.split_sections.specs.Sweep.{AreByLower, IsLowerEntry, lower_entry}
 use Rattle.split_sections.proofs.ExampleFacts.{not_empty, order, rising_part, three}
 
@@ -68,7 +67,3 @@ one_part = record { each = All-cons IsPart (0 ∷ 2 ∷ []) [] rising_part (All-
 
 an_empty_part : ArePartsKept ((0 ∷ 2 ∷ []) ∷ [] ∷ []) → ⊥
 an_empty_part p = not_empty (p.each 1 [] (omega arith))
-
--- ---- vectors
-its_items : (v : Vec ℕ) → items_of v ≡ v.items
-its_items v = refl

@@ -1,14 +1,9 @@
 -- Parts as the code shows them.
 use Rattle.std.specs.Prelude.{◌≡◌, ℕ, ◌<◌, ◌^◌, ◌≢◌, List, [], length}
 use Rattle.std.specs.List.{All}
-use Rattle.std.specs.Global.{Vec}
 use Rattle.dsa_terms.specs.Buffers.{Instance}
 use Rattle.dsa_terms.specs.Claims.{Rises}
 use Rattle.dsa_terms.specs.Parts.{parts}
-
--- the numbers of a vector
-abbrev pub items_of : Vec ℕ → List ℕ
-items_of v = v.items
 
 -- the buffers of a part rise, and there is one
 pub record IsPart (p : List ℕ) : Type 0 where

@@ -1,10 +1,11 @@
 -- The buffers by rising lower.
-use Rattle.std.specs.Prelude.{◌≡◌, ℕ, ◌<◌, ◌≤◌, List, length, slice_index_or}
+use Rattle.std.specs.Prelude.{◌≡◌, ℕ, ◌<◌, ◌≤◌, List, length}
 use Rattle.std.specs.List.{All}
 use Rattle.std.specs.List.Sorted.{IsNonDecreasingBy}
 use Rattle.dsa_terms.specs.Buffers.{Instance, buffer}
 use Rattle.dsa_terms.specs.Claims.{IsIn}
 use Rattle.dsa_terms.specs.Parts.{part_of}
+use Rattle.dsa_model.specs.Lists.{pair_at}
 
 -- a buffer's number behind its lower
 abbrev pub lower_entry : Instance → ℕ → ℕ × ℕ
@@ -22,17 +23,13 @@ pub record AreByLower (I : Instance) (entries : List (ℕ × ℕ)) : Type 0 wher
   pub complete : (b : ℕ) → b < length I → IsIn (lower_entry I b) entries
   pub count : length entries ≡ length I
 
--- the entry at a place
-abbrev pub entry_at : List (ℕ × ℕ) → ℕ → ℕ × ℕ
-entry_at order k = slice_index_or order k (0, 0)
-
 -- no buffer at an earlier place reaches past the lower at this one
 abbrev pub BeginsAt : Instance → List (ℕ × ℕ) → ℕ → Type 0
-BeginsAt I order i = (k : ℕ) → k < i → (buffer I (entry_at order k).1).upper ≤ (entry_at order i).0
+BeginsAt I order i = (k : ℕ) → k < i → (buffer I (pair_at order k).1).upper ≤ (pair_at order i).0
 
 -- the places from `first` to before `next` are those of one part, which begins at the lower of the first of them
 pub record IsRun (I : Instance) (order : List (ℕ × ℕ)) (first next : ℕ) : Type 0 where
   pub some : first < next
   pub within : next ≤ length order
-  pub same : (k : ℕ) → first ≤ k → k < next → part_of I (entry_at order k).1 ≡ (entry_at order first).0
+  pub same : (k : ℕ) → first ≤ k → k < next → part_of I (pair_at order k).1 ≡ (pair_at order first).0
   pub ended : next < length order → BeginsAt I order next

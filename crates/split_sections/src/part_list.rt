@@ -1,7 +1,8 @@
 //! A list of parts.
 
 ghost use Rattle.std.specs.Prelude.{◌≡◌, ◌<◌, [], length, map, slice_index_or};
-ghost use Rattle.split_sections.specs.PartList.{ArePartsKept, AreInRange, IsPart, items_of};
+ghost use Rattle.dsa_model.specs.Lists.{items_of};
+ghost use Rattle.split_sections.specs.PartList.{ArePartsKept, AreInRange, IsPart};
 
 use std::marker::Model;
 
@@ -13,7 +14,8 @@ pub struct Parts {
 
 impl Model for Parts {
     ghost use Rattle.std.specs.Prelude.{List, ℕ, map};
-    ghost use Rattle.split_sections.specs.PartList.{ArePartsKept, items_of};
+    ghost use Rattle.dsa_model.specs.Lists.{items_of};
+    ghost use Rattle.split_sections.specs.PartList.{ArePartsKept};
 
     ghost Value = { List (List ℕ) };
 

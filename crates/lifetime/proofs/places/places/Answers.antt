@@ -1,7 +1,8 @@
 use Rattle.std.proofs.Common.{rules, sym, ap, ◌∙◌, map}
 use Rattle.lifetime.specs.SectionList.{Section}
 use Rattle.lifetime.specs.Places.{ends_with}
-use Rattle.lifetime.specs.Views.{items_of, section_of}
+use Rattle.dsa_model.specs.Lists.{items_of}
+use Rattle.lifetime.specs.Views.{section_of}
 use Rattle.lifetime.specs.declared.section_list.Section.{Section as Declared}
 use Rattle.lifetime.proofs.Lists.{handed}
 use Rattle.lifetime.proofs.Noting.{places_below, places_more, ready, section_at}

@@ -1,6 +1,7 @@
 use Rattle.std.proofs.Common.{◌≡◌, map}
 use Rattle.dsa_terms.specs.Parts.{numbers}
-use Rattle.lifetime.specs.Views.{items_of, section_of}
+use Rattle.dsa_model.specs.Lists.{items_of}
+use Rattle.lifetime.specs.Views.{section_of}
 use Rattle.lifetime.proofs.Noting.{places_below}
 use Rattle.lifetime.proofs.places.places.Given as goal
 

@@ -1,6 +1,6 @@
 use Rattle.std.proofs.Common.{arith, ap, refl, ◌∙◌}
 use Rattle.dsa_terms.specs.Buffers.{is_live}
-use Rattle.lifetime.specs.Edges.{edge_at}
+use Rattle.dsa_model.specs.Lists.{pair_at}
 use Rattle.lifetime.proofs.Passing.{none_passed, pass_changed, pass_unchanged, passed_all}
 use Rattle.lifetime.proofs.sweep.pass.Goals.{then-branch, else-branch}
 use Rattle.lifetime.proofs.sweep.pass.Goals as goal
@@ -13,8 +13,8 @@ loop-next-init c = none_passed _ _ c.args.first _ _ c.requires.in_edges c.requir
 
 pub loop-next-preserved : goal.loop-next-preserved
 loop-next-preserved c =
-    let e = edge_at c.args.edges.now c.loop-next.next in
-    let t = (edge_at c.args.edges.now c.args.first).0 in
+    let e = pair_at c.args.edges.now c.loop-next.next in
+    let t = (pair_at c.args.edges.now c.args.first).0 in
     let is = c.live_at.ensures ∙ ap (λ x. is_live x t) c.buffer.ensures.value in
     elim c.if-branch.branch [
       | then-branch w ↦ rw w.changed-is
@@ -33,7 +33,7 @@ loop-next-preserved c =
 
 pub returns-else-edges-next : goal.returns-else-edges-next
 returns-else-edges-next c = passed_all c.args.instance.now c.args.edges.now c.args.first
-    (edge_at c.args.edges.now c.args.first).0 c.loop-next.next c.loop-next.changed c.loop-next.live.items
+    (pair_at c.args.edges.now c.args.first).0 c.loop-next.next c.loop-next.changed c.loop-next.live.items
     (record {
       edges_of_it = c.requires.edges;
       passing = c.loop-next.invariant;
@@ -45,7 +45,7 @@ returns-else-edges-next c = passed_all c.args.instance.now c.args.edges.now c.ar
 
 pub returns-after-loop-next : goal.returns-after-loop-next
 returns-after-loop-next c = passed_all c.args.instance.now c.args.edges.now c.args.first
-    (edge_at c.args.edges.now c.args.first).0 c.loop-next.next c.loop-next.changed c.loop-next.live.items
+    (pair_at c.args.edges.now c.args.first).0 c.loop-next.next c.loop-next.changed c.loop-next.live.items
     (record {
       edges_of_it = c.requires.edges;
       passing = c.loop-next.invariant;

@@ -1,6 +1,6 @@
 use Rattle.std.proofs.Common.{◌∙◌, refl, rules, sym, ap, arith}
 use Rattle.dsa_terms.specs.Buffers.{Buffer}
-use Rattle.split_sections.specs.Sweep.{entry_at}
+use Rattle.dsa_model.specs.Lists.{pair_at}
 use Rattle.split_sections.proofs.Sweeping.{reaching_first, reaching_more}
 use Rattle.split_sections.proofs.split.part_end.Goals as goal
 
@@ -11,5 +11,5 @@ loop-i-init c = reaching_first c.args.instance.now c.args.order.now c.args.first
 
 pub loop-i-preserved : goal.loop-i-preserved
 loop-i-preserved c = reaching_more c.args.instance.now c.args.order.now c.args.first c.loop-i.i c.loop-i.reach
-    c.max-reach.result (entry_at c.args.order.now c.loop-i.i) c.requires.order c.loop-i.invariant (omega arith) refl
+    c.max-reach.result (pair_at c.args.order.now c.loop-i.i) c.requires.order c.loop-i.invariant (omega arith) refl
     c.if-reach-lower.false (search rules)

@@ -1,7 +1,7 @@
 use Rattle.std.proofs.Common.{◌≡◌, ◌∙◌, ℕ, ap, map, rules}
 use Rattle.std.specs.List.{between}
+use Rattle.dsa_model.specs.Lists.{items_of}
 use Rattle.std.proofs.lemmas.List.{map_push}
-use Rattle.split_sections.specs.PartList.{items_of}
 use Rattle.split_sections.proofs.Grouping.{all_kept, all_parts, one_part_more}
 use Rattle.split_sections.proofs.split.parts.Goals as goal
 

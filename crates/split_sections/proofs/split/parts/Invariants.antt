@@ -1,5 +1,5 @@
 use Rattle.std.proofs.Common.{◌-◌, length, map}
-use Rattle.split_sections.specs.PartList.{items_of}
+use Rattle.dsa_model.specs.Lists.{items_of}
 use Rattle.split_sections.proofs.Grouping.{ArePartsBelow}
 use Rattle.split_sections.proofs.split.parts.Given as goal
 

@@ -3,11 +3,11 @@ use Rattle.std.specs.List.{filter, sum_by}
 use Rattle.dsa_terms.specs.Buffers.{buffer}
 use Rattle.lifetime.specs.SectionList.{count_of, members_of}
 use Rattle.dsa_terms.specs.Parts.{whole}
+use Rattle.dsa_model.specs.Lists.{items_of}
 use Rattle.skyline.specs.Loads.{HasLoads}
 use Rattle.skyline.specs.Skylines.{IsSkyline}
 use Rattle.skyline.proofs.Loads.{first_has_loads}
 use Rattle.skyline.proofs.Marks.{new_sky}
-use Rattle.lifetime.specs.Views.{items_of}
 use Rattle.skyline.proofs.sky.Skyline.new.Goals as goal
 
 pub invariant_of-result : goal.invariant_of-result

@@ -4,8 +4,8 @@ use Rattle.std.specs.Vec.{with_items}
 use Rattle.std.proofs.lemmas.List.{length-map, with_items_is}
 use Rattle.dsa_terms.specs.Buffers.{Buffer, buffer}
 use Rattle.dsa_terms.specs.Claims.{Rises}
+use Rattle.dsa_model.specs.Lists.{items_of}
 use Rattle.lifetime.specs.SectionList.{sections_of}
-use Rattle.lifetime.specs.Views.{items_of}
 use Rattle.skyline.proofs.Bounds.{low_of_view}
 use Rattle.skyline.specs.Places.{at_places, set_each}
 use Rattle.skyline.specs.Skylines.{IsSkyline}

@@ -5,8 +5,8 @@ use Rattle.std.specs.Vec.{with_items}
 use Rattle.dsa_terms.specs.Buffers.{Buffer, buffer}
 use Rattle.dsa_terms.specs.Claims.{Rises}
 use Rattle.dsa_terms.specs.Parts.{whole}
+use Rattle.dsa_model.specs.Lists.{items_of}
 use Rattle.lifetime.specs.SectionList.{sections_of}
-use Rattle.lifetime.specs.Views.{items_of}
 use Rattle.skyline.specs.Places.{at_places, set_each}
 use Rattle.skyline.specs.Skylines.{IsSkyline}
 use Rattle.skyline.specs.Standing.{offset_after}
