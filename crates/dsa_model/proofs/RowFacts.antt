@@ -1,5 +1,5 @@
 -- Worked facts of the rows of an instance.
-use Rattle.std.proofs.Common.{◌≡◌, ◌<◌, ℕ, zero, suc, List, [], ◌∷◌, true, false, length, sym, refl, ap, ◌∙◌, arith}
+use Rattle.std.proofs.Common.{◌≡◌, zero, suc, [], ◌∷◌, true, false, sym, refl, ap, ◌∙◌, arith}
 use Rattle.dsa_terms.specs.Buffers.{Buffer, do_share, is_live, some_before}
 use Rattle.dsa_model.specs.Buffer.{lasting}
 use Rattle.dsa_model.specs.Rows.{AreRows, shares_with}
@@ -30,5 +30,5 @@ denied : (first second : Row) → AreTwo first second → second.shares.items �
 denied first second two tells h =
     let told = h 1 first (omega arith) in
     let k = sym tells ∙ told ∙ ap (λ (b : Buffer). shares_with (first ∷ []) b) two.second_is
-        ∙ told_of first two.first_is in
+    ∙ told_of first two.first_is in
     absurd cc

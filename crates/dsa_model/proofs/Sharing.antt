@@ -1,5 +1,5 @@
 -- Which buffers share a moment.
-use Rattle.std.proofs.Common.{◌≡◌, ◌+◌, ◌<◌, ◌≤◌, ◌⊎◌, inl, inr, ℕ, Bool, true, false, List, [], ◌∷◌, ◌++◌, length, length-append, length-take-le, map, take, slice_index_or, All, sym, refl, ap, ◌∙◌, subst, arith}
+use Rattle.std.proofs.Common.{◌≡◌, ◌+◌, ◌<◌, ◌≤◌, ◌⊎◌, inl, inr, ℕ, Bool, true, false, List, [], ◌∷◌, ◌++◌, length, length-append, length-take-le, take, slice_index_or, All, sym, refl, ap, ◌∙◌, subst, arith}
 use Rattle.std.proofs.Math.Seq.{get_or-append_seam, take-append_seam}
 use Rattle.std.proofs.lemmas.List.{get_or-map, get_or-take, get_or_append_left, length-map, map_push, take-append-le}
 use Rattle.std.proofs.lemmas.List.Elements.{All-push}
@@ -63,8 +63,12 @@ looked_up rows I low high row told view h lt within at is =
     is ∙ ap (λ (ts : List Bool). slice_index_or ts low told) items
     ∙ get_or-map (λ (r : Row). do_share r.buffer row.buffer) (take high rows) low row told (rw (length-take-le high rows (omega (arith, some))) lt)
     ∙ ap (λ (r : Row). do_share r.buffer row.buffer) (get_or-take high rows low row lt)
-    ∙ rw (← view, get_or-map (λ (r : Row). r.buffer) rows low row no_buffer (omega (arith, some)),
-      get_or-map (λ (r : Row). r.buffer) rows high row no_buffer some, ← at) refl
+    ∙ rw (
+      ← view,
+      get_or-map (λ (r : Row). r.buffer) rows low row no_buffer (omega (arith, some)),
+      get_or-map (λ (r : Row). r.buffer) rows high row no_buffer some,
+      ← at,
+    ) refl
   where
     some : high < length rows
     some = rw (← length-map rows (λ (r : Row). r.buffer), view) within

@@ -1,5 +1,5 @@
 use Rattle.std.proofs.Common.{◌∙◌}
-use Rattle.dsa_model.proofs.Sharing.{looked_up, looked_up_itself, shared_both, shares_with_itself}
+use Rattle.dsa_model.proofs.Sharing.{looked_up, looked_up_itself, shared_both}
 use Rattle.dsa_model.proofs.instance.Instance.do_share.Goals as goal
 
 pub returns-then-c-b : goal.returns-then-c-b
