@@ -1,12 +1,14 @@
 -- Worked parts of a text: what is read from them, and where nothing of the kind stands.
-use Rattle.std.proofs.Common.{◌≡◌, Some, [], ◌∷◌, codes, refl, arith}
-use Rattle.log_text.specs.Digits.{IsCanonical, Stops}
+use Rattle.std.proofs.Common.{◌≡◌, Some, [], ◌∷◌, ◌++◌, codes, refl, sym, ap, arith}
+use Rattle.std.specs.Str.Parse.{digits_value}
+use Rattle.log_text.specs.Digits.{IsCanonical, IsShort, Stops}
 use Rattle.log_text.specs.Numerals.{numeral}
 use Rattle.log_text.specs.RawTexts.{pair_text}
-use Rattle.log_text.specs.Reading.{BeginsDigit, HasNoCases, HasNoField, HasNoItem, HasNoList, HasNoMarked, HasNoNumber, HasNoOver, HasNoStart, IsBreak, IsCasesRead, IsFieldRead, IsItemRead, IsListEnd, IsListRead, IsMarkedRead, IsNumberRead, IsOverRead, IsStartRead, capped_cite, capped_line, capped_pair, cases_rest, fitting, over_rest, over_start}
+use Rattle.log_text.specs.Reading.{BeginsDigit, HasNoCases, HasNoField, HasNoItem, HasNoList, HasNoMarked, HasNoNumber, HasNoOver, HasNoStart, IsBreak, IsCappedRead, IsCasesRead, IsFieldRead, IsItemRead, IsListEnd, IsListRead, IsMarkedRead, IsNumberRead, IsOverRead, IsStartRead, capped_cite, capped_line, capped_pair, cases_rest, fitting, over_rest, over_start}
 use Rattle.log_text.specs.declared.raw.RawCite.TheVariants as raw_cite
 use Rattle.log_text.specs.declared.raw.RawLine.TheVariants as raw_line
 use Rattle.log_text.proofs.ListLemmas.{no_first}
+use Rattle.log_text.proofs.Numerals.{numeral_of}
 use Rattle.log_text.proofs.ReadLemmas.{field_no_number, marked_no_number, no_number, pair_no_marked}
 use Rattle.log_text.proofs.RowLemmas.{cases_no_claim, colon_ends, over_no_start}
 
@@ -22,6 +24,21 @@ zero_is_canonical = record { some = omega arith; digits = refl; no_zero = λ e. 
 
 not_with_a_zero : IsCanonical (codes "012") → ⊥
 not_with_a_zero c = let k = c.no_zero refl in omega arith
+
+two_digits : IsShort (codes "12 3") 2 12
+two_digits = record {
+  within = omega arith;
+  canonical = record { some = omega arith; digits = refl; no_zero = λ e. omega arith };
+  stops = refl;
+  value_is = refl;
+  small = omega arith;
+}
+
+not_one_of_two : IsShort (codes "12 3") 1 1 → ⊥
+not_one_of_two s = let t = s.stops in absurd cc
+
+not_short_with_a_zero : IsShort (codes "012=3 : ") 3 12 → ⊥
+not_short_with_a_zero s = not_with_a_zero s.canonical
 
 a_space_breaks : IsBreak (codes " ")
 a_space_breaks = refl
@@ -53,6 +70,20 @@ twelve_read = record { number = 12; text = refl; stops = refl; value_is = refl }
 
 not_one_digit : IsNumberRead (codes "12 3") (Some 1) (codes "2 3") → ⊥
 not_one_digit r = let s = r.stops in absurd cc
+
+greatest_read : IsCappedRead (codes "18446744073709551616 3") 18446744073709551615 (codes " 3")
+greatest_read = record {
+  number = digits_value 10 (codes "18446744073709551616");
+  text = ap (λ u. u ++ codes " 3") (sym (numeral_of (codes "18446744073709551616") too_large));
+  stops = refl;
+  value_is = refl;
+}
+  where
+    too_large : IsCanonical (codes "18446744073709551616")
+    too_large = record { some = omega arith; digits = refl; no_zero = λ e. omega arith }
+
+not_the_first_digit : IsCappedRead (codes "12 3") 1 (codes "2 3") → ⊥
+not_the_first_digit r = let s = r.stops in absurd cc
 
 no_number_there : HasNoNumber (codes "012=3 : ")
 no_number_there = no_number _ (codes "012") (codes "=3 : ") refl refl refl not_with_a_zero

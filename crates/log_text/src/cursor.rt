@@ -3,9 +3,9 @@
 ghost use Rattle.std.specs.Prelude.{◌≡◌, ◌↔◌, ◌∷◌, ◌++◌, [], ◌^◌, ◌-◌, IfNone, IfSome, IsTrue, MatchBool, MatchOption, List, ℕ};
 ghost use Rattle.std.specs.Option.{unwrap_or};
 ghost use Rattle.log_text.specs.Digits.{Ends, Stops};
-ghost use Rattle.log_text.specs.Reading.{BeginsDigit, HasNoField, HasNoMarked, HasNoNumber, IsBreak, IsFieldRead, IsMarkedRead, IsNumberRead};
+ghost use Rattle.log_text.specs.Reading.{BeginsDigit, HasNoField, HasNoMarked, HasNoNumber, IsBreak, IsCappedRead, IsFieldRead, IsMarkedRead, IsNumberRead};
 
-use crate::split::{are_canonical, digits_of};
+use crate::split::{are_canonical, digits_of, short_number};
 use std::marker::Model;
 
 /// A number of 64 bits in place of any that was read: the greatest, where it does not fit.
@@ -77,6 +77,8 @@ impl<'a> Cursor<'a> {
     }
 
     /// Reads a number, up to where its digits end: its value where that fits 64 bits.
+    /// It is kept out of `capped`, which mostly answers without it.
+    #[inline(never)]
     pub(crate) fn number(&mut self) -> Option<Option<u64>>
         ensures some { IfSome result (λ value. IsNumberRead self.old value self.new) }
         ensures none { IfNone result (HasNoNumber self.old) }
@@ -89,6 +91,21 @@ impl<'a> Cursor<'a> {
         }
         self.rest = more;
         Some(front.value)
+    }
+
+    /// Reads a number, up to where its digits end, as one of 64 bits: the greatest, where it does
+    /// not fit.
+    fn capped(&mut self) -> Option<u64>
+        ensures some { IfSome result (λ n. IsCappedRead self.old n self.new) }
+        ensures none { IfNone result (HasNoNumber self.old) }
+    {
+        let rest = self.rest;
+        if let Some(short) = short_number(rest) {
+            let (_, more) = rest.split_at(short.count);
+            self.rest = more;
+            return Some(short.value);
+        }
+        Some(cap(self.number()?))
     }
 
     /// Reads a number and these bytes after it.
@@ -106,13 +123,13 @@ impl<'a> Cursor<'a> {
         ensures some { IfSome result (λ m. IsMarkedRead self.old m.first m.mark m.second self.new) }
         ensures none { IfNone result (HasNoMarked self.old) }
     {
-        let first = self.number()?;
+        let first = self.capped()?;
         let mark = self.byte()?;
-        let second = self.number()?;
+        let second = self.capped()?;
         Some(Marked {
-            first: cap(first),
+            first,
             mark,
-            second: cap(second),
+            second,
         })
     }
 

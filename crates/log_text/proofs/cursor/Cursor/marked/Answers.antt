@@ -9,5 +9,5 @@ returns-in_err-second-clause-none c = if_none _ (marked_no_second _ _ _ _ _ c.in
     c.in_ok-mark.ensures c.in_err-second.ensures.none)
 
 pub returns-clause-some : goal.returns-clause-some
-returns-clause-some c = marked_read _ _ _ _ _ _ _ _ _ c.in_ok-first.ensures.some c.in_ok-mark.ensures
-    c.in_ok-second.ensures.some c.cap.ensures c.cap-2.ensures
+returns-clause-some c = marked_read _ _ _ _ _ _ _ c.in_ok-first.ensures.some c.in_ok-mark.ensures
+    c.in_ok-second.ensures.some
