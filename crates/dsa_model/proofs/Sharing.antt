@@ -61,7 +61,7 @@ pub looked_up : (rows : List Row) (I : Instance) (low high : ℕ) (row : Row) (t
 unfolding buffer
 looked_up rows I low high row told view h lt within at is =
     is ∙ ap (λ (ts : List Bool). slice_index_or ts low told) items
-    ∙ get_or-map (λ (r : Row). do_share r.buffer row.buffer) (take high rows) low row told (rw (length-take-le high rows (omega (arith, some))) lt)
+    ∙ get_or-map (λ (r : Row). do_share r.buffer row.buffer) (take high rows) low row told among
     ∙ ap (λ (r : Row). do_share r.buffer row.buffer) (get_or-take high rows low row lt)
     ∙ rw (
       ← view,
@@ -72,6 +72,9 @@ looked_up rows I low high row told view h lt within at is =
   where
     some : high < length rows
     some = rw (← length-map rows (λ (r : Row). r.buffer), view) within
+
+    among : low < length (take high rows)
+    among = rw (length-take-le high rows (omega (arith, some))) lt
 
     items : row.shares.items ≡ shares_with (take high rows) row.buffer
     items = subst (λ (r : Row). r.shares.items ≡ shares_with (take high rows) r.buffer) (sym at) (h high row some)
