@@ -1,4 +1,4 @@
--- The numbers of a file.
+-- The limit of the numbers of an instance file.
 use Rattle.std.specs.Prelude.{ℕ, ◌^◌, ◌-◌}
 
 -- the greatest moment
