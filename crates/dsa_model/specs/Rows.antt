@@ -1,17 +1,39 @@
 -- The buffers of an instance as the code keeps them.
-use Rattle.std.specs.Prelude.{◌≡◌, ℕ, ◌<◌, Bool, List, length, map, slice_index_or, take}
-use Rattle.dsa_terms.specs.Buffers.{Buffer, Instance, do_share}
+use Rattle.std.specs.Prelude.{◌≡◌, ℕ, ◌<◌, Bool, false, List, [], length, map, slice_index_or}
+use Rattle.std.specs.List.{All}
+use Rattle.dsa_terms.specs.Buffers.{Buffer, Instance, buffer, do_share}
 use Rattle.dsa_model.specs.declared.instance.Row.{Row}
 
 -- the buffers of the rows
-abbrev pub buffers_of : List Row → Instance
-buffers_of rows = map (λ (r : Row). r.buffer) rows
+abbrev pub instance_of : List Row → Instance
+instance_of rows = map (λ (r : Row). r.buffer) rows
 
--- for the buffer of each row, whether it shares a moment with b
-abbrev pub shares_with : List Row → Buffer → List Bool
-shares_with rows b = map (λ (r : Row). do_share r.buffer b) rows
+-- what each row tells of each place
+abbrev pub table_of : List Row → List (List Bool)
+table_of rows = map (λ (r : Row). r.shares.items) rows
 
--- each row tells of the rows before it whether their buffers share a moment with its own
+-- what the row at place b tells of place c
+abbrev pub entry : List (List Bool) → ℕ → ℕ → Bool
+entry table b c = slice_index_or (slice_index_or table b []) c false
+
+-- there is an entry for each place that an instance may have
+abbrev pub IsWide : List Bool → Type 0
+IsWide entries = length entries ≡ 512
+
+-- the table tells of any two buffers whether they share a moment; entries past the last buffer tell nothing
+pub record IsTable (I : Instance) (table : List (List Bool)) : Type 0 where
+  pub wide : All IsWide table
+  pub told : (b c : ℕ) → b < length I → c < length I → entry table b c ≡ do_share (buffer I b) (buffer I c)
+
+-- the rows tell of any two of their buffers whether they share a moment
 abbrev pub AreRows : List Row → Type 0
-AreRows rows = (n : ℕ) (d : Row) → n < length rows → let r = slice_index_or rows n d in
-    r.shares.items ≡ shares_with (take n rows) r.buffer
+AreRows rows = IsTable (instance_of rows) (table_of rows)
+
+-- the first n rows of the table tell of the next place whether their buffers share a moment with `next`, and so do the
+-- entries of `own` of these; what the table told of the places before it is as it was
+pub record IsNoted (I : Instance) (old new : List (List Bool)) (own : List Bool) (n : ℕ) (next : Buffer) : Type 0 where
+  pub wide : All IsWide new
+  pub kept : (b c : ℕ) → c < length I → entry new b c ≡ entry old b c
+  pub theirs : (b : ℕ) → b < n → entry new b (length I) ≡ do_share (buffer I b) next
+  pub own_wide : IsWide own
+  pub owns : (b : ℕ) → b < n → slice_index_or own b false ≡ do_share (buffer I b) next
