@@ -98,7 +98,7 @@ lower_of I C D rule s cc_ cd le (suc k) l seats n c h ends =
                 subst (λ (g : Entry). number_of r g.0 + (buffer I g.0).size ≤ D) (sym f.3) (rw (← d, ← b) a)
 
 -- the height of a placement bounds where its buffers end
-has_seat : (seats : List Entry) (b : ℕ) → IsIn b (buffers_of seats) → IsIn (b, number_of seats b) seats
+pub has_seat : (seats : List Entry) (b : ℕ) → IsIn b (buffers_of seats) → IsIn (b, number_of seats b) seats
 has_seat [] b i = absurd i
 has_seat (x ∷ xs) b i = go (has_seat xs b) (x.0 == b) refl i
   where
@@ -252,12 +252,3 @@ work_equation I C (x ∷ xs) c ne =
     (λ e i. ap (λ k. work_of k I C (child I (x ∷ xs) e)) (shorter_by_one I (x ∷ xs) e (length xs) c refl i))
     (λ e i. ap (λ k. is_some (first_of (not_excluded I) k I C (child I (x ∷ xs) e)))
     (shorter_by_one I (x ∷ xs) e (length xs) c refl i)))
-
--- ---- a claim without buffers
-pub first_of_none : (I : Instance) (C : ℕ) → first I C [] ≡ Some []
-unfolding first
-first_of_none I C = refl
-
-pub work_of_none : (I : Instance) (C : ℕ) → work I C [] ≡ 1
-unfolding work
-work_of_none I C = refl

@@ -1,5 +1,5 @@
 -- First-fit and best-fit of an order are layouts, and so is each start.
-use Rattle.std.proofs.Common.{◌≡◌, ℕ, ◌≢◌, ◌⊎◌, inl, inr, Bool, true, false, cond, ◌==◌, List, [], ◌∷◌, map, length, sym, refl, ap, ◌∙◌, subst, arith}
+use Rattle.std.proofs.Common.{◌≡◌, ℕ, ◌≢◌, ◌⊎◌, inl, inr, Bool, true, false, cond, ◌==◌, List, [], ◌∷◌, map, length, sym, refl, ◌∙◌, subst, arith}
 use Rattle.std.proofs.lemmas.Bool.Decides.{nat_tests}
 use Rattle.std.proofs.lemmas.List.FromFn.{length-map-range_with_len}
 use Rattle.dsa_terms.specs.Buffers.{Buffer, Instance, buffer, IsLive, do_share, IsInstance}
@@ -15,6 +15,7 @@ use Rattle.dsa_terms.proofs.Moments.{do_share-false}
 use Rattle.dsa_search_laws.proofs.Members.{into_range}
 use Rattle.dsa_search_laws.proofs.Parts.{offset_at}
 use Rattle.dsa_search_laws.proofs.Plans.{under_layout_height}
+use Rattle.dsa_search_laws.proofs.Search.{has_seat}
 use Rattle.dsa_start_laws.proofs.Places.{IsClearRule, first_is_clear, best_is_clear}
 
 -- ---- placed one after another
@@ -44,18 +45,6 @@ fitted_has I rule [] placed b i = absurd i
 fitted_has I rule (c ∷ cs) placed b (inl q) =
     fitted_has_placed I rule cs ((c, rule I c (neighbours I c placed)) ∷ placed) b (inl q)
 fitted_has I rule (c ∷ cs) placed b (inr i) = fitted_has I rule cs ((c, rule I c (neighbours I c placed)) ∷ placed) b i
-
--- the place that is looked up is one that was given
-pub seat_is_in : (es : List Entry) (b : ℕ) → IsIn b (buffers_of es) → IsIn (b, number_of es b) es
-seat_is_in [] b i = absurd i
-seat_is_in (e ∷ es) b i = go (seat_is_in es b) (e.0 == b) refl i
-  where
-    go : (IsIn b (buffers_of es) → IsIn (b, number_of es b) es) → (t : Bool) → (e.0 == b) ≡ t →
-        IsIn b (e.0 ∷ buffers_of es) → IsIn (b, cond t e.1 (number_of es b)) (e ∷ es)
-    go ih true q j = let h : e.0 ≡ b = (grind (arith, nat_tests)) in
-        inl (ap (λ c. let f : Entry = (c, e.1) in f) (sym h))
-    go ih false q (inl j) = absurd (let h : e.0 ≢ b = (grind (arith, nat_tests)) in h (sym j))
-    go ih false q (inr j) = inr (ih j)
 
 aligned_at : (I : Instance) (es : List Entry) (e : Entry) → IsStacked I es → IsIn e es →
     IsMultiple e.1 (buffer I e.0).alignment
@@ -102,13 +91,13 @@ stacked_apart I (e ∷ es) b c t h ne i j p q =
     go ih true k false m i (inr j) =
         let g = eq e.0 b k in
         beside I es b e.1 c (number_of es c) t (subst (λ (b : ℕ). IsClear I b (neighbours I b es) e.1) g h.0)
-        (seat_is_in es c j) p q
+        (has_seat es c j) p q
     go ih false k true m (inl i) j = absurd (not_eq e.0 b k i)
     go ih false k true m (inr i) j =
         let g = eq e.0 c m in
         other_way (buffer I c) (buffer I b) e.1 (number_of es b)
         (beside I es c e.1 b (number_of es b) t (subst (λ (c : ℕ). IsClear I c (neighbours I c es) e.1) g h.0)
-        (seat_is_in es b i) q p)
+        (has_seat es b i) q p)
     go ih false k false m (inl i) j = absurd (not_eq e.0 b k i)
     go ih false k false m (inr i) (inl j) = absurd (not_eq e.0 c m j)
     go ih false k false m (inr i) (inr j) = ih i j
@@ -117,7 +106,7 @@ pub stacked_is_layout : (I : Instance) (es : List Entry) → IsStacked I es → 
     IsLayout I (layout_height I (offsets_of I es)) (offsets_of I es)
 stacked_is_layout I es h each = record {
   count = length-map-range_with_len (number_of es) 0 (length I);
-  aligned = λ b lt. rw (offset_at I es b lt) (aligned_at I es (b, number_of es b) h (seat_is_in es b (each b lt)));
+  aligned = λ b lt. rw (offset_at I es b lt) (aligned_at I es (b, number_of es b) h (has_seat es b (each b lt)));
   within = λ b lt. under_layout_height I (offsets_of I es) b lt;
   apart = λ b c t lb lc ne p q. rw (offset_at I es b lb, offset_at I es c lc)
       (stacked_apart I es b c t h ne (each b lb) (each c lc) p q);

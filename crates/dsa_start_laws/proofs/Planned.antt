@@ -16,14 +16,7 @@ use Rattle.dsa_search_laws.proofs.Logs.{layout_higher}
 use Rattle.dsa_search_laws.proofs.Parts.{searched_is_layout, searched_exactly}
 use Rattle.dsa_search_laws.proofs.Plans.{is_under, found_under, layout_under, or_search_cases}
 use Rattle.dsa_start_laws.proofs.Fits.{start_is_layout}
-
-found_in : {X : Type 0} (p : X → Bool) (xs : List X) (x : X) → find p xs ≡ Some x → IsIn x xs
-found_in p [] x h = absurd cc
-found_in {X} p (y ∷ ys) x h = go (found_in p ys x) (p y) h
-  where
-    go : (find p ys ≡ Some x → IsIn x ys) → (b : Bool) → cond b (Some y) (find p ys) ≡ Some x → IsIn x (y ∷ ys)
-    go ih true q = inl cc
-    go ih false q = inr (ih q)
+use Rattle.dsa_start_laws.proofs.Stacks.{found_in}
 
 -- ---- the plan
 pub planned_is_layout : (I : Instance) (C : ℕ) (offsets : List ℕ) → IsInstance I → planned I C ≡ Some offsets →
@@ -157,11 +150,11 @@ get_map_at f [] k d lt = absurd (omega arith)
 get_map_at f (x ∷ xs) zero d lt = refl
 get_map_at f (x ∷ xs) (suc k) d lt = get_map_at f xs k d (omega arith)
 
-six_starts : (I : Instance) → length (starts I) ≡ 6
+pub six_starts : (I : Instance) → length (starts I) ≡ 6
 unfolding starts orders
 six_starts I = refl
 
-best_place_within : (I : Instance) → lowest_place (map (layout_height I) (starts I)) < length (starts I)
+pub best_place_within : (I : Instance) → lowest_place (map (layout_height I) (starts I)) < length (starts I)
 best_place_within I = let n = length_map (layout_height I) (starts I) in let k = six_starts I in
     let w = lowest_within (map (layout_height I) (starts I)) (omega arith) in omega arith
 

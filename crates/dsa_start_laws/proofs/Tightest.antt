@@ -31,7 +31,7 @@ not_back r s h = go (s.stop - s.start) (r.stop - r.start) s.start r.start
     go l m a b (inl q) = no_tighter_from m l b a (omega arith) (λ z. omega arith)
     go l m a b (inr q) = no_tighter_from m l b a (omega arith) (λ z. omega arith)
 
-not_along : (r s u : Range) → is_tighter u s ≡ false → is_tighter s r ≡ false → is_tighter u r ≡ false
+pub not_along : (r s u : Range) → is_tighter u s ≡ false → is_tighter s r ≡ false → is_tighter u r ≡ false
 unfolding is_tighter
 not_along r s u h k = go (u.stop - u.start) (s.stop - s.start) (r.stop - r.start) u.start s.start r.start
     (not_tighter (u.stop - u.start) (s.stop - s.start) u.start s.start h)

@@ -16,8 +16,9 @@ use Rattle.dsa_terms.proofs.Lists.{from_append, from_filter, from_map}
 use Rattle.dsa_terms.proofs.Moments.{sound}
 use Rattle.dsa_terms.proofs.Numbers.{next_at_or_above, next_is_below, next_is_multiple}
 use Rattle.dsa_search_laws.proofs.Members.{from_range}
+use Rattle.dsa_search_laws.proofs.Search.{has_seat}
 use Rattle.dsa_search_laws.proofs.Parts.{offset_at}
-use Rattle.dsa_start_laws.proofs.Fits.{fitted_has, fitted_is_stacked, seat_is_in, stacked_is_layout}
+use Rattle.dsa_start_laws.proofs.Fits.{fitted_has, fitted_is_stacked, stacked_is_layout}
 use Rattle.dsa_start_laws.proofs.Places.{IsClearRule, best_is_clear, first_is_clear, first_is_least, holds_is, tightest_is_in, under_highest}
 use Rattle.dsa_start_laws.proofs.Ranges.{free_ranges_exactly}
 use Rattle.dsa_model.specs.Buffer.{IsBuffer}
@@ -126,7 +127,7 @@ fitted_height I rule order low all o = greatest_under (map (λ b. slice_index of
     let lt : r.0 < length I = let z = (from_range (length I) 0 r.0 r.1).1 in omega arith in
     let z = fitted_tops I rule order 0 [] low (λ b j. at_number I b all
     (in_from_all (λ b. b < length I) order b o.in_range j)) (λ e j. absurd j)
-    (r.0, number_of placed r.0) (seat_is_in placed r.0 (fitted_has I rule order [] r.0 (o.each r.0 lt))) in
+    (r.0, number_of placed r.0) (has_seat placed r.0 (fitted_has I rule order [] r.0 (o.each r.0 lt))) in
     let e = offset_at I placed r.0 lt in let q = r.2 in omega arith)
   where
     placed : List Entry

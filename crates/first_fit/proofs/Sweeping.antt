@@ -12,7 +12,7 @@ use Rattle.dsa_terms.proofs.Lists.{from_filter, into_filter, from_map, none_or_s
 use Rattle.dsa_search_laws.proofs.Logs.{in_greatest}
 use Rattle.dsa_start_laws.proofs.Places.{tightest_is_in}
 use Rattle.dsa_start_laws.proofs.Ranges.{free_ranges_exactly}
-use Rattle.dsa_start_laws.proofs.Tightest.{none_tighter, some_tightest}
+use Rattle.dsa_start_laws.proofs.Tightest.{none_tighter, not_along, some_tightest}
 use Rattle.first_fit.specs.Free.{IsBelow, narrowed, narrower, range_of}
 use Rattle.first_fit.specs.Taken.{AreTaken, IsLow}
 use Rattle.first_fit.specs.declared.spans.Span.{Span}
@@ -49,20 +49,6 @@ along q r s h k = so (s.stop - s.start) (q.stop - q.start) s.start q.start
     go : (s.stop - s.start < r.stop - r.start) ⊎ ((s.stop - s.start ≡ r.stop - r.start) × (s.start < r.start)) →
         (r.stop - r.start < q.stop - q.start) ⊎ ((r.stop - r.start ≡ q.stop - q.start) × (r.start < q.start)) →
         (s.stop - s.start < q.stop - q.start) ⊎ ((s.stop - s.start ≡ q.stop - q.start) × (s.start < q.start))
-    go (inl a) (inl b) = inl (omega arith)
-    go (inl a) (inr b) = inl (omega arith)
-    go (inr a) (inl b) = inl (omega arith)
-    go (inr a) (inr b) = inr (omega arith, omega arith)
-
-not_along : (q r s : Range) → is_tighter s r ≡ false → is_tighter r q ≡ false → is_tighter s q ≡ false
-unfolding is_tighter
-not_along q r s h k = so_not (s.stop - s.start) (q.stop - q.start) s.start q.start
-    (go (is_not (s.stop - s.start) (r.stop - r.start) s.start r.start h)
-    (is_not (r.stop - r.start) (q.stop - q.start) r.start q.start k))
-  where
-    go : (r.stop - r.start < s.stop - s.start) ⊎ ((s.stop - s.start ≡ r.stop - r.start) × (r.start ≤ s.start)) →
-        (q.stop - q.start < r.stop - r.start) ⊎ ((r.stop - r.start ≡ q.stop - q.start) × (q.start ≤ r.start)) →
-        (q.stop - q.start < s.stop - s.start) ⊎ ((s.stop - s.start ≡ q.stop - q.start) × (q.start ≤ s.start))
     go (inl a) (inl b) = inl (omega arith)
     go (inl a) (inr b) = inl (omega arith)
     go (inr a) (inl b) = inl (omega arith)

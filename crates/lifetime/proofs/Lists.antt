@@ -1,29 +1,12 @@
 -- Lists: membership, filters over numbers, and lists that rise.
-use Rattle.std.proofs.Common.{◌≡◌, ◌≢◌, ℕ, zero, suc, ◌+◌, ◌<◌, ◌≤◌, ◌⊎◌, inl, inr, Bool, true, false, cond, List, [], ◌∷◌, ◌++◌, length, map, filter, take, slice_index_or, refl, sym, ap, ◌∙◌, subst, arith, append-nil}
+use Rattle.std.proofs.Common.{◌≡◌, ◌≢◌, ℕ, zero, suc, ◌+◌, ◌<◌, ◌⊎◌, inl, inr, Bool, true, false, cond, List, [], ◌∷◌, ◌++◌, length, map, filter, take, slice_index_or, refl, sym, ap, ◌∙◌, subst, arith, append-nil}
 use Rattle.std.specs.List.{All, Contains, flat_map, range_with_len}
 use Rattle.dsa_terms.specs.Claims.{IsIn, Rises}
 use Rattle.dsa_terms.specs.Parts.{numbers}
 use Rattle.dsa_terms.proofs.Lists.{from_append, from_filter, into_filter, left_append, right_append}
+use Rattle.dsa_model.proofs.Ranges.{from_range, into_range}
 
 -- ---- numbers
-from_range : (n a x : ℕ) → IsIn x (range_with_len a n) → (a ≤ x) × (x < a + n)
-from_range zero a x i = absurd i
-from_range (suc n) a x (inl q) = (omega arith, omega arith)
-from_range (suc n) a x (inr q) = let r = from_range n (a + 1) x q in
-    (let k = r.0 in omega arith, let k = r.1 in omega arith)
-
-into_range : (n a x : ℕ) → a ≤ x → x < a + n → IsIn x (range_with_len a n)
-into_range zero a x le lt = absurd (omega arith)
-into_range (suc n) a x le lt = go (into_range n (a + 1) x) (cases a x le)
-  where
-    cases : (a x : ℕ) → a ≤ x → (x ≡ a) ⊎ (a + 1 ≤ x)
-    cases a x h = grind arith
-
-    go : (a + 1 ≤ x → x < a + 1 + n → IsIn x (range_with_len (a + 1) n)) → (x ≡ a) ⊎ (a + 1 ≤ x) →
-        IsIn x (range_with_len a (suc n))
-    go ih (inl q) = inl q
-    go ih (inr q) = inr (ih q (omega arith))
-
 rises-range : (n a : ℕ) → Rises (range_with_len a n)
 rises-range zero a = tt
 rises-range (suc n) a = ((λ y i. (let k = (from_range n (a + 1) y i).0 in omega arith)), rises-range n (a + 1))

@@ -6,20 +6,21 @@ use Rattle.std.proofs.lemmas.List.Sums.{sum_by-cons}
 use native.Mathlib.Nat.{mod-eq_of_lt}
 use Rattle.std.specs.List.{All, sum_by}
 use Rattle.dsa_terms.specs.Bounds.{counted, rounded_size, stack, stack_log}
-use Rattle.dsa_terms.specs.Buffers.{Instance, buffer, is_live}
+use Rattle.dsa_terms.specs.Buffers.{Instance, buffer}
 use Rattle.dsa_terms.specs.Claims.{Entry, IsIn, IsWhole, Rises}
 use Rattle.dsa_terms.specs.Logs.{IsAccepted, IsLegal, Line, Log, Over}
 use Rattle.dsa_terms.specs.Parts.{numbers, whole}
-use Rattle.dsa_terms.proofs.Lists.{from_filter, from_map, length-filter_le, nil_or_not}
-use Rattle.dsa_terms.proofs.Moments.{and_true, live_before}
+use Rattle.dsa_terms.proofs.Lists.{from_map, length-filter_le, nil_or_not}
+use Rattle.dsa_terms.proofs.Moments.{live_before}
 use Rattle.dsa_terms.proofs.Numbers.{next_is_below}
+use Rattle.dsa_start_laws.proofs.Stacks.{in_counted}
 use Rattle.dsa_model.specs.Buffer.{IsBuffer}
 use Rattle.canonical_order.specs.Claims.{IsBoundedBy}
 use Rattle.refute_log.specs.Logs.{OpenLog, ended}
 use Rattle.refute_log.specs.Lines.{IsWithin}
-use Rattle.lifetime.proofs.Lists.{below, rises-numbers}
+use Rattle.lifetime.proofs.Lists.{rises-numbers}
 use Rattle.lower_bounds.specs.Best.{IsBoundOf}
-use Rattle.lower_bounds.specs.Stacks.{counts_at, is_counted}
+use Rattle.lower_bounds.specs.Stacks.{counts_at}
 use Rattle.lower_bounds.specs.declared.value.Bound.{Bound}
 
 pub counted_from : (I : Instance) (t G n : ℕ) (members : List ℕ) → members ≡ filter (counts_at I t G) (numbers n) →
@@ -37,14 +38,6 @@ few_counted I t G =
     let k = length-filter_le (counts_at I t G) (numbers (length I)) in
     let n : length (numbers (length I)) ≡ length I = length-range_with_len 0 (length I) in
     omega arith
-
-in_counted : (I : Instance) (t G b : ℕ) → IsIn b (counted I t G) →
-    (b < length I) × (is_live (buffer I b) t ≡ true) × (((buffer I b).alignment % G == 0) ≡ true)
-unfolding counted
-in_counted I t G b i =
-    let r = from_filter (counts_at I t G) (numbers (length I)) b i in
-    let q = and_true (is_live (buffer I b) t) (is_counted I G b) r.1 in
-    (below (length I) b r.0, q.0, q.1)
 
 -- ---- a stack with something in it
 sound_at : (I : Instance) (b : ℕ) → All IsBuffer I → b < length I → IsBuffer (buffer I b)

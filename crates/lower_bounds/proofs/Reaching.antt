@@ -1,5 +1,5 @@
 -- The best of all sections and moduli is the lower bound.
-use Rattle.std.proofs.Common.{◌≡◌, ℕ, zero, suc, ◌<◌, ◌≤◌, ◌==◌, ◌⊎◌, ◌↔◌, inl, inr, Bool, true, false, List, [], ◌∷◌, length, map, max, find, slice_index, slice_index_or, Some, refl, sym, ap, ◌∙◌, subst, arith}
+use Rattle.std.proofs.Common.{◌≡◌, ℕ, zero, suc, ◌<◌, ◌≤◌, ◌==◌, ◌⊎◌, ◌↔◌, inl, inr, Bool, true, false, List, [], ◌∷◌, length, map, find, slice_index, slice_index_or, Some, refl, sym, ap, ◌∙◌, arith}
 use Rattle.std.proofs.lemmas.Bool.Decides.{nat_tests}
 use Rattle.std.proofs.lemmas.List.{length-map}
 use Rattle.std.specs.List.{All}
@@ -9,6 +9,7 @@ use Rattle.dsa_terms.specs.Buffers.{Instance, IsInstance, IsLive, IsSound, buffe
 use Rattle.dsa_terms.specs.Claims.{IsIn}
 use Rattle.dsa_terms.specs.Logs.{greatest}
 use Rattle.dsa_terms.proofs.Lists.{from_map, into_map, nil_or_not}
+use Rattle.dsa_start_laws.proofs.Stacks.{greatest_is}
 use Rattle.dsa_model.specs.Buffer.{IsBuffer}
 use Rattle.lifetime.specs.Runs.{starts_of}
 use Rattle.lifetime.specs.SectionList.{AreSectionsOf, Section, SectionList, count_of, members_of, no_section, start_of}
@@ -35,19 +36,6 @@ start_at : (xs : List Section) (s : ℕ) → slice_index (starts_of xs) s ≡ (s
 start_at [] s = refl
 start_at (x ∷ xs) zero = refl
 start_at (x ∷ xs) (suc s) = start_at xs s
-
-greatest_is : (xs : List ℕ) → (greatest xs ≡ 0) ⊎ IsIn (greatest xs) xs
-greatest_is [] = inl refl
-greatest_is (x ∷ xs) = go (greatest_is xs) (either x (greatest xs))
-  where
-    either : (m n : ℕ) → (max m n ≡ m) ⊎ (max m n ≡ n)
-    either m n = grind arith
-
-    go : (greatest xs ≡ 0) ⊎ IsIn (greatest xs) xs → (max x (greatest xs) ≡ x) ⊎ (max x (greatest xs) ≡ greatest xs) →
-        (max x (greatest xs) ≡ 0) ⊎ IsIn (max x (greatest xs)) (x ∷ xs)
-    go q (inl e) = inr (inl e)
-    go (inl z) (inr e) = inl (e ∙ z)
-    go (inr i) (inr e) = inr (inr (subst (λ (y : ℕ). IsIn y xs) (sym e) i))
 
 -- what the laws say of the bound
 pub record BoundLaws (I : Instance) : Type 0 where
