@@ -10,11 +10,11 @@ use Rattle.std.specs.Str.Parse.{digits_value}
 use Rattle.log_text.specs.Digits.{IsCanonical, is_digit}
 use Rattle.log_text.specs.Numerals.{numeral}
 
-of_zero : numeral 0 ≡ 48 ∷ []
+pub of_zero : numeral 0 ≡ 48 ∷ []
 unfolding numeral
 of_zero = refl
 
-of_more : (n : ℕ) → 0 < n → numeral n ≡ map (λ d. 48 + d) (digits_of 10 n)
+pub of_more : (n : ℕ) → 0 < n → numeral n ≡ map (λ d. 48 + d) (digits_of 10 n)
 unfolding numeral
 of_more n h = else_case (n == 0) (48 ∷ []) (map (λ d. 48 + d) (digits_of 10 n)) (not_zero n h)
   where

@@ -1,10 +1,10 @@
 -- Worked parts of a text: what is read from them, and where nothing of the kind stands.
 use Rattle.std.proofs.Common.{◌≡◌, Some, [], ◌∷◌, ◌++◌, codes, refl, sym, ap, arith}
 use Rattle.std.specs.Str.Parse.{digits_value}
-use Rattle.log_text.specs.Digits.{IsCanonical, IsShort, Stops}
+use Rattle.log_text.specs.Digits.{IsCanonical, IsShortNumber, Stops}
 use Rattle.log_text.specs.Numerals.{numeral}
 use Rattle.log_text.specs.RawTexts.{pair_text}
-use Rattle.log_text.specs.Reading.{BeginsDigit, HasNoCases, HasNoField, HasNoItem, HasNoList, HasNoMarked, HasNoNumber, HasNoOver, HasNoStart, IsBreak, IsCappedRead, IsCasesRead, IsFieldRead, IsItemRead, IsListEnd, IsListRead, IsMarkedRead, IsNumberRead, IsOverRead, IsStartRead, capped_cite, capped_line, capped_pair, cases_rest, fitting, over_rest, over_start}
+use Rattle.log_text.specs.Reading.{BeginsDigit, HasNoCases, HasNoField, HasNoItem, HasNoList, HasNoMarked, HasNoNumber, HasNoOver, HasNoStart, IsBreak, IsCasesRead, IsFieldRead, IsItemRead, IsListEnd, IsListRead, IsMarkedRead, IsNumberRead, IsOverRead, IsStartRead, capped, capped_cite, capped_line, capped_pair, cases_rest, fitting, over_rest, over_start}
 use Rattle.log_text.specs.declared.raw.RawCite.TheVariants as raw_cite
 use Rattle.log_text.specs.declared.raw.RawLine.TheVariants as raw_line
 use Rattle.log_text.proofs.ListLemmas.{no_first}
@@ -25,7 +25,7 @@ zero_is_canonical = record { some = omega arith; digits = refl; no_zero = λ e. 
 not_with_a_zero : IsCanonical (codes "012") → ⊥
 not_with_a_zero c = let k = c.no_zero refl in omega arith
 
-two_digits : IsShort (codes "12 3") 2 12
+two_digits : IsShortNumber (codes "12 3") 2 12
 two_digits = record {
   within = omega arith;
   canonical = record { some = omega arith; digits = refl; no_zero = λ e. omega arith };
@@ -34,11 +34,14 @@ two_digits = record {
   small = omega arith;
 }
 
-not_one_of_two : IsShort (codes "12 3") 1 1 → ⊥
+not_one_of_two : IsShortNumber (codes "12 3") 1 1 → ⊥
 not_one_of_two s = let t = s.stops in absurd cc
 
-not_short_with_a_zero : IsShort (codes "012=3 : ") 3 12 → ⊥
+not_short_with_a_zero : IsShortNumber (codes "012=3 : ") 3 12 → ⊥
 not_short_with_a_zero s = not_with_a_zero s.canonical
+
+not_short_of_19_digits : IsShortNumber (codes "1000000000000000000 ") 19 1000000000000000000 → ⊥
+not_short_of_19_digits s = let h = s.small in omega arith
 
 a_space_breaks : IsBreak (codes " ")
 a_space_breaks = refl
@@ -71,9 +74,9 @@ twelve_read = record { number = 12; text = refl; stops = refl; value_is = refl }
 not_one_digit : IsNumberRead (codes "12 3") (Some 1) (codes "2 3") → ⊥
 not_one_digit r = let s = r.stops in absurd cc
 
-greatest_read : IsCappedRead (codes "18446744073709551616 3") 18446744073709551615 (codes " 3")
+greatest_read : IsItemRead numeral capped (codes "18446744073709551616 3") 18446744073709551615 (codes " 3")
 greatest_read = record {
-  number = digits_value 10 (codes "18446744073709551616");
+  item = digits_value 10 (codes "18446744073709551616");
   text = ap (λ u. u ++ codes " 3") (sym (numeral_of (codes "18446744073709551616") too_large));
   stops = refl;
   value_is = refl;
@@ -82,7 +85,7 @@ greatest_read = record {
     too_large : IsCanonical (codes "18446744073709551616")
     too_large = record { some = omega arith; digits = refl; no_zero = λ e. omega arith }
 
-not_the_first_digit : IsCappedRead (codes "12 3") 1 (codes "2 3") → ⊥
+not_the_first_digit : IsItemRead numeral capped (codes "12 3") 1 (codes "2 3") → ⊥
 not_the_first_digit r = let s = r.stops in absurd cc
 
 no_number_there : HasNoNumber (codes "012=3 : ")

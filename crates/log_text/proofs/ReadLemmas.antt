@@ -11,7 +11,7 @@ use Rattle.dsa_terms.specs.Claims.{Entry}
 use Rattle.log_text.specs.Digits.{IsCanonical, is_digit, Stops}
 use Rattle.log_text.specs.Numerals.{numeral}
 use Rattle.log_text.specs.RawTexts.{cite_text, pair_text}
-use Rattle.log_text.specs.Reading.{HasNoField, HasNoItem, HasNoMarked, HasNoNumber, IsBreak, IsCappedRead, IsItemRead, IsMarkedRead, IsNumberRead, capped, capped_cite, capped_pair, fitting}
+use Rattle.log_text.specs.Reading.{HasNoField, HasNoItem, HasNoMarked, HasNoNumber, IsBreak, IsItemRead, IsMarkedRead, IsNumberRead, capped, capped_cite, capped_pair, fitting}
 use Rattle.log_text.specs.declared.raw.RawCite.{RawCite}
 use Rattle.log_text.specs.declared.raw.RawCite.TheVariants as raw_cite
 use Rattle.log_text.proofs.Numerals.{char_of_value, numeral_is_canonical, numeral_of}
@@ -166,22 +166,22 @@ field_no_end end old mid v b p h = λ n r e. h r (number_split p.number n mid (e
 pub marked_no_number : (old : List ℕ) → HasNoNumber old → HasNoMarked old
 marked_no_number old h = λ a b x r d s e. h a (x ∷ (numeral b ++ r)) d e
 
-pub marked_no_mark : (old mid : List ℕ) (n : ℕ) → IsCappedRead old n mid → mid ≡ [] → HasNoMarked old
-marked_no_mark old mid n p q = λ a b x r d s e. let t = (number_split p.number a mid (x ∷ (numeral b ++ r)) p.stops d
+pub marked_no_mark : (old mid : List ℕ) (n : ℕ) → IsItemRead numeral capped old n mid → mid ≡ [] → HasNoMarked old
+marked_no_mark old mid n p q = λ a b x r d s e. let t = (number_split p.item a mid (x ∷ (numeral b ++ r)) p.stops d
     (sym p.text ∙ e)).1 in let u : [] ≡ x ∷ (numeral b ++ r) = sym q ∙ t in cc
 
-pub marked_no_second : (old mid rest : List ℕ) (n m : ℕ) → IsCappedRead old n mid → mid ≡ m ∷ rest →
+pub marked_no_second : (old mid rest : List ℕ) (n m : ℕ) → IsItemRead numeral capped old n mid → mid ≡ m ∷ rest →
     HasNoNumber rest → HasNoMarked old
 marked_no_second old mid rest n m p q h = λ a b x r d s e.
-    let t = (number_split p.number a mid (x ∷ (numeral b ++ r)) p.stops d (sym p.text ∙ e)).1 in
+    let t = (number_split p.item a mid (x ∷ (numeral b ++ r)) p.stops d (sym p.text ∙ e)).1 in
     h b r s (tail_of m x rest (numeral b ++ r) (sym q ∙ t))
 
-pub marked_read : (old mid rest new : List ℕ) (first m second : ℕ) → IsCappedRead old first mid → mid ≡ m ∷ rest →
-    IsCappedRead rest second new → IsMarkedRead old first m second new
+pub marked_read : (old mid rest new : List ℕ) (first m second : ℕ) → IsItemRead numeral capped old first mid → mid ≡ m ∷ rest →
+    IsItemRead numeral capped rest second new → IsMarkedRead old first m second new
 marked_read old mid rest new first m second p q s = record {
-  before = p.number;
-  after = s.number;
-  text = p.text ∙ ap (λ u. numeral p.number ++ u) (q ∙ ap (λ u. m ∷ u) s.text);
+  before = p.item;
+  after = s.item;
+  text = p.text ∙ ap (λ u. numeral p.item ++ u) (q ∙ ap (λ u. m ∷ u) s.text);
   no_digit = mark_of mid m rest q p.stops;
   stops = s.stops;
   first_is = p.value_is;

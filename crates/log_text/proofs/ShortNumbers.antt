@@ -1,26 +1,25 @@
 -- Numbers that are read as ones of 64 bits, most of them of few digits.
-use Rattle.std.proofs.Common.{◌≡◌, ◌^◌, ◌-◌, ◌+◌, ◌*◌, ◌≤◌, ℕ, zero, suc, ◌<◌, true, Option, Bool, false, ◌==◌, get_or, List, [], ◌∷◌, length, take, drop, refl, sym, ap, ◌∙◌, arith}
+use Rattle.std.proofs.Common.{◌≡◌, ◌^◌, ◌-◌, ◌+◌, ◌*◌, ◌≤◌, ℕ, zero, suc, ◌<◌, true, Option, false, ◌⊎◌, inl, inr, map, get_or, List, [], ◌∷◌, length, take, drop, refl, sym, ap, ◌∙◌, arith, length-take-le}
 use Rattle.std.proofs.lemmas.Bool.Decides.{nat_tests}
+use Rattle.std.proofs.Math.Nat.{pow-le-pow_right}
+use Rattle.std.proofs.lemmas.Int.Digits.{length-digits_of-le}
+use Rattle.std.proofs.lemmas.List.{get_or-take}
 use Rattle.std.proofs.lemmas.List.Folds.{list_all_more}
+use Rattle.std.specs.Int.Digits.{digits_of}
 use Rattle.std.specs.List.{list_all}
 use Rattle.std.specs.Option.{unwrap_or}
 use Rattle.std.specs.Str.Parse.{digits_value}
-use Rattle.log_text.specs.Digits.{IsShort, is_digit, Stops}
+use Rattle.log_text.specs.Digits.{IsShortNumber, is_digit, Stops}
 use Rattle.log_text.specs.Numerals.{numeral}
-use Rattle.log_text.specs.Reading.{IsCappedRead, IsNumberRead}
-use Rattle.log_text.proofs.Numerals.{numeral_of}
+use Rattle.log_text.specs.Reading.{IsItemRead, IsNumberRead, capped}
+use Rattle.log_text.proofs.Numerals.{numeral_of, of_more, of_zero}
+use Rattle.log_text.proofs.PrefixFree.{and_true}
 use Rattle.log_text.proofs.ReadLemmas.{digit_step, parts, unwrap-fitting}
 
 -- ---- the digits so far
-ten_mono : (i j : ℕ) → i ≤ j → 10 ^ i ≤ 10 ^ j
-ten_mono zero zero h = omega arith
-ten_mono zero (suc j) h = let k = ten_mono zero j (omega arith) in omega arith
-ten_mono (suc i) zero h = absurd (omega arith)
-ten_mono (suc i) (suc j) h = let k = ten_mono i j (omega arith) in omega arith
-
 -- a number of at most 18 digits
 pub few_digits : (k v : ℕ) → k < 19 → v < 10 ^ k → v < 10 ^ 18
-few_digits k v h l = let t = ten_mono k 18 (omega arith) in omega arith
+few_digits k v h l = let t = pow-le-pow_right {n = 10} (omega arith) {i = k} {j = 18} (omega arith) in omega arith
 
 digit_small : (c : ℕ) → is_digit c ≡ true → c - 48 < 10
 digit_small c d = grind (arith, nat_tests)
@@ -51,54 +50,87 @@ next_short ds k v a h d e l = (
 )
 
 -- ---- where the digits end
-pub not_zero : (c : ℕ) (b : Bool) → b ≡ (c == 48) → b ≡ false → c ≡ 48 → ⊥
-not_zero c b e f q = grind (arith, nat_tests)
-
 pub short_ends : (ds : List ℕ) (k v : ℕ) → list_all is_digit (take k ds) ≡ true → k < length ds →
     (is_digit (get_or ds k 0) ≡ false) → v ≡ digits_value 10 (take k ds) → v < 10 ^ k → k < 19 → 0 < k →
-    (get_or ds 0 0 ≡ 48 → k ≡ 1) → IsShort ds k v
+    (get_or ds 0 0 ≡ 48 → k ≡ 1) → IsShortNumber ds k v
 short_ends ds k v a h d e l s z f = record {
   within = omega arith;
   canonical = record {
-    some = let p = length_take ds k h in omega arith;
+    some = let p = length-take-le k ds (omega arith) in omega arith;
     digits = a;
-    no_zero = λ q. length_take ds k h ∙ f (sym (first_take ds k z h) ∙ q);
+    no_zero = λ q. length-take-le k ds (omega arith) ∙ f (sym (get_or-take k ds 0 0 z) ∙ q);
   };
   stops = stops_at ds k h d;
   value_is = e;
   small = few_digits k v s l;
 }
   where
-    length_take : (ds : List ℕ) (k : ℕ) → k < length ds → length (take k ds) ≡ k
-    length_take [] k h = absurd (omega arith)
-    length_take (x ∷ xs) zero h = refl
-    length_take (x ∷ xs) (suc k) h = ap suc (length_take xs k (omega arith))
-
-    first_take : (ds : List ℕ) (k : ℕ) → 0 < k → k < length ds → get_or (take k ds) 0 0 ≡ get_or ds 0 0
-    first_take [] k z h = absurd (omega arith)
-    first_take (x ∷ xs) zero z h = absurd (omega arith)
-    first_take (x ∷ xs) (suc k) z h = refl
-
     stops_at : (ds : List ℕ) (k : ℕ) → k < length ds → is_digit (get_or ds k 0) ≡ false → Stops (drop k ds)
     stops_at [] k h d = absurd (omega arith)
     stops_at (x ∷ xs) zero h d = d
     stops_at (x ∷ xs) (suc k) h d = stops_at xs k (omega arith) d
 
+-- ---- where no short number is found
+-- a number does not end before a digit
+stops_before : (ds : List ℕ) (k count : ℕ) → list_all is_digit (take k ds) ≡ true → count < k → count < length ds →
+    Stops (drop count ds) → ⊥
+stops_before [] k count a h l s = absurd (omega arith)
+stops_before (x ∷ xs) zero count a h l s = absurd (omega arith)
+stops_before (x ∷ xs) (suc k) zero a h l s = let d = (and_true (is_digit x) (list_all is_digit (take k xs)) a).0 in absurd cc
+stops_before (x ∷ xs) (suc k) (suc count) a h l s = stops_before xs k count (and_true (is_digit x) _ a).1 (omega arith) (omega arith) s
+
+-- a short number has at most 18 digits
+short_count : (ds : List ℕ) (count value : ℕ) → IsShortNumber ds count value → count < 19
+short_count ds count value p =
+    let t : numeral value ≡ take count ds = ap numeral p.value_is ∙ numeral_of (take count ds) p.canonical in
+    let n : length (numeral value) ≡ count = ap length t ∙ length-take-le count ds p.within in
+    let m = length_numeral value p.small in
+    omega arith
+  where
+    length_chars : (xs : List ℕ) → length (map (λ d. 48 + d) xs) ≡ length xs
+    length_chars [] = refl
+    length_chars (x ∷ xs) = ap suc (length_chars xs)
+
+    length_numeral : (n : ℕ) → n < 10 ^ 18 → length (numeral n) ≤ 18
+    length_numeral zero h = rw of_zero (omega arith)
+    length_numeral (suc n) h =
+        let e = ap length (of_more (suc n) (omega arith)) ∙ length_chars (digits_of 10 (suc n)) in
+        let m = length-digits_of-le 10 18 (suc n) (omega arith) h in
+        omega arith
+
+-- where all of the bytes are digits, or the first 19, only a short number that is all of the bytes stands there
+pub short_is_all : (ds : List ℕ) (k count value : ℕ) → list_all is_digit (take k ds) ≡ true →
+    (k < 19 → length ds ≤ k) → IsShortNumber ds count value → count ≡ length ds
+short_is_all ds k count value a h p = elim (below_or_is count (length ds) p.within) [
+  | inl l ↦ let n = short_count ds count value p in
+      elim (below_or_from k 19) [
+        | inl few ↦ let m = h few in absurd (stops_before ds k count a (omega arith) l p.stops)
+        | inr many ↦ absurd (stops_before ds k count a (omega arith) l p.stops)
+      ]
+  | inr e ↦ e
+]
+  where
+    below_or_is : (m n : ℕ) → m ≤ n → (m < n) ⊎ (m ≡ n)
+    below_or_is m n h = grind arith
+
+    below_or_from : (m n : ℕ) → (m < n) ⊎ (n ≤ m)
+    below_or_from m n = grind arith
+
 -- ---- numbers as ones of 64 bits
 
 pub capped_read : (old new : List ℕ) (v : Option ℕ) (n : ℕ) → IsNumberRead old v new →
-    n ≡ unwrap_or v (2 ^ 64 - 1) → IsCappedRead old n new
+    n ≡ unwrap_or v (2 ^ 64 - 1) → IsItemRead numeral capped old n new
 capped_read old new v n p e = record {
-  number = p.number;
+  item = p.number;
   text = p.text;
   stops = p.stops;
   value_is = e ∙ (ap (λ u. unwrap_or u (2 ^ 64 - 1)) p.value_is ∙ unwrap-fitting p.number);
 }
 
-pub short_read : (old rest new : List ℕ) (count value : ℕ) → rest ≡ old → IsShort rest count value →
-    new ≡ drop count rest → IsCappedRead old value new
+pub short_read : (old rest new : List ℕ) (count value : ℕ) → rest ≡ old → IsShortNumber rest count value →
+    new ≡ drop count rest → IsItemRead numeral capped old value new
 short_read old rest new count value e p q = record {
-  number = value;
+  item = value;
   text = sym e ∙ parts rest _ new count (ap numeral p.value_is ∙ numeral_of (take count rest) p.canonical) q;
   stops = rw q p.stops;
   value_is = let h = p.small in omega arith;

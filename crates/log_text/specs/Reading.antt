@@ -39,13 +39,6 @@ pub record IsNumberRead (old : List ℕ) (value : Option ℕ) (new : List ℕ) :
   pub stops : Stops new
   pub value_is : value ≡ fitting number
 
--- a number was read as one of 64 bits, and no digit follows
-pub record IsCappedRead (old : List ℕ) (value : ℕ) (new : List ℕ) : Type 0 where
-  pub number : ℕ
-  pub text : old ≡ numeral number ++ new
-  pub stops : Stops new
-  pub value_is : value ≡ capped number
-
 -- no number stands here, up to where digits end
 abbrev pub HasNoNumber : List ℕ → Type 0
 HasNoNumber old = (n : ℕ) (r : List ℕ) → Stops r → old ≡ numeral n ++ r → ⊥

@@ -3,7 +3,8 @@
 ghost use Rattle.std.specs.Prelude.{◌≡◌, ◌↔◌, ◌∷◌, ◌++◌, [], ◌^◌, ◌-◌, IfNone, IfSome, IsTrue, MatchBool, MatchOption, List, ℕ};
 ghost use Rattle.std.specs.Option.{unwrap_or};
 ghost use Rattle.log_text.specs.Digits.{Ends, Stops};
-ghost use Rattle.log_text.specs.Reading.{BeginsDigit, HasNoField, HasNoMarked, HasNoNumber, IsBreak, IsCappedRead, IsFieldRead, IsMarkedRead, IsNumberRead};
+ghost use Rattle.log_text.specs.Numerals.{numeral};
+ghost use Rattle.log_text.specs.Reading.{BeginsDigit, HasNoField, HasNoMarked, HasNoNumber, IsBreak, IsFieldRead, IsItemRead, IsMarkedRead, IsNumberRead, capped};
 
 use crate::split::{are_canonical, digits_of, short_number};
 use std::marker::Model;
@@ -77,7 +78,7 @@ impl<'a> Cursor<'a> {
     }
 
     /// Reads a number, up to where its digits end: its value where that fits 64 bits.
-    /// It is kept out of `capped`, which mostly answers without it.
+    /// It is kept out of `capped_number`, which mostly answers without it.
     #[inline(never)]
     pub(crate) fn number(&mut self) -> Option<Option<u64>>
         ensures some { IfSome result (λ value. IsNumberRead self.old value self.new) }
@@ -95,8 +96,8 @@ impl<'a> Cursor<'a> {
 
     /// Reads a number, up to where its digits end, as one of 64 bits: the greatest, where it does
     /// not fit.
-    fn capped(&mut self) -> Option<u64>
-        ensures some { IfSome result (λ n. IsCappedRead self.old n self.new) }
+    fn capped_number(&mut self) -> Option<u64>
+        ensures some { IfSome result (λ n. IsItemRead numeral capped self.old n self.new) }
         ensures none { IfNone result (HasNoNumber self.old) }
     {
         let rest = self.rest;
@@ -123,9 +124,9 @@ impl<'a> Cursor<'a> {
         ensures some { IfSome result (λ m. IsMarkedRead self.old m.first m.mark m.second self.new) }
         ensures none { IfNone result (HasNoMarked self.old) }
     {
-        let first = self.capped()?;
+        let first = self.capped_number()?;
         let mark = self.byte()?;
-        let second = self.capped()?;
+        let second = self.capped_number()?;
         Some(Marked {
             first,
             mark,

@@ -1,6 +1,5 @@
 use Rattle.std.proofs.Common.{rules, get_or, refl, arith}
-use Rattle.log_text.proofs.ShortNumbers.{few_digits, next_fits, next_short, not_zero, short_ends}
-use Rattle.log_text.proofs.split.short_number.Goals.{else-place-gt1, then-place-gt1}
+use Rattle.log_text.proofs.ShortNumbers.{few_digits, next_fits, next_short, short_ends, short_is_all}
 use Rattle.log_text.proofs.split.short_number.Goals as goal
 
 pub loop-place-init : goal.loop-place-init
@@ -20,10 +19,11 @@ pub loop-place-preserved : goal.loop-place-preserved
 loop-place-preserved c = next_short c.args.bytes.now c.loop-place.place _ c.loop-place.invariant.0
     (omega arith) (search rules) c.loop-place.invariant.1.0 c.loop-place.invariant.1.1
 
-pub returns-then-not-is_ascii_digit : goal.returns-then-not-is_ascii_digit
-returns-then-not-is_ascii_digit c = short_ends _ _ _ c.loop-place.invariant.0 (omega arith) (search rules)
+pub returns-then-not-is_ascii_digit-clause-some : goal.returns-then-not-is_ascii_digit-clause-some
+returns-then-not-is_ascii_digit-clause-some c = short_ends _ _ _ c.loop-place.invariant.0 (omega arith) (search rules)
     c.loop-place.invariant.1.0 c.loop-place.invariant.1.1 (omega arith) (omega arith)
-    (λ q. elim c.if-place-gt1.branch [
-      | then-place-gt1 w ↦ absurd (not_zero _ _ w.value-is c.if-bytes-eq48.false q)
-      | else-place-gt1 w ↦ omega arith
-    ])
+    (search rules)
+
+pub returns-clause-none : goal.returns-clause-none
+returns-clause-none c = λ count value p. short_is_all c.args.bytes.now c.loop-place.place count value
+    c.loop-place.invariant.0 (λ few. omega arith) p
