@@ -12,6 +12,10 @@ use Rattle.command_words.specs.declared.verb.Verb.TheVariants.{Solve, Least, Ver
 abbrev pub Word : Type 0
 Word = List ℕ
 
+-- the greatest number of a word
+abbrev pub number_limit : ℕ
+number_limit = 2 ^ 60
+
 -- a command's word
 abbrev pub verb_word : Verb → Word
 verb_word Solve = codes "solve"
@@ -73,4 +77,4 @@ is_file other = false
 
 -- a value that the option can't have: an empty name, or a word that writes no number where one is wanted
 abbrev pub is_bad : OptionName → Word → Bool
-is_bad option value = if is_file option then is_empty value else not (is_some (number_of (2 ^ 60) value))
+is_bad option value = if is_file option then is_empty value else not (is_some (number_of number_limit value))
