@@ -2,7 +2,7 @@
 use Rattle.std.specs.Prelude.{ℕ, ◌^◌, Bool, true, false, not, List, [], ◌∷◌, ◌++◌, codes, Option, is_some, if◌then◌else◌, find}
 use Rattle.std.specs.Str.{bytes_eq}
 use Rattle.dsa_terms.specs.Parts.{is_empty}
-use Rattle.dsa_model.specs.Numbers.{number_of}
+use Rattle.dsa_model.specs.Numbers.{written_number}
 use Rattle.command_words.specs.declared.option.OptionName.{OptionName}
 use Rattle.command_words.specs.declared.option.OptionName.TheVariants.{Capacity, Input, Output, Log, Layout, Steps, Seed, Count}
 use Rattle.command_words.specs.declared.verb.Verb.{Verb}
@@ -77,4 +77,4 @@ is_file other = false
 
 -- a value that the option can't have: an empty name, or a word that writes no number where one is wanted
 abbrev pub is_bad : OptionName → Word → Bool
-is_bad option value = if is_file option then is_empty value else not (is_some (number_of number_limit value))
+is_bad option value = if is_file option then is_empty value else not (is_some (written_number number_limit value))

@@ -4,7 +4,7 @@ use Rattle.std.specs.List.{list_any}
 use Rattle.std.specs.Option.{option_or, option_and_then}
 use Rattle.std.specs.Str.{bytes_eq}
 use Rattle.dsa_terms.specs.Firsts.{when, first_fault}
-use Rattle.dsa_model.specs.Numbers.{number_of}
+use Rattle.dsa_model.specs.Numbers.{written_number}
 use Rattle.command_words.specs.Options.{Word, number_limit, option_word, needed_by, option_of, is_bad}
 use Rattle.command_words.specs.declared.pair.Pair as written
 use Rattle.command_words.specs.declared.option.OptionName.{OptionName}
@@ -71,8 +71,8 @@ word_at pairs option = unwrap_or (value_of pairs option) []
 
 -- the number that the pairs give an option, where they give one
 abbrev pub number_given : List Pair → OptionName → Option ℕ
-number_given pairs option = option_and_then (number_of number_limit) (value_of pairs option)
+number_given pairs option = option_and_then (written_number number_limit) (value_of pairs option)
 
 -- the number that the pairs give an option, and 0 where they give none
 abbrev pub number_at : List Pair → OptionName → ℕ
-number_at pairs option = unwrap_or (number_of number_limit (word_at pairs option)) 0
+number_at pairs option = unwrap_or (written_number number_limit (word_at pairs option)) 0

@@ -1,7 +1,7 @@
 //! The values of options.
 
 ghost use Rattle.std.specs.Prelude.{◌≡◌, ◌≤◌, ◌^◌, IfSome};
-ghost use Rattle.dsa_model.specs.Numbers.{number_of};
+ghost use Rattle.dsa_model.specs.Numbers.{written_number};
 ghost use Rattle.command_words.specs.Options.{is_bad};
 
 use crate::OptionName;
@@ -12,7 +12,7 @@ const NUMBER_LIMIT: u64 = 1 << 60;
 
 /// The number that a word of 1 to 20 digits writes, where it is at most 2^60.
 pub(crate) fn number_of(word: &str) -> Option<u64>
-    ensures value { result ≡ number_of (2 ^ 60) word.now }
+    ensures value { result ≡ written_number (2 ^ 60) word.now }
     ensures within { IfSome result (λ number. number ≤ 2 ^ 60) }
 {
     parse_number(word.as_bytes(), NUMBER_LIMIT)

@@ -7,7 +7,7 @@ use Rattle.csv.specs.Reading.{records_from, strip_bom}
 use Rattle.dsa_model.specs.Buffer.{is_ever_live}
 use Rattle.dsa_terms.specs.Buffers.{is_live, some_before}
 use Rattle.dsa_model.specs.declared.buffer_fault.BufferFault.TheVariants as buffer
-use Rattle.dsa_model.specs.Numbers.{number_of}
+use Rattle.dsa_model.specs.Numbers.{written_number}
 use Rattle.csv_instance.specs.Gaps.{gaps_of}
 use Rattle.csv_instance.specs.Layout.{layout_text}
 use Rattle.csv_instance.specs.Numbers.{time_limit}
@@ -20,10 +20,10 @@ use Rattle.csv_instance.specs.declared.fault.OffsetsFault.TheVariants as offsets
 
 -- ---- fields
 
-greatest_moment : number_of time_limit (codes "4611686018427387903") ≡ Some 4611686018427387903
+greatest_moment : written_number time_limit (codes "4611686018427387903") ≡ Some 4611686018427387903
 greatest_moment = refl
 
-too_late : number_of time_limit (codes "4611686018427387904") ≡ None
+too_late : written_number time_limit (codes "4611686018427387904") ≡ None
 too_late = refl
 
 no_alignment : alignment_of [] ≡ Some 1

@@ -15,7 +15,7 @@ use Rattle.csv_instance.specs.Records.{Record, table_of}
 use Rattle.csv_instance.proofs.Basics.{any_after, counted_last, find_after, find_none, none_counted, none_if, not_false, some_if, text_same}
 use Rattle.csv_instance.proofs.ReadBack.{layout-read}
 use Rattle.dsa_terms.specs.Buffers.{Buffer}
-use Rattle.dsa_model.specs.Numbers.{number_of}
+use Rattle.dsa_model.specs.Numbers.{written_number}
 use Rattle.std.specs.Option.{option_map_or, option_or}
 use Rattle.csv_instance.specs.declared.fault.InstanceFault.TheVariants as fault
 use Rattle.csv_instance.specs.declared.columns.Column.{Column}
@@ -97,7 +97,7 @@ row-good ids header before before2 row o g same e small known =
     eqb-true _ _ (not_false _ (when_none _ (fault.FieldCount (length before)) n.1.0)) in
     let id_is = id-with header row (name_of Offset) (decimal o) g.id_place g.id_there even in
     let last = last-with header row (decimal o) g.no_offset even in
-    let value : offset_in (with_offset header) (row_with row o) ≡ Some o = ap (number_of offset_limit) last
+    let value : offset_in (with_offset header) (row_with row o) ≡ Some o = ap (written_number offset_limit) last
     ∙ number-decimal offset_limit o small (omega arith) in
     let even2 : (length (row_with row o) == length (with_offset header)) ≡ true =
     eq-eqb _ _ (omega (

@@ -9,7 +9,7 @@ use Rattle.std.specs.Option.{option_map_or}
 use Rattle.dsa_terms.specs.Buffers.{Buffer}
 use Rattle.dsa_model.specs.Fails.{UnlessNoMemory}
 use Rattle.dsa_model.specs.declared.fail.Fail.{Fail}
-use Rattle.dsa_model.specs.Numbers.{is_number, number_of}
+use Rattle.dsa_model.specs.Numbers.{is_number, written_number}
 use Rattle.csv_instance.specs.Columns.{field_of}
 use Rattle.csv_instance.specs.Parse.{parse}
 use Rattle.csv_instance.specs.declared.columns.Column.TheVariants.{Id, Offset}
@@ -48,7 +48,7 @@ offsets-count ids (header ∷ rows) os e = sym (ap length (answered _ (map (offs
 within : (most : ℕ) (field : List ℕ) → is_number most field ≡ true → digits_value 10 field ≤ most
 within most field is = grind (arith, nat_tests, common_steps)
 
-number_limit : (most : ℕ) (field : List ℕ) → unwrap_or (number_of most field) 0 ≤ most
+number_limit : (most : ℕ) (field : List ℕ) → unwrap_or (written_number most field) 0 ≤ most
 number_limit most field = elim (cases_Bool (is_number most field)) [
   | inl is ↦ rw is (within most field is)
   | inr other ↦ rw other (omega arith)

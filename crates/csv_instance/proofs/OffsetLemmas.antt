@@ -9,18 +9,18 @@ use Rattle.std.specs.Fmt.{decimal}
 use Rattle.std.specs.List.{position_from}
 use Rattle.std.specs.Str.{all_ascii_digits, bytes_eq}
 use Rattle.std.specs.Str.Parse.{digits_value}
-use Rattle.dsa_model.specs.Numbers.{number_of}
+use Rattle.dsa_model.specs.Numbers.{written_number}
 use Rattle.dsa_model.proofs.NumberLemmas.{own}
 use Rattle.csv_instance.specs.Columns.{field_of, name_of, place_of}
 use Rattle.csv_instance.specs.Records.{Record}
 use Rattle.csv_instance.specs.declared.columns.Column.TheVariants.{Id, Offset}
 
 number-is : (most : ℕ) (field : List ℕ) (v : ℕ) → 0 < length field → length field ≤ 20 → all_ascii_digits field ≡ true
-    → digits_value 10 field ≡ v → v ≤ most → number_of most field ≡ Some v
+    → digits_value 10 field ≡ v → v ≤ most → written_number most field ≡ Some v
 number-is most field v some short all value small = grind (arith, nat_tests, common_steps)
 
 -- a number that is written in decimal reads as it was
-pub number-decimal : (most n : ℕ) → n ≤ most → n < 2 ^ 64 → number_of most (decimal n) ≡ Some n
+pub number-decimal : (most n : ℕ) → n ≤ most → n < 2 ^ 64 → written_number most (decimal n) ≡ Some n
 number-decimal most n small word =
     let (digits, value) = decimal_is_IsNumeral n word in
     number-is most (decimal n) n digits.0

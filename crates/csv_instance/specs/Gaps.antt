@@ -1,7 +1,7 @@
 -- The gaps that a field writes.
 use Rattle.std.specs.Prelude.{ℕ, ◌+◌, List, [], ◌∷◌, ◌==◌, if◌then◌else◌, Option, Some, option_map, option_and_then, length, take, drop, map, position}
 use Rattle.std.specs.List.{slice_split}
-use Rattle.dsa_model.specs.Numbers.{number_of}
+use Rattle.dsa_model.specs.Numbers.{written_number}
 use Rattle.csv_instance.specs.Numbers.{time_limit}
 
 -- both values, where there are both
@@ -16,7 +16,7 @@ all_some (o ∷ os) = option_and_then (λ x. option_map (λ xs. x ∷ xs) (all_s
 -- the gap that a piece writes: two numbers with a hyphen between them
 abbrev pub gap_of : List ℕ → Option (ℕ × ℕ)
 gap_of piece =
-    option_and_then (λ k. both (number_of time_limit (take k piece)) (number_of time_limit (drop (k + 1) piece)))
+    option_and_then (λ k. both (written_number time_limit (take k piece)) (written_number time_limit (drop (k + 1) piece)))
     (position (λ c. c == 45) piece)
 
 -- the pieces of a field between its spaces

@@ -4,7 +4,7 @@ use Rattle.std.specs.List.{All, list_any}
 use Rattle.std.specs.Option.{option_or, option_map_or}
 use Rattle.std.specs.Str.{bytes_eq}
 use Rattle.dsa_model.specs.Buffer.{first_fault, when}
-use Rattle.dsa_model.specs.Numbers.{number_of}
+use Rattle.dsa_model.specs.Numbers.{written_number}
 use Rattle.csv_instance.specs.Records.{Record}
 use Rattle.csv_instance.specs.Columns.{field_of, has_column, stands_twice}
 use Rattle.csv_instance.specs.declared.columns.Column.{Column}
@@ -38,7 +38,7 @@ layout_header_fault header = first_fault (
 
 -- the offset that a row writes
 abbrev pub offset_in : Record → Record → Option ℕ
-offset_in header row = number_of offset_limit (field_of header row Offset)
+offset_in header row = written_number offset_limit (field_of header row Offset)
 
 -- what can be wrong with a row, given the rows before it
 abbrev pub layout_row_faults : List (List ℕ) → Record → List Record → Record → List (Option OffsetsFault)

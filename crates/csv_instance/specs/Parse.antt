@@ -4,7 +4,7 @@ use Rattle.std.specs.List.{starts_with}
 use Rattle.std.specs.Option.{option_or, option_map_or}
 use Rattle.std.specs.Str.{bytes_eq}
 use Rattle.dsa_model.specs.Buffer.{first_fault, when, buffer_fault}
-use Rattle.dsa_model.specs.Numbers.{number_of}
+use Rattle.dsa_model.specs.Numbers.{written_number}
 use Rattle.dsa_terms.specs.Buffers.{Buffer}
 use Rattle.csv_instance.specs.Records.{Record}
 use Rattle.csv_instance.specs.Numbers.{time_limit}
@@ -34,12 +34,12 @@ header_fault header = first_fault (header_faults header)
 
 -- the alignment that a field gives; an empty one gives 1
 abbrev pub alignment_of : List ℕ → Option ℕ
-alignment_of field = if length field == 0 then Some 1 else number_of time_limit field
+alignment_of field = if length field == 0 then Some 1 else written_number time_limit field
 
 -- the number under a column of a row
 abbrev pub number_under : Record → Record → Column → Option ℕ
 number_under header row Alignment = alignment_of (field_of header row Alignment)
-number_under header row c = number_of time_limit (field_of header row c)
+number_under header row c = written_number time_limit (field_of header row c)
 
 -- the columns that hold numbers
 abbrev pub number_columns : List Column

@@ -6,7 +6,7 @@ use Rattle.dsa_model.specs.Buffer.{buffer_fault, buffer_of, is_ever_live}
 use Rattle.dsa_model.specs.Lists.{items_of, pair_at}
 use Rattle.dsa_model.specs.Moments.{first_common}
 use Rattle.dsa_model.specs.Counts.{Rose, one_more}
-use Rattle.dsa_model.specs.Numbers.{is_number, number_of}
+use Rattle.dsa_model.specs.Numbers.{is_number, written_number}
 use Rattle.dsa_model.specs.LayoutFaults.{layout_fault, first_unaligned, first_above, first_overlap, overlap_after, overlap}
 use Rattle.dsa_model.specs.declared.buffer_fault.BufferFault.TheVariants as fault
 use Rattle.dsa_model.specs.declared.layout.LayoutFault.TheVariants.{WrongCount, Unaligned, Above, Overlap}
@@ -22,22 +22,22 @@ past_the_end : pair_at ((0, 1) ∷ (3, 2) ∷ []) 2 ≡ (0, 0)
 past_the_end = refl
 
 -- ---- numbers
-twenty_digits : number_of 9 (codes "00000000000000000007") ≡ Some 7
+twenty_digits : written_number 9 (codes "00000000000000000007") ≡ Some 7
 twenty_digits = refl
 
-twenty_one_digits : number_of 9 (codes "000000000000000000007") ≡ None
+twenty_one_digits : written_number 9 (codes "000000000000000000007") ≡ None
 twenty_one_digits = refl
 
-greatest_number : number_of 1152921504606846976 (codes "1152921504606846976") ≡ Some 1152921504606846976
+greatest_number : written_number 1152921504606846976 (codes "1152921504606846976") ≡ Some 1152921504606846976
 greatest_number = refl
 
-too_great : number_of 1152921504606846976 (codes "1152921504606846977") ≡ None
+too_great : written_number 1152921504606846976 (codes "1152921504606846977") ≡ None
 too_great = refl
 
-no_digits : number_of 9 [] ≡ None
+no_digits : written_number 9 [] ≡ None
 no_digits = refl
 
-a_sign : number_of 9 (codes "+1") ≡ None
+a_sign : written_number 9 (codes "+1") ≡ None
 a_sign = refl
 
 twenty_digits_are_a_number : is_number 12 (codes "00000000000000000012") ≡ true

@@ -7,7 +7,7 @@ use Rattle.std.proofs.lemmas.Str.Parse.{IsNumeralModel, numerals_by_value, tells
 use Rattle.std.specs.Char.{digit_value, is_ascii_digit}
 use Rattle.std.specs.Str.{all_ascii_digits}
 use Rattle.std.specs.Str.Parse.{digits_value}
-use Rattle.dsa_model.specs.Numbers.{number_of}
+use Rattle.dsa_model.specs.Numbers.{written_number}
 
 pub own : IsNumeralModel (λ ds. all_ascii_digits ds ≡ true) (digits_value 10)
 own = numerals_by_value _ tells_all_ascii_digits
@@ -32,7 +32,7 @@ pub value-small : (ds : List ℕ) (i : ℕ) → length ds ≤ 20 → i < length 
 value-small ds i most l h = digits_value_short own (take i ds) 19 h (omega (arith, length-take i ds))
 
 pub not-number : (most : ℕ) (bytes : List ℕ) (i : ℕ) → i < length bytes → is_ascii_digit (get_or bytes i 0) ≡ false
-    → None ≡ number_of most bytes
+    → None ≡ written_number most bytes
 not-number most bytes i l e = let f = digits-stop bytes i l e in grind (arith, common_steps, f)
 
 pub value-more : (ds : List ℕ) (i v : ℕ) → i < length ds → is_ascii_digit (get_or ds i 0) ≡ true

@@ -9,5 +9,5 @@ is_number most bytes = nat_le 1 (length bytes) && nat_le (length bytes) 20 && al
     (digits_value 10 bytes) most
 
 -- the number that bytes write, if they write one of at most `most`
-abbrev pub number_of : ℕ → List ℕ → Option ℕ
-number_of most bytes = if is_number most bytes then Some (digits_value 10 bytes) else None
+abbrev pub written_number : ℕ → List ℕ → Option ℕ
+written_number most bytes = if is_number most bytes then Some (digits_value 10 bytes) else None

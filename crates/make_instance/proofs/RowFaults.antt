@@ -7,7 +7,7 @@ use Rattle.std.specs.List.{list_any}
 use Rattle.std.specs.Option.{option_to_list}
 use Rattle.dsa_terms.specs.Buffers.{Buffer, is_within}
 use Rattle.dsa_model.specs.Buffer.{first_fault, when, buffer_fault, buffer_of, gap_fault, is_ever_live, number_fault}
-use Rattle.dsa_model.specs.Numbers.{number_of}
+use Rattle.dsa_model.specs.Numbers.{written_number}
 use Rattle.dsa_model.proofs.Live.{is_ever, live_from}
 use Rattle.csv_instance.specs.Gaps.{gaps_of}
 use Rattle.csv_instance.specs.Numbers.{time_limit}
@@ -83,7 +83,7 @@ gaps_are lower upper None soon inside = refl
 gaps_are lower upper (Some (a, b)) soon inside =
     let (after, some, before) = inside in gaps-read a b (omega arith) (omega arith)
 
-number : (n : ℕ) → n < 2048 → number_of time_limit (decimal n) ≡ Some n
+number : (n : ℕ) → n < 2048 → written_number time_limit (decimal n) ≡ Some n
 number n small = number-decimal time_limit n (omega arith) (omega arith)
 
 alignment : (n : ℕ) → n < 2048 → alignment_of (decimal n) ≡ Some n
