@@ -16,7 +16,8 @@ all_some (o ∷ os) = option_and_then (λ x. option_map (λ xs. x ∷ xs) (all_s
 -- the gap that a piece writes: two numbers with a hyphen between them
 abbrev pub gap_of : List ℕ → Option (ℕ × ℕ)
 gap_of piece =
-    option_and_then (λ k. both (written_number time_limit (take k piece)) (written_number time_limit (drop (k + 1) piece)))
+    option_and_then
+    (λ k. both (written_number time_limit (take k piece)) (written_number time_limit (drop (k + 1) piece)))
     (position (λ c. c == 45) piece)
 
 -- the pieces of a field between its spaces

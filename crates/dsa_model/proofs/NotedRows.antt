@@ -89,8 +89,8 @@ unpushed v old rows now own next limit all told is same h e =
     )
 
 pub pushed : (v : Vec Row Global) (w : Vec Bool Global) (I : Instance) (old rows now : List Row) (own : List Bool)
-    (next : Buffer) (place : ℕ) → instance_of v.items ≡ I → length I < 512 → All IsBuffer (instance_of v.items) → AreRows v.items → IsBuffer next →
-    old ≡ v.items → instance_of rows ≡ instance_of old →
+    (next : Buffer) (place : ℕ) → instance_of v.items ≡ I → length I < 512 → All IsBuffer (instance_of v.items) →
+    AreRows v.items → IsBuffer next → old ≡ v.items → instance_of rows ≡ instance_of old →
     IsNoted (instance_of old) (table_of old) (table_of rows) own (length old) next → w.len ≡ 512 → place ≡ v.len →
     now ≡ (with_items v rows).items ++ record { buffer = next; shares = with_item (with_items w own) place true } ∷ [] →
     (length now ≤ 512) × All IsBuffer (instance_of now) × AreRows now
