@@ -14,7 +14,7 @@ pub members_in_range : (I : Instance) (S : SectionList) (s : ℕ) (members : Lis
 members_in_range I S s members a lt e = rw (e, a.live s lt)
     (all_from_in (λ b. b < length I) (live_at I (start_of S s)) (λ b i. (from_live I (start_of S s) b i).0))
 
-live_few : (I : Instance) (t : ℕ) → length (live_at I t) ≤ length I
+pub live_few : (I : Instance) (t : ℕ) → length (live_at I t) ≤ length I
 unfolding live_at
 live_few I t =
     let k = length-filter_le (λ b. is_live (buffer I b) t) (numbers (length I)) in

@@ -6,7 +6,8 @@ use Rattle.dsa_terms.specs.Logs.{Line, claim_of}
 use Rattle.log_text.specs.declared.raw.RawLine.{RawLine}
 use Rattle.log_check.specs.declared.fault.CheckFault.TheVariants as fault
 use Rattle.log_check.specs.Faults.{end_fault, line_of}
-use Rattle.log_check.proofs.Options.{map_none, none_found}
+use Rattle.dsa_model.proofs.Faults.{map_none}
+use Rattle.dsa_model.proofs.Ranges.{none_found}
 
 -- the least buffer whose bound is above 0
 abbrev raised : Claim → Option ℕ

@@ -24,7 +24,8 @@ use Rattle.log_text.specs.declared.raw.RawCite.{RawCite}
 use Rattle.log_text.specs.declared.raw.RawCite.TheVariants as raw_cite
 use Rattle.log_check.specs.Faults.{cite_of, line_of, has_own_cites, raw_reason}
 use Rattle.log_check.specs.Narrowing.{IsNarrowed, narrow_cite, narrow_line}
-use Rattle.log_check.proofs.Options.{neither, so, none_of_two, third}
+use Rattle.refute_log.proofs.Legal.{neither, so}
+use Rattle.log_check.proofs.Options.{none_of_two, third}
 
 -- the claim's buffers are below that number
 abbrev pub IsBelow : ℕ → Claim → Type 0

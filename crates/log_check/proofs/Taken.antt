@@ -8,7 +8,7 @@ use Rattle.log_text.specs.declared.raw.RawLine.{RawLine}
 use Rattle.log_check.specs.declared.fault.CheckFault.TheVariants as fault
 use Rattle.log_check.specs.Faults.{illegal_at, illegal_fault, line_of, raw_reason}
 use Rattle.log_check.specs.Taking.{IsTaken}
-use Rattle.log_check.proofs.Options.{found_left, next_left, none_left}
+use Rattle.dsa_model.proofs.Ranges.{some_end, some_here, some_later}
 
 pub get_at : {X : Type 0} (xs : List X) (k : ℕ) (x : X) → k < length xs → x ≡ slice_index_or xs k x →
     slice_get xs k ≡ Some x
@@ -75,7 +75,7 @@ next_taken I C lines n log new line lt at t none e text b =
     let k = take_next lines n line h in
     let q = at_next I C lines n log line t h in
     record {
-      left = t.left ∙ next_left (illegal_at I C lines) n (length lines) lt
+      left = t.left ∙ some_later (illegal_at I C lines) n (length lines) lt
           (q ∙ ap (option_map (fault.Illegal n)) none);
       taken = e ∙ rw (
         ap (λ v. v.count) t.taken,
@@ -100,13 +100,13 @@ pub found_fault : (I : Instance) (C : ℕ) (lines : List RawLine) (n : ℕ) (log
     raw_reason I log.capacity log.lines line ≡ Some r → illegal_fault I C lines ≡ Some (fault.Illegal n r)
 found_fault I C lines n log line r lt at t some =
     let h = get_at lines n line lt at in
-    t.left ∙ found_left (illegal_at I C lines) n (length lines) (fault.Illegal n r) lt
+    t.left ∙ some_here (illegal_at I C lines) n (length lines) (fault.Illegal n r) lt
     (at_next I C lines n log line t h ∙ ap (option_map (fault.Illegal n)) some)
 
 -- all lines are taken
 pub none_is_illegal : (I : Instance) (C : ℕ) (lines : List RawLine) (n : ℕ) (log : OpenLog) → length lines ≤ n →
     IsTaken I C lines n log → illegal_fault I C lines ≡ None
-none_is_illegal I C lines n log le t = t.left ∙ none_left (illegal_at I C lines) n (length lines) le
+none_is_illegal I C lines n log le t = t.left ∙ some_end (illegal_at I C lines) n (length lines) le
 
 pub all_are_taken : (I : Instance) (C : ℕ) (lines : List RawLine) (n : ℕ) (log : OpenLog) → length lines ≤ n →
     IsTaken I C lines n log → log ≡ record { count = length I; capacity = C; lines = map line_of lines }

@@ -176,7 +176,8 @@ marked_no_second old mid rest n m p q h = λ a b x r d s e.
     let t = (number_split p.item a mid (x ∷ (numeral b ++ r)) p.stops d (sym p.text ∙ e)).1 in
     h b r s (tail_of m x rest (numeral b ++ r) (sym q ∙ t))
 
-pub marked_read : (old mid rest new : List ℕ) (first m second : ℕ) → IsItemRead numeral capped old first mid → mid ≡ m ∷ rest →
+pub marked_read : (old mid rest new : List ℕ) (first m second : ℕ) →
+    IsItemRead numeral capped old first mid → mid ≡ m ∷ rest →
     IsItemRead numeral capped rest second new → IsMarkedRead old first m second new
 marked_read old mid rest new first m second p q s = record {
   before = p.item;

@@ -76,8 +76,10 @@ stops_before : (ds : List ℕ) (k count : ℕ) → list_all is_digit (take k ds)
     Stops (drop count ds) → ⊥
 stops_before [] k count a h l s = absurd (omega arith)
 stops_before (x ∷ xs) zero count a h l s = absurd (omega arith)
-stops_before (x ∷ xs) (suc k) zero a h l s = let d = (and_true (is_digit x) (list_all is_digit (take k xs)) a).0 in absurd cc
-stops_before (x ∷ xs) (suc k) (suc count) a h l s = stops_before xs k count (and_true (is_digit x) _ a).1 (omega arith) (omega arith) s
+stops_before (x ∷ xs) (suc k) zero a h l s =
+    let d = (and_true (is_digit x) (list_all is_digit (take k xs)) a).0 in absurd cc
+stops_before (x ∷ xs) (suc k) (suc count) a h l s =
+    stops_before xs k count (and_true (is_digit x) _ a).1 (omega arith) (omega arith) s
 
 -- a short number has at most 18 digits
 short_count : (ds : List ℕ) (count value : ℕ) → IsShortNumber ds count value → count < 19

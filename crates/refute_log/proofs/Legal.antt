@@ -19,7 +19,7 @@ use Rattle.refute_log.specs.Logs.{OpenLog, Belongs, ended}
 use Rattle.refute_log.specs.declared.reason.Reason.TheVariants as reason
 use Rattle.refute_log.proofs.ListTests.{covers_gives, covers_from, other_gives, other_from}
 
-neither : {F : Type 0} (a b : Option F) → option_or a b ≡ None → (a ≡ None) × (b ≡ None)
+pub neither : {F : Type 0} (a b : Option F) → option_or a b ≡ None → (a ≡ None) × (b ≡ None)
 neither None b h = (refl, h)
 neither (Some x) b h = absurd cc
 
@@ -31,7 +31,7 @@ not_so : {F : Type 0} (b : Bool) (f : F) → when b f ≡ None → b ≡ false
 not_so true f h = absurd cc
 not_so false f h = refl
 
-so : {F : Type 0} (b : Bool) (f : F) → when (not b) f ≡ None → b ≡ true
+pub so : {F : Type 0} (b : Bool) (f : F) → when (not b) f ≡ None → b ≡ true
 so true f h = refl
 so false f h = absurd cc
 

@@ -1,27 +1,17 @@
 -- Tests of lists and what they say, and the parts of a reason.
-use Rattle.std.proofs.Common.{◌≡◌, ℕ, zero, suc, ◌+◌, ◌<◌, inl, inr, Bool, true, false, not, ◌&&◌, ◌==◌, nat_le, List, [], ◌∷◌, map, length, drop, Option, Some, None, slice_get, slice_index_or, All, subst, refl, sym, ap, ◌∙◌, arith}
+use Rattle.std.proofs.Common.{◌≡◌, ℕ, zero, suc, ◌+◌, ◌<◌, Bool, true, false, not, ◌&&◌, ◌==◌, nat_le, List, [], ◌∷◌, map, length, drop, Option, Some, None, slice_get, slice_index_or, All, subst, refl, sym, ap, ◌∙◌, arith}
 use Rattle.std.specs.Option.{option_or}
 use Rattle.std.specs.List.{list_any, list_all}
 use Rattle.dsa_terms.specs.Buffers.{Instance}
 use Rattle.dsa_terms.specs.Claims.{Claim, Entry, IsIn, up, child, Covers, IsWhole}
 use Rattle.canonical_order.proofs.NumberTests.{equal, same, at_most, is_at_most}
 use Rattle.dsa_terms.specs.Logs.{Line, claim_of, Cite}
-use Rattle.dsa_terms.proofs.Lists.{any_gives, any_from}
+use Rattle.dsa_terms.proofs.Lists.{all_at, all_from, any_gives, any_from}
 use Rattle.dsa_terms.proofs.Moments.{and_true, both_true}
 use Rattle.dsa_terms.specs.Firsts.{when}
 use Rattle.refute_log.specs.Reasons.{covers, line_reason, cite_reason, cites_reason}
 use Rattle.refute_log.specs.declared.reason.Reason.{Reason}
 use Rattle.refute_log.specs.declared.reason.Reason.TheVariants as reason
-
--- ---- all
-pub all_gives : {X : Type 0} (p : X → Bool) (xs : List X) (x : X) → list_all p xs ≡ true → IsIn x xs → p x ≡ true
-all_gives p [] x h i = absurd i
-all_gives p (y ∷ ys) x h (inl q) = ap p q ∙ (and_true _ _ h).0
-all_gives p (y ∷ ys) x h (inr i) = all_gives p ys x (and_true _ _ h).1 i
-
-pub all_from : {X : Type 0} (p : X → Bool) (xs : List X) → ((x : X) → IsIn x xs → p x ≡ true) → list_all p xs ≡ true
-all_from p [] h = refl
-all_from p (y ∷ ys) h = both_true _ _ (h y (inl refl)) (all_from p ys (λ x i. h x (inr i)))
 
 pub not_false : {X : Type 0} (b : Bool) → b ≡ false → b ≡ true → X
 not_false b h k = absurd cc
@@ -31,7 +21,7 @@ pub covers_gives : (I : Instance) (k l : Claim) → covers I k l ≡ true → Co
 unfolding covers
 covers_gives I k l h e i =
     let q = any_gives (λ (f : Entry). (f.0 == e.0) && nat_le e.1 (up I f)) l
-    (all_gives (λ (e : Entry). list_any (λ (f : Entry). (f.0 == e.0) && nat_le e.1 (up I f)) l) k e h i) in
+    (all_at (λ (e : Entry). list_any (λ (f : Entry). (f.0 == e.0) && nat_le e.1 (up I f)) l) k e h i) in
     let r = and_true _ _ q.2 in
     (q.0, q.1, equal q.0.0 e.0 r.0, at_most e.1 (up I q.0) r.1)
 
@@ -124,7 +114,7 @@ next_cite {X = X} f I earlier l es cites n e d o lt lu p r = rw (add_one n) (go 
 
 -- ---- whole claims
 pub whole_gives : (l : Claim) → list_all (λ (e : Entry). e.1 == 0) l ≡ true → IsWhole l
-whole_gives l h e i = equal e.1 0 (all_gives (λ (e : Entry). e.1 == 0) l e h i)
+whole_gives l h e i = equal e.1 0 (all_at (λ (e : Entry). e.1 == 0) l e h i)
 
 pub whole_from : (l : Claim) → IsWhole l → list_all (λ (e : Entry). e.1 == 0) l ≡ true
 whole_from l h = all_from (λ (e : Entry). e.1 == 0) l (λ e i. same e.1 0 (h e i))

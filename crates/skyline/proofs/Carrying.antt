@@ -1,14 +1,12 @@
 -- What a skyline's fields keep: what they say, and how it changes.
-use Rattle.std.proofs.Common.{◌≡◌, ◌≢◌, ◌⊎◌, inl, inr, ◌+◌, ◌-◌, ◌*◌, ◌<◌, ◌≤◌, ◌^◌, ◌↔◌, ℕ, suc, Bool, true, false, cond, nat_lt, List, [], ◌∷◌, ◌++◌, length, max, slice_index, slice_index_or, set, refl, ap, sym, subst, ◌∙◌, arith, length-append, lit≤}
+use Rattle.std.proofs.Common.{◌≡◌, ◌≢◌, ◌⊎◌, inl, inr, ◌+◌, ◌-◌, ◌*◌, ◌<◌, ◌≤◌, ◌^◌, ◌↔◌, ℕ, suc, Bool, true, false, cond, nat_lt, List, [], ◌∷◌, ◌++◌, length, max, slice_index, slice_index_or, set, refl, ap, sym, subst, ◌∙◌, arith, length-append}
 use Rattle.std.specs.Int.{next_multiple_of}
 use Rattle.std.specs.List.{All}
 use Rattle.std.proofs.lemmas.List.{length-map, length-set, get_or-set_other, get_or-set_same}
-use Rattle.dsa_terms.specs.Buffers.{Instance, IsInstance, buffer, do_share}
-use Rattle.dsa_terms.specs.Claims.{Claim, Entry, IsIn, IsWhole, Rises, buffers_of, step, child}
+use Rattle.dsa_terms.specs.Buffers.{Instance, IsInstance, buffer}
+use Rattle.dsa_terms.specs.Claims.{Claim, Entry, IsIn, IsWhole, Rises, buffers_of}
 use Rattle.dsa_terms.specs.Logs.{greatest}
 use Rattle.dsa_terms.specs.Parts.{whole}
-use Rattle.dsa_terms.proofs.Lists.{from_map}
-use Rattle.dsa_search_laws.proofs.Placing.{in_buffers, in_child, of_child}
 use Rattle.dsa_search_laws.proofs.Claims.{rises-child, length-child}
 use Rattle.dsa_terms.proofs.Numbers.{next_is_below}
 use Rattle.dsa_terms.proofs.Moments.{sound}
@@ -24,6 +22,7 @@ use Rattle.skyline.proofs.Tops.{AllIn, heights_are_tops}
 use Rattle.canonical_order.specs.Claims.{entry_of, HasBuffer}
 use Rattle.skyline.specs.Skies.{last_claim}
 use Rattle.skyline.proofs.SectionFacts.{is_instance}
+use Rattle.canonical_order.proofs.CoverLemmas.{from_child, in_child_by, step_limit}
 use Rattle.canonical_order.proofs.Entries.{sound_buffer, entry_in}
 
 -- ---- the list of claims
@@ -46,29 +45,16 @@ length-claims_of I root (b ∷ bs) =
     length-claims_of I root bs in omega arith
 
 -- ---- the buffers of a child
-pub of_child_buffers : (I : Instance) (l : Claim) (b c : ℕ) → HasBuffer (child I l (entry_of l b)) c →
-    HasBuffer l c × (c ≢ b)
-of_child_buffers I l b c i =
-    let r = from_map (λ e. e.0) (child I l (entry_of l b)) c i in
-    let f = of_child I l (entry_of l b) r.0 r.1 in
-    let e : c ≡ f.0.0 = r.2 ∙ ap (λ (x : Entry). x.0) f.3 in
-    (subst (λ x. HasBuffer l x) (sym e) (in_buffers l f.0 f.1), (λ q. f.2 (sym e ∙ q)))
-
-pub in_child_buffers : (I : Instance) (l : Claim) (b c : ℕ) → HasBuffer l c → c ≢ b →
-    HasBuffer (child I l (entry_of l b)) c
-in_child_buffers I l b c i ne =
-    in_buffers (child I l (entry_of l b)) _ (in_child I l (entry_of l b) (entry_of l c) (entry_in l c i) ne)
-
 pub in_root : (I : Instance) (root : Claim) (bs : List ℕ) (c : ℕ) → HasBuffer (claim_after I root bs) c →
     HasBuffer root c
 in_root I root [] c i = i
-in_root I root (b ∷ bs) c i = in_root I root bs c (of_child_buffers I (claim_after I root bs) b c i).0
+in_root I root (b ∷ bs) c i = in_root I root bs c (from_child I (claim_after I root bs) b c i).0
 
 not_standing : (I : Instance) (root : Claim) (bs : List ℕ) (c : ℕ) → HasBuffer (claim_after I root bs) c → IsIn c bs → ⊥
 not_standing I root [] c i j = j
-not_standing I root (b ∷ bs) c i (inl e) = (of_child_buffers I (claim_after I root bs) b c i).1 e
+not_standing I root (b ∷ bs) c i (inl e) = (from_child I (claim_after I root bs) b c i).1 e
 not_standing I root (b ∷ bs) c i (inr j) = not_standing I root bs c
-    (of_child_buffers I (claim_after I root bs) b c i).0 j
+    (from_child I (claim_after I root bs) b c i).0 j
 
 -- ---- members in range
 in_range_list : (n : ℕ) (xs : List ℕ) (c : ℕ) → All (λ b. b < n) xs → IsIn c xs → c < n
@@ -149,18 +135,6 @@ low_is I S members bs ys hs rows flags b h i =
     (sym (floor_is I (whole members) bs ys b h.offsets))
 
 -- ---- limits
-step_limited : (I : Instance) (b c : ℕ) → All IsBuffer I → b < length I → step I b c ≤ 2 ^ 40
-unfolding step
-step_limited I b c h lt = go (do_share (buffer I b) (buffer I c)) (nat_lt c b)
-  where
-    size : (buffer I b).size ≤ 2 ^ 40
-    size = (sound_buffer I b h lt).within_size
-
-    go : (t u : Bool) → cond t (buffer I b).size (cond u 1 0) ≤ 2 ^ 40
-    go true u = size
-    go false true = lit≤ tt
-    go false false = lit≤ tt
-
 pub alignment_limited : (I : Instance) (b : ℕ) → All IsBuffer I → b < length I → (buffer I b).alignment ≤ 2 ^ 32
 alignment_limited I b h lt = (sound_buffer I b h lt).within_alignment
 
@@ -173,7 +147,7 @@ raised_limited I root (b ∷ bs) c s h w k r =
     let e = offset_is_raised I root bs b s w k.0 in
     let n = next_is_below (raised I root bs b) (buffer I b).alignment (sound I b s).1 in
     let a = alignment_limited I b h r.0 in
-    let x = step_limited I b c h r.0 in
+    let x = step_limit I b c h r.0 in
     let p = raised_limited I root bs b s h w k.1 r.1 in
     let q = raised_limited I root bs c s h w k.1 r.1 in
     omega arith
@@ -242,11 +216,11 @@ pushed I S members bs ys hs rows flags b y hs' row h i at heights saved = record
             go (inl e) = absurd (let r : slice_index_or (set flags b false) c false ≡ false =
                 ap (λ x. slice_index_or (set flags b false) x false) e ∙ get_or-set_same flags b false false
                 (omega (arith, lt, h.free_count)) in cc)
-            go (inr ne) = in_child_buffers I (claim_after I (whole members) bs) b c
+            go (inr ne) = in_child_by I (claim_after I (whole members) bs) b c
                 ((h.free c l).0 (sym (get_or-set_other flags b c false false ne) ∙ q)) ne
 
         back : HasBuffer (claim_after I (whole members) (b ∷ bs)) c → slice_index_or (set flags b false) c false ≡ true
-        back j = let r = of_child_buffers I (claim_after I (whole members) bs) b c j in
+        back j = let r = from_child I (claim_after I (whole members) bs) b c j in
             get_or-set_other flags b c false false r.1 ∙ (h.free c l).1 r.0
 
 -- ---- the last one taken back
@@ -287,7 +261,7 @@ popped I S members bs ys hs rows flags b y hs' h back = record {
           where
             go : (c ≡ b) ⊎ (c ≢ b) → HasBuffer (claim_after I (whole members) bs) c
             go (inl e) = subst (λ x. HasBuffer (claim_after I (whole members) bs) x) (sym e) h.stands.0
-            go (inr ne) = (of_child_buffers I (claim_after I (whole members) bs) b c
+            go (inr ne) = (from_child I (claim_after I (whole members) bs) b c
                 ((h.free c l).0 (sym (get_or-set_other flags b c true false ne) ∙ q))).0
 
         again : HasBuffer (claim_after I (whole members) bs) c → slice_index_or (set flags b true) c false ≡ true
@@ -297,4 +271,4 @@ popped I S members bs ys hs rows flags b y hs' h back = record {
             go (inl e) = ap (λ x. slice_index_or (set flags b true) x false) e ∙ get_or-set_same flags b true false
                 (omega (arith, lt, h.free_count))
             go (inr ne) = get_or-set_other flags b c true false ne
-                ∙ (h.free c l).1 (in_child_buffers I (claim_after I (whole members) bs) b c j ne)
+                ∙ (h.free c l).1 (in_child_by I (claim_after I (whole members) bs) b c j ne)

@@ -15,8 +15,9 @@ use Rattle.dsa_model.specs.Buffer.{IsBuffer}
 use Rattle.lifetime.specs.SectionList.{count_of, members_of, sections_of, AreSectionsOf, SectionList}
 use Rattle.skyline.specs.Places.{set_each}
 use Rattle.skyline.specs.Loads.{HasLoads}
-use Rattle.skyline.proofs.Places.{is_in_or_not, set_each-in, set_each-out, length-set_each}
-use Rattle.skyline.proofs.Carrying.{of_child_buffers, in_child_buffers}
+use Rattle.lifetime.proofs.Lists.{in_or_not}
+use Rattle.skyline.proofs.Places.{set_each-in, set_each-out, length-set_each}
+use Rattle.canonical_order.proofs.CoverLemmas.{from_child, in_child_by}
 use Rattle.canonical_order.specs.Claims.{entry_of, HasBuffer}
 use Rattle.skyline.specs.Overloads.{is_left, free_load}
 use Rattle.skyline.proofs.SectionFacts.{member_in, members_rise, few_in, listed_in}
@@ -47,12 +48,12 @@ agree false false h k = refl
 left_other : (I : Instance) (l : Claim) (b c : ℕ) → c ≢ b → is_left (child I l (entry_of l b)) c ≡ is_left l c
 left_other I l b c ne =
     agree (is_left (child I l (entry_of l b)) c) (is_left l c)
-    (λ h. gives_left l c (of_child_buffers I l b c (left_gives (child I l (entry_of l b)) c h)).0)
-    (λ h. gives_left (child I l (entry_of l b)) c (in_child_buffers I l b c (left_gives l c h) ne))
+    (λ h. gives_left l c (from_child I l b c (left_gives (child I l (entry_of l b)) c h)).0)
+    (λ h. gives_left (child I l (entry_of l b)) c (in_child_by I l b c (left_gives l c h) ne))
 
 not_left : (I : Instance) (l : Claim) (b : ℕ) → is_left (child I l (entry_of l b)) b ≡ false
 not_left I l b = elim (true_or_false (is_left (child I l (entry_of l b)) b)) [
-  | inl h ↦ absurd ((of_child_buffers I l b b (left_gives (child I l (entry_of l b)) b h)).1 refl)
+  | inl h ↦ absurd ((from_child I l b b (left_gives (child I l (entry_of l b)) b h)).1 refl)
   | inr h ↦ h
 ]
 
@@ -131,7 +132,7 @@ lighter I S l b loads p lb i h = record {
     each : (s : ℕ) → s < count_of S →
         slice_index (set_each (λ s. slice_index loads s - (buffer I b).size) (sections_of S b) loads) s
         ≡ free_load I S (child I l (entry_of l b)) s
-    each s ls = go (is_in_or_not s (sections_of S b))
+    each s ls = go (in_or_not s (sections_of S b))
       where
         go : IsIn s (sections_of S b) ⊎ (IsIn s (sections_of S b) → ⊥) →
             slice_index (set_each (λ s. slice_index loads s - (buffer I b).size) (sections_of S b) loads) s
@@ -156,7 +157,7 @@ heavier I S l b loads p lb i h = record {
     each : (s : ℕ) → s < count_of S →
         slice_index (set_each (λ s. slice_index loads s + (buffer I b).size) (sections_of S b) loads) s
         ≡ free_load I S l s
-    each s ls = go (is_in_or_not s (sections_of S b))
+    each s ls = go (in_or_not s (sections_of S b))
       where
         go : IsIn s (sections_of S b) ⊎ (IsIn s (sections_of S b) → ⊥) →
             slice_index (set_each (λ s. slice_index loads s + (buffer I b).size) (sections_of S b) loads) s

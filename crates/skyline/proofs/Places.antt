@@ -7,6 +7,7 @@ use Rattle.std.proofs.lemmas.Grind.{same_number_lists}
 use Rattle.dsa_terms.specs.Claims.{IsIn, Rises}
 use Rattle.dsa_terms.proofs.Lists.{from_map}
 use Rattle.dsa_search_laws.proofs.Logs.{in_greatest}
+use Rattle.lifetime.proofs.Lists.{in_or_not}
 use Rattle.skyline.specs.Places.{set_each, at_places}
 
 greatest-append : (xs : List ℕ) (y : ℕ) → greatest (xs ++ y ∷ []) ≡ max (greatest xs) y
@@ -56,22 +57,6 @@ raised-more top ss hs before i lt h =
     ap (λ x. slice_set x (slice_index ss i) top) h ∙ sym (set_each-more (λ _. top) ss i before lt)
 
 -- ---- a list after writes at some places
-pub is_in_or_not : (s : ℕ) (ss : List ℕ) → IsIn s ss ⊎ (IsIn s ss → ⊥)
-is_in_or_not s [] = inr (λ h. h)
-is_in_or_not s (t ∷ ss) = go (is_in_or_not s ss) (equal s t)
-  where
-    equal : (m n : ℕ) → (m ≡ n) ⊎ (m ≢ n)
-    equal m n = grind arith
-
-    go : IsIn s ss ⊎ (IsIn s ss → ⊥) → (s ≡ t) ⊎ (s ≢ t) → (IsIn s (t ∷ ss)) ⊎ (IsIn s (t ∷ ss) → ⊥)
-    go (inl i) q = inl (inr i)
-    go (inr out) (inl e) = inl (inl e)
-    go (inr out) (inr ne) = inr (neither out ne)
-      where
-        neither : (IsIn s ss → ⊥) → s ≢ t → IsIn s (t ∷ ss) → ⊥
-        neither out ne (inl e) = ne e
-        neither out ne (inr i) = out i
-
 pub length-set_each : (f : ℕ → ℕ) (ss xs : List ℕ) → length (set_each f ss xs) ≡ length xs
 length-set_each f [] xs = refl
 length-set_each f (s ∷ ss) xs = length-set_each f ss (slice_set xs s (f s)) ∙ length-set xs s (f s)
@@ -88,7 +73,7 @@ set_each-out f (t ∷ ss) xs s out =
 pub set_each-in : (f : ℕ → ℕ) (ss xs : List ℕ) (s : ℕ) → IsIn s ss → s < length xs →
     slice_index (set_each f ss xs) s ≡ f s
 set_each-in f [] xs s i lt = absurd i
-set_each-in f (t ∷ ss) xs s i lt = go (set_each-in f ss (slice_set xs t (f t)) s) (is_in_or_not s ss) i
+set_each-in f (t ∷ ss) xs s i lt = go (set_each-in f ss (slice_set xs t (f t)) s) (in_or_not s ss) i
   where
     go : (IsIn s ss → s < length (slice_set xs t (f t)) → slice_index (set_each f ss (slice_set xs t (f t))) s ≡ f s) →
         IsIn s ss ⊎ (IsIn s ss → ⊥) → IsIn s (t ∷ ss) → slice_index (set_each f ss (slice_set xs t (f t))) s ≡ f s
@@ -108,7 +93,7 @@ set_each-back xs ys ss len same = same_number_lists (set_each (slice_index xs) s
   where
     each : (k : ℕ) → k < length (set_each (slice_index xs) ss ys) → slice_index (set_each (slice_index xs) ss ys) k
         ≡ slice_index xs k
-    each k lt = go (is_in_or_not k ss)
+    each k lt = go (in_or_not k ss)
       where
         go : IsIn k ss ⊎ (IsIn k ss → ⊥) → slice_index (set_each (slice_index xs) ss ys) k ≡ slice_index xs k
         go (inl i) = set_each-in (slice_index xs) ss ys k i (omega (arith, length-set_each (slice_index xs) ss ys))
@@ -145,7 +130,7 @@ greatest_met t ps xs ss m i j lt le = both (greatest (at_places (set_each (λ _.
     upper = at_places-under (set_each (λ _. t) ps xs) ss (max t (greatest (at_places xs ss))) each
       where
         each : (s : ℕ) → IsIn s ss → slice_index (set_each (λ _. t) ps xs) s ≤ max t (greatest (at_places xs ss))
-        each s q = go (is_in_or_not s ps)
+        each s q = go (in_or_not s ps)
           where
             go : IsIn s ps ⊎ (IsIn s ps → ⊥) → slice_index (set_each (λ _. t) ps xs) s ≤ max t
                 (greatest (at_places xs ss))
@@ -160,7 +145,7 @@ greatest_met t ps xs ss m i j lt le = both (greatest (at_places (set_each (λ _.
     lower_g = at_places-under xs ss (greatest (at_places (set_each (λ _. t) ps xs) ss)) each
       where
         each : (s : ℕ) → IsIn s ss → slice_index xs s ≤ greatest (at_places (set_each (λ _. t) ps xs) ss)
-        each s q = go (is_in_or_not s ps)
+        each s q = go (in_or_not s ps)
           where
             go : IsIn s ps ⊎ (IsIn s ps → ⊥) → slice_index xs s ≤ greatest (at_places (set_each (λ _. t) ps xs) ss)
             go (inl p) = let e = set_each-in (λ _. t) ps xs s p (lt s p) in let k = under_greatest

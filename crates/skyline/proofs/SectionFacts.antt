@@ -1,14 +1,15 @@
 -- What a skyline uses of an instance and of its sections.
 use Rattle.std.proofs.Common.{◌≡◌, ℕ, ◌+◌, ◌-◌, ◌<◌, ◌≤◌, ◌↔◌, true, List, [], ◌∷◌, length, inl, inr, refl, sym, ap, subst, arith}
 use Rattle.std.specs.List.{All}
-use Rattle.std.proofs.lemmas.List.FromFn.{length-range_with_len}
 use Rattle.dsa_terms.specs.Buffers.{Instance, IsInstance, IsLive, buffer, do_share, is_live}
 use Rattle.dsa_terms.specs.Claims.{IsIn, Rises}
 use Rattle.dsa_terms.specs.Parts.{numbers}
-use Rattle.dsa_terms.proofs.Lists.{from_filter, into_filter, length-filter_le, true_or_false}
+use Rattle.dsa_terms.proofs.Lists.{from_filter, into_filter, true_or_false}
 use Rattle.dsa_terms.proofs.Moments.{do_share-false, do_share-gives}
 use Rattle.dsa_model.specs.Buffer.{IsBuffer}
-use Rattle.lifetime.specs.SectionList.{live_at, count_of, start_of, members_of, sections_of, AreSectionsOf, SectionList}
+use Rattle.lifetime.specs.SectionList.{count_of, start_of, members_of, sections_of, AreSectionsOf, SectionList}
+use Rattle.lifetime.proofs.Live.{from_live, into_live, rises_live}
+use Rattle.lifetime.proofs.Members.{live_few}
 use Rattle.lifetime.proofs.Lists.{among, below, in_from_all, rises-numbers}
 
 pub is_instance : (I : Instance) → All IsBuffer I → IsInstance I
@@ -30,32 +31,13 @@ members_few I members h r few =
     (in_from_all (λ b. b < length I) members h) in omega arith
 
 -- ---- the members of a section
-from_live : (I : Instance) (t b : ℕ) → IsIn b (live_at I t) → (b < length I) × IsLive (buffer I b) t
-unfolding live_at
-from_live I t b i =
-    let r = from_filter (λ b. is_live (buffer I b) t) (numbers (length I)) b i in (below (length I) b r.0, r.1)
-
-into_live : (I : Instance) (t b : ℕ) → b < length I → IsLive (buffer I b) t → IsIn b (live_at I t)
-unfolding live_at
-into_live I t b lt h = into_filter (λ b. is_live (buffer I b) t) (numbers (length I)) b (among (length I) b lt) h
-
-live_few : (I : Instance) (t : ℕ) → length (live_at I t) ≤ length I
-unfolding live_at
-live_few I t =
-    let k = length-filter_le (λ b. is_live (buffer I b) t) (numbers (length I)) in
-    let n : length (numbers (length I)) ≡ length I = length-range_with_len 0 (length I) in omega arith
-
-live_rises : (I : Instance) (t : ℕ) → Rises (live_at I t)
-unfolding live_at
-live_rises I t = rises-numbers (λ b. is_live (buffer I b) t) (length I)
-
 pub member_in : (I : Instance) (S : SectionList) → AreSectionsOf I S → (s b : ℕ) → s < count_of S →
     IsIn b (members_of S s) → b < length I
 member_in I S p s b lt i = (from_live I (start_of S s) b (subst (IsIn b) (p.live s lt) i)).0
 
 pub members_rise : (I : Instance) (S : SectionList) → AreSectionsOf I S → (s : ℕ) → s < count_of S →
     Rises (members_of S s)
-members_rise I S p s lt = subst Rises (sym (p.live s lt)) (live_rises I (start_of S s))
+members_rise I S p s lt = subst Rises (sym (p.live s lt)) (rises_live I (start_of S s))
 
 pub few_in : (I : Instance) (S : SectionList) → AreSectionsOf I S → (s : ℕ) → s < count_of S →
     length (members_of S s) ≤ length I
