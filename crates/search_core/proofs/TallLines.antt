@@ -7,6 +7,7 @@ use Rattle.dsa_terms.specs.Buffers.{Buffer, Instance, buffer, is_live}
 use Rattle.dsa_terms.specs.Claims.{Claim, Entry, IsClaim, up}
 use Rattle.dsa_terms.specs.Logs.{Line, Over, IsLegal, is_stacked, rounded, rounding, greatest}
 use Rattle.dsa_terms.proofs.Numbers.{next_at_or_above, next_is_below}
+use Rattle.dsa_model.specs.Buffer.{IsBuffer}
 
 next_of_one : (x : ℕ) → next_multiple_of x 1 ≡ x
 next_of_one x = let a : x ≤ next_multiple_of x 1 = next_at_or_above x 1 (omega arith) in

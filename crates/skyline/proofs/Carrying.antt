@@ -27,7 +27,7 @@ use Rattle.skyline.proofs.SectionFacts.{is_instance}
 use Rattle.canonical_order.proofs.Entries.{sound_buffer, entry_in}
 
 -- ---- the list of claims
-last_of_append : (ls : List Claim) (l : Claim) → last_claim (ls ++ l ∷ []) ≡ l
+pub last_of_append : (ls : List Claim) (l : Claim) → last_claim (ls ++ l ∷ []) ≡ l
 last_of_append [] l = refl
 last_of_append (k ∷ ls) l =
     let e : length (k ∷ (ls ++ l ∷ [])) - 1 ≡ suc (length (ls ++ l ∷ []) - 1) = let n = length-append ls (l ∷ []) in
