@@ -176,12 +176,12 @@ has_no_reason I C earlier line h =
     in_buffers_range l k b i = let q = from_map (λ (e : Entry). e.0) l b i in rw q.2 (k q.0 q.1)
 
 -- ---- logs
-get_before : {X : Type 0} (xs ys : List X) (k : ℕ) → k < length xs → slice_get (xs ++ ys) k ≡ slice_get xs k
+pub get_before : {X : Type 0} (xs ys : List X) (k : ℕ) → k < length xs → slice_get (xs ++ ys) k ≡ slice_get xs k
 get_before [] ys k lt = absurd (omega arith)
 get_before (x ∷ xs) ys zero lt = refl
 get_before (x ∷ xs) ys (suc k) lt = get_before xs ys k (omega arith)
 
-get_last : {X : Type 0} (xs : List X) (x y : X) (k : ℕ) → length xs ≤ k → slice_get (xs ++ x ∷ []) k ≡ Some y →
+pub get_last : {X : Type 0} (xs : List X) (x y : X) (k : ℕ) → length xs ≤ k → slice_get (xs ++ x ∷ []) k ≡ Some y →
     (k ≡ length xs) × (x ≡ y)
 get_last [] x y zero le h = (refl, cc)
 get_last [] x y (suc k) le h = absurd cc
@@ -191,7 +191,7 @@ get_last (z ∷ zs) x y (suc k) le h = let q = get_last zs x y k (omega arith) h
 take_before : {X : Type 0} (xs ys : List X) (k : ℕ) → k ≤ length xs → take k (xs ++ ys) ≡ take k xs
 take_before xs ys k le = take-append-le k xs ys le
 
-take_length : {X : Type 0} (xs : List X) → take (length xs) xs ≡ xs
+pub take_length : {X : Type 0} (xs : List X) → take (length xs) xs ≡ xs
 take_length [] = refl
 take_length (x ∷ xs) = ap (λ xs. x ∷ xs) (take_length xs)
 

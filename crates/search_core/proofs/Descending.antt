@@ -17,7 +17,8 @@ use Rattle.search_core.proofs.Descent.{child_within}
 use Rattle.search_core.proofs.Growing.{covered_still, get_new}
 use Rattle.search_core.proofs.Rising.{child_raised}
 use Rattle.search_core.proofs.Searching.{choice_refuted, chosen_in, layout_found, next_choice, rest_of_noted, trying_still}
-use Rattle.search_core.proofs.Stacks.{above_pushed, all_reversed, count_above, last_of_append, reverse_push}
+use Rattle.search_core.proofs.Stacks.{above_pushed, all_reversed, count_above, reverse_push}
+use Rattle.skyline.proofs.Carrying.{last_of_append}
 use Rattle.search_core.proofs.WatchLemmas.{raised_trans}
 use Rattle.search_core.proofs.Working.{through_next}
 

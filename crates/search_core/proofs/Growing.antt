@@ -1,5 +1,5 @@
 -- Logs that grow.
-use Rattle.std.proofs.Common.{◌≡◌, ℕ, zero, suc, ◌^◌, ◌<◌, ◌≤◌, inl, inr, List, [], ◌∷◌, ◌++◌, length, slice_get, take, Some, sym, refl, ap, ◌∙◌, subst, arith, append_assoc}
+use Rattle.std.proofs.Common.{◌≡◌, ℕ, ◌^◌, ◌≤◌, inl, inr, List, [], ◌∷◌, ◌++◌, length, slice_get, take, Some, sym, refl, ◌∙◌, subst, arith, append_assoc}
 use Rattle.std.proofs.lemmas.List.{append-nil, take-append-le}
 use Rattle.std.proofs.lemmas.Option.{slice_get_within}
 use Rattle.dsa_terms.specs.Buffers.{Instance}
@@ -10,24 +10,9 @@ use Rattle.dsa_terms.proofs.Lists.{from_append}
 use Rattle.canonical_order.specs.Claims.{HasBuffer}
 use Rattle.canonical_order.proofs.CoverLemmas.{covered_has}
 use Rattle.canonical_order.proofs.NumberTests.{below_or_from}
+use Rattle.refute_log.proofs.Legal.{get_before, get_last, take_length}
 use Rattle.search_core.specs.Cites.{IsCoveredBy}
 use Rattle.search_core.specs.Logs.{Extends}
-
-pub get_before : {X : Type 0} (xs ys : List X) (k : ℕ) → k < length xs → slice_get (xs ++ ys) k ≡ slice_get xs k
-get_before [] ys k lt = absurd (omega arith)
-get_before (x ∷ xs) ys zero lt = refl
-get_before (x ∷ xs) ys (suc k) lt = get_before xs ys k (omega arith)
-
-pub get_last : {X : Type 0} (xs : List X) (x y : X) (k : ℕ) → length xs ≤ k → slice_get (xs ++ x ∷ []) k ≡ Some y →
-    (k ≡ length xs) × (x ≡ y)
-get_last [] x y zero le h = (refl, cc)
-get_last [] x y (suc k) le h = absurd cc
-get_last (z ∷ zs) x y zero le h = absurd (omega arith)
-get_last (z ∷ zs) x y (suc k) le h = let q = get_last zs x y k (omega arith) h in (ap suc q.0, q.1)
-
-take_length : {X : Type 0} (xs : List X) → take (length xs) xs ≡ xs
-take_length [] = refl
-take_length (x ∷ xs) = ap (λ xs. x ∷ xs) (take_length xs)
 
 -- what holds of each line beside those before it holds with one line more
 next_line : (P : List Line → Line → Type 0) (lines : List Line) (line : Line) →

@@ -1,5 +1,5 @@
 -- What the levels of a claim say of bounds: the claim meets a bound exactly where it is below the buffer's level.
-use Rattle.std.proofs.Common.{◌≡◌, ℕ, ◌+◌, ◌-◌, ◌<◌, ◌≤◌, inl, inr, List, [], ◌∷◌, ◌++◌, length, slice_index, slice_index_or, refl, ap, subst, arith}
+use Rattle.std.proofs.Common.{◌≡◌, ℕ, ◌+◌, ◌-◌, ◌<◌, ◌≤◌, inl, inr, List, [], ◌∷◌, ◌++◌, length, slice_index, slice_index_or, ap, subst, arith}
 use Rattle.std.proofs.lemmas.List.{get_or_read, map-append}
 use Rattle.dsa_terms.specs.Buffers.{Instance}
 use Rattle.dsa_terms.specs.Claims.{Claim, Entry, IsIn, Rises, buffers_of, up}
@@ -8,6 +8,7 @@ use Rattle.canonical_order.specs.Claims.{CoversEntry, HasBuffer, entry_of}
 use Rattle.canonical_order.specs.Levels.{AreLevels}
 use Rattle.canonical_order.proofs.CoverLemmas.{covers_entry, from_covered}
 use Rattle.canonical_order.proofs.LevelLemmas.{has_level, level_inside}
+use Rattle.lifetime.proofs.Lists.{rises-push}
 use Rattle.search_core.specs.Lifted.{lift}
 
 -- ---- the level of one buffer
@@ -42,20 +43,10 @@ level_read numbers levels b level q lt e =
     subst (λ (xs : List ℕ). level ≡ slice_index xs b) q (get_or_read numbers b level lt e 0)
 
 -- ---- a claim with one entry more
-pub rises_next : (xs : List ℕ) (y : ℕ) → Rises xs → ((x : ℕ) → IsIn x xs → x < y) → Rises (xs ++ y ∷ [])
-rises_next [] y r h = (λ x i. absurd i, tt)
-rises_next (x ∷ xs) y r h = (
-  λ z i. elim (from_append xs (y ∷ []) z i) [
-    | inl j ↦ r.0 z j
-    | inr j ↦ elim j [ inl q ↦ (let k : x < y = h x (inl refl) in omega arith) | inr j ↦ absurd j ]
-  ],
-  rises_next xs y r.1 (λ z i. h z (inr i)),
-)
-
 pub entries_rise : (l after : Claim) (e : Entry) → after ≡ l ++ e ∷ [] → Rises (buffers_of l) →
     ((f : Entry) → IsIn f l → f.0 < e.0) → Rises (buffers_of after)
 entries_rise l after e q r h =
-    rw (q, map-append (λ (e : Entry). e.0) l (e ∷ [])) (rises_next (buffers_of l) e.0 r (λ x i.
+    rw (q, map-append (λ (e : Entry). e.0) l (e ∷ [])) (rises-push (buffers_of l) e.0 r (λ x i.
     let f = from_map (λ (e : Entry). e.0) l x i in
     let k : f.0.0 < e.0 = h f.0 f.1 in let p : x ≡ f.0.0 = f.2 in omega arith))
 

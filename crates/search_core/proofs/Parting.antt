@@ -7,6 +7,7 @@ use Rattle.dsa_terms.specs.Claims.{Claim, Entry, IsIn, Rises, Covers, IsWhole, u
 use Rattle.dsa_terms.specs.Logs.{Line, Log, claim_of, IsAccepted}
 use Rattle.dsa_terms.specs.Parts.{numbers, part_of, parts, whole}
 use Rattle.dsa_terms.proofs.Lists.{from_filter, into_map}
+use Rattle.dsa_search_laws.proofs.PartLists.{got_in}
 use Rattle.dsa_search_laws.proofs.Parts.{buffers_of-whole, claim_of_part, part_is_members, whole_is_whole}
 use Rattle.dsa_search_laws.proofs.Placing.{up_is_least}
 use Rattle.dsa_model.specs.Buffer.{IsBuffer}
@@ -50,11 +51,6 @@ pub whole_end : (I : Instance) (lines : List Line) (p : List ℕ) (k : ℕ) → 
 whole_end I lines p k s c = (c.line, c.stands, covers_whole I (claim_of c.line) p s c.covers)
 
 -- ---- the log
-get_in : {X : Type 0} (xs : List X) (k : ℕ) (x : X) → slice_get xs k ≡ Some x → IsIn x xs
-get_in [] k x h = absurd cc
-get_in (y ∷ ys) zero x h = inl (let e : Some y ≡ Some x = h in cc)
-get_in (y ∷ ys) (suc k) x h = inr (get_in ys k x h)
-
 part_of_member : (I : Instance) (p : List ℕ) (h : IsIn p (parts I)) (b : ℕ) → IsIn b p →
     part_of I b ≡ (part_is_members I p h).0
 part_of_member I p h b i =
@@ -82,5 +78,5 @@ refutes_part I C p log closed end h s grown q accepted = record {
     of_part : (line : Line) (e : Entry) (k : ℕ) → slice_get log.lines k ≡ Some line → IsIn e (claim_of line) →
         part_of I e.0 ≡ (part_is_members I p h).0
     of_part line e k at in_line =
-        let i : IsIn line grown.more = subst (IsIn line) grown.is (get_in log.lines k line at) in
+        let i : IsIn line grown.more = subst (IsIn line) grown.is (got_in log.lines k line at) in
         part_of_member I p h e.0 (rw buffers_of-whole at (grown.among line e i in_line))

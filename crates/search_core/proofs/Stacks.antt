@@ -1,18 +1,12 @@
 -- Lists that are read from their end.
-use Rattle.std.proofs.Common.{◌≡◌, suc, ◌+◌, ◌-◌, ◌<◌, List, [], ◌∷◌, ◌++◌, length, drop, reverse, slice_index_or, Result, Ok, Err, Some, IsOk, is_ok, if◌then◌else◌, refl, sym, ap, ◌∙◌, arith, length-append}
+use Rattle.std.proofs.Common.{◌≡◌, suc, ◌+◌, ◌<◌, List, [], ◌∷◌, ◌++◌, length, drop, reverse, Result, Ok, Err, Some, IsOk, is_ok, if◌then◌else◌, refl, sym, ap, ◌∙◌, arith}
 use Rattle.std.proofs.lemmas.List.{reverse-append, length-reverse}
 use Rattle.std.proofs.lemmas.List.Elements.{All-cons, All-nil, All-pop}
 use Rattle.std.specs.List.{All}
 use Rattle.dsa_terms.specs.Claims.{Claim}
 use Rattle.skyline.specs.Skies.{last_claim}
+use Rattle.skyline.proofs.Carrying.{last_of_append}
 use Rattle.search_core.specs.Descents.{above_of}
-
-pub last_of_append : (ls : List Claim) (l : Claim) → last_claim (ls ++ l ∷ []) ≡ l
-last_of_append [] l = refl
-last_of_append (k ∷ ls) l =
-    let e : length (k ∷ (ls ++ l ∷ [])) - 1 ≡ suc (length (ls ++ l ∷ []) - 1) =
-    let n = length-append ls (l ∷ []) in omega arith in
-    ap (λ i. slice_index_or (k ∷ (ls ++ l ∷ [])) i []) e ∙ last_of_append ls l
 
 pub reverse_push : {X : Type 0} (xs : List X) (x : X) → reverse (xs ++ x ∷ []) ≡ x ∷ reverse xs
 reverse_push xs x = reverse-append xs (x ∷ [])

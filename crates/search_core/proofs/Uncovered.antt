@@ -12,7 +12,7 @@ use Rattle.refute_log.specs.Logs.{Belongs, OpenLog}
 use Rattle.search_core.specs.Cites.{IsCoveredBy}
 use Rattle.search_core.specs.Logs.{AreUncovered, IsSearchLog, NoneCovers}
 use Rattle.search_core.proofs.Descent.{is_instance}
-use Rattle.search_core.proofs.Growing.{get_before, get_last}
+use Rattle.refute_log.proofs.Legal.{get_before, get_last}
 
 -- ---- each line of the log has a refuted claim
 lines_refuted : (I : Instance) (log : OpenLog) → IsInstance I → Belongs I log →

@@ -5,7 +5,7 @@ use Rattle.dsa_terms.specs.Logs.{Line, Over, claim_of}
 use Rattle.search_core.specs.declared.look.Look.TheVariants.{Covers, Unmet, Lacks}
 use Rattle.search_core.specs.Looks.{IsLacked, IsLook, IsUnmet}
 use Rattle.search_core.specs.Tries.{untried}
-use Rattle.search_core.specs.Watches.{AreRaised, AreRaisedFrom, AreWatched, AreWatchedAt, HasLevels, RulesOut}
+use Rattle.search_core.specs.Watches.{AreRaised, AreRaisedFrom, AreWatched, AreWatchedAt, Fails, HasLevels, RulesOut}
 
 -- the line has the bounds 2 of buffer 0 and 5 of buffer 1
 abbrev claim : Claim
@@ -24,6 +24,10 @@ high = 3 ∷ 6 ∷ []
 abbrev lone : List ℕ
 lone = 3 ∷ 0 ∷ []
 
+-- levels that meet the bound of buffer 1, and not that of buffer 0
+abbrev pub other : List ℕ
+other = 1 ∷ 6 ∷ []
+
 same_line : {x y : Line} → Some x ≡ Some y → x ≡ y
 same_line q = cc
 
@@ -40,6 +44,11 @@ high_has_both : HasLevels high claim
 high_has_both f (inl q) = subst (λ (f : Entry). 0 < slice_index high f.0) (sym q) (omega arith)
 high_has_both f (inr (inl q)) = subst (λ (f : Entry). 0 < slice_index high f.0) (sym q) (omega arith)
 high_has_both f (inr (inr j)) = absurd j
+
+other_has_both : HasLevels other claim
+other_has_both f (inl q) = subst (λ (f : Entry). 0 < slice_index other f.0) (sym q) (omega arith)
+other_has_both f (inr (inl q)) = subst (λ (f : Entry). 0 < slice_index other f.0) (sym q) (omega arith)
+other_has_both f (inr (inr j)) = absurd j
 
 lone_has_one : HasLevels lone claim → ⊥
 lone_has_one h = absurd (let k : 0 < slice_index lone 1 = h (1, 5) (inr (inl refl)) in omega arith)
@@ -93,6 +102,12 @@ seen_at_lone : IsLook claim lone (Lacks 1 5)
 seen_at_lone = lacked_by_lone
 
 -- ---- watches
+fails_at_low : Fails low claim (1, 5)
+fails_at_low has = omega arith
+
+pub met_at_other : Fails other claim (1, 5) → ⊥
+met_at_other h = absurd (let k : slice_index other 1 ≤ 5 = h other_has_both in omega arith)
+
 rules_out_low : RulesOut low claim (1, 5)
 rules_out_low = record { among = inr (inl refl); unmet = λ has. omega arith }
 

@@ -12,7 +12,7 @@ use Rattle.search_core.specs.Logs.{NoneCovers}
 use Rattle.search_core.specs.Looks.{IsLacked, IsUnmet}
 use Rattle.search_core.specs.Watches.{AreRaised, AreWatched, Fails, HasLevels, RulesOut}
 use Rattle.search_core.specs.Watching.{AreMoved, AreOwnMoved, FailAt, IsWatched}
-use Rattle.search_core.proofs.Growing.{get_before}
+use Rattle.refute_log.proofs.Legal.{get_before}
 use Rattle.search_core.proofs.Meeting.{is_met, meets}
 
 -- ---- what watched lines say

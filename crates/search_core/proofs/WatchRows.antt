@@ -12,7 +12,7 @@ use Rattle.search_core.specs.declared.watch_row.Mark.{Mark}
 use Rattle.search_core.specs.Looks.{IsLacked, IsUnmet}
 use Rattle.search_core.specs.Watches.{Fails}
 use Rattle.search_core.specs.Watching.{AreAppended, AreFiled, AreMoved, FailsAtMark, IsUnwatched, mark_of, row_of}
-use Rattle.search_core.proofs.Growing.{get_before}
+use Rattle.refute_log.proofs.Legal.{get_before}
 use Rattle.search_core.proofs.WatchLemmas.{get_set_same, lacked_fails}
 
 same_or_not : (s t : ℕ) → (s ≡ t) ⊎ (s ≢ t)

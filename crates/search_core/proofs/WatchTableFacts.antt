@@ -1,11 +1,12 @@
 -- Worked facts: two lines and their watches, by line and in rows.
-use Rattle.std.proofs.Common.{◌≡◌, ℕ, zero, suc, ◌<◌, ◌≤◌, List, [], ◌∷◌, Some, inl, inr, length, slice_get, slice_index, slice_index_or, refl, sym, ap, subst, arith}
+use Rattle.std.proofs.Common.{◌≡◌, ℕ, zero, suc, ◌<◌, List, [], ◌∷◌, Some, inl, inr, length, slice_get, slice_index, slice_index_or, refl, sym, ap, subst, arith}
 use Rattle.dsa_terms.specs.Claims.{Entry, IsIn}
 use Rattle.dsa_terms.specs.Logs.{Line, Over, claim_of}
 use Rattle.search_core.specs.declared.watch_row.Mark.{Mark}
 use Rattle.search_core.specs.Looks.{IsUnmet}
-use Rattle.search_core.specs.Watches.{Fails, HasLevels, RulesOut}
+use Rattle.search_core.specs.Watches.{Fails, RulesOut}
 use Rattle.search_core.specs.Watching.{AreAppended, AreExtended, AreFiled, AreMoved, AreOwnMoved, FailAt, FailsAtMark, IsUnwatched, IsWatched, Table, mark_of, row_of}
+use Rattle.search_core.proofs.WatchFacts.{met_at_other, other}
 
 abbrev first_line : Line
 first_line = Over ((0, 2) ∷ (1, 5) ∷ []) 0 5 1
@@ -126,21 +127,6 @@ own_moved zero line e at stands i = absurd (foreign (subst (λ (e : Entry). IsIn
 own_moved (suc k) line e at stands i = absurd cc
 
 -- ---- watches that fail
--- the levels meet the bound 5 of buffer 1, and not the bound 2 of buffer 0
-abbrev other : List ℕ
-other = 1 ∷ 6 ∷ []
-
-fails_at_low : Fails low ((0, 2) ∷ (1, 5) ∷ []) (1, 5)
-fails_at_low has = omega arith
-
-met_at_other : Fails other ((0, 2) ∷ (1, 5) ∷ []) (1, 5) → ⊥
-met_at_other h = absurd (let k : slice_index other 1 ≤ 5 = h has in omega arith)
-  where
-    has : HasLevels other ((0, 2) ∷ (1, 5) ∷ [])
-    has f (inl q) = subst (λ (f : Entry). 0 < slice_index other f.0) (sym q) (omega arith)
-    has f (inr (inl q)) = subst (λ (f : Entry). 0 < slice_index other f.0) (sym q) (omega arith)
-    has f (inr (inr j)) = absurd j
-
 -- the bound is not below the level
 fail_at_low : FailAt lines watches low 1 0
 fail_at_low zero line e at stands q from below has = absurd (let k : e.1 ≡ 5 = sym (ap (λ (e : Entry). e.1)

@@ -26,7 +26,7 @@ use Rattle.canonical_order.proofs.CoverLemmas.{from_child, in_child_by, step_lim
 use Rattle.canonical_order.proofs.Entries.{sound_buffer, entry_in}
 
 -- ---- the list of claims
-last_of_append : (ls : List Claim) (l : Claim) → last_claim (ls ++ l ∷ []) ≡ l
+pub last_of_append : (ls : List Claim) (l : Claim) → last_claim (ls ++ l ∷ []) ≡ l
 last_of_append [] l = refl
 last_of_append (k ∷ ls) l =
     let e : length (k ∷ (ls ++ l ∷ [])) - 1 ≡ suc (length (ls ++ l ∷ []) - 1) = let n = length-append ls (l ∷ []) in

@@ -6,7 +6,8 @@ use Rattle.skyline.specs.Skies.{last_claim}
 use Rattle.search_core.specs.Descents.{buffer_of}
 use Rattle.search_core.specs.Tries.{chosen_of}
 use Rattle.search_core.specs.Walks.{place_of}
-use Rattle.search_core.proofs.Stacks.{last_of_append, when_ok}
+use Rattle.search_core.proofs.Stacks.{when_ok}
+use Rattle.skyline.proofs.Carrying.{last_of_append}
 use Rattle.search_core.proofs.Descent.{is_instance, shorter}
 use Rattle.search_core.proofs.Descending.{ahead_covered, ahead_deeper}
 use Rattle.search_core.proofs.Leveling.{lifted_levels}
