@@ -13,7 +13,7 @@ pub mod Parts
 pub mod PartLists
 pub mod Totals
 pub mod Plans
-mod LineTests
+pub mod LineTests
 mod ExampleClaimFacts
 mod ExampleLogFacts
 mod ExampleLeanFacts

@@ -129,14 +129,14 @@ is_legal_cite I earlier l e (ByLine k) = covers_child I l e (slice_get earlier k
 is_legal_cite I earlier l e (Below c) = list_any (λ f. (f.0 == c) && ends_below I f e) l
 is_legal_cite I earlier l e (Twin c) = list_any (λ f. (f.0 == c) && is_twin I f e) l
 
-other_gives : (test : Entry → Bool) (l : Claim) (c : ℕ) → list_any (λ f. (f.0 == c) && test f) l ≡ true →
+pub other_gives : (test : Entry → Bool) (l : Claim) (c : ℕ) → list_any (λ f. (f.0 == c) && test f) l ≡ true →
     (f : Entry) × IsIn f l × (f.0 ≡ c) × (test f ≡ true)
 other_gives test l c h =
     let q = any_gives (λ (f : Entry). (f.0 == c) && test f) l h in
     let r = and_true _ _ q.2 in
     (q.0, q.1, equal q.0.0 c r.0, r.1)
 
-other_from : (test : Entry → Bool) (l : Claim) (c : ℕ) → (f : Entry) × IsIn f l × (f.0 ≡ c) × (test f ≡ true) →
+pub other_from : (test : Entry → Bool) (l : Claim) (c : ℕ) → (f : Entry) × IsIn f l × (f.0 ≡ c) × (test f ≡ true) →
     list_any (λ f. (f.0 == c) && test f) l ≡ true
 other_from test l c h =
     any_from (λ (f : Entry). (f.0 == c) && test f) l h.0 h.1 (both_true _ _ (is_equal h.0.0 c h.2) h.3)

@@ -17,7 +17,8 @@ use Rattle.canonical_order.proofs.NumberTests.{equal, same, apart, above, not_at
 use Rattle.refute_log.specs.Reasons.{first_reason, claim_reason, rule_reason, over_reason, cite_reason, cites_reason, line_reason, covers, stacked, stack_height}
 use Rattle.refute_log.specs.Logs.{OpenLog, Belongs, ended}
 use Rattle.refute_log.specs.declared.reason.Reason.TheVariants as reason
-use Rattle.refute_log.proofs.ListTests.{covers_gives, covers_from, other_gives, other_from}
+use Rattle.dsa_search_laws.proofs.LineTests.{other_gives, other_from}
+use Rattle.refute_log.proofs.ListTests.{covers_gives, covers_from}
 
 pub neither : {F : Type 0} (a b : Option F) → option_or a b ≡ None → (a ≡ None) × (b ≡ None)
 neither None b h = (refl, h)

@@ -3,7 +3,7 @@ use Rattle.std.proofs.Common.{◌≡◌, ℕ, zero, suc, ◌+◌, ◌<◌, Bool,
 use Rattle.std.specs.Option.{option_or}
 use Rattle.std.specs.List.{list_any, list_all}
 use Rattle.dsa_terms.specs.Buffers.{Instance}
-use Rattle.dsa_terms.specs.Claims.{Claim, Entry, IsIn, up, child, Covers, IsWhole}
+use Rattle.dsa_terms.specs.Claims.{Claim, Entry, up, child, Covers, IsWhole}
 use Rattle.canonical_order.proofs.NumberTests.{equal, same, at_most, is_at_most}
 use Rattle.dsa_terms.specs.Logs.{Line, claim_of, Cite}
 use Rattle.dsa_terms.proofs.Lists.{all_at, all_from, any_gives, any_from}
@@ -30,16 +30,6 @@ unfolding covers
 covers_from I k l h = all_from (λ (e : Entry). list_any (λ (f : Entry). (f.0 == e.0) && nat_le e.1 (up I f)) l) k
     (λ e i. let q = h e i in any_from (λ (f : Entry). (f.0 == e.0) && nat_le e.1 (up I f)) l q.0 q.1
     (both_true _ _ (same q.0.0 e.0 q.2) (is_at_most e.1 (up I q.0) q.3)))
-
--- ---- another buffer of the claim that passes
-pub other_gives : (test : Entry → Bool) (l : Claim) (c : ℕ) → list_any (λ f. (f.0 == c) && test f) l ≡ true →
-    (f : Entry) × IsIn f l × (f.0 ≡ c) × (test f ≡ true)
-other_gives test l c h = let q = any_gives (λ (f : Entry). (f.0 == c) && test f) l h in let r = and_true _ _ q.2 in
-    (q.0, q.1, equal q.0.0 c r.0, r.1)
-
-pub other_from : (test : Entry → Bool) (l : Claim) (c : ℕ) → (f : Entry) × IsIn f l × (f.0 ≡ c) × (test f ≡ true) →
-    list_any (λ f. (f.0 == c) && test f) l ≡ true
-other_from test l c h = any_from (λ (f : Entry). (f.0 == c) && test f) l h.0 h.1 (both_true _ _ (same h.0.0 c h.2) h.3)
 
 -- ---- a reason, where a test fails
 pub no_reason : {F : Type 0} (b : Bool) (f : F) → b ≡ true → None ≡ when (not b) f
