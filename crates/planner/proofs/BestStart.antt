@@ -8,10 +8,9 @@ use Rattle.dsa_terms.specs.Plans.{layout_height, plan}
 use Rattle.dsa_terms.specs.Starts.{best_start, lowest_place, planned, starts}
 use Rattle.dsa_terms.proofs.Lists.{none_or_some}
 use Rattle.dsa_search_laws.proofs.Plans.{found_under, is_under}
-use Rattle.dsa_start_laws.proofs.Planned.{best_start_is_lowest, best_start_is_start, earlier_is_higher}
+use Rattle.dsa_start_laws.proofs.Planned.{best_place_within, best_start_is_lowest, best_start_is_start, earlier_is_higher}
 use Rattle.dsa_start_laws.proofs.Stacks.{found_in, none_found}
 use Rattle.planner.specs.FirstStart.{start_within}
-use Rattle.planner.proofs.SixStarts.{best_in_range}
 
 test_le : (m n : ℕ) → m ≤ n → nat_le m n ≡ true
 test_le m n h = grind (arith, nat_tests)
@@ -57,7 +56,7 @@ higher_before : (I : Instance) (k : ℕ) → k < lowest_place (map (layout_heigh
 unfolding best_start
 higher_before I k lt =
     let n = lowest_place (map (layout_height I) (starts I)) in
-    let w = best_in_range I in
+    let w = best_place_within I in
     let a = get_or-map (layout_height I) (starts I) n [] 0 w in
     let b = get_or-map (layout_height I) (starts I) k [] 0 (omega arith) in
     let h = earlier_is_higher (map (layout_height I) (starts I)) k lt in
@@ -68,7 +67,7 @@ unfolding best_start
 best_is_first I =
     found_at (is_under I (layout_height I (best_start I))) (starts I)
     (lowest_place (map (layout_height I) (starts I))) []
-    (best_in_range I)
+    (best_place_within I)
     at_best
     (λ k lt. test_not_le (layout_height I (slice_index_or (starts I) k [])) (layout_height I (best_start I))
     (higher_before I k lt))

@@ -7,14 +7,10 @@ use Rattle.dsa_terms.specs.Buffers.{Instance}
 use Rattle.dsa_terms.specs.Orders.{orders}
 use Rattle.dsa_terms.specs.Plans.{layout_height}
 use Rattle.dsa_terms.specs.Starts.{best_start, lowest_place, starts}
-use Rattle.dsa_start_laws.proofs.Planned.{lowest_within}
+use Rattle.dsa_start_laws.proofs.Planned.{lowest_within, six_starts}
 use Rattle.first_fit.specs.Starts.{IsStart, height_in, offsets_in}
 use Rattle.first_fit.specs.declared.start_list.Start.{Start}
 use Rattle.planner.specs.FirstStart.{IsBestStart, start_within}
-
-pub six_starts : (I : Instance) → length (starts I) ≡ 6
-unfolding starts orders
-six_starts I = refl
 
 -- the code's starts are of any type that has their offsets, and their heights
 pub are_six : {X : Type 0} (I : Instance) (offsets : X → List ℕ) (xs : List X) → map offsets xs ≡ starts I →
@@ -37,10 +33,6 @@ none_within I C offsets xs e f = rw (← e) (sym f)
 -- ---- the best
 lowest_in : {X : Type 0} (high : X → ℕ) (xs : List X) → 1 ≤ length xs → lowest_place (map high xs) < length xs
 lowest_in high xs some = let l = length-map xs high in rw (← l) (lowest_within (map high xs) (omega arith))
-
--- the best start stands at its place
-pub best_in_range : (I : Instance) → lowest_place (map (layout_height I) (starts I)) < length (starts I)
-best_in_range I = let n = six_starts I in lowest_in (layout_height I) (starts I) (omega arith)
 
 pub lowest_in_range : (xs : List Start) → 0 < length xs → lowest_place (map height_in xs) < length xs
 lowest_in_range xs some = lowest_in height_in xs (omega arith)

@@ -15,6 +15,7 @@ use Rattle.planner.specs.FirstStart.{start_within}
 use Rattle.planner.specs.LeastCapacity.{AreWithinSteps, IsLayoutWithin, IsLogWithin}
 use Rattle.planner.specs.Openings.{AreGiven, IsOpen, IsSpentAt}
 use Rattle.planner.proofs.BestStart.{past_starts}
+use Rattle.planner.proofs.Choosing.{planned_start}
 use Rattle.planner.proofs.Keeping.{none_given}
 
 fewer_given : (steps : Option ℕ) (m n : ℕ) → m ≤ n → AreGiven steps n → AreGiven steps m
@@ -32,10 +33,6 @@ layout_given I C steps low given none = elim (le_or_lt (lower_bound I) C) [
   | inl le ↦ given none le
   | inr lt ↦ absurd (low lt)
 ]
-
-planned_start : (I : Instance) (C : ℕ) (offsets : List ℕ) → start_within I C ≡ Some offsets → planned I C ≡ Some offsets
-unfolding planned plan
-planned_start I C offsets e = rw e refl
 
 -- a start within the capacity would be a layout
 pub no_start : (I : Instance) (C : ℕ) → IsInstance I → IsInfeasible I C → start_within I C ≡ None
