@@ -5,13 +5,13 @@ use Rattle.dsa_terms.specs.Claims.{IsIn}
 use Rattle.dsa_terms.specs.Layouts.{IsLayout, IsInfeasible, IsLeast}
 use Rattle.dsa_outside.specs.Held.{FileMap, file_at, IsMissing}
 use Rattle.dsa_model.specs.Counts.{Rose}
-use Rattle.csv_instance.specs.Records.{Record, table_of}
+use Rattle.csv_instance.specs.Records.{Record, file_limit, table_of}
 use Rattle.csv_instance.specs.Parse.{parse}
 use Rattle.csv_instance.specs.declared.fault.InstanceFault.{InstanceFault}
 use Rattle.command_words.specs.Options.{Word}
 use Rattle.command_words.specs.Commands.{Command, Solve, Least, Verify, Refute, Trim, Bounds, Report, Trial, command_of, names_of}
 use Rattle.dsaplan_core.specs.Seen.{FilesSeen, SinkSeen}
-use Rattle.dsaplan_core.specs.Steps.{table_limit, log_limit, IsWhole, HoldsMore, IsUnread}
+use Rattle.dsaplan_core.specs.Steps.{log_limit, IsWhole, HoldsMore, IsUnread}
 use Rattle.dsaplan_core.specs.Asked.{IsAsked, input_of, layout_of, checked_log_of}
 use Rattle.dsaplan_core.specs.Decided.{MayStayOpen}
 use Rattle.dsaplan_core.specs.Shown.{ShowsFacts, ShowsLayout, ShowsTrial}
@@ -111,9 +111,9 @@ module _ (words : List Word) (old new : FilesSeen) (before after : SinkSeen) (co
   held_instance c name is its = given_at (HoldsInstance I old) (input_of c) name its (ready_as c is).input
 
   held_layout : (c : Command) (name : Word) → command_of words ≡ Ok c → layout_of c ≡ Some name →
-      IsReadable old name table_limit
+      IsReadable old name file_limit
   held_layout c name is its =
-      given_at (λ n. IsReadable old n table_limit) (layout_of c) name its (ready_as c is).layout
+      given_at (λ n. IsReadable old n file_limit) (layout_of c) name its (ready_as c is).layout
 
   held_log : (c : Command) (name : Word) → command_of words ≡ Ok c → checked_log_of c ≡ Some name →
       IsReadable old name log_limit
@@ -123,7 +123,7 @@ module _ (words : List Word) (old new : FilesSeen) (before after : SinkSeen) (co
   same_instance c table J asked =
       let held = held_instance c asked.name asked.words_ask asked.its_input in
       let given = asked.input in
-      let same = same_bytes old asked.name table_limit given.bytes held.file.bytes held.file.held given.whole in
+      let same = same_bytes old asked.name file_limit given.bytes held.file.bytes held.file.held given.whole in
       let mine : parse (table_of held.file.bytes) ≡ Ok J = ap (λ b. parse (table_of b)) (sym same)
       ∙ ap parse (sym given.records) ∙ given.parsed in
       let other = held.parsed in cc
@@ -142,10 +142,10 @@ module _ (words : List Word) (old new : FilesSeen) (before after : SinkSeen) (co
   not_long name most there long = not_more old name most there (long (told old.held name there.bytes there.held))
 
   has_instance : (c : Command) (name : Word) (bytes : List ℕ) (fault : InstanceFault) → command_of words ≡ Ok c →
-      input_of c ≡ Some name → IsWhole old name table_limit bytes → parse (table_of bytes) ≡ Err fault → ⊥
+      input_of c ≡ Some name → IsWhole old name file_limit bytes → parse (table_of bytes) ≡ Err fault → ⊥
   has_instance c name bytes fault is its whole refused =
       let held = held_instance c name is its in
-      let same = same_bytes old name table_limit bytes held.file.bytes held.file.held whole in
+      let same = same_bytes old name file_limit bytes held.file.bytes held.file.held whole in
       let mine : parse (table_of held.file.bytes) ≡ Err fault = ap (λ b. parse (table_of b)) (sym same) ∙ refused in
       let other = held.parsed in cc
 
@@ -203,11 +203,11 @@ module _ (words : List Word) (old new : FilesSeen) (before after : SinkSeen) (co
       absurd (has_instance cause.command cause.input cause.bytes fault cause.asked cause.its_input cause.whole
       cause.refused)
   concludes (status.ReadFault role.Input) cause =
-      absurd (not_unread cause.command cause.input table_limit cause.asked
+      absurd (not_unread cause.command cause.input file_limit cause.asked
       (input_named cause.command cause.input cause.its_input)
       (held_instance cause.command cause.input cause.asked cause.its_input).file cause.cause)
   concludes (status.ReadFault role.Layout) cause =
-      absurd (not_unread cause.command cause.layout table_limit cause.asked.words_ask
+      absurd (not_unread cause.command cause.layout file_limit cause.asked.words_ask
       (layout_named cause.command cause.layout cause.its_layout)
       (held_layout cause.command cause.layout cause.asked.words_ask cause.its_layout) cause.cause)
   concludes (status.ReadFault role.Log) cause =
@@ -216,10 +216,10 @@ module _ (words : List Word) (old new : FilesSeen) (before after : SinkSeen) (co
       (held_log cause.command cause.log cause.asked.words_ask cause.its_log) cause.cause)
   concludes (status.ReadFault role.Output) cause = absurd cause
   concludes (status.TooLong role.Input) cause =
-      absurd (not_long cause.input table_limit
+      absurd (not_long cause.input file_limit
       (held_instance cause.command cause.input cause.asked cause.its_input).file cause.long)
   concludes (status.TooLong role.Layout) cause =
-      absurd (not_long cause.layout table_limit
+      absurd (not_long cause.layout file_limit
       (held_layout cause.command cause.layout cause.asked.words_ask cause.its_layout) cause.long)
   concludes (status.TooLong role.Log) cause =
       absurd (not_long cause.log log_limit

@@ -8,7 +8,8 @@ use Rattle.command_words.specs.Commands.{Bounds, Verify}
 use Rattle.command_words.specs.Options.{Word}
 use Rattle.dsaplan_core.specs.Complete.{HoldsLog, IsReadable, IsReady, IsUndisturbed}
 use Rattle.dsaplan_core.specs.Seen.{FilesSeen}
-use Rattle.dsaplan_core.specs.Steps.{HoldsMore, IsUnread, IsWhole, table_limit}
+use Rattle.csv_instance.specs.Records.{file_limit}
+use Rattle.dsaplan_core.specs.Steps.{HoldsMore, IsUnread, IsWhole}
 use Rattle.dsaplan_core.proofs.OneFacts.{log_file, one, zero_log, zero_reads, zero_refuted, zero_text}
 use Rattle.dsaplan_core.proofs.WorldFacts.{in_file, input_alone, reads_input, reads_log, reads_no_layout, told, verify_words, with_log_file}
 
@@ -59,7 +60,7 @@ unread_where_it_rose = inl (lit≤ tt)
 -- there is no layout file
 verify_is_not : IsReady verify_words (told input_alone) (Verify 1 (codes "i") (codes "a")) one → ⊥
 verify_is_not r =
-    let f : IsReadable (told input_alone) (codes "a") table_limit = r.layout in
+    let f : IsReadable (told input_alone) (codes "a") file_limit = r.layout in
     let e = sym reads_no_layout ∙ f.held in
     absurd cc
 

@@ -4,13 +4,13 @@ use Rattle.dsa_model.specs.LayoutFaults.{layout_fault}
 use Rattle.dsa_model.specs.declared.layout.LayoutFault.{LayoutFault}
 use Rattle.dsa_model.specs.declared.layout.LayoutFault.TheVariants as layout
 use Rattle.csv_instance.specs.Offsets.{ids_of, offsets_of}
-use Rattle.csv_instance.specs.Records.{table_of}
+use Rattle.csv_instance.specs.Records.{file_limit, table_of}
 use Rattle.csv_instance.specs.declared.columns.Column.TheVariants as column
 use Rattle.csv_instance.specs.declared.fault.OffsetsFault.{OffsetsFault}
 use Rattle.csv_instance.specs.declared.fault.OffsetsFault.TheVariants as offsets
 use Rattle.dsaplan_core.specs.Reads.{GivesLayout, GivesNoLayout, GivesNoOffsets, GivesWrongOffsets, JudgesAt, JudgesTable, layout_too_long, layout_unread, no_offsets, wrong_offsets}
 use Rattle.dsaplan_core.specs.Seen.{FilesSeen}
-use Rattle.dsaplan_core.specs.Steps.{IsWhole, table_limit}
+use Rattle.dsaplan_core.specs.Steps.{IsWhole}
 use Rattle.dsaplan_core.specs.declared.judged.Judged.{Judged}
 use Rattle.dsaplan_core.specs.declared.judged.Judged.TheVariants as judged
 use Rattle.dsaplan_core.specs.declared.status.Role.TheVariants as role
@@ -24,9 +24,9 @@ use Rattle.dsaplan_core.proofs.TableFacts.{bare_file, bare_offsets, high_file, h
 use Rattle.dsaplan_core.proofs.WorldFacts.{input_alone, reads_layout, reads_no_layout, told, with_layout}
 
 -- the bytes of the file are those that are read
-its_bytes : (given bytes : List ℕ) → IsWhole (beside given) (codes "a") table_limit bytes → given ≡ bytes
+its_bytes : (given bytes : List ℕ) → IsWhole (beside given) (codes "a") file_limit bytes → given ≡ bytes
 its_bytes given bytes whole =
-    only_bytes (with_layout given) (codes "a") given bytes table_limit (reads_layout given) whole
+    only_bytes (with_layout given) (codes "a") given bytes file_limit (reads_layout given) whole
 
 its_offsets : (given bytes : List ℕ) → given ≡ bytes →
     offsets_of (ids_of rows) (table_of given) ≡ offsets_of (ids_of rows) (table_of bytes)
@@ -79,7 +79,7 @@ not_wrong fault g =
 no_file : GivesNoLayout (told input_alone) (told input_alone) (codes "a") rows one 1 (status.ReadFault role.Layout)
 no_file = layout_unread refl (inr reads_no_layout)
 
-too_long : (bytes : List ℕ) → table_limit < length bytes →
+too_long : (bytes : List ℕ) → file_limit < length bytes →
     GivesNoLayout (beside bytes) (beside bytes) (codes "a") rows one 1 (status.TooLong role.Layout)
 too_long bytes long = layout_too_long refl (λ told. record { bytes = bytes; held = reads_layout bytes; long = long })
 

@@ -4,12 +4,12 @@ use Rattle.dsa_terms.specs.Buffers.{Instance}
 use Rattle.dsa_terms.specs.Layouts.{IsInfeasible}
 use Rattle.dsa_terms.specs.Logs.{Log}
 use Rattle.dsa_model.specs.declared.fail.NoMemory.{NoMemory}
-use Rattle.csv_instance.specs.Records.{Record}
+use Rattle.csv_instance.specs.Records.{Record, file_limit}
 use Rattle.log_text.specs.Text.{log_text}
 use Rattle.command_words.specs.Options.{Word}
 use Rattle.command_words.specs.Commands.{Refute, Verify, command_of}
 use Rattle.dsaplan_core.specs.Seen.{FilesSeen}
-use Rattle.dsaplan_core.specs.Steps.{table_limit, log_limit, IsInput}
+use Rattle.dsaplan_core.specs.Steps.{log_limit, IsInput}
 use Rattle.dsaplan_core.specs.Prepares.{IsSilent, Prepares}
 use Rattle.dsaplan_core.specs.Reads.{GivesLayout, HoldsAccepted}
 use Rattle.dsaplan_core.specs.declared.prepared.Prepared.{Prepared}
@@ -38,7 +38,7 @@ module _ (old mid new : FilesSeen) (input second : Word) (table : List Record) (
           layout = second;
           asked = record { words_ask = asked; name = input; its_input = refl; input = given };
           its_layout = refl;
-          whole = whole_since old mid second table_limit gives.bytes first gives.whole;
+          whole = whole_since old mid second file_limit gives.bytes first gives.whole;
         };
         parsed = gives.parsed;
         layout = gives.layout;

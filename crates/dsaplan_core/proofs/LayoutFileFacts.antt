@@ -8,7 +8,7 @@ use Rattle.dsa_model.specs.declared.layout.LayoutFault.{LayoutFault}
 use Rattle.dsa_model.specs.declared.layout.LayoutFault.TheVariants as layout
 use Rattle.dsa_outside.specs.Held.{file_at}
 use Rattle.csv_instance.specs.Offsets.{ids_of, offsets_of}
-use Rattle.csv_instance.specs.Records.{Record, table_of}
+use Rattle.csv_instance.specs.Records.{Record, file_limit, table_of}
 use Rattle.csv_instance.specs.declared.columns.Column.TheVariants as column
 use Rattle.csv_instance.specs.declared.fault.OffsetsFault.{OffsetsFault}
 use Rattle.csv_instance.specs.declared.fault.OffsetsFault.TheVariants as offsets
@@ -17,7 +17,6 @@ use Rattle.command_words.specs.Options.{Word}
 use Rattle.dsaplan_core.specs.Asked.{IsAsked, input_of, judged_at, layout_of}
 use Rattle.dsaplan_core.specs.Judged.{HasLongLayout, JudgesNoLayout, JudgesNoOffsets, JudgesRight, ReadsLayout}
 use Rattle.dsaplan_core.specs.Seen.{FilesSeen}
-use Rattle.dsaplan_core.specs.Steps.{table_limit}
 use Rattle.dsaplan_core.proofs.InputFacts.{asks_one, only_bytes, only_command, only_instance, only_table}
 use Rattle.dsaplan_core.proofs.JudgedFacts.{above_1}
 use Rattle.dsaplan_core.proofs.OneFacts.{one, one_laid, rows}
@@ -33,7 +32,7 @@ beside bytes = told (with_layout bytes)
 
 -- ---- the file that a command reads
 pub reads_file : (words : List Word) (command : Command) (bytes : List ℕ) → command_of words ≡ Ok command →
-    input_of command ≡ Some (codes "i") → layout_of command ≡ Some (codes "a") → length bytes ≤ table_limit →
+    input_of command ≡ Some (codes "i") → layout_of command ≡ Some (codes "a") → length bytes ≤ file_limit →
     ReadsLayout words (beside bytes) command rows one bytes
 reads_file words command bytes ask its its_layout short = record {
   layout = codes "a";
@@ -66,7 +65,7 @@ module _ (given : List ℕ) (command : Command) (table : List Record) (I : Insta
 -- and nothing else is read
 its_bytes : (given : List ℕ) (command : Command) (table : List Record) (I : Instance) (bytes : List ℕ) →
     ReadsLayout verify_words (beside given) command table I bytes → given ≡ bytes
-its_bytes given command table I bytes r = only_bytes (with_layout given) r.layout given bytes table_limit
+its_bytes given command table I bytes r = only_bytes (with_layout given) r.layout given bytes file_limit
     (its_reading given command table I r.asked r.layout r.its_layout) r.whole
 
 its_offsets : (given : List ℕ) (command : Command) (table : List Record) (I : Instance) (bytes : List ℕ) →
@@ -175,7 +174,7 @@ layout_without_fault fault h = go h.instance h.command h.offsets
         absurd cc
 
 -- ---- too long
-long_layout : (bytes : List ℕ) → table_limit < length bytes →
+long_layout : (bytes : List ℕ) → file_limit < length bytes →
     HasLongLayout verify_words (beside bytes) (beside bytes)
 long_layout bytes long = record {
   command = verify;
@@ -188,7 +187,7 @@ long_layout bytes long = record {
   files = refl;
 }
 
-not_long : (bytes : List ℕ) → length bytes ≤ table_limit →
+not_long : (bytes : List ℕ) → length bytes ≤ file_limit →
     HasLongLayout verify_words (beside bytes) (beside bytes) → ⊥
 not_long bytes short h =
     let more = h.long refl in

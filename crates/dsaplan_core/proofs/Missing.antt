@@ -5,7 +5,8 @@ use Rattle.csv_instance.specs.declared.fault.InstanceFault.{InstanceFault}
 use Rattle.command_words.specs.Options.{Word}
 use Rattle.command_words.specs.Commands.{Command, command_of}
 use Rattle.dsaplan_core.specs.Seen.{FilesSeen}
-use Rattle.dsaplan_core.specs.Steps.{table_limit, HoldsMore, IsUnread}
+use Rattle.csv_instance.specs.Records.{file_limit}
+use Rattle.dsaplan_core.specs.Steps.{HoldsMore, IsUnread}
 use Rattle.dsaplan_core.specs.Opens.{IsUnreadable, IsMalformed, IsNoInput}
 use Rattle.dsaplan_core.specs.Asked.{input_of}
 use Rattle.dsaplan_core.specs.Answers.{Cause}
@@ -46,7 +47,7 @@ unreadable P old new name most r status.NoMemory f g is = absurd is
 no_input : (P : Status → Type 0) (old new : FilesSeen) (name : Word) (s : Status) →
     ((fault : InstanceFault) → IsMalformed old name fault → P (status.Malformed fault)) →
     (IsUnread old new name → P (status.ReadFault role.Input)) →
-    ((IsSome old.held → HoldsMore old name table_limit) → P (status.TooLong role.Input)) → IsNoInput old new name s →
+    ((IsSome old.held → HoldsMore old name file_limit) → P (status.TooLong role.Input)) → IsNoInput old new name s →
     P s
 no_input P old new name (status.Feasible capacity) e f g is = absurd is
 no_input P old new name (status.Infeasible capacity) e f g is = absurd is
@@ -61,9 +62,9 @@ no_input P old new name status.Shown e f g is = absurd is
 no_input P old new name (status.Usage fault) e f g is = absurd is
 no_input P old new name (status.Malformed fault) e f g is = e fault is
 no_input P old new name (status.ReadFault other) e f g is =
-    unreadable P old new name table_limit role.Input (status.ReadFault other) f g is
+    unreadable P old new name file_limit role.Input (status.ReadFault other) f g is
 no_input P old new name (status.TooLong other) e f g is =
-    unreadable P old new name table_limit role.Input (status.TooLong other) f g is
+    unreadable P old new name file_limit role.Input (status.TooLong other) f g is
 no_input P old new name (status.WriteFault other) e f g is = absurd is
 no_input P old new name status.PrintFault e f g is = absurd is
 no_input P old new name (status.TooMany count) e f g is = absurd is

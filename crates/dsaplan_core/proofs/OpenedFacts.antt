@@ -5,12 +5,12 @@ use Rattle.std.specs.declared.alloc.Global.{Global}
 use Rattle.std.specs.declared.vec.Vec.{Vec}
 use Rattle.dsa_outside.specs.Held.{FileMap}
 use Rattle.csv_instance.specs.Parse.{parse}
-use Rattle.csv_instance.specs.Records.{table_of}
+use Rattle.csv_instance.specs.Records.{file_limit, table_of}
 use Rattle.csv_instance.specs.declared.columns.Column.TheVariants as column
 use Rattle.csv_instance.specs.declared.fault.InstanceFault.{InstanceFault}
 use Rattle.csv_instance.specs.declared.fault.InstanceFault.TheVariants as instance
 use Rattle.dsaplan_core.specs.Opens.{IsMalformed, IsNoInput, IsUnreadable, Opens, OpensInput}
-use Rattle.dsaplan_core.specs.Steps.{HoldsMore, IsUnread, table_limit}
+use Rattle.dsaplan_core.specs.Steps.{HoldsMore, IsUnread}
 use Rattle.dsaplan_core.specs.declared.open.Content.TheVariants.{Bytes, Unreadable}
 use Rattle.dsaplan_core.specs.declared.open.Input.TheVariants as input
 use Rattle.dsaplan_core.specs.declared.status.Role.TheVariants as role
@@ -88,7 +88,7 @@ without_sizes = record {
 -- the one buffer has no fault
 one_is_well_formed : (fault : InstanceFault) → IsMalformed (told input_alone) (codes "i") fault → ⊥
 one_is_well_formed fault h =
-    let same = only_bytes input_alone (codes "i") in_file h.bytes table_limit reads_input h.whole in
+    let same = only_bytes input_alone (codes "i") in_file h.bytes file_limit reads_input h.whole in
     let e : Ok one ≡ Err fault = sym rows_are_one ∙ ap parse (sym in_reads ∙ ap table_of same) ∙ h.refused in
     absurd cc
 
@@ -109,7 +109,7 @@ opens_one = (one, input_is_one input_alone reads_input)
 
 not_without_rows : OpensInput (told input_alone) (told input_alone) (codes "i") (input.Table []) → ⊥
 not_without_rows h =
-    let same = only_bytes input_alone (codes "i") in_file h.1.bytes table_limit reads_input h.1.whole in
+    let same = only_bytes input_alone (codes "i") in_file h.1.bytes file_limit reads_input h.1.whole in
     let e = sym in_reads ∙ ap table_of same ∙ sym h.1.records in
     absurd cc
 

@@ -3,11 +3,11 @@ use Rattle.std.proofs.Common.{◌≡◌, ℕ, List, Result, Ok, Some, IfOk, refl
 use Rattle.dsa_terms.specs.Buffers.{Instance}
 use Rattle.dsa_model.specs.declared.fail.NoMemory.{NoMemory}
 use Rattle.dsa_outside.specs.Faults.{NoneFell}
-use Rattle.csv_instance.specs.Records.{Record}
+use Rattle.csv_instance.specs.Records.{Record, file_limit}
 use Rattle.command_words.specs.Options.{Word}
 use Rattle.command_words.specs.Commands.{Command, command_of}
 use Rattle.dsaplan_core.specs.Seen.{FilesSeen}
-use Rattle.dsaplan_core.specs.Steps.{table_limit, log_limit, IsInput}
+use Rattle.dsaplan_core.specs.Steps.{log_limit, IsInput}
 use Rattle.dsaplan_core.specs.Asked.{input_of, checked_log_of, judged_at, layout_of}
 use Rattle.dsaplan_core.specs.Opens.{IsUnreadable}
 use Rattle.dsaplan_core.specs.Answers.{Cause}
@@ -140,7 +140,7 @@ no_layout old mid new command input layout table I s r its_input its_layout give
             instance = I;
             asked = record { words_ask = asked; name = input; its_input = its_input; input = given };
             its_layout = its_layout;
-            long = more_since old mid layout table_limit first long;
+            long = more_since old mid layout file_limit first long;
             files = second ∙ first;
           },
         )
@@ -156,7 +156,7 @@ no_layout old mid new command input layout table I s r its_input its_layout give
               layout = layout;
               asked = record { words_ask = asked; name = input; its_input = its_input; input = given };
               its_layout = its_layout;
-              whole = whole_since old mid layout table_limit lacks.bytes first lacks.whole;
+              whole = whole_since old mid layout file_limit lacks.bytes first lacks.whole;
             };
             refused = lacks.refused;
             files = second ∙ first;
@@ -175,7 +175,7 @@ no_layout old mid new command input layout table I s r its_input its_layout give
               layout = layout;
               asked = record { words_ask = asked; name = input; its_input = its_input; input = given };
               its_layout = its_layout;
-              whole = whole_since old mid layout table_limit lacks.bytes first lacks.whole;
+              whole = whole_since old mid layout file_limit lacks.bytes first lacks.whole;
             };
             parsed = lacks.parsed;
             refused = lacks.refused;
@@ -192,7 +192,7 @@ unread_log old new name I s is =
 
 -- and so a layout file gives no layout
 pub unread_layout : (old new : FilesSeen) (name : Word) (table : List Record) (I : Instance) (C : ℕ) (s : Status) →
-    IsUnreadable old new name table_limit role.Layout s → GivesNoLayout old new name table I C s
+    IsUnreadable old new name file_limit role.Layout s → GivesNoLayout old new name table I C s
 unread_layout old new name table I C s is =
-    unreadable (λ x. GivesNoLayout old new name table I C x) old new name table_limit role.Layout s
+    unreadable (λ x. GivesNoLayout old new name table I C x) old new name file_limit role.Layout s
     (λ cause. layout_unread refl cause) (λ long. layout_too_long refl long) is

@@ -9,7 +9,7 @@ use Rattle.dsa_terms.specs.Plans.{IsPeak, layout_height, load}
 use Rattle.dsa_model.proofs.Live.{not_live_after}
 use Rattle.dsa_outside.specs.Held.{file_at}
 use Rattle.csv_instance.specs.Offsets.{ids_of, offsets_of}
-use Rattle.csv_instance.specs.Records.{Record, table_of}
+use Rattle.csv_instance.specs.Records.{Record, file_limit, table_of}
 use Rattle.csv_instance.specs.declared.columns.Column.TheVariants as column
 use Rattle.csv_instance.specs.declared.fault.OffsetsFault.TheVariants as offsets
 use Rattle.layout_report.specs.Report.{IsReportOf, peak_line, rows_text}
@@ -19,7 +19,6 @@ use Rattle.command_words.specs.Commands.{Command, Report}
 use Rattle.command_words.specs.Options.{Word}
 use Rattle.dsaplan_core.specs.Asked.{layout_of}
 use Rattle.dsaplan_core.specs.Shown.{ShowsLayout}
-use Rattle.dsaplan_core.specs.Steps.{table_limit}
 use Rattle.dsaplan_core.proofs.InputFacts.{only_bytes, only_command, only_table}
 use Rattle.dsaplan_core.proofs.LayoutFileFacts.{beside, no_fault, reads_file}
 use Rattle.dsaplan_core.proofs.OneFacts.{byte, one, one_laid, rows}
@@ -140,6 +139,6 @@ no_report text h =
     (reads_beside_layout bare_file) h.read.asked in
     let name : codes "a" ≡ h.read.layout = (let e = ap layout_of command ∙ h.read.its_layout in cc) in
     let reads = subst (λ n. file_at (Some files) n ≡ Some bare_file) name (reads_layout bare_file) in
-    let bytes = only_bytes files h.read.layout bare_file h.bytes table_limit reads h.read.whole in
+    let bytes = only_bytes files h.read.layout bare_file h.bytes file_limit reads h.read.whole in
     let found = ap₂ (λ (t : List Record) (b : List ℕ). offsets_of (ids_of t) (table_of b)) table bytes in
     no_fault h.offsets (offsets.MissingColumn column.Offset) (sym (sym bare_offsets ∙ found ∙ h.parsed))

@@ -3,7 +3,7 @@ use Rattle.std.proofs.Common.{◌≡◌, ◌<◌, ◌≤◌, ◌^◌, ◌++◌, 
 use Rattle.dsa_terms.specs.Buffers.{Instance}
 use Rattle.dsa_model.specs.declared.fail.NoMemory.{NoMemory}
 use Rattle.csv_instance.specs.Parse.{parse, buffer_limit}
-use Rattle.csv_instance.specs.Records.{Record, table_of}
+use Rattle.csv_instance.specs.Records.{Record, file_limit, table_of}
 use Rattle.layout_report.specs.Facts.{bounds_text}
 use Rattle.layout_report.specs.Report.{IsReportOf}
 use Rattle.layout_report.specs.declared.facts.Facts.{Facts}
@@ -12,7 +12,7 @@ use Rattle.planner.specs.InstanceFacts.{AreFactsOf}
 use Rattle.command_words.specs.Options.{Word}
 use Rattle.command_words.specs.Commands.{Report, Trial, command_of}
 use Rattle.dsaplan_core.specs.Seen.{FilesSeen}
-use Rattle.dsaplan_core.specs.Steps.{IsInput, table_limit}
+use Rattle.dsaplan_core.specs.Steps.{IsInput}
 use Rattle.dsaplan_core.specs.Lines.{line}
 use Rattle.dsaplan_core.specs.Reads.{GivesLayout}
 use Rattle.dsaplan_core.specs.Shown.{IsVerdict}
@@ -43,7 +43,7 @@ shows_layout old mid new input file table I offsets text given first second give
         layout = file;
         asked = record { words_ask = asked; name = input; its_input = refl; input = given };
         its_layout = refl;
-        whole = whole_since old mid file table_limit gives.bytes first gives.whole;
+        whole = whole_since old mid file file_limit gives.bytes first gives.whole;
       };
       parsed = gives.parsed;
       layout = gives.layout;

@@ -6,14 +6,14 @@ use Rattle.dsa_terms.specs.Layouts.{IsFeasible, IsInfeasible, IsLeast}
 use Rattle.dsa_terms.specs.Logs.{Log, IsAccepted}
 use Rattle.dsa_outside.specs.Held.{file_at}
 use Rattle.dsa_model.specs.Counts.{Rose}
-use Rattle.csv_instance.specs.Records.{table_of}
+use Rattle.csv_instance.specs.Records.{file_limit, table_of}
 use Rattle.csv_instance.specs.Parse.{parse, buffer_limit}
 use Rattle.log_text.specs.Faults.{IsTextOf}
 use Rattle.log_text.specs.Text.{log_text, raw_log_of}
 use Rattle.command_words.specs.Options.{Word}
 use Rattle.command_words.specs.Commands.{Command, Solve, Least, Verify, Refute, Trim, Bounds, Report, Trial, command_of, names_of}
 use Rattle.dsaplan_core.specs.Seen.{FilesSeen, SinkSeen}
-use Rattle.dsaplan_core.specs.Steps.{table_limit, log_limit}
+use Rattle.dsaplan_core.specs.Steps.{log_limit}
 use Rattle.dsaplan_core.specs.Asked.{checked_log_of, input_of, layout_of}
 use Rattle.dsaplan_core.specs.Decided.{MayStayOpen}
 use Rattle.dsaplan_core.specs.declared.status.Status.{Status}
@@ -27,7 +27,7 @@ pub record IsReadable (files : FilesSeen) (name : Word) (most : ℕ) : Type 0 wh
 
 -- the name holds this instance
 pub record HoldsInstance (I : Instance) (files : FilesSeen) (name : Word) : Type 0 where
-  pub file : IsReadable files name table_limit
+  pub file : IsReadable files name file_limit
   pub parsed : parse (table_of file.bytes) ≡ Ok I
 
 -- the words ask for this command, the files that it reads are readable, and its input, where it has one, is this
@@ -35,7 +35,7 @@ pub record HoldsInstance (I : Instance) (files : FilesSeen) (name : Word) : Type
 pub record IsReady (words : List Word) (files : FilesSeen) (command : Command) (I : Instance) : Type 0 where
   pub asked : command_of words ≡ Ok command
   pub input : MatchOption (input_of command) (Unit {0}) (HoldsInstance I files)
-  pub layout : MatchOption (layout_of command) (Unit {0}) (λ name. IsReadable files name table_limit)
+  pub layout : MatchOption (layout_of command) (Unit {0}) (λ name. IsReadable files name file_limit)
   pub log : MatchOption (checked_log_of command) (Unit {0}) (λ name. IsReadable files name log_limit)
 
 -- the name holds the text of this log, which is accepted for the instance

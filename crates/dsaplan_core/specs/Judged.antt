@@ -4,13 +4,13 @@ use Rattle.dsa_terms.specs.Buffers.{Instance}
 use Rattle.dsa_terms.specs.Layouts.{IsLayout}
 use Rattle.dsa_model.specs.LayoutFaults.{layout_fault}
 use Rattle.dsa_model.specs.declared.layout.LayoutFault.{LayoutFault}
-use Rattle.csv_instance.specs.Records.{Record, table_of}
+use Rattle.csv_instance.specs.Records.{Record, file_limit, table_of}
 use Rattle.csv_instance.specs.Offsets.{ids_of, offsets_of}
 use Rattle.csv_instance.specs.declared.fault.OffsetsFault.{OffsetsFault}
 use Rattle.command_words.specs.Options.{Word}
 use Rattle.command_words.specs.Commands.{Command, Verify}
 use Rattle.dsaplan_core.specs.Seen.{FilesSeen}
-use Rattle.dsaplan_core.specs.Steps.{table_limit, IsWhole, HoldsMore, IsUnread}
+use Rattle.dsaplan_core.specs.Steps.{IsWhole, HoldsMore, IsUnread}
 use Rattle.dsaplan_core.specs.Asked.{IsAsked, judged_at, layout_of}
 
 -- the layout file of the command, whole
@@ -19,7 +19,7 @@ pub record ReadsLayout (words : List Word) (old : FilesSeen) (command : Command)
   pub layout : Word
   pub asked : IsAsked words old command table I
   pub its_layout : layout_of command ≡ Some layout
-  pub whole : IsWhole old layout table_limit bytes
+  pub whole : IsWhole old layout file_limit bytes
 
 -- the layout file gives a layout at the capacity
 pub record JudgesRight (words : List Word) (old new : FilesSeen) : Type 0 where
@@ -77,5 +77,5 @@ pub record HasLongLayout (words : List Word) (old new : FilesSeen) : Type 0 wher
   pub instance : Instance
   pub asked : IsAsked words old command table instance
   pub its_layout : layout_of command ≡ Some layout
-  pub long : IsSome old.held → HoldsMore old layout table_limit
+  pub long : IsSome old.held → HoldsMore old layout file_limit
   pub files : new.held ≡ old.held

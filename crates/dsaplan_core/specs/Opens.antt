@@ -1,12 +1,12 @@
 -- What reading a file comes to: its content, or a status that ends the run.
 use Rattle.std.specs.Prelude.{◌≡◌, ℕ, List, IsSome, Err}
 use Rattle.dsa_terms.specs.Buffers.{Instance}
-use Rattle.csv_instance.specs.Records.{table_of}
+use Rattle.csv_instance.specs.Records.{file_limit, table_of}
 use Rattle.csv_instance.specs.Parse.{parse}
 use Rattle.csv_instance.specs.declared.fault.InstanceFault.{InstanceFault}
 use Rattle.command_words.specs.Options.{Word}
 use Rattle.dsaplan_core.specs.Seen.{FilesSeen}
-use Rattle.dsaplan_core.specs.Steps.{table_limit, IsWhole, HoldsMore, IsUnread, IsInput}
+use Rattle.dsaplan_core.specs.Steps.{IsWhole, HoldsMore, IsUnread, IsInput}
 use Rattle.dsaplan_core.specs.declared.open.Content.{Content}
 use Rattle.dsaplan_core.specs.declared.open.Content.TheVariants.{Bytes, Unreadable}
 use Rattle.dsaplan_core.specs.declared.open.Input.{Input}
@@ -30,13 +30,13 @@ Opens old new name most role (Unreadable status) = IsUnreadable old new name mos
 -- the input's bytes are no instance, for their first fault
 pub record IsMalformed (old : FilesSeen) (name : Word) (fault : InstanceFault) : Type 0 where
   pub bytes : List ℕ
-  pub whole : IsWhole old name table_limit bytes
+  pub whole : IsWhole old name file_limit bytes
   pub refused : parse (table_of bytes) ≡ Err fault
 
 -- the input gives no instance, as the status says
 abbrev pub IsNoInput : FilesSeen → FilesSeen → Word → Status → Type 0
 IsNoInput old new name (Malformed fault) = IsMalformed old name fault
-IsNoInput old new name status = IsUnreadable old new name table_limit role.Input status
+IsNoInput old new name status = IsUnreadable old new name file_limit role.Input status
 
 -- the input's table with its instance, or why there is none
 abbrev pub OpensInput : FilesSeen → FilesSeen → Word → Input → Type 0

@@ -5,7 +5,7 @@ use Rattle.dsa_terms.specs.Layouts.{IsLayout, IsInfeasible}
 use Rattle.dsa_terms.specs.Logs.{Log, IsAccepted}
 use Rattle.dsa_model.specs.LayoutFaults.{layout_fault}
 use Rattle.dsa_model.specs.declared.layout.LayoutFault.{LayoutFault}
-use Rattle.csv_instance.specs.Records.{Record, table_of}
+use Rattle.csv_instance.specs.Records.{Record, file_limit, table_of}
 use Rattle.csv_instance.specs.Parse.{parse}
 use Rattle.csv_instance.specs.Offsets.{ids_of, offsets_of}
 use Rattle.csv_instance.specs.declared.fault.OffsetsFault.{OffsetsFault}
@@ -17,7 +17,7 @@ use Rattle.log_check.specs.Faults.{check_fault}
 use Rattle.log_check.specs.declared.fault.CheckFault.{CheckFault}
 use Rattle.command_words.specs.Options.{Word}
 use Rattle.dsaplan_core.specs.Seen.{FilesSeen}
-use Rattle.dsaplan_core.specs.Steps.{table_limit, log_limit, IsWhole, HoldsMore, IsUnread}
+use Rattle.dsaplan_core.specs.Steps.{log_limit, IsWhole, HoldsMore, IsUnread}
 use Rattle.dsaplan_core.specs.declared.checked.Checked.{Checked}
 use Rattle.dsaplan_core.specs.declared.checked.Checked.TheVariants as checked
 use Rattle.dsaplan_core.specs.declared.judged.Judged.{Judged}
@@ -70,7 +70,7 @@ ChecksLog old new name I (checked.Unaccepted s) = GivesNoLog old new name I s
 pub record GivesLayout (files : FilesSeen) (name : Word) (table : List Record) (I : Instance) (C : ℕ)
     (offsets : List ℕ) : Type 0 where
   pub bytes : List ℕ
-  pub whole : IsWhole files name table_limit bytes
+  pub whole : IsWhole files name file_limit bytes
   pub parsed : offsets_of (ids_of table) (table_of bytes) ≡ Ok offsets
   pub layout : IsLayout I C offsets
 
@@ -78,7 +78,7 @@ pub record GivesLayout (files : FilesSeen) (name : Word) (table : List Record) (
 pub record GivesNoOffsets (files : FilesSeen) (name : Word) (table : List Record) (fault : OffsetsFault) :
     Type 0 where
   pub bytes : List ℕ
-  pub whole : IsWhole files name table_limit bytes
+  pub whole : IsWhole files name file_limit bytes
   pub refused : offsets_of (ids_of table) (table_of bytes) ≡ Err fault
 
 -- the file gives offsets, which are no layout at the capacity, for their first fault
@@ -86,7 +86,7 @@ pub record GivesWrongOffsets (files : FilesSeen) (name : Word) (table : List Rec
     (fault : LayoutFault) : Type 0 where
   pub bytes : List ℕ
   pub offsets : List ℕ
-  pub whole : IsWhole files name table_limit bytes
+  pub whole : IsWhole files name file_limit bytes
   pub parsed : offsets_of (ids_of table) (table_of bytes) ≡ Ok offsets
   pub refused : layout_fault I C offsets ≡ Some fault
 
@@ -94,7 +94,7 @@ pub record GivesWrongOffsets (files : FilesSeen) (name : Word) (table : List Rec
 pub data GivesNoLayout (old new : FilesSeen) (name : Word) (table : List Record) (I : Instance) (C : ℕ) (s : Status) :
     Type 0 where
   layout_unread : s ≡ status.ReadFault role.Layout → IsUnread old new name → GivesNoLayout old new name table I C s
-  layout_too_long : s ≡ status.TooLong role.Layout → (IsSome old.held → HoldsMore old name table_limit) →
+  layout_too_long : s ≡ status.TooLong role.Layout → (IsSome old.held → HoldsMore old name file_limit) →
       GivesNoLayout old new name table I C s
   no_offsets : (fault : OffsetsFault) → s ≡ status.Wrong (wrong.Offsets fault) →
       GivesNoOffsets old name table fault → GivesNoLayout old new name table I C s

@@ -1,13 +1,13 @@
 -- What the answers say that come before a command has its instance.
 use Rattle.std.specs.Prelude.{◌≡◌, ◌<◌, ℕ, List, IsSome, Some, Ok, Err}
-use Rattle.csv_instance.specs.Records.{table_of}
+use Rattle.csv_instance.specs.Records.{file_limit, table_of}
 use Rattle.csv_instance.specs.Parse.{parse, buffer_limit}
 use Rattle.csv_instance.specs.declared.fault.InstanceFault.{InstanceFault}
 use Rattle.command_words.specs.Options.{Word}
 use Rattle.command_words.specs.Commands.{Command, Trial, command_of}
 use Rattle.command_words.specs.declared.fault.UsageFault.{UsageFault}
 use Rattle.dsaplan_core.specs.Seen.{FilesSeen}
-use Rattle.dsaplan_core.specs.Steps.{table_limit, IsWhole, HoldsMore, IsUnread}
+use Rattle.dsaplan_core.specs.Steps.{IsWhole, HoldsMore, IsUnread}
 use Rattle.dsaplan_core.specs.Asked.{input_of}
 
 -- the words are no command, for their first fault
@@ -30,7 +30,7 @@ pub record HasNoInstance (words : List Word) (old new : FilesSeen) (fault : Inst
   pub bytes : List ℕ
   pub asked : command_of words ≡ Ok command
   pub its_input : input_of command ≡ Some input
-  pub whole : IsWhole old input table_limit bytes
+  pub whole : IsWhole old input file_limit bytes
   pub refused : parse (table_of bytes) ≡ Err fault
   pub files : new.held ≡ old.held
 
@@ -49,5 +49,5 @@ pub record HasLongInput (words : List Word) (old new : FilesSeen) : Type 0 where
   pub input : Word
   pub asked : command_of words ≡ Ok command
   pub its_input : input_of command ≡ Some input
-  pub long : IsSome old.held → HoldsMore old input table_limit
+  pub long : IsSome old.held → HoldsMore old input file_limit
   pub files : new.held ≡ old.held

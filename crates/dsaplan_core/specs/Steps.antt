@@ -3,14 +3,10 @@ use Rattle.std.specs.Prelude.{◌≡◌, ℕ, ◌^◌, ◌≤◌, ◌<◌, ◌�
 use Rattle.dsa_terms.specs.Buffers.{Instance}
 use Rattle.dsa_outside.specs.Held.{file_at, IsMissing}
 use Rattle.dsa_model.specs.Counts.{Rose}
-use Rattle.csv_instance.specs.Records.{Record, table_of}
+use Rattle.csv_instance.specs.Records.{Record, file_limit, table_of}
 use Rattle.csv_instance.specs.Parse.{parse}
 use Rattle.command_words.specs.Options.{Word}
 use Rattle.dsaplan_core.specs.Seen.{FilesSeen}
-
--- the greatest number of bytes of an instance or a layout file
-abbrev pub table_limit : ℕ
-table_limit = 67108864
 
 -- the greatest number of bytes of a log's file
 abbrev pub log_limit : ℕ
@@ -34,6 +30,6 @@ IsUnread old new name = Rose (old.faults name) (new.faults name) ⊎ IsMissing o
 -- the input holds this table, which is this instance
 pub record IsInput (files : FilesSeen) (name : Word) (table : List Record) (I : Instance) : Type 0 where
   pub bytes : List ℕ
-  pub whole : IsWhole files name table_limit bytes
+  pub whole : IsWhole files name file_limit bytes
   pub records : table ≡ table_of bytes
   pub parsed : parse table ≡ Ok I

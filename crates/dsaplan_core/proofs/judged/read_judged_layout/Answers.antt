@@ -1,6 +1,6 @@
 use Rattle.std.proofs.Common.{ap, refl}
 use Rattle.csv_instance.specs.declared.fault.OffsetsFault.{OffsetsFault}
-use Rattle.dsaplan_core.specs.Steps.{table_limit}
+use Rattle.csv_instance.specs.Records.{file_limit}
 use Rattle.dsaplan_core.specs.Reads.{no_offsets, wrong_offsets}
 use Rattle.dsaplan_core.specs.declared.status.Status.TheVariants as status
 use Rattle.dsaplan_core.specs.declared.status.WrongCause.TheVariants as wrong
@@ -17,7 +17,7 @@ returns-in-Err-Fault-clause-judged g c =
           (ap (λ (f : OffsetsFault). status.Wrong (wrong.Offsets f)) c.in-Err-Fault.fault-is)
           (record {
             bytes = c.as_slice.result.now;
-            whole = whole_read _ c.args.name.now table_limit c.as_slice.result.now c.in-Bytes.bytes.items
+            whole = whole_read _ c.args.name.now file_limit c.as_slice.result.now c.in-Bytes.bytes.items
                 c.as_slice.ensures.value whole;
             refused = rw c.in-Err-Fault.field-0-is at (rw c.in-Err-Fault.is at c.read_offsets.ensures.read);
           });
@@ -33,7 +33,7 @@ returns-clause-judged g c =
           (record {
             bytes = c.as_slice.result.now;
             offsets = c.in-Ok.offsets.items;
-            whole = whole_read _ c.args.name.now table_limit c.as_slice.result.now c.in-Bytes.bytes.items
+            whole = whole_read _ c.args.name.now file_limit c.as_slice.result.now c.in-Bytes.bytes.items
                 c.as_slice.ensures.value whole;
             parsed = c.in-Ok.ensures.read;
             refused = rw c.as_slice-2.ensures.value at c.in-Err.ensures.cause;
