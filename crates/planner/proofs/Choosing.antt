@@ -16,7 +16,8 @@ use Rattle.planner.specs.declared.decision.Decision.{Decision}
 use Rattle.planner.specs.declared.decision.Decision.TheVariants.{Layout, Refuted, Open}
 
 -- ---- the starts before the search
-pub planned_start : (I : Instance) (C : ℕ) (offsets : List ℕ) → start_within I C ≡ Some offsets → planned I C ≡ Some offsets
+pub planned_start : (I : Instance) (C : ℕ) (offsets : List ℕ) → start_within I C ≡ Some offsets →
+    planned I C ≡ Some offsets
 unfolding planned plan
 planned_start I C offsets h = rw h refl
 
