@@ -1,4 +1,4 @@
-use Rattle.std.proofs.Common.{refl, sym}
+use Rattle.std.proofs.Common.{arith, refl, sym}
 use Rattle.command_words.specs.Commands.{Trim}
 use Rattle.dsaplan_core.proofs.Earlier.{input_is}
 use Rattle.dsaplan_core.proofs.Missing.{missing_input}
@@ -32,3 +32,9 @@ returns-clause-prepared g c =
     (rw c.in-Accepted.is at c.in_ok-original.ensures.checked) c.in_ok-trimmed.ensures.value
     c.in_ok-trimmed.ensures.accepted (sym c.len.ensures.value) (sym c.len-2.ensures.value)
     c.in_ok-file.ensures.readable c.in_ok-file.ensures.file c.in_ok-say.ensures
+
+pub returns-clause-counts : goal.returns-clause-counts
+returns-clause-counts g c name =
+    let opened = c.in_ok-table.ensures.counts name in
+    let checked = c.in_ok-original.ensures.counts name in
+    omega (arith, opened, checked)
