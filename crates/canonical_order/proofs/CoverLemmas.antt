@@ -10,7 +10,7 @@ use Rattle.dsa_search_laws.proofs.Claims.{rises-child, length-child}
 use Rattle.dsa_terms.proofs.Numbers.{next_at_or_above}
 use Rattle.canonical_order.specs.Claims.{HasBuffer, entry_of, IsBoundedBy, IsKept, NonePassBelow, CoversEntry, CoversFirst, entries_below, least_buffer, IsLeastOf, IsLeastNumber, Passes}
 use Rattle.canonical_order.specs.Stands.{Stands}
-use Rattle.canonical_order.proofs.NumberTests.{same, apart, at_most, is_at_most, is_below, not_below}
+use Rattle.dsa_terms.proofs.NumberTests.{same, apart, at_most, is_at_most, is_below, not_below}
 use Rattle.canonical_order.proofs.Entries.{entry_in, is_entry, in_range, up_limit, sound_buffer}
 
 below_or_at : (b n : ℕ) → b < n + 1 → (b < n) ⊎ (b ≡ n)

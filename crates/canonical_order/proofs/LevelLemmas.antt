@@ -8,7 +8,7 @@ use Rattle.dsa_terms.specs.Claims.{Claim, up}
 use Rattle.canonical_order.specs.Claims.{HasBuffer, bound_of, entry_of}
 use Rattle.canonical_order.specs.Levels.{AreLevels}
 use Rattle.canonical_order.proofs.Entries.{bound_none, bound_some, entry_in}
-use Rattle.canonical_order.proofs.NumberTests.{below_or_from}
+use Rattle.dsa_terms.proofs.NumberTests.{below_or_from}
 
 pub has_or_not : (l : Claim) (b : ℕ) → HasBuffer l b ⊎ (HasBuffer l b → ⊥)
 has_or_not l b = go (bound_of l b) refl

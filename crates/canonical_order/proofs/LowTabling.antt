@@ -7,7 +7,7 @@ use Rattle.dsa_terms.specs.Buffers.{Buffer, Instance, buffer}
 use Rattle.dsa_terms.specs.Claims.{Claim, Entry, IsClaim, Rises, buffers_of, number_of, up}
 use Rattle.canonical_order.specs.Claims.{HasBuffer, entry_of}
 use Rattle.canonical_order.specs.Levels.{AreLevels}
-use Rattle.canonical_order.proofs.NumberTests.{below_or_from}
+use Rattle.dsa_terms.proofs.NumberTests.{below_or_from}
 
 -- the levels with one more than the up of each entry at the place of its buffer
 abbrev pub filled : Instance → Claim → List ℕ → List ℕ

@@ -9,7 +9,7 @@ use Rattle.dsa_terms.specs.Claims.{Entry, Claim, Rises, buffers_of}
 use Rattle.dsa_search_laws.proofs.Placing.{in_buffers}
 use Rattle.canonical_order.specs.Claims.{HasBuffer, IsAt, bound_of}
 use Rattle.canonical_order.proofs.CoverLemmas.{in_at}
-use Rattle.canonical_order.proofs.NumberTests.{same, apart, below_or_from}
+use Rattle.dsa_terms.proofs.NumberTests.{same, apart, below_or_from}
 
 -- each buffer is above those before it
 rises_at : (l : Claim) (i j : ℕ) → Rises (buffers_of l) → i < j → j < length l →

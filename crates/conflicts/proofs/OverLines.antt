@@ -11,7 +11,7 @@ use Rattle.dsa_terms.proofs.Lists.{from_filter, from_map}
 use Rattle.dsa_terms.proofs.Moments.{and_true}
 use Rattle.dsa_terms.proofs.Numbers.{next_at_or_above, next_is_below, next_is_least, next_is_multiple}
 use Rattle.dsa_search_laws.proofs.Claims.{buffers_of-map, rises-filter}
-use Rattle.canonical_order.proofs.NumberTests.{at_most, is_at_most}
+use Rattle.dsa_terms.proofs.NumberTests.{at_most, is_at_most}
 use Rattle.canonical_order.proofs.Entries.{sound_buffer}
 use Rattle.canonical_order.proofs.CoverLemmas.{length_within}
 use Rattle.canonical_order.specs.Claims.{IsBoundedBy}

@@ -11,7 +11,7 @@ use Rattle.dsa_terms.proofs.Moments.{and_true, both_true}
 use Rattle.canonical_order.specs.Claims.{HasBuffer, entry_of}
 use Rattle.canonical_order.specs.Stands.{Stands}
 use Rattle.canonical_order.proofs.Entries.{entry_in, in_range, sound_buffer}
-use Rattle.canonical_order.proofs.NumberTests.{apart, at_most, is_at_most}
+use Rattle.dsa_terms.proofs.NumberTests.{apart, at_most, is_at_most}
 use Rattle.conflicts.specs.Eased.{HasNoOwn}
 use Rattle.conflicts.specs.Ends.{IsLeastEnd, end_of}
 

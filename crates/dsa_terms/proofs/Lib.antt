@@ -1,5 +1,7 @@
 pub mod Numbers
+pub mod NumberTests
 pub mod Lists
+pub mod Places
 pub mod Moments
 pub mod Examples
 mod ExampleFacts

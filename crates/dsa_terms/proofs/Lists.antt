@@ -1,13 +1,13 @@
 -- Membership in a list, and the lists that are made of others.
 use Rattle.std.proofs.Common.{◌≡◌, ◌<◌, ◌≤◌, ◌⊎◌, inl, inr, ℕ, Bool, true, false, cond, ◌==◌, ◌||◌, List, [], ◌∷◌, ◌++◌, map, length, filter, Option, Some, None, refl, ap, ◌∙◌, subst, arith}
-use Rattle.std.specs.List.{list_any, list_all}
+use Rattle.std.specs.List.{flat_map, list_any, list_all}
 use Rattle.std.specs.Option.{option_or}
-use Rattle.std.proofs.lemmas.Bool.Decides.{nat_tests}
 use Rattle.dsa_terms.specs.Claims.{IsIn, Entry}
 use Rattle.dsa_terms.specs.Buffers.{Instance}
 use Rattle.dsa_terms.specs.Parts.{has}
 use Rattle.dsa_terms.specs.Search.{comes_before, put_in, in_order, first_some}
 use Rattle.dsa_terms.proofs.Moments.{and_true}
+use Rattle.dsa_terms.proofs.NumberTests.{equal, same}
 
 pub true_or_false : (b : Bool) → (b ≡ true) ⊎ (b ≡ false)
 true_or_false true = inl refl
@@ -175,6 +175,20 @@ pub right_append : {X : Type 0} (xs ys : List X) (x : X) → IsIn x ys → IsIn 
 right_append [] ys x i = i
 right_append (z ∷ zs) ys x i = inr (right_append zs ys x i)
 
+pub into_flat : {X Y : Type 0} (f : X → List Y) (xs : List X) (x : X) (y : Y) → IsIn x xs → IsIn y (f x) →
+    IsIn y (flat_map f xs)
+into_flat f [] x y i j = absurd i
+into_flat {X} {Y} f (z ∷ zs) x y (inl e) j = left_append (f z) (flat_map f zs) y (subst (λ (x : X). IsIn y (f x)) e j)
+into_flat f (z ∷ zs) x y (inr i) j = right_append (f z) (flat_map f zs) y (into_flat f zs x y i j)
+
+pub from_flat : {X Y : Type 0} (f : X → List Y) (xs : List X) (y : Y) → IsIn y (flat_map f xs) →
+    (x : X) × IsIn x xs × IsIn y (f x)
+from_flat f [] y i = absurd i
+from_flat f (z ∷ zs) y i = elim (from_append (f z) (flat_map f zs) y i) [
+  | inl j ↦ (z, inl refl, j)
+  | inr j ↦ let r = from_flat f zs y j in (r.0, inr r.1, r.2)
+]
+
 -- ---- all items pass
 pub all_at : {X : Type 0} (p : X → Bool) (xs : List X) (x : X) → list_all p xs ≡ true → IsIn x xs → p x ≡ true
 all_at p [] x h i = absurd i
@@ -188,14 +202,8 @@ all_from p (y ∷ ys) h = rw (h y (inl refl)) (all_from p ys (λ x i. h x (inr i
 -- ---- lists that have a number
 pub has_in : (k : ℕ) (ks : List ℕ) → has k ks ≡ true → IsIn k ks
 unfolding has
-has_in k ks h = let r = any_gives (λ j. j == k) ks h in subst (λ (j : ℕ). IsIn j ks) (eq r.0 k r.2) r.1
-  where
-    eq : (m n : ℕ) → (m == n) ≡ true → m ≡ n
-    eq m n q = grind (arith, nat_tests)
+has_in k ks h = let r = any_gives (λ j. j == k) ks h in subst (λ (j : ℕ). IsIn j ks) (equal r.0 k r.2) r.1
 
 pub in_has : (k : ℕ) (ks : List ℕ) → IsIn k ks → has k ks ≡ true
 unfolding has
-in_has k ks i = any_from (λ j. j == k) ks k i (same k)
-  where
-    same : (m : ℕ) → (m == m) ≡ true
-    same m = grind (arith, nat_tests)
+in_has k ks i = any_from (λ j. j == k) ks k i (same k k refl)

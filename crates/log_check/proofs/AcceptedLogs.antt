@@ -9,7 +9,7 @@ use Rattle.dsa_terms.specs.Firsts.{when}
 use Rattle.dsa_model.specs.Fails.{UnlessNoMemory, IfFault}
 use Rattle.dsa_model.specs.declared.fail.Fail.{Fail}
 use Rattle.dsa_model.specs.declared.fail.Fail.TheVariants.{Fault, NoMemory}
-use Rattle.canonical_order.proofs.NumberTests.{same, not_below}
+use Rattle.dsa_terms.proofs.NumberTests.{same, not_below}
 use Rattle.refute_log.specs.Lines.{HasCites}
 use Rattle.refute_log.specs.Reasons.{claim_reason, rule_reason}
 use Rattle.refute_log.specs.declared.reason.Reason.TheVariants as reason

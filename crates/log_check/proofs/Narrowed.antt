@@ -10,7 +10,7 @@ use Rattle.dsa_terms.specs.Parts.{is_empty}
 use Rattle.dsa_terms.proofs.Lists.{any_gives, into_map}
 use Rattle.dsa_terms.proofs.Moments.{and_true}
 use Rattle.canonical_order.specs.Claims.{IsBoundedBy}
-use Rattle.canonical_order.proofs.NumberTests.{equal}
+use Rattle.dsa_terms.proofs.NumberTests.{equal}
 use Rattle.canonical_order.proofs.CoverLemmas.{length_within}
 use Rattle.refute_log.specs.Lines as lines
 use Rattle.refute_log.specs.Lines.{cite_value}

@@ -13,7 +13,7 @@ use Rattle.dsa_terms.specs.Logs.{Line, Over, Cases, Cite, ByLine, Below, Twin, c
 use Rattle.dsa_terms.specs.Parts.{is_empty}
 use Rattle.dsa_terms.specs.Firsts.{when}
 use Rattle.canonical_order.specs.Stands.{Stands}
-use Rattle.canonical_order.proofs.NumberTests.{equal, same, apart, above, not_at_most, below_or_from}
+use Rattle.dsa_terms.proofs.NumberTests.{equal, same, apart, above, not_at_most, below_or_from}
 use Rattle.refute_log.specs.Reasons.{first_reason, claim_reason, rule_reason, over_reason, cite_reason, cites_reason, line_reason, covers, stacked, stack_height}
 use Rattle.refute_log.specs.Logs.{OpenLog, Belongs, ended}
 use Rattle.refute_log.specs.declared.reason.Reason.TheVariants as reason

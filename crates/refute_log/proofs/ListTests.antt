@@ -4,7 +4,7 @@ use Rattle.std.specs.Option.{option_or}
 use Rattle.std.specs.List.{list_any, list_all}
 use Rattle.dsa_terms.specs.Buffers.{Instance}
 use Rattle.dsa_terms.specs.Claims.{Claim, Entry, up, child, Covers, IsWhole}
-use Rattle.canonical_order.proofs.NumberTests.{equal, same, at_most, is_at_most}
+use Rattle.dsa_terms.proofs.NumberTests.{equal, same, at_most, is_at_most}
 use Rattle.dsa_terms.specs.Logs.{Line, claim_of, Cite}
 use Rattle.dsa_terms.proofs.Lists.{all_at, all_from, any_gives, any_from}
 use Rattle.dsa_terms.proofs.Moments.{and_true, both_true}

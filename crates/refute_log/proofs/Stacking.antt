@@ -7,7 +7,7 @@ use Rattle.canonical_order.specs.Stands.{Stands}
 use Rattle.canonical_order.proofs.CoverLemmas.{length_within}
 use Rattle.dsa_terms.proofs.Moments.{and_true}
 use Rattle.dsa_terms.proofs.Numbers.{multiple_is, next_is_below}
-use Rattle.canonical_order.proofs.NumberTests.{equal}
+use Rattle.dsa_terms.proofs.NumberTests.{equal}
 use Rattle.dsa_model.specs.Buffer.{IsBuffer}
 use Rattle.refute_log.specs.Stacks.{stacks}
 

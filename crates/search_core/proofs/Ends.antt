@@ -10,7 +10,7 @@ use Rattle.dsa_search_laws.proofs.Placing.{in_buffers}
 use Rattle.canonical_order.specs.Claims.{HasBuffer, entry_of}
 use Rattle.canonical_order.specs.Stands.{Stands}
 use Rattle.canonical_order.proofs.Entries.{entry_in, is_entry}
-use Rattle.canonical_order.proofs.NumberTests.{apart, is_at_most, not_at_most}
+use Rattle.dsa_terms.proofs.NumberTests.{apart, is_at_most, not_at_most}
 use Rattle.conflicts.specs.Ends.{end_of}
 use Rattle.search_core.specs.declared.ending.Ending.{Ending}
 use Rattle.search_core.specs.Endings.{IsLeastEnd}

@@ -18,7 +18,7 @@ use Rattle.lifetime.proofs.Live.{from_live, into_live, rises_live}
 use Rattle.canonical_order.specs.Claims.{HasBuffer, entry_of}
 use Rattle.canonical_order.specs.Stands.{Stands}
 use Rattle.canonical_order.proofs.Entries.{entry_in}
-use Rattle.canonical_order.proofs.NumberTests.{is_at_most}
+use Rattle.dsa_terms.proofs.NumberTests.{is_at_most}
 use Rattle.skyline.specs.Overloads.{free_load, is_left, least_of, least_up, over, over_at, overloaded}
 use Rattle.skyline.proofs.Loads.{gives_left, left_gives}
 use Rattle.skyline.proofs.Overloads.{least_is_least}

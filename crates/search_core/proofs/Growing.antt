@@ -9,7 +9,7 @@ use Rattle.dsa_terms.specs.Logs.{Line, claim_of}
 use Rattle.dsa_terms.proofs.Lists.{from_append}
 use Rattle.canonical_order.specs.Claims.{HasBuffer}
 use Rattle.canonical_order.proofs.CoverLemmas.{covered_has}
-use Rattle.canonical_order.proofs.NumberTests.{below_or_from}
+use Rattle.dsa_terms.proofs.NumberTests.{below_or_from}
 use Rattle.refute_log.proofs.Legal.{get_before, get_last, take_length}
 use Rattle.search_core.specs.Cites.{IsCoveredBy}
 use Rattle.search_core.specs.Logs.{Extends}

@@ -7,7 +7,7 @@ use Rattle.dsa_terms.specs.Search.{first}
 use Rattle.dsa_search_laws.proofs.First.{first_exactly}
 use Rattle.dsa_search_laws.proofs.Logs.{covered_is_refuted, covers_along, from_take, legal_is_refuted}
 use Rattle.canonical_order.specs.Stands.{Stands}
-use Rattle.canonical_order.proofs.NumberTests.{below_or_from}
+use Rattle.dsa_terms.proofs.NumberTests.{below_or_from}
 use Rattle.refute_log.specs.Logs.{Belongs, OpenLog}
 use Rattle.search_core.specs.Cites.{IsCoveredBy}
 use Rattle.search_core.specs.Logs.{AreUncovered, IsSearchLog, NoneCovers}

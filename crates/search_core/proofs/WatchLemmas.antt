@@ -6,7 +6,7 @@ use Rattle.dsa_terms.specs.Buffers.{Instance}
 use Rattle.dsa_terms.specs.Claims.{Claim, Entry, IsIn}
 use Rattle.dsa_terms.specs.Logs.{Line, claim_of}
 use Rattle.canonical_order.specs.Levels.{AreLevels}
-use Rattle.canonical_order.proofs.NumberTests.{below_or_from}
+use Rattle.dsa_terms.proofs.NumberTests.{below_or_from}
 use Rattle.search_core.specs.Cites.{IsCoveredBy}
 use Rattle.search_core.specs.Logs.{NoneCovers}
 use Rattle.search_core.specs.Looks.{IsLacked, IsUnmet}

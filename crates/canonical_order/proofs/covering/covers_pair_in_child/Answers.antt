@@ -4,7 +4,7 @@ use Rattle.dsa_search_laws.proofs.Claims.{rises-child}
 use Rattle.canonical_order.specs.Claims.{entry_of}
 use Rattle.canonical_order.proofs.CoverLemmas.{covers_entry, covers_test, covered_has, entry_of_child, from_child, in_child_by, low_stays, raised_stays}
 use Rattle.canonical_order.proofs.Entries.{in_range}
-use Rattle.canonical_order.proofs.NumberTests.{is_at_most}
+use Rattle.dsa_terms.proofs.NumberTests.{is_at_most}
 use Rattle.canonical_order.proofs.covering.covers_pair_in_child.Goals as goal
 use Rattle.canonical_order.proofs.covering.covers_pair_in_child.Goals.{then-c-b-via-then-c-b, then-c-b-via-else-c-b+then-not-is_free}
 

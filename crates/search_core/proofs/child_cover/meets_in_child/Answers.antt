@@ -1,7 +1,7 @@
 use Rattle.std.proofs.Common.{◌≡◌, ◌∙◌, ◌<◌, ap, arith, slice_index}
 use Rattle.std.specs.Int.{next_multiple_of}
 use Rattle.dsa_terms.specs.Buffers.{Buffer}
-use Rattle.canonical_order.proofs.NumberTests.{at_most}
+use Rattle.dsa_terms.proofs.NumberTests.{at_most}
 use Rattle.search_core.proofs.Rising.{low_of_child, meets_above, meets_child, meets_raised}
 use Rattle.search_core.proofs.child_cover.meets_in_child.Goals as goal
 

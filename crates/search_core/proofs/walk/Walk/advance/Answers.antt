@@ -1,5 +1,5 @@
 use Rattle.std.proofs.Common.{◌≡◌, ◌∙◌, ◌++◌, ◌∷◌, [], None, map, length, refl, sym, ap, arith}
-use Rattle.canonical_order.proofs.NumberTests.{equal}
+use Rattle.dsa_terms.proofs.NumberTests.{equal}
 use Rattle.dsa_terms.specs.Claims.{child}
 use Rattle.canonical_order.specs.Claims.{entry_of}
 use Rattle.skyline.specs.Skies.{last_claim}
