@@ -1,5 +1,5 @@
 -- Worked facts of the definitions.
-use Rattle.std.proofs.Common.{◌≡◌, ℕ, ◌-◌, ◌^◌, [], ◌∷◌, true, false, Some, None, codes, replicate, refl, arith}
+use Rattle.std.proofs.Common.{◌≡◌, ℕ, ◌-◌, ◌^◌, inl, inr, [], ◌∷◌, true, false, Some, None, codes, replicate, refl, arith}
 use Rattle.std.specs.Global.{Vec}
 use Rattle.dsa_terms.specs.Buffers.{Instance, is_live, buffer, some_before}
 use Rattle.dsa_model.specs.Buffer.{buffer_fault, buffer_of, is_ever_live}
@@ -160,13 +160,15 @@ last_number_stays : one_more (2 ^ 64 - 1) ≡ 2 ^ 64 - 1
 last_number_stays = refl
 
 one_is_a_rise : Rose 0 1
-one_is_a_rise = omega arith
+one_is_a_rise = inl (omega arith)
 
 none_is_no_rise : Rose 0 0 → ⊥
-none_is_no_rise rose = omega (arith, rose)
+none_is_no_rise (inl more) = omega (arith, more)
+none_is_no_rise (inr end) = omega (arith, end)
 
 rose_to_the_end : Rose (2 ^ 64 - 1) (2 ^ 64 - 1)
-rose_to_the_end = omega arith
+rose_to_the_end = inr (omega arith)
 
 no_rise_before_the_end : Rose (2 ^ 64 - 2) (2 ^ 64 - 2) → ⊥
-no_rise_before_the_end rose = omega (arith, rose)
+no_rise_before_the_end (inl more) = omega (arith, more)
+no_rise_before_the_end (inr end) = omega (arith, end)

@@ -11,7 +11,8 @@ use Rattle.dsaplan_core.specs.Seen.{FilesSeen}
 use Rattle.dsaplan_core.specs.Steps.{IsWhole, HoldsMore, IsUnread, IsInput}
 
 pub rose_since : (a b c : ℕ) → a ≤ b → Rose b c → Rose a c
-rose_since a b c le rose = omega (arith, le, rose)
+rose_since a b c le (inl more) = inl (omega (arith, le, more))
+rose_since a b c le (inr end) = inr end
 
 pub whole_since : (old mid : FilesSeen) (name : Word) (most : ℕ) (bytes : List ℕ) → mid.held ≡ old.held →
     IsWhole mid name most bytes → IsWhole old name most bytes

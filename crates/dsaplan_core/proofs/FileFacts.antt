@@ -54,7 +54,7 @@ abbrev disturbed : FilesSeen
 disturbed = record { held = Some input_alone; faults = λ other. cond (bytes_eq other (codes "i")) 1 0 }
 
 unread_where_it_rose : IsUnread (told input_alone) disturbed (codes "i")
-unread_where_it_rose = inl (lit≤ tt)
+unread_where_it_rose = inl (inl (lit< tt))
 
 -- ---- what is ready
 -- there is no layout file
@@ -71,21 +71,23 @@ holds_log = record {
   accepted = zero_refuted.accepted;
 }
 
+not_risen : (n : ℕ) → n < 2 ^ 64 - 1 → Rose n n → ⊥
+not_risen n lt (inl more) = omega (arith, more)
+not_risen n lt (inr end) = omega (arith, lt, end)
+
 undisturbed : IsUndisturbed (Bounds (codes "a")) (told input_alone) disturbed (record { content = None; faults = 3 })
     (record { content = None; faults = 3 })
-undisturbed = record { files = files; sink = λ rose. omega (arith, rose) }
+undisturbed = record { files = files; sink = not_risen 3 (lit< tt) }
   where
     files : (name : Word) → IsIn name (codes "a" ∷ []) → Rose 0 (disturbed.faults name) → ⊥
-    files name (inl e) rose = zero (subst (λ other. Rose 0 (disturbed.faults other)) e rose)
+    files name (inl e) rose = not_risen 0 (lit< tt) (subst (λ other. Rose 0 (disturbed.faults other)) e rose)
       where
-        zero : Rose 0 0 → ⊥
-        zero rose = omega (arith, rose)
     files name (inr i) rose = i
 
 disturbed_input : IsUndisturbed (Bounds (codes "i")) (told input_alone) disturbed
     (record { content = None; faults = 3 }) (record { content = None; faults = 3 }) → ⊥
-disturbed_input u = u.files (codes "i") (inl refl) (lit≤ tt)
+disturbed_input u = u.files (codes "i") (inl refl) (inl (lit< tt))
 
 disturbed_sink : IsUndisturbed (Bounds (codes "i")) (told input_alone) (told input_alone)
     (record { content = None; faults = 3 }) (record { content = None; faults = 4 }) → ⊥
-disturbed_sink u = u.sink (lit≤ tt)
+disturbed_sink u = u.sink (inl (lit< tt))

@@ -165,7 +165,8 @@ abbrev failed : FileMap → FilesSeen
 failed files = record { held = Some files; faults = λ other. cond (bytes_eq other (codes "o")) 1 0 }
 
 no_rise : Rose 0 0 → ⊥
-no_rise rose = omega (arith, rose)
+no_rise (inl more) = omega (arith, more)
+no_rise (inr end) = omega (arith, end)
 
 reads_no_output : file_at (Some input_alone) (codes "o") ≡ None
 reads_no_output =
@@ -175,7 +176,7 @@ reads_no_output =
 
 module _ (file : Writing) (said : Said) (layout : IsOutput file) where
   rises : Rose 0 ((failed empty).faults file.name.now)
-  rises = subst (λ name. Rose 0 ((failed empty).faults name)) (sym layout.its_name) (lit≤ tt)
+  rises = subst (λ name. Rose 0 ((failed empty).faults name)) (sym layout.its_name) (inl (lit< tt))
 
   writes_the_layout : said.status ≡ status.Feasible 1 → said.text.items ≡ codes "feasible 1\n" →
       IsWriting (solve_words (codes "1")) (told input_alone) file said
@@ -224,7 +225,7 @@ not_lost_as_the_log : (file : Writing) (said : Said) → file.name.now ≡ codes
     file.unwritten.status ≡ status.WriteFault role.Log →
     IsWriting (solve_words (codes "1")) (told input_alone) file said → ⊥
 not_lost_as_the_log file said name fault h =
-    let rose = subst (λ n. Rose 0 ((failed input_alone).faults n)) (sym name) (lit≤ tt) in
+    let rose = subst (λ n. Rose 0 ((failed input_alone).faults n)) (sym name) (inl (lit< tt)) in
     let says : Says (solve_words (codes "1")) (told input_alone) (failed input_alone) (status.WriteFault role.Log)
     file.unwritten.text.items =
     subst (λ (s : Status). Says (solve_words (codes "1")) (told input_alone) (failed input_alone) s
