@@ -20,7 +20,8 @@ entry table b c = slice_index_or (slice_index_or table b []) c false
 abbrev pub IsWide : List Bool → Type 0
 IsWide entries = length entries ≡ 512
 
--- the table tells of any two buffers whether they share a moment; entries past the last buffer tell nothing
+-- the table tells of any two buffers whether they share a moment; each row has 512 entries, and those past the last
+-- buffer tell nothing
 pub record IsTable (I : Instance) (table : List (List Bool)) : Type 0 where
   pub wide : All IsWide table
   pub told : (b c : ℕ) → b < length I → c < length I → entry table b c ≡ do_share (buffer I b) (buffer I c)

@@ -25,6 +25,7 @@ use Rattle.dsaplan_core.specs.Steps.{IsWhole, log_limit}
 use Rattle.dsaplan_core.specs.Asked.{IsAsked, capacity_of, log_of, output_of, steps_of}
 
 -- a layout of the capacity is written to the output, the plan; where no start is within the capacity, a step was given
+-- at least, if the command gives a number of steps
 pub record LaysOut (words : List Word) (old new : FilesSeen) (C : ℕ) : Type 0 where
   pub input : Word
   pub output : Word
@@ -40,7 +41,8 @@ pub record LaysOut (words : List Word) (old new : FilesSeen) (C : ℕ) : Type 0 
   pub files : new.held ≡ with_file old.held output (layout_text table offsets)
 
 -- no layout fits within the capacity, and a log without waste that is accepted at it is written, the bound's where
--- the capacity is below the lower bound, and else one with a step given for each line; the text reads back
+-- the capacity is below the lower bound, and else one with a step given for each line, if the command gives a number
+-- of steps; the text reads back
 pub record RefutesCapacity (words : List Word) (old new : FilesSeen) (C : ℕ) : Type 0 where
   pub input : Word
   pub output : Word
@@ -71,7 +73,8 @@ with_log held name None = held
 with_log held name (Some refutation) = with_file held name (log_text refutation)
 
 -- C is the least capacity that has a layout; the plan at it is written to the output, and a log that refutes one byte
--- less to the log's file, unless C is 0; steps enough were given for what the starts and the bound do not give
+-- less to the log's file, unless C is 0; where the command gives a number of steps, they are enough for what the starts
+-- and the bound do not give
 pub record FindsLeast (words : List Word) (old new : FilesSeen) (C : ℕ) : Type 0 where
   pub input : Word
   pub output : Word
@@ -114,7 +117,7 @@ MayStayOpen command I L H = ⊥
 
 -- the steps ran out: the plan at H is written to the output, a layout of that height, and a log that refutes one byte
 -- less than L to the log's file; where the command names a capacity these are the best start and the bound's log, and
--- else steps enough were given for what the starts and the bound do not give
+-- else the steps given are enough for what the starts and the bound do not give
 pub record LeavesOpen (words : List Word) (old new : FilesSeen) (L H : ℕ) : Type 0 where
   pub command : Command
   pub output : Word

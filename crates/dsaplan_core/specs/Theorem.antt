@@ -28,7 +28,7 @@ use Rattle.dsaplan_core.specs.declared.status.Status.TheVariants as status
 
 -- the output of the command holds the text of the plan at the capacity, which is a layout: each buffer's offset is
 -- aligned and within the capacity, and no two buffers overlap at a moment at which both are live; where no start is
--- within the capacity, the command gives a step at least, or steps without a number
+-- within the capacity, the command gives a step at least, or no number of steps
 pub record HoldsLayout (words : List Word) (old new : FilesSeen) (C : ℕ) : Type 0 where
   pub command : Command
   pub output : Word
@@ -74,7 +74,8 @@ pub record NamesLeast (words : List Word) (old : FilesSeen) (C : ℕ) : Type 0 w
   pub asked : IsAsked words old command table instance
   pub least : IsLeast instance C
 
--- the command has steps, and they are too few to tell the least capacity of the input's instance from L to H
+-- the command gives a number of steps, and they may run out with the least capacity of the input's instance left open
+-- between L and H
 pub record RunsOut (words : List Word) (old : FilesSeen) (L H : ℕ) : Type 0 where
   pub command : Command
   pub table : List Record

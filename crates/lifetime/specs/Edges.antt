@@ -21,7 +21,8 @@ edge_moments b = b.lower ∷ b.upper ∷ gap_ends b.gaps
 abbrev pub edges_of : Buffer → ℕ → List (ℕ × ℕ)
 edges_of x b = map (λ t. (t, b)) (edge_moments x)
 
--- all edges of the instance stand there, and their moments never fall
+-- all edges of the instance stand there, and their moments never fall; each is of a buffer of the instance, and there
+-- are at most 18 for each buffer
 pub record AreEdges (I : Instance) (edges : List (ℕ × ℕ)) : Type 0 where
   pub sorted : IsNonDecreasingBy (λ (e : ℕ × ℕ). e.0) edges
   pub in_range : All (λ (e : ℕ × ℕ). e.1 < length I) edges

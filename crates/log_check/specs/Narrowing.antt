@@ -33,7 +33,8 @@ shape_reason I line = first_fault (
     ∷ when (not (has_own_cites line)) reason.CitesDiffer
     ∷ [])
 
--- nothing is wrong with the line's shape, and the other line is the one that it says, narrowed
+-- nothing is wrong with the line's shape, and the other line is the one that it says, narrowed, of an instance of at
+-- most 512 buffers
 pub record IsNarrowed (I : Instance) (line : RawLine) (made : Line) : Type 0 where
   pub shape : shape_reason I line ≡ None
   pub is_made : made ≡ narrow_line line

@@ -23,7 +23,7 @@ abbrev pub IsLogBelow : Instance → ℕ → Option Log → Type 0
 IsLogBelow I bound None = bound ≡ 0
 IsLogBelow I bound (Some log) = (1 ≤ bound) × IsStackRefutation I (bound - 1) log
 
--- from the lower bound, with the log below it, to the height of the best start
+-- from the lower bound, with the log below it, to the height of the best start, which is its layout and ends below 2^54
 pub record IsFirstBracket (I : Instance) (b : Bracket) : Type 0 where
   pub low : b.low ≡ lower_bound I
   pub log : IsLogBelow I (lower_bound I) b.log

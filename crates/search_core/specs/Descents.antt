@@ -23,7 +23,8 @@ through I C l es = work_through (λ e. work I C (child I l e)) (λ e. is_some (f
 abbrev pub buffer_of : Refuted → ℕ
 buffer_of r = r.buffer
 
--- the first choices of the claim are refuted, each by a line, and its first layout is the one that the others give
+-- the choices are those of the claim, in order; the first of them are refuted, each by a line, and the claim's first
+-- layout is the one that the others give; the levels are the claim's
 pub record IsTrying (I : Instance) (C : ℕ) (lines : List Line) (l : Claim) (f : Tried) : Type 0 where
   pub order : map (entry_of l) f.order ≡ choices I (not_excluded I) l
   pub noted : f.order ≡ map buffer_of f.refuted ++ rest_of f
