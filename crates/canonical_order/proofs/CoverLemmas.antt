@@ -10,16 +10,14 @@ use Rattle.dsa_search_laws.proofs.Claims.{rises-child, length-child}
 use Rattle.dsa_terms.proofs.Numbers.{next_at_or_above}
 use Rattle.canonical_order.specs.Claims.{HasBuffer, entry_of, IsBoundedBy, IsKept, NonePassBelow, CoversEntry, CoversFirst, entries_below, least_buffer, IsLeastOf, IsLeastNumber, Passes}
 use Rattle.canonical_order.specs.Stands.{Stands}
-use Rattle.dsa_terms.proofs.NumberTests.{same, apart, at_most, is_at_most, is_below, not_below}
+use Rattle.dsa_terms.proofs.NumberTests.{same, apart, at_most, is_at_most, is_below, not_below, below_or_last}
+use Rattle.dsa_terms.proofs.Places.{in_at}
 use Rattle.canonical_order.proofs.Entries.{entry_in, is_entry, in_range, up_limit, sound_buffer}
-
-below_or_at : (b n : ℕ) → b < n + 1 → (b < n) ⊎ (b ≡ n)
-below_or_at b n h = grind arith
 
 -- ---- the least buffer that passes
 pub pass_below_next : (test : Entry → Bool) (l : Claim) (n : ℕ) → Rises (buffers_of l) →
     (HasBuffer l n → test (entry_of l n) ≡ false) → NonePassBelow test l n → NonePassBelow test l (n + 1)
-pass_below_next test l n r h k e i lt = elim (below_or_at e.0 n lt) [
+pass_below_next test l n r h k e i lt = elim (below_or_last e.0 n lt) [
   | inl q ↦ k e i q
   | inr q ↦ let p : e ≡ entry_of l e.0 = is_entry l e r i in
       ap test (p ∙ ap (entry_of l) q) ∙ h (subst (λ b. HasBuffer l b) q (in_buffers l e i))
@@ -198,11 +196,6 @@ covers_next I k l items n q lt h c f i = elim (in_take items n f (0, 0)
       | inl j ↦ c f (subst (λ (k : Claim). IsIn f (take n k)) q j)
       | inr j ↦ subst (CoversEntry I l) (sym j) h
     ]
-
-pub in_at : {X : Type 0} (xs : List X) (n : ℕ) (d : X) → n < length xs → IsIn (slice_index_or xs n d) xs
-in_at [] n d lt = absurd (omega arith)
-in_at (x ∷ xs) zero d lt = inl refl
-in_at (x ∷ xs) (suc n) d lt = inr (in_at xs n d (omega arith))
 
 pub covers_from_first : (I : Instance) (k l items : Claim) (n : ℕ) → items ≡ k → length items ≤ n →
     CoversFirst I k l n → Covers I k l

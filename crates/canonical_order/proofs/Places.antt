@@ -2,10 +2,10 @@
 use Rattle.std.proofs.Common.{◌≡◌, ℕ, ◌+◌, ◌<◌, ◌∷◌, ◌∙◌, length, drop, slice_index_or, subst, sym, ap}
 use Rattle.std.proofs.lemmas.List.{drop_more}
 use Rattle.dsa_terms.specs.Claims.{Claim, IsIn, Rises, buffers_of}
+use Rattle.dsa_terms.proofs.Places.{in_at}
 use Rattle.dsa_search_laws.proofs.Placing.{in_buffers}
 use Rattle.canonical_order.specs.Claims.{HasBuffer, entry_of}
 use Rattle.canonical_order.proofs.Entries.{is_entry}
-use Rattle.canonical_order.proofs.CoverLemmas.{in_at}
 
 pub at_in : (l items : Claim) (n : ℕ) → items ≡ l → n < length items → IsIn (slice_index_or items n (0, 0)) l
 at_in l items n e lt = subst (λ l. IsIn (slice_index_or items n (0, 0)) l) e (in_at items n (0, 0) lt)

@@ -8,8 +8,8 @@ use Rattle.std.proofs.lemmas.List.Sorted.{IsNonDecreasingBy-from_default}
 use Rattle.dsa_terms.specs.Claims.{Entry, Claim, Rises, buffers_of}
 use Rattle.dsa_search_laws.proofs.Placing.{in_buffers}
 use Rattle.canonical_order.specs.Claims.{HasBuffer, IsAt, bound_of}
-use Rattle.canonical_order.proofs.CoverLemmas.{in_at}
 use Rattle.dsa_terms.proofs.NumberTests.{same, apart, below_or_from}
+use Rattle.dsa_terms.proofs.Places.{any_default, in_at}
 
 -- each buffer is above those before it
 rises_at : (l : Claim) (i j : ℕ) → Rises (buffers_of l) → i < j → j < length l →
@@ -69,12 +69,6 @@ bound_at (x ∷ xs) b (suc place) r h =
 pub no_bound : (l : Claim) (b : ℕ) → (HasBuffer l b → ⊥) → None ≡ bound_of l b
 no_bound [] b h = refl
 no_bound (x ∷ xs) b h = rw (apart x.0 b (λ q. h (inl (sym q)))) (no_bound xs b (λ i. h (inr i)))
-
-any_default : (l : Claim) (place : ℕ) (x y : Entry) → place < length l →
-    slice_index_or l place x ≡ slice_index_or l place y
-any_default [] place x y lt = absurd (omega arith)
-any_default (z ∷ zs) zero x y lt = refl
-any_default (z ∷ zs) (suc place) x y lt = any_default zs place x y (omega arith)
 
 pub bound_here : (l items : Claim) (b place : ℕ) (x : Entry) → items ≡ l → Rises (buffers_of l) → IsAt l b place →
     x ≡ slice_index_or items place x → Some x.1 ≡ bound_of l b

@@ -67,10 +67,6 @@ mapped_place {A = A} f xs n d lt = rw (add_one n) (go xs n lt)
     go (x ∷ xs) zero lt = ap (λ ys. f x ∷ ys) (none (map f xs))
     go (x ∷ xs) (suc n) lt = go xs n (omega arith)
 
-pub mapped_length : {A B : Type 0} (f : A → B) (xs : List A) → length (map f xs) ≡ length xs
-mapped_length f [] = refl
-mapped_length f (x ∷ xs) = ap suc (mapped_length f xs)
-
 -- ---- lists that grow beside the entries of a claim
 -- with whatever belongs to the entries that are left, the list belongs to the claim
 abbrev pub Grows : {B : Type 0} → (Entry → B → Type 0) → Claim → ℕ → List B → Type 0

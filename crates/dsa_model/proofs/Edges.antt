@@ -6,6 +6,7 @@ use Rattle.std.specs.Bool.{beq}
 use Rattle.dsa_terms.specs.Buffers.{Buffer, is_live, is_within, have_same_moments, HaveSameMoments}
 use Rattle.dsa_model.specs.Moments.{agree_at, agree_at_edges}
 use Rattle.dsa_terms.proofs.Moments.{and_true, same_moments}
+use Rattle.dsa_terms.proofs.NumberTests.{equal}
 use Rattle.dsa_model.proofs.Live.{not_live_before, none_from}
 
 pub beq_true : (a b : Bool) → beq a b ≡ true → a ≡ b
@@ -77,9 +78,6 @@ or_true false b h = inr h
 at_eq : (b c : Buffer) (s t : ℕ) → agree_at b c s ≡ true → (s == t) ≡ true → is_live b t ≡ is_live c t
 unfolding agree_at
 at_eq b c s t h e = let k : s ≡ t = equal s t e in let m : is_live b s ≡ is_live c s = beq_true _ _ h in rw k at m
-  where
-    equal : (s t : ℕ) → (s == t) ≡ true → s ≡ t
-    equal s t h = grind (arith, nat_tests)
 
 at_gaps : (b c : Buffer) (gaps : List (ℕ × ℕ)) (t : ℕ) →
     list_all (λ (gap : ℕ × ℕ). agree_at b c gap.0 && agree_at b c gap.1) gaps ≡ true →

@@ -1,5 +1,5 @@
 -- Offsets have no fault exactly where they are a layout.
-use Rattle.std.proofs.Common.{◌≡◌, ℕ, ◌+◌, ◌-◌, ◌%◌, ◌<◌, ◌≤◌, ◌≢◌, ◌⊎◌, ◌↔◌, inl, inr, Bool, true, false, not, ◌||◌, ◌==◌, List, [], ◌∷◌, length, find, slice_index, nat_le, nat_lt, Option, Some, None, option_map, if◌then◌else◌, refl, ap, sym, ◌∙◌, arith}
+use Rattle.std.proofs.Common.{◌≡◌, ℕ, ◌+◌, ◌-◌, ◌%◌, ◌<◌, ◌≤◌, ◌≢◌, ◌⊎◌, ◌↔◌, inl, inr, Bool, true, false, not, ◌||◌, ◌==◌, List, [], ◌∷◌, length, find, slice_index, nat_le, Option, Some, None, option_map, if◌then◌else◌, refl, ap, sym, ◌∙◌, arith}
 use Rattle.std.specs.List.{range_with_len}
 use Rattle.std.proofs.lemmas.Bool.Decides.{nat_tests}
 use Rattle.dsa_terms.specs.Buffers.{Buffer, Instance, buffer, IsLive}
@@ -10,6 +10,7 @@ use Rattle.dsa_terms.specs.Parts.{numbers}
 use Rattle.dsa_terms.specs.Search.{first_some}
 use Rattle.dsa_terms.proofs.Lists.{all_none, some_answer, true_or_false}
 use Rattle.dsa_terms.proofs.Moments.{and_true, both_true, live_before}
+use Rattle.dsa_terms.proofs.NumberTests.{not_below, not_less}
 use Rattle.dsa_model.specs.Moments.{IsLeastFrom, are_live, first_common}
 use Rattle.dsa_model.specs.LayoutFaults.{IsOverlap, is_unaligned, is_above, are_apart, overlap, overlap_after, first_overlap, first_unaligned, first_above, layout_fault}
 use Rattle.dsa_model.specs.declared.layout.LayoutFault.{LayoutFault}
@@ -74,12 +75,6 @@ equal m n h = grind (arith, nat_tests)
 of_equal : (m n : ℕ) → m ≡ n → not (m == n) ≡ false
 of_equal m n h = grind (arith, nat_tests)
 
-at_most : (m n : ℕ) → nat_lt m n ≡ false → n ≤ m
-at_most m n h = grind (arith, nat_tests)
-
-of_at_most : (m n : ℕ) → n ≤ m → nat_lt m n ≡ false
-of_at_most m n h = grind (arith, nat_tests)
-
 aligned_where_none : (I : Instance) (offsets : List ℕ) (b : ℕ) → first_unaligned I offsets ≡ None → b < length I →
     slice_index offsets b % (buffer I b).alignment ≡ 0
 unfolding first_unaligned
@@ -99,7 +94,7 @@ within_where_none : (I : Instance) (C : ℕ) (offsets : List ℕ) (b : ℕ) → 
     slice_index offsets b + (buffer I b).size ≤ C
 unfolding first_above
 within_where_none I C offsets b h lt =
-    at_most _ _ (none_found (λ b. is_above C (buffer I b) (slice_index offsets b)) (numbers (length I)) b h
+    not_less _ _ (none_found (λ b. is_above C (buffer I b) (slice_index offsets b)) (numbers (length I)) b h
     (among _ b lt))
 
 none_where_within : (I : Instance) (C : ℕ) (offsets : List ℕ) →
@@ -108,7 +103,7 @@ none_where_within : (I : Instance) (C : ℕ) (offsets : List ℕ) →
 unfolding first_above
 none_where_within I C offsets h =
     find_none (λ b. is_above C (buffer I b) (slice_index offsets b)) (numbers (length I))
-    (λ b i. of_at_most _ _ (h b (below _ b i)))
+    (λ b i. not_below _ _ (h b (below _ b i)))
 
 -- ---- no overlap
 apart_of : (b c : Buffer) (x y : ℕ) → are_apart b x c y ≡ true → IsApart b x c y

@@ -6,6 +6,7 @@ use Rattle.dsa_terms.specs.Buffers.{Buffer, is_live, is_within, some_before, do_
 use Rattle.dsa_model.specs.Buffer.{is_ever_live}
 use Rattle.dsa_model.specs.Moments.{IsLeastFrom}
 use Rattle.dsa_terms.proofs.Moments.{live_before, and_true}
+use Rattle.dsa_terms.proofs.NumberTests.{below_or_from}
 
 -- no gap holds t where none is found
 pub none_found : (t : ℕ) (gaps : List (ℕ × ℕ)) → option_map (λ (gap : ℕ × ℕ). gap.1) (find (is_within t) gaps) ≡ None →
@@ -78,9 +79,6 @@ not_live_in_gap b t h = go (nat_le b.lower t) (nat_lt t b.upper) (list_any (is_w
     go true false e h = refl
     go false d e h = refl
     go true true false h = absurd cc
-
-pub below_or_from : (s t : ℕ) → (s < t) ⊎ (t ≤ s)
-below_or_from s t = grind arith
 
 -- ---- two buffers
 pub not_both : (p q : Bool) → p ≡ false → (p && q) ≡ false

@@ -6,6 +6,7 @@ use Rattle.std.proofs.lemmas.List.{get_or-map, get_or-set_other, get_or-set_same
 use Rattle.std.proofs.lemmas.List.Elements.{All-push, All-set}
 use Rattle.dsa_terms.specs.Buffers.{Buffer, Instance, buffer, do_share, no_buffer}
 use Rattle.dsa_terms.proofs.Moments.{do_share-gives, do_share-false}
+use Rattle.dsa_terms.proofs.NumberTests.{below_or_last}
 use Rattle.dsa_model.specs.Buffer.{IsBuffer}
 use Rattle.dsa_model.specs.Rows.{AreRows, IsNoted, IsTable, IsWide, instance_of, entry, table_of}
 use Rattle.dsa_model.specs.declared.instance.Row.{Row}
@@ -40,9 +41,6 @@ other_entry : (table : List (List Bool)) (a b c : ℕ) (row : List Bool) → a �
     entry (slice_set table b row) a c ≡ entry table a c
 other_entry table a b c row ne = ap (λ r. slice_index_or r c false) (get_or-set_other table b a row [] ne)
 
-which : (b n : ℕ) → b < n + 1 → (b < n) ⊎ (b ≡ n)
-which b n lt = grind arith
-
 apart : (b n : ℕ) → b < n → b ≢ n
 apart b n lt = grind arith
 
@@ -54,9 +52,9 @@ pub noted_next : (I : Instance) (old new : List (List Bool)) (own : List Bool) (
 noted_next I old new own n next both h within few n_few is = record {
   wide = All-set IsWide new n row (length-set _ (length I) both ∙ h.wide n [] within) h.wide;
   kept = λ b c lt. kept b c lt (cases_eq b n);
-  theirs = λ b lt. theirs b (which b n lt);
+  theirs = λ b lt. theirs b (below_or_last b n lt);
   own_wide = length-set own n both ∙ h.own_wide;
-  owns = λ b lt. owns b (which b n lt);
+  owns = λ b lt. owns b (below_or_last b n lt);
 }
   where
     row : List Bool
@@ -93,8 +91,8 @@ pub table_pushed : (I : Instance) (old new : List (List Bool)) (own : List Bool)
 unfolding buffer
 table_pushed I old new own next h t is count few = record {
   wide = All-push IsWide new row h.wide (length-set own (length I) true ∙ h.own_wide);
-  told = λ b c lb lc. go b c (which b (length I) (rw (← length-append I (next ∷ [])) lb))
-      (which c (length I) (rw (← length-append I (next ∷ [])) lc));
+  told = λ b c lb lc. go b c (below_or_last b (length I) (rw (← length-append I (next ∷ [])) lb))
+      (below_or_last c (length I) (rw (← length-append I (next ∷ [])) lc));
 }
   where
     row : List Bool

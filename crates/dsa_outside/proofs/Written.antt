@@ -1,5 +1,5 @@
 -- What a loop that writes piece by piece has done.
-use Rattle.std.proofs.Common.{◌≡◌, ℕ, ◌-◌, List, ◌++◌, Option, Result, Ok, Err, OnErr, IsErr, length, take, drop, sym, ap, ◌∙◌, subst, append_assoc, take-append-drop}
+use Rattle.std.proofs.Common.{◌≡◌, ℕ, ◌-◌, List, ◌++◌, Option, Result, Ok, Err, IsErr, length, take, drop, sym, ap, ◌∙◌, subst, append_assoc, take-append-drop}
 use Rattle.std.proofs.lemmas.List.{take_rest}
 use Rattle.std.proofs.Math.Seq.{take-append_seam}
 use Rattle.std.specs.Io.KnownBytes.{Appends, WriteAppends}
@@ -38,8 +38,3 @@ pub written_prefix : (all rest : List ℕ) (old new : Option (List ℕ)) → Has
     → (count : ℕ) × Appends old new (take count all)
 written_prefix all rest old new (done, split, appended) =
     (length done, subst (Appends old new) (sym (ap (take (length done)) split ∙ take-append_seam done rest)) appended)
-
--- what holds, holds after an error
-pub on_err : {T E : Type 0} (r : Result T E) (P : Type 0) → P → OnErr r P
-on_err (Ok v) P p = tt
-on_err (Err e) P p = p

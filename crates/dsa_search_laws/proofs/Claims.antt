@@ -1,6 +1,7 @@
 -- Claims: their children, and placements as lists and as functions.
-use Rattle.std.proofs.Common.{◌≡◌, ℕ, suc, ◌+◌, ◌<◌, ◌≤◌, ◌≢◌, ◌⊎◌, inl, inr, Bool, true, false, cond, not, ◌==◌, List, [], ◌∷◌, map, length, filter, max, sym, refl, ap, subst, arith}
+use Rattle.std.proofs.Common.{◌≡◌, ℕ, suc, ◌+◌, ◌<◌, ◌≤◌, ◌≢◌, ◌⊎◌, inl, inr, Bool, true, false, cond, not, ◌==◌, [], ◌∷◌, map, length, filter, max, sym, refl, ap, subst, arith}
 use Rattle.std.proofs.lemmas.Bool.Decides.{nat_tests}
+use Rattle.std.proofs.lemmas.List.{length-map}
 use Rattle.dsa_terms.specs.Buffers.{Instance}
 use Rattle.dsa_terms.specs.Claims.{Entry, Claim, IsIn, Rises, buffers_of, IsClaim, up, number_of, Places, IsPlacement, IsRefuted, step, child, IsFirst}
 use Rattle.dsa_terms.proofs.Lists.{from_map, from_filter}
@@ -69,10 +70,6 @@ claim-child I l e c = record {
   in_range = λ g i. let r = of_child I l e g i in subst (λ (g : Entry). g.0 < length I) (sym r.3) (c.in_range r.0 r.1);
 }
 
-length-map_lem : {X Y : Type 0} (f : X → Y) (xs : List X) → length (map f xs) ≡ length xs
-length-map_lem f [] = refl
-length-map_lem f (x ∷ xs) = ap suc (length-map_lem f xs)
-
 filter_all : (b : ℕ) (l : Claim) → ((y : ℕ) → IsIn y (buffers_of l) → b < y) →
     length (filter (λ f. not (f.0 == b)) l) ≡ length l
 filter_all b [] h = refl
@@ -104,8 +101,8 @@ pub length-child : (I : Instance) (l : Claim) (e : Entry) → Rises (buffers_of 
     suc (length (child I l e)) ≡ length l
 unfolding child
 length-child I l e r i =
-    rw (length-map_lem {Y = Entry} (λ (f : Entry). (f.0, max (up I f) (up I e + step I e.0 f.0)))
-    (filter (λ f. not (f.0 == e.0)) l)) (one_less l e r i)
+    rw (length-map (filter (λ f. not (f.0 == e.0)) l)
+    (λ (f : Entry). let g : Entry = (f.0, max (up I f) (up I e + step I e.0 f.0)) in g)) (one_less l e r i)
 
 -- ---- a claim that is not empty has a first buffer
 in_turn : (a b m n : ℕ) → ((a ≤ b) × (a ≡ b → m ≤ n)) ⊎ ((b ≤ a) × (b ≡ a → n ≤ m))

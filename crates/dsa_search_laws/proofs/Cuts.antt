@@ -7,13 +7,11 @@ use Rattle.dsa_terms.specs.Claims.{IsIn}
 use Rattle.dsa_terms.specs.Parts.{is_cut, last_cut, part_of, Separates}
 use Rattle.dsa_terms.proofs.Lists.{any_from}
 use Rattle.dsa_terms.proofs.Moments.{live_before, live_at_or_after, both_true, lasts, not_true}
+use Rattle.dsa_terms.proofs.NumberTests.{below_or_from, is_below}
 
 -- ---- cuts
 not_inside : (b : Buffer) (t : ℕ) → b.lower < t → t < b.upper → (nat_lt b.lower t && nat_lt t b.upper) ≡ true
-not_inside b t p q = both_true (nat_lt b.lower t) (nat_lt t b.upper) (lt b.lower t p) (lt t b.upper q)
-  where
-    lt : (m n : ℕ) → m < n → nat_lt m n ≡ true
-    lt m n h = grind (arith, nat_tests)
+not_inside b t p q = both_true (nat_lt b.lower t) (nat_lt t b.upper) (is_below b.lower t p) (is_below t b.upper q)
 
 pub item : (I : Instance) (b : ℕ) → b < length I → IsIn (buffer I b) I
 unfolding buffer
@@ -24,11 +22,8 @@ item (x ∷ xs) (suc b) lt = inr (item xs b (omega arith))
 cut_outside : (I : Instance) (t b : ℕ) → is_cut I t ≡ true → b < length I → (buffer I b).lower < t →
     (buffer I b).upper ≤ t
 unfolding is_cut
-cut_outside I t b h lt low = go (cases t (buffer I b).upper)
+cut_outside I t b h lt low = go (below_or_from t (buffer I b).upper)
   where
-    cases : (m n : ℕ) → (m < n) ⊎ (n ≤ m)
-    cases m n = grind arith
-
     go : (t < (buffer I b).upper) ⊎ ((buffer I b).upper ≤ t) → (buffer I b).upper ≤ t
     go (inr q) = q
     go (inl q) = absurd (
@@ -91,11 +86,8 @@ cut_between I b c lt less =
     let cut = last_cut_is I (buffer I c).lower in
     (cut, (cut_outside I (part_of I c) b cut lt below, last_cut_le I (buffer I c).lower))
   where
-    cases : (m n : ℕ) → (m < n) ⊎ (n ≤ m)
-    cases m n = grind arith
-
     below : (buffer I b).lower < part_of I c
-    below = elim (cases (buffer I b).lower (part_of I c)) [
+    below = elim (below_or_from (buffer I b).lower (part_of I c)) [
       | inl q ↦ q
       | inr q ↦ absurd (let k = last_cut_is_greatest I (buffer I b).lower (part_of I c)
           (last_cut_is I (buffer I c).lower) q in omega arith)

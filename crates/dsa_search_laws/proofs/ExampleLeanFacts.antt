@@ -1,7 +1,6 @@
 -- The sample log is lean; lines and logs that are not.
 use Rattle.std.proofs.Common.{◌≡◌, ℕ, zero, suc, ◌-◌, ◌<◌, ◌⊎◌, inl, inr, Bool, true, false, not, ◌&&◌, ◌||◌, ◌==◌, List, [], ◌∷◌, map, length, slice_get, take, nat_lt, Option, Some, None, sym, refl, ◌∙◌, arith}
 use Rattle.std.specs.List.{list_any, list_all, AllZip}
-use Rattle.std.proofs.lemmas.Bool.Decides.{nat_tests}
 use Rattle.dsa_terms.specs.Buffers.{Instance, buffer, is_live, have_same_moments, some_before}
 use Rattle.dsa_terms.specs.Claims.{Entry, Claim, IsIn, up, Covers}
 use Rattle.dsa_terms.specs.Logs.{is_stacked, rounded, rounding, ends_below, is_twin, Cite, ByLine, Below, Twin, Line, Over, Cases, claim_of}
@@ -10,6 +9,7 @@ use Rattle.dsa_terms.specs.Lean.{CitesOwn, IsLeanLine, IsLean}
 use Rattle.dsa_terms.proofs.Moments.{and_true, not_true}
 use Rattle.dsa_terms.proofs.Lists.{all_at}
 use Rattle.dsa_terms.proofs.Examples.{evens, one_by_one, over_2, over_1, case_12, over_01, case_all, sample}
+use Rattle.dsa_terms.proofs.NumberTests.{equal, is_below}
 use Rattle.dsa_search_laws.proofs.Members.{into_range}
 use Rattle.dsa_search_laws.proofs.LineTests.{does_cover, covers_exactly, do_rise, is_claim, is_over, has_reason, is_legal, legal, not_legal}
 
@@ -67,16 +67,13 @@ lean_is I C earlier (Over l T H G) h =
     let b = and_true (list_all (λ (e : Entry). e.1 == H) l) _ a.1 in
     record {
       live = λ e i. all_at (λ (e : Entry). is_live (buffer I e.0) T) l e a.0 i;
-      bounds = λ e i. eq e.1 H (all_at (λ (e : Entry). e.1 == H) l e b.0 i);
+      bounds = λ e i. equal e.1 H (all_at (λ (e : Entry). e.1 == H) l e b.0 i);
       lowest = elim (or_true (H == 0) _ b.1) [
-        | inl q ↦ inl (eq H 0 q)
+        | inl q ↦ inl (equal H 0 q)
         | inr q ↦ inr (not_legal I C earlier (Over (map (λ e. (e.0, H - G)) l) T (H - G) G)
             (not_true (is_legal I C earlier (Over (map (λ e. (e.0, H - G)) l) T (H - G) G)) q))
       ];
     }
-  where
-    eq : (m n : ℕ) → (m == n) ≡ true → m ≡ n
-    eq m n h = grind (arith, nat_tests)
 lean_is I C earlier (Cases l cites) h = own_is I l l cites h
 
 -- ---- the sample log is lean
@@ -128,14 +125,11 @@ uncovered_is I lines h j k earlier line lt p q c =
     (among j (got_below lines j earlier p)) in
     let b = all_at (λ k. not (covers_later I lines j k)) ns k a (among k (got_below lines k line q)) in
     let f = not_true (covers_later I lines j k) b in
-    clash (nat_lt j k) (covers_at I (slice_get lines j) (slice_get lines k)) (less j k lt)
+    clash (nat_lt j k) (covers_at I (slice_get lines j) (slice_get lines k)) (is_below j k lt)
     (rw (p, q) ((covers_exactly I (claim_of earlier) (claim_of line)).1 c)) f
   where
     among : (n : ℕ) → n < length lines → IsIn n (numbers (length lines))
     among n lt = into_range (length lines) 0 n (omega arith) (omega arith)
-
-    less : (m n : ℕ) → m < n → nat_lt m n ≡ true
-    less m n h = grind (arith, nat_tests)
 
     clash : (a b : Bool) → a ≡ true → b ≡ true → (a && b) ≡ false → ⊥
     clash a b x y z = cc

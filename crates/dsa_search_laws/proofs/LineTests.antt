@@ -1,32 +1,13 @@
 -- Tests that decide whether a line is legal, for the worked facts alone.
-use Rattle.std.proofs.Common.{◌≡◌, ℕ, ◌+◌, ◌-◌, ◌%◌, ◌<◌, ◌≤◌, ◌≢◌, ◌↔◌, Bool, true, false, not, ◌&&◌, ◌==◌, nat_le, nat_lt, List, [], ◌∷◌, map, length, filter, sum_by, slice_get, Option, Some, None, refl, arith}
+use Rattle.std.proofs.Common.{◌≡◌, ℕ, ◌+◌, ◌-◌, ◌%◌, ◌≢◌, ◌↔◌, Bool, true, false, not, ◌&&◌, ◌==◌, nat_le, nat_lt, List, [], ◌∷◌, map, length, filter, sum_by, slice_get, Option, Some, None, refl}
 use Rattle.std.specs.List.{list_all, list_any, AllZip}
-use Rattle.std.proofs.lemmas.Bool.Decides.{nat_tests}
 use Rattle.dsa_terms.specs.Buffers.{Instance}
 use Rattle.dsa_terms.specs.Claims.{Claim, Entry, IsIn, Rises, buffers_of, IsClaim, up, child, Covers}
 use Rattle.dsa_terms.specs.Logs.{is_stacked, rounded, rounding, greatest, IsOver, ends_below, is_twin, Cite, ByLine, Below, Twin, Line, Over, Cases, claim_of, IsLegalCite, IsLegalReason, IsLegal}
 use Rattle.dsa_terms.specs.Parts.{is_empty}
 use Rattle.dsa_terms.proofs.Lists.{any_gives, any_from, all_at, all_from}
 use Rattle.dsa_terms.proofs.Moments.{and_true, both_true}
-
--- ---- numbers
-equal : (m n : ℕ) → (m == n) ≡ true → m ≡ n
-equal m n h = grind (arith, nat_tests)
-
-is_equal : (m n : ℕ) → m ≡ n → (m == n) ≡ true
-is_equal m n h = grind (arith, nat_tests)
-
-at_most : (m n : ℕ) → nat_le m n ≡ true → m ≤ n
-at_most m n h = grind (arith, nat_tests)
-
-is_at_most : (m n : ℕ) → m ≤ n → nat_le m n ≡ true
-is_at_most m n h = grind (arith, nat_tests)
-
-less : (m n : ℕ) → nat_lt m n ≡ true → m < n
-less m n h = grind (arith, nat_tests)
-
-is_less : (m n : ℕ) → m < n → nat_lt m n ≡ true
-is_less m n h = grind (arith, nat_tests)
+use Rattle.dsa_terms.proofs.NumberTests.{at_most, equal, is_at_most, is_below, less, same}
 
 -- ---- covering
 unfoldable pub does_cover : Instance → Claim → Claim → Bool
@@ -46,7 +27,7 @@ covers_from I k l h = all_from (λ (e : Entry). list_any (λ (f : Entry). (f.0 =
     (λ e i.
     let q = h e i in
     any_from (λ (f : Entry). (f.0 == e.0) && nat_le e.1 (up I f)) l q.0 q.1
-    (both_true _ _ (is_equal q.0.0 e.0 q.2) (is_at_most e.1 (up I q.0) q.3)))
+    (both_true _ _ (same q.0.0 e.0 q.2) (is_at_most e.1 (up I q.0) q.3)))
 
 pub covers_exactly : (I : Instance) (k l : Claim) → (does_cover I k l ≡ true) ↔ Covers I k l
 covers_exactly I k l = (covers_gives I k l, covers_from I k l)
@@ -66,7 +47,7 @@ rise_gives (x ∷ xs) h =
 rise_from : (xs : List ℕ) → Rises xs → do_rise xs ≡ true
 unfolding do_rise
 rise_from [] h = refl
-rise_from (x ∷ xs) h = both_true _ _ (all_from (nat_lt x) xs (λ y i. is_less x y (h.0 y i))) (rise_from xs h.1)
+rise_from (x ∷ xs) h = both_true _ _ (all_from (nat_lt x) xs (λ y i. is_below x y (h.0 y i))) (rise_from xs h.1)
 
 unfoldable pub is_claim : Instance → Claim → Bool
 is_claim I l = do_rise (buffers_of l) && list_all (λ (e : Entry). nat_lt e.0 (length I)) l
@@ -83,7 +64,7 @@ claim_gives I l h =
 claim_from : (I : Instance) (l : Claim) → IsClaim I l → is_claim I l ≡ true
 unfolding is_claim
 claim_from I l h = both_true _ _ (rise_from (buffers_of l) h.rises)
-    (all_from (λ (e : Entry). nat_lt e.0 (length I)) l (λ e i. is_less e.0 (length I) (h.in_range e i)))
+    (all_from (λ (e : Entry). nat_lt e.0 (length I)) l (λ e i. is_below e.0 (length I) (h.in_range e i)))
 
 some_gives : {X : Type 0} (xs : List X) → not (is_empty xs) ≡ true → xs ≢ []
 some_gives [] h q = cc
@@ -115,8 +96,8 @@ over_gives I C T H G l h =
 
 over_from : (I : Instance) (C T H G : ℕ) (l : Claim) → IsOver I C T H G l → is_over I C T H G l ≡ true
 unfolding is_over
-over_from I C T H G l h = both_true _ _ (is_at_most 1 G h.modulus) (both_true _ _ (is_equal (H % G) 0 h.from_multiple)
-    (both_true _ _ (some_from (filter (is_stacked I T H G) l) h.some_stacked) (is_less C _ h.too_high)))
+over_from I C T H G l h = both_true _ _ (is_at_most 1 G h.modulus) (both_true _ _ (same (H % G) 0 h.from_multiple)
+    (both_true _ _ (some_from (filter (is_stacked I T H G) l) h.some_stacked) (is_below C _ h.too_high)))
 
 -- ---- Cases lines
 covers_child : Instance → Claim → Entry → Option Line → Bool
@@ -139,7 +120,7 @@ other_gives test l c h =
 pub other_from : (test : Entry → Bool) (l : Claim) (c : ℕ) → (f : Entry) × IsIn f l × (f.0 ≡ c) × (test f ≡ true) →
     list_any (λ f. (f.0 == c) && test f) l ≡ true
 other_from test l c h =
-    any_from (λ (f : Entry). (f.0 == c) && test f) l h.0 h.1 (both_true _ _ (is_equal h.0.0 c h.2) h.3)
+    any_from (λ (f : Entry). (f.0 == c) && test f) l h.0 h.1 (both_true _ _ (same h.0.0 c h.2) h.3)
 
 cite_gives : (I : Instance) (earlier : List Line) (l : Claim) (e : Entry) (cite : Cite) →
     is_legal_cite I earlier l e cite ≡ true → IsLegalCite I earlier l e cite

@@ -1,7 +1,6 @@
 -- Covering, larger capacities, and legal lines.
 use Rattle.std.proofs.Common.{◌≡◌, ℕ, zero, suc, ◌+◌, ◌-◌, ◌%◌, ◌<◌, ◌≤◌, ◌≢◌, ◌⊎◌, inl, inr, true, false, ◌&&◌, ◌==◌, List, [], ◌∷◌, map, length, filter, slice_get, take, nat_le, Some, sym, refl, ap, ◌∙◌, arith, slice_index}
 use Rattle.std.specs.List.{AllZip}
-use Rattle.std.proofs.lemmas.Bool.Decides.{nat_tests}
 use Rattle.dsa_terms.specs.Buffers.{Instance, buffer, is_live, IsLive, IsInstance}
 use Rattle.dsa_terms.specs.Layouts.{IsApart, IsMultiple, IsLayout, IsFeasible, IsInfeasible}
 use Rattle.dsa_terms.specs.Claims.{Entry, Claim, IsIn, Rises, buffers_of, IsClaim, up, Places, IsRefuted, child, Covers, IsWhole, number_of}
@@ -10,6 +9,7 @@ use Rattle.dsa_terms.proofs.Numbers.{multiple_along, room_for_rounded}
 use Rattle.dsa_search_laws.proofs.Packing.{Disjoint, pack}
 use Rattle.dsa_terms.proofs.Lists.{from_filter, none_passes}
 use Rattle.dsa_terms.proofs.Moments.{and_true}
+use Rattle.dsa_terms.proofs.NumberTests.{at_most, equal}
 use Rattle.dsa_search_laws.proofs.Placing.{in_buffers, above_up, up_is_multiple, up_is_least, push_down}
 use Rattle.dsa_search_laws.proofs.Claims.{not_placed, rises-filter}
 use Rattle.dsa_search_laws.proofs.First.{HasSettled, has_settled}
@@ -72,13 +72,7 @@ unfolding is_stacked
 stacked_is I T H G e h =
     let r2 = and_true (is_live (buffer I e.0) T && nat_le H (up I e)) ((buffer I e.0).alignment % G == 0) h in
     let r1 = and_true (is_live (buffer I e.0) T) (nat_le H (up I e)) r2.0 in
-    record { live = r1.0; high = le H (up I e) r1.1; multiple = eq ((buffer I e.0).alignment % G) 0 r2.1 }
-  where
-    le : (m n : ℕ) → nat_le m n ≡ true → m ≤ n
-    le m n q = grind (arith, nat_tests)
-
-    eq : (m n : ℕ) → (m == n) ≡ true → m ≡ n
-    eq m n q = grind (arith, nat_tests)
+    record { live = r1.0; high = at_most H (up I e) r1.1; multiple = equal ((buffer I e.0).alignment % G) 0 r2.1 }
 
 pub in_greatest : {X : Type 0} (f : X → ℕ) (xs : List X) (x : X) → IsIn x xs → f x ≤ greatest (map f xs)
 in_greatest f [] x i = absurd i

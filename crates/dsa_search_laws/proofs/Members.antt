@@ -1,12 +1,12 @@
 -- The members of the parts, and their whole claims.
 use Rattle.std.proofs.Common.{◌≡◌, ℕ, zero, suc, ◌+◌, ◌<◌, ◌≤◌, ◌⊎◌, inl, inr, Bool, true, false, cond, not, ◌==◌, List, [], ◌∷◌, map, length, filter, sym, refl, ap, subst, arith}
 use Rattle.std.specs.List.{range_with_len}
-use Rattle.std.proofs.lemmas.Bool.Decides.{nat_tests}
 use Rattle.dsa_terms.specs.Buffers.{Buffer, Instance, buffer}
 use Rattle.dsa_terms.specs.Claims.{Entry, IsIn, Rises, buffers_of, IsClaim, IsWhole}
 use Rattle.dsa_terms.specs.Logs.{greatest}
 use Rattle.dsa_terms.specs.Parts.{part_of, numbers, members, is_empty, parts, whole}
 use Rattle.dsa_terms.proofs.Lists.{into_map, from_map, into_filter, from_filter}
+use Rattle.dsa_terms.proofs.NumberTests.{equal, same}
 use Rattle.dsa_search_laws.proofs.Logs.{in_greatest}
 use Rattle.dsa_search_laws.proofs.Cuts.{item, last_cut_le}
 
@@ -45,17 +45,11 @@ rises-filter_numbers p (x ∷ xs) r = go (rises-filter_numbers p xs r.1) (p x)
 pub in_members : (I : Instance) (t b : ℕ) → IsIn b (members I t) → (b < length I) × (part_of I b ≡ t)
 in_members I t b i =
     let r = from_filter (λ b. part_of I b == t) (numbers (length I)) b i in
-    let k = from_range (length I) 0 b r.0 in (let z = k.1 in omega arith, eq (part_of I b) t r.1)
-  where
-    eq : (m n : ℕ) → (m == n) ≡ true → m ≡ n
-    eq m n q = grind (arith, nat_tests)
+    let k = from_range (length I) 0 b r.0 in (let z = k.1 in omega arith, equal (part_of I b) t r.1)
 
 pub member_of : (I : Instance) (b : ℕ) → b < length I → IsIn b (members I (part_of I b))
 member_of I b lt = into_filter (λ c. part_of I c == part_of I b) (numbers (length I)) b
-    (into_range (length I) 0 b (omega arith) (omega arith)) (same (part_of I b))
-  where
-    same : (m : ℕ) → (m == m) ≡ true
-    same m = grind (arith, nat_tests)
+    (into_range (length I) 0 b (omega arith) (omega arith)) (same (part_of I b) (part_of I b) refl)
 
 empty_false : (p : List ℕ) (b : ℕ) → IsIn b p → not (is_empty p) ≡ true
 empty_false [] b i = absurd i

@@ -6,6 +6,7 @@ use Rattle.dsa_terms.specs.Layouts.{IsApart, IsMultiple}
 use Rattle.dsa_terms.specs.Claims.{Entry, Claim, IsIn, Rises, buffers_of, up, Places, IsFirst, weight}
 use Rattle.dsa_terms.specs.Logs.{ends_below, is_twin}
 use Rattle.dsa_terms.proofs.Moments.{and_true, same_moments}
+use Rattle.dsa_terms.proofs.NumberTests.{at_most, equal, less}
 use Rattle.dsa_search_laws.proofs.Placing.{in_buffers, same_entry, up_at_or_above, up_is_multiple, above_up}
 use Rattle.dsa_search_laws.proofs.Complete.{put_at, put_at_same, put_at_other, same_or_not}
 
@@ -64,21 +65,12 @@ twin_is I f e h =
     let r2 = and_true (nat_lt f.0 e.0 && have_same_moments b c) (b.size == c.size) r3.0 in
     let r1 = and_true (nat_lt f.0 e.0) (have_same_moments b c) r2.0 in
     record {
-      less = lt f.0 e.0 r1.0;
+      less = less f.0 e.0 r1.0;
       moments = same_moments b c r1.1;
-      size = eq b.size c.size r2.1;
-      alignment = eq b.alignment c.alignment r3.1;
-      no_higher = le (up I f) (up I e) r4.1;
+      size = equal b.size c.size r2.1;
+      alignment = equal b.alignment c.alignment r3.1;
+      no_higher = at_most (up I f) (up I e) r4.1;
     }
-  where
-    lt : (m n : ℕ) → nat_lt m n ≡ true → m < n
-    lt m n q = grind (arith, nat_tests)
-
-    le : (m n : ℕ) → nat_le m n ≡ true → m ≤ n
-    le m n q = grind (arith, nat_tests)
-
-    eq : (m n : ℕ) → (m == n) ≡ true → m ≡ n
-    eq m n q = grind (arith, nat_tests)
 
 -- ---- a buffer that fits below all others, moved there
 pub move_below : (I : Instance) (C : ℕ) (l : Claim) (o : ℕ → ℕ) (e : Entry) → IsInstance I → Rises (buffers_of l) →

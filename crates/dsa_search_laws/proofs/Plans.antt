@@ -1,6 +1,5 @@
 -- Plans at smaller capacities, and the hunt as an equation.
 use Rattle.std.proofs.Common.{◌≡◌, ℕ, zero, suc, ◌+◌, ◌-◌, ◌/◌, ◌<◌, ◌≤◌, ◌⊎◌, inl, inr, Bool, true, false, cond, List, [], ◌∷◌, ◌++◌, map, length, find, nat_le, slice_index, Option, Some, None, refl, ap, ◌∙◌, arith}
-use Rattle.std.proofs.lemmas.Bool.Decides.{nat_tests}
 use Rattle.std.specs.Option.{option_or}
 use Rattle.dsa_terms.specs.Buffers.{Instance, buffer, IsInstance}
 use Rattle.dsa_terms.specs.Layouts.{IsLayout}
@@ -9,6 +8,7 @@ use Rattle.dsa_terms.specs.Logs.{greatest}
 use Rattle.dsa_terms.specs.Search.{first, not_excluded}
 use Rattle.dsa_terms.specs.Parts.{numbers, parts, whole, join, first_of_all, offsets_of, offsets_found, searched, whole_work}
 use Rattle.dsa_terms.specs.Plans.{layout_height, plan, after_plan, hunt_within, hunt}
+use Rattle.dsa_terms.proofs.NumberTests.{above, at_most, is_at_most, not_at_most}
 use Rattle.dsa_search_laws.proofs.First.{first_places, first_is_complete}
 use Rattle.dsa_search_laws.proofs.Logs.{in_greatest}
 use Rattle.dsa_search_laws.proofs.Search.{EndsBy, lower_of}
@@ -80,18 +80,6 @@ searched_lower I C D offsets s h below le = go (found_some I (first_of_all I C (
             rw (← z) (omega arith)
 
 -- ---- plans
-le_test : (m n : ℕ) → nat_le m n ≡ true → m ≤ n
-le_test m n h = grind (arith, nat_tests)
-
-test_le : (m n : ℕ) → m ≤ n → nat_le m n ≡ true
-test_le m n h = grind (arith, nat_tests)
-
-not_le_test : (m n : ℕ) → nat_le m n ≡ false → n < m
-not_le_test m n h = grind (arith, nat_tests)
-
-test_not_le : (m n : ℕ) → n < m → nat_le m n ≡ false
-test_not_le m n h = grind (arith, nat_tests)
-
 abbrev pub is_under : Instance → ℕ → List ℕ → Bool
 is_under I C offsets = nat_le (layout_height I offsets) C
 
@@ -104,8 +92,8 @@ find_lower I C D (x ∷ xs) offsets le h low =
     go : (find (is_under I C) xs ≡ Some offsets → find (is_under I D) xs ≡ Some offsets) → (b : Bool) →
         nat_le (layout_height I x) C ≡ b → cond b (Some x) (find (is_under I C) xs) ≡ Some offsets →
         cond (nat_le (layout_height I x) D) (Some x) (find (is_under I D) xs) ≡ Some offsets
-    go ih true e q = let same : x ≡ offsets = cc in rw (test_le (layout_height I x) D (rw same low)) q
-    go ih false e q = rw (test_not_le (layout_height I x) D (let k = not_le_test (layout_height I x) C e in
+    go ih true e q = let same : x ≡ offsets = cc in rw (is_at_most (layout_height I x) D (rw same low)) q
+    go ih false e q = rw (not_at_most (layout_height I x) D (let k = above (layout_height I x) C e in
         omega arith)) (ih q)
 
 find_none_lower : (I : Instance) (C D : ℕ) (starts : List (List ℕ)) → D ≤ C → find (is_under I C) starts ≡ None →
@@ -117,7 +105,7 @@ find_none_lower I C D (x ∷ xs) le h = go (find_none_lower I C D xs le) (nat_le
         nat_le (layout_height I x) C ≡ b → cond b (Some x) (find (is_under I C) xs) ≡ None →
         cond (nat_le (layout_height I x) D) (Some x) (find (is_under I D) xs) ≡ None
     go ih true e q = absurd cc
-    go ih false e q = rw (test_not_le (layout_height I x) D (let k = not_le_test (layout_height I x) C e in
+    go ih false e q = rw (not_at_most (layout_height I x) D (let k = above (layout_height I x) C e in
         omega arith)) (ih q)
 
 pub found_under : (I : Instance) (C : ℕ) (starts : List (List ℕ)) (offsets : List ℕ) →
@@ -128,7 +116,7 @@ found_under I C (x ∷ xs) offsets h = go (found_under I C xs offsets) (nat_le (
     go : (find (is_under I C) xs ≡ Some offsets → layout_height I offsets ≤ C) → (b : Bool) →
         nat_le (layout_height I x) C ≡ b → cond b (Some x) (find (is_under I C) xs) ≡ Some offsets →
         layout_height I offsets ≤ C
-    go ih true e q = let same : x ≡ offsets = cc in rw (← same) (le_test (layout_height I x) C e)
+    go ih true e q = let same : x ≡ offsets = cc in rw (← same) (at_most (layout_height I x) C e)
     go ih false e q = ih q
 
 greatest_le : {X : Type 0} (f : X → ℕ) (xs : List X) (C : ℕ) → ((x : X) → IsIn x xs → f x ≤ C) → greatest (map f xs) ≤ C
@@ -169,8 +157,8 @@ middle a b lt = (omega arith, omega arith)
 hunt_enough : (starts : List (List ℕ)) (I : Instance) (j k a b : ℕ) → IsInstance I → b - a ≤ j → b - a ≤ k →
     hunt_within j starts I a b ≡ hunt_within k starts I a b
 hunt_enough starts I zero zero a b s p q = refl
-hunt_enough starts I zero (suc k) a b s p q = let e : nat_le b a ≡ true = test_le b a (omega arith) in rw e refl
-hunt_enough starts I (suc j) zero a b s p q = let e : nat_le b a ≡ true = test_le b a (omega arith) in rw e refl
+hunt_enough starts I zero (suc k) a b s p q = let e : nat_le b a ≡ true = is_at_most b a (omega arith) in rw e refl
+hunt_enough starts I (suc j) zero a b s p q = let e : nat_le b a ≡ true = is_at_most b a (omega arith) in rw e refl
 hunt_enough starts I (suc j) (suc k) a b s p q = go (λ x y. hunt_enough starts I j k x y s) (nat_le b a) refl
   where
     go : ((x y : ℕ) → y - x ≤ j → y - x ≤ k → hunt_within j starts I x y ≡ hunt_within k starts I x y) → (t : Bool) →
@@ -183,7 +171,7 @@ hunt_enough starts I (suc j) (suc k) a b s p q = go (λ x y. hunt_enough starts 
     go ih false e = ap (λ w. whole_work I ((a + b) / 2) + w) (by (plan starts I ((a + b) / 2)) refl)
       where
         m : (a ≤ (a + b) / 2) × ((a + b) / 2 < b)
-        m = middle a b (not_le_test b a e)
+        m = middle a b (above b a e)
 
         by : (o : Option (List ℕ)) → plan starts I ((a + b) / 2) ≡ o →
             after_plan (hunt_within j starts I) I a b ((a + b) / 2) o ≡ after_plan (hunt_within k starts I) I a b
@@ -206,7 +194,7 @@ hunt_equation starts I a b s lt = hunt_enough starts I (b - a) (suc (b - a)) a b
     ∙ rw e (ap (λ w. whole_work I ((a + b) / 2) + w) (by (plan starts I ((a + b) / 2)) refl))
   where
     e : nat_le b a ≡ false
-    e = test_not_le b a lt
+    e = not_at_most b a lt
 
     m : (a ≤ (a + b) / 2) × ((a + b) / 2 < b)
     m = middle a b lt

@@ -1,9 +1,8 @@
 -- The least modulus that reaches the lower bound, and when the bound is above 0.
-use Rattle.std.proofs.Common.{◌≡◌, ℕ, ◌-◌, ◌%◌, ◌<◌, ◌≤◌, ◌⊎◌, inl, inr, true, ◌&&◌, ◌==◌, List, [], ◌∷◌, map, length, filter, sum_by, min, sym, refl, ap, ◌∙◌, arith}
+use Rattle.std.proofs.Common.{◌≡◌, ℕ, ◌-◌, ◌%◌, ◌<◌, ◌≤◌, ◌⊎◌, inl, inr, ◌&&◌, ◌==◌, List, [], ◌∷◌, map, length, filter, sum_by, min, sym, refl, ap, ◌∙◌, arith}
 use Rattle.std.specs.List.{reduce, fold}
 use Rattle.std.specs.Option.{unwrap_or}
 use Rattle.std.specs.Int.{next_multiple_of}
-use Rattle.std.proofs.lemmas.Bool.Decides.{nat_tests}
 use Rattle.std.proofs.lemmas.List.Sums.{sum_by-cons}
 use Rattle.dsa_terms.specs.Buffers.{Instance, buffer, is_live, IsLive, IsInstance}
 use Rattle.dsa_terms.specs.Claims.{IsIn}
@@ -12,6 +11,7 @@ use Rattle.dsa_terms.specs.Parts.{numbers}
 use Rattle.dsa_terms.specs.Bounds.{counted, rounded_size, stack, moduli, highest_stack, lower_bound, bound_modulus}
 use Rattle.dsa_terms.proofs.Lists.{from_map, from_filter, into_filter}
 use Rattle.dsa_terms.proofs.Moments.{both_true, sound}
+use Rattle.dsa_terms.proofs.NumberTests.{equal, same}
 use Rattle.dsa_search_laws.proofs.Logs.{in_greatest}
 use Rattle.dsa_search_laws.proofs.Members.{into_range}
 use Rattle.dsa_start_laws.proofs.Stacks.{greatest_is, stack_under_bound}
@@ -65,33 +65,27 @@ reduce_min : (xs : List ℕ) (x : ℕ) → IsIn x xs → IsLeastOf xs (unwrap_or
 reduce_min [] x i = absurd i
 reduce_min (y ∷ ys) x i = fold_min y ys
 
-pub test_eq : (m n : ℕ) → m ≡ n → (m == n) ≡ true
-test_eq m n h = grind (arith, nat_tests)
-
-pub eq_test : (m n : ℕ) → (m == n) ≡ true → m ≡ n
-eq_test m n h = grind (arith, nat_tests)
-
 pub bound_modulus_is : (I : Instance) → IsLeastOf (filter (λ G. highest_stack I G == lower_bound I) (moduli I))
     (bound_modulus I)
 unfolding bound_modulus
 bound_modulus_is I = let r = some_modulus I in
     reduce_min (filter (λ G. highest_stack I G == lower_bound I) (moduli I)) r.0
     (into_filter (λ G. highest_stack I G == lower_bound I) (moduli I) r.0 r.1
-    (test_eq (highest_stack I r.0) (lower_bound I) r.2))
+    (same (highest_stack I r.0) (lower_bound I) r.2))
 
 pub bound_modulus_among : (I : Instance) → IsIn (bound_modulus I) (moduli I)
 bound_modulus_among I = (from_filter (λ G. highest_stack I G == lower_bound I) (moduli I) (bound_modulus I)
     (bound_modulus_is I).is_in).0
 
 pub bound_modulus_reaches : (I : Instance) → highest_stack I (bound_modulus I) ≡ lower_bound I
-bound_modulus_reaches I = eq_test (highest_stack I (bound_modulus I)) (lower_bound I)
+bound_modulus_reaches I = equal (highest_stack I (bound_modulus I)) (lower_bound I)
     (from_filter (λ G. highest_stack I G == lower_bound I) (moduli I) (bound_modulus I) (bound_modulus_is I).is_in).1
 
 pub bound_modulus_least : (I : Instance) (G : ℕ) → IsIn G (moduli I) → highest_stack I G ≡ lower_bound I →
     bound_modulus I ≤ G
 bound_modulus_least I G i q = (bound_modulus_is I).least G
     (into_filter (λ G. highest_stack I G == lower_bound I) (moduli I) G i
-    (test_eq (highest_stack I G) (lower_bound I) q))
+    (same (highest_stack I G) (lower_bound I) q))
 
 -- ---- a buffer that is live at some moment lifts the bound above 0
 one_counts : (I : Instance) (t b : ℕ) → b < length I → IsLive (buffer I b) t → IsIn b (counted I t 1)
@@ -99,7 +93,7 @@ unfolding counted
 one_counts I t b lt live = into_filter (λ b. is_live (buffer I b) t && ((buffer I b).alignment % 1 == 0))
     (numbers (length I)) b (into_range (length I) 0 b (omega arith) (omega arith))
     (both_true (is_live (buffer I b) t) ((buffer I b).alignment % 1 == 0) live
-    (test_eq ((buffer I b).alignment % 1) 0 (omega arith)))
+    (same ((buffer I b).alignment % 1) 0 (omega arith)))
 
 -- by modulus 1 the stack is the load of the counted
 unrounded : (x : ℕ) → next_multiple_of x 1 ≡ x

@@ -11,10 +11,11 @@ use Rattle.dsa_terms.specs.Plans.{load}
 use Rattle.dsa_terms.specs.Bounds.{counted, rounded_size, stack, moduli, moments, highest_stack, lower_bound, bound_modulus, bound_moment, HasSections}
 use Rattle.dsa_terms.proofs.Lists.{from_map}
 use Rattle.dsa_terms.proofs.Moments.{and_true, both_true}
+use Rattle.dsa_terms.proofs.NumberTests.{equal, same}
 use Rattle.dsa_search_laws.proofs.Logs.{in_greatest}
 use Rattle.dsa_search_laws.proofs.Members.{from_range}
 use Rattle.dsa_start_laws.proofs.Stacks.{found_in, found_passes, none_found, in_counted, greatest_is, no_stack_past, stack_under_highest, stack_under_bound}
-use Rattle.dsa_start_laws.proofs.BoundModuli.{test_eq, eq_test, bound_modulus_reaches, stack_by_one}
+use Rattle.dsa_start_laws.proofs.BoundModuli.{bound_modulus_reaches, stack_by_one}
 
 -- ---- a stack never falls when a buffer is added
 -- what is kept by p is kept by q
@@ -150,10 +151,10 @@ bound_moment_reaches I starts h pos = go (find at starts) refl
     go : (o : Option ℕ) → find at starts ≡ o →
         IsIn (unwrap_or o 0) starts × (stack I (unwrap_or o 0) (bound_modulus I) ≡ lower_bound I)
     go None e = absurd (let s = some in let f : at s.0 ≡ false = none_found at starts s.0 e s.1 in
-        let t : at s.0 ≡ true = test_eq (stack I s.0 (bound_modulus I)) (lower_bound I) s.2 in cc)
+        let t : at s.0 ≡ true = same (stack I s.0 (bound_modulus I)) (lower_bound I) s.2 in cc)
     go (Some t) e = (
       found_in at starts t e,
-      eq_test (stack I t (bound_modulus I)) (lower_bound I)
+      equal (stack I t (bound_modulus I)) (lower_bound I)
           (found_passes at starts t e),
     )
 

@@ -1,7 +1,6 @@
 -- Least capacities and peaks of small instances.
-use Rattle.std.proofs.Common.{◌≡◌, ℕ, ◌-◌, ◌<◌, ◌≤◌, ◌≢◌, inl, inr, Bool, true, ◌&&◌, nat_le, nat_lt, List, [], ◌∷◌, zero, suc, length, slice_index_or, Some, None, refl, arith}
+use Rattle.std.proofs.Common.{◌≡◌, ℕ, ◌-◌, ◌≢◌, inl, inr, Bool, true, ◌&&◌, nat_le, nat_lt, List, [], ◌∷◌, slice_index_or, Some, None, refl, arith}
 use Rattle.std.specs.List.{list_all}
-use Rattle.std.proofs.lemmas.Bool.Decides.{nat_tests}
 use Rattle.dsa_terms.specs.Buffers.{Buffer, Instance, IsSound, IsInstance, is_live, buffer}
 use Rattle.dsa_terms.specs.Claims.{IsIn}
 use Rattle.dsa_terms.specs.Layouts.{IsLayout, IsLeast}
@@ -13,6 +12,8 @@ use Rattle.dsa_terms.proofs.Lists.{all_at}
 use Rattle.dsa_terms.proofs.Moments.{and_true}
 use Rattle.dsa_terms.proofs.Examples.{five, two_of_four, evens, filled, overrun, two_parts, small_below, made}
 use Rattle.dsa_terms.proofs.ExamplePlanFacts.{five_plan_at_11, five_plan_at_12, two_of_four_plan_at_6, two_of_four_plan_at_7, evens_plan_at_4, evens_plan_at_5, filled_plan_at_3, filled_plan_at_4, overrun_plan_at_7, overrun_plan_at_8, two_parts_plan_at_4, two_parts_plan_at_5, small_below_plan_at_3, small_below_plan_at_4, made_plan_at_65, made_plan_at_66}
+use Rattle.dsa_terms.proofs.Places.{in_at}
+use Rattle.dsa_terms.proofs.NumberTests.{at_most, less}
 use Rattle.dsa_search_laws.proofs.Members.{into_range}
 use Rattle.dsa_start_laws.proofs.Planned.{planned_is_layout, planned_none}
 use Rattle.dsa_start_laws.proofs.Peaks.{load_under}
@@ -21,27 +22,16 @@ use Rattle.dsa_start_laws.proofs.Peaks.{load_under}
 unfoldable are_sound : Instance → Bool
 are_sound I = list_all (λ (b : Buffer). nat_le 1 b.size && (nat_le 1 b.alignment && nat_lt b.lower b.upper)) I
 
-at_place : (I : Instance) (k : ℕ) (d : Buffer) → k < length I → IsIn (slice_index_or I k d) I
-at_place [] k d lt = absurd (omega arith)
-at_place (x ∷ xs) zero d lt = inl refl
-at_place (x ∷ xs) (suc k) d lt = inr (at_place xs k d (omega arith))
-
 sound_from : (I : Instance) → are_sound I ≡ true → IsInstance I
 unfolding are_sound
-sound_from I h = λ k d lt. each (slice_index_or I k d) (at_place I k d lt)
+sound_from I h = λ k d lt. each (slice_index_or I k d) (in_at I k d lt)
   where
-    le : (m n : ℕ) → nat_le m n ≡ true → m ≤ n
-    le m n h = grind (arith, nat_tests)
-
-    lt : (m n : ℕ) → nat_lt m n ≡ true → m < n
-    lt m n h = grind (arith, nat_tests)
-
     each : (b : Buffer) → IsIn b I → IsSound b
     each b i =
         let a = and_true (nat_le 1 b.size) _
         (all_at (λ (b : Buffer). nat_le 1 b.size && (nat_le 1 b.alignment && nat_lt b.lower b.upper)) I b h i) in
         let c = and_true (nat_le 1 b.alignment) _ a.1 in
-        (le 1 b.size a.0, le 1 b.alignment c.0, lt b.lower b.upper c.1)
+        (at_most 1 b.size a.0, at_most 1 b.alignment c.0, less b.lower b.upper c.1)
 
 -- ---- least capacities: the plan has a layout there, and none at one less
 least_by_plan : (I : Instance) (C : ℕ) (offsets : List ℕ) → are_sound I ≡ true → planned I (C - 1) ≡ None →
@@ -106,9 +96,6 @@ peak_from I t some top before = record {
   earliest = λ s lt. less (load I s) (load I t)
       (all_at (λ s. nat_lt (load I s) (load I t)) (numbers t) s before (into_range t 0 s (omega arith) (omega arith)));
 }
-  where
-    less : (m n : ℕ) → nat_lt m n ≡ true → m < n
-    less m n h = grind (arith, nat_tests)
 
 five_peak : IsPeak five 0
 unfolding highest_stack stack counted rounded_size moments load is_live buffer

@@ -12,6 +12,7 @@ use Rattle.dsa_terms.specs.Orders.{put_by, ordered_by, falls_by, rises_by, area,
 use Rattle.dsa_terms.specs.Starts.{starts}
 use Rattle.dsa_terms.proofs.Lists.{from_append, from_map, into_filter, true_or_false}
 use Rattle.dsa_terms.proofs.Moments.{do_share-false}
+use Rattle.dsa_terms.proofs.NumberTests.{equal}
 use Rattle.dsa_search_laws.proofs.Members.{into_range}
 use Rattle.dsa_search_laws.proofs.Parts.{offset_at}
 use Rattle.dsa_search_laws.proofs.Plans.{under_layout_height}
@@ -75,9 +76,6 @@ stacked_apart I [] b c t h ne i j p q = absurd i
 stacked_apart I (e ∷ es) b c t h ne i j p q =
     go (λ i j. stacked_apart I es b c t h.1 ne i j p q) (e.0 == b) refl (e.0 == c) refl i j
   where
-    eq : (m n : ℕ) → (m == n) ≡ true → m ≡ n
-    eq m n h = grind (arith, nat_tests)
-
     not_eq : (m n : ℕ) → (m == n) ≡ false → n ≢ m
     not_eq m n h k = grind (arith, nat_tests)
 
@@ -86,15 +84,15 @@ stacked_apart I (e ∷ es) b c t h ne i j p q =
         (u : Bool) → (e.0 == b) ≡ u → (v : Bool) → (e.0 == c) ≡ v → IsIn b (e.0 ∷ buffers_of es) →
         IsIn c (e.0 ∷ buffers_of es) →
         IsApart (buffer I b) (cond u e.1 (number_of es b)) (buffer I c) (cond v e.1 (number_of es c))
-    go ih true k true m i j = absurd (ne (sym (eq e.0 b k) ∙ eq e.0 c m))
+    go ih true k true m i j = absurd (ne (sym (equal e.0 b k) ∙ equal e.0 c m))
     go ih true k false m i (inl j) = absurd (not_eq e.0 c m j)
     go ih true k false m i (inr j) =
-        let g = eq e.0 b k in
+        let g = equal e.0 b k in
         beside I es b e.1 c (number_of es c) t (subst (λ (b : ℕ). IsClear I b (neighbours I b es) e.1) g h.0)
         (has_seat es c j) p q
     go ih false k true m (inl i) j = absurd (not_eq e.0 b k i)
     go ih false k true m (inr i) j =
-        let g = eq e.0 c m in
+        let g = equal e.0 c m in
         other_way (buffer I c) (buffer I b) e.1 (number_of es b)
         (beside I es c e.1 b (number_of es b) t (subst (λ (c : ℕ). IsClear I c (neighbours I c es) e.1) g h.0)
         (has_seat es b i) q p)

@@ -1,6 +1,5 @@
 -- The least capacity, the one peak, and the bound's lean log.
 use Rattle.std.proofs.Common.{◌≡◌, ℕ, zero, suc, ◌-◌, ◌<◌, ◌≤◌, ◌≢◌, ◌⊎◌, inl, inr, Bool, true, false, ◌==◌, List, [], ◌∷◌, map, slice_get, take, Some, sym, refl, ap, ◌∙◌, subst, arith}
-use Rattle.std.proofs.lemmas.Bool.Decides.{nat_tests}
 use Rattle.dsa_terms.specs.Buffers.{Instance}
 use Rattle.dsa_terms.specs.Layouts.{IsFeasible, IsInfeasible, IsLeast}
 use Rattle.dsa_terms.specs.Claims.{Entry, IsIn}
@@ -10,6 +9,7 @@ use Rattle.dsa_terms.specs.Plans.{load, IsPeak}
 use Rattle.dsa_terms.specs.Bounds.{counted, stack, moments, stack_log}
 use Rattle.dsa_terms.specs.Lean.{IsLeanLine, IsLean}
 use Rattle.dsa_terms.proofs.Lists.{from_map, true_or_false}
+use Rattle.dsa_terms.proofs.NumberTests.{differ, equal, same}
 use Rattle.dsa_search_laws.proofs.Logs.{feasible_higher}
 use Rattle.dsa_search_laws.proofs.Cuts.{sharing_is_one_part}
 use Rattle.dsa_search_laws.proofs.Members.{in_whole, whole_is_whole}
@@ -41,15 +41,6 @@ least_passing p n e = elim (search_below p (suc n)) [
 ]
 
 -- ---- the peak
-same_test : (m n : ℕ) → m ≡ n → (m == n) ≡ true
-same_test m n h = grind (arith, nat_tests)
-
-test_same : (m n : ℕ) → (m == n) ≡ true → m ≡ n
-test_same m n h = grind (arith, nat_tests)
-
-not_same : (m n : ℕ) → (m == n) ≡ false → m ≢ n
-not_same m n h q = grind (arith, nat_tests)
-
 pub load_under : (I : Instance) (t : ℕ) → load I t ≤ greatest (map (λ t. stack I t 1) (moments I))
 load_under I t = let a = stack_under_highest I t 1 in let e = load_is_stack I t in omega arith
 
@@ -64,15 +55,15 @@ pub has_peak : (I : Instance) → I ≢ [] → (t : ℕ) × IsPeak I t
 has_peak I some =
     let r = reached I in
     let t = least_passing (λ t. load I t == greatest (map (λ t. stack I t 1) (moments I))) r.0
-    (same_test (load I r.0) (greatest (map (λ t. stack I t 1) (moments I))) r.1) in
-    let top : load I t.0 ≡ greatest (map (λ t. stack I t 1) (moments I)) = test_same (load I t.0)
+    (same (load I r.0) (greatest (map (λ t. stack I t 1) (moments I))) r.1) in
+    let top : load I t.0 ≡ greatest (map (λ t. stack I t 1) (moments I)) = equal (load I t.0)
     (greatest (map (λ t. stack I t 1) (moments I))) t.1.passes in (
       t.0,
       record {
         not_empty = some;
         most = λ s. let a = load_under I s in omega arith;
         earliest = λ s lt. let a = load_under I s in
-            let n = not_same (load I s) (greatest (map (λ t. stack I t 1) (moments I))) (t.1.least s lt) in omega arith;
+            let n = differ (load I s) (greatest (map (λ t. stack I t 1) (moments I))) (t.1.least s lt) in omega arith;
       },
     )
 

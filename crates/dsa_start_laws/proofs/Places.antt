@@ -10,9 +10,9 @@ use Rattle.dsa_terms.specs.Fits.{top, highest, is_free, IsClear, first_passing, 
 use Rattle.dsa_terms.proofs.Numbers.{next_at_or_above, next_is_multiple, multiple_sum, multiple_steps}
 use Rattle.dsa_terms.proofs.Lists.{from_filter, all_at, all_from}
 use Rattle.dsa_terms.proofs.Moments.{and_true, sound}
+use Rattle.dsa_terms.proofs.NumberTests.{at_most}
 use Rattle.dsa_search_laws.proofs.Logs.{in_greatest}
 
--- ---- tests of all
 -- ---- the first multiple that passes
 pub passing_passes : (test : ℕ → Bool) (a n x : ℕ) → 1 ≤ a → ((y : ℕ) → x + n ≤ y → test y ≡ true) →
     test (first_passing test a n x) ≡ true
@@ -142,10 +142,7 @@ free_range_is_free I placed r i =
 pub holds_is : (I : Instance) (b : ℕ) (r : Range) → holds I b r ≡ true →
     next_multiple_of r.start (buffer I b).alignment + (buffer I b).size ≤ r.stop
 unfolding holds
-holds_is I b r h = le (next_multiple_of r.start (buffer I b).alignment + (buffer I b).size) r.stop h
-  where
-    le : (m n : ℕ) → nat_le m n ≡ true → m ≤ n
-    le m n q = grind (arith, nat_tests)
+holds_is I b r h = at_most (next_multiple_of r.start (buffer I b).alignment + (buffer I b).size) r.stop h
 
 pub best_is_clear : (I : Instance) → IsInstance I → IsClearRule I best_place
 unfolding best_place

@@ -1,8 +1,8 @@
 -- The plan over the six starts decides each capacity, and the best start is one of least height.
 use Rattle.std.proofs.Common.{◌≡◌, ℕ, zero, suc, ◌+◌, ◌<◌, ◌≤◌, ◌⊎◌, ◌↔◌, inl, inr, Bool, true, false, cond, not, List, [], ◌∷◌, map, length, find, nat_le, slice_index_or, Option, Some, None, refl, ap, arith}
 use Rattle.std.specs.List.{list_all, position_or_len, prefix_len}
-use Rattle.std.proofs.lemmas.Bool.Decides.{nat_tests}
 use Rattle.std.proofs.lemmas.List.Sums.{passes_at_first, fails_before_first}
+use Rattle.std.proofs.lemmas.List.{length-map}
 use Rattle.std.specs.Option.{option_or}
 use Rattle.dsa_terms.specs.Buffers.{Instance, IsInstance}
 use Rattle.dsa_terms.specs.Layouts.{IsLayout, IsInfeasible}
@@ -12,6 +12,8 @@ use Rattle.dsa_terms.specs.Plans.{layout_height, plan}
 use Rattle.dsa_terms.specs.Orders.{orders}
 use Rattle.dsa_terms.specs.Starts.{starts, lowest_place, best_start, planned}
 use Rattle.dsa_terms.proofs.Lists.{none_or_some, all_at, all_from}
+use Rattle.dsa_terms.proofs.NumberTests.{at_most, below_or_from, is_at_most}
+use Rattle.dsa_terms.proofs.Places.{in_at}
 use Rattle.dsa_search_laws.proofs.Logs.{layout_higher}
 use Rattle.dsa_search_laws.proofs.Parts.{searched_is_layout, searched_exactly}
 use Rattle.dsa_search_laws.proofs.Plans.{is_under, found_under, layout_under, or_search_cases}
@@ -47,12 +49,6 @@ planned_exactly I C s = (
 )
 
 -- ---- the first of least height
-le_test : (m n : ℕ) → nat_le m n ≡ true → m ≤ n
-le_test m n h = grind (arith, nat_tests)
-
-test_le : (m n : ℕ) → m ≤ n → nat_le m n ≡ true
-test_le m n h = grind (arith, nat_tests)
-
 -- some height is not above any
 record HasLowest (hs : List ℕ) : Type 0 where
   lowest : ℕ
@@ -102,14 +98,14 @@ lowest_within [] le = absurd (omega arith)
 lowest_within (h ∷ hs) le =
     let r = has_lowest h hs in
     first_within (λ g. list_all (nat_le g) (h ∷ hs)) (h ∷ hs) r.lowest r.is_in
-    (all_from (nat_le r.lowest) (h ∷ hs) (λ x i. test_le r.lowest x (r.least x i)))
+    (all_from (nat_le r.lowest) (h ∷ hs) (λ x i. is_at_most r.lowest x (r.least x i)))
 
 pub lowest_is : (hs : List ℕ) (h : ℕ) → IsIn h hs → slice_index_or hs (lowest_place hs) 0 ≤ h
 unfolding lowest_place
 lowest_is [] h i = absurd i
 lowest_is (g ∷ gs) h i =
     let w = lowest_within (g ∷ gs) (omega arith) in
-    le_test (slice_index_or (g ∷ gs) (lowest_place (g ∷ gs)) 0) h
+    at_most (slice_index_or (g ∷ gs) (lowest_place (g ∷ gs)) 0) h
     (all_at (nat_le (slice_index_or (g ∷ gs) (lowest_place (g ∷ gs)) 0)) (g ∷ gs) h
     (passes_at_first (λ g'. list_all (nat_le g') (g ∷ gs)) (g ∷ gs) 0 w) i)
 
@@ -118,7 +114,7 @@ pub earlier_is_higher : (hs : List ℕ) (k : ℕ) → k < lowest_place hs →
     slice_index_or hs (lowest_place hs) 0 < slice_index_or hs k 0
 unfolding lowest_place
 earlier_is_higher [] k lt = absurd (omega arith)
-earlier_is_higher (g ∷ gs) k lt = elim (cases (slice_index_or (g ∷ gs) (lowest_place (g ∷ gs)) 0)
+earlier_is_higher (g ∷ gs) k lt = elim (below_or_from (slice_index_or (g ∷ gs) (lowest_place (g ∷ gs)) 0)
     (slice_index_or (g ∷ gs) k 0)) [
       | inl q ↦ q
       | inr q ↦ absurd (
@@ -127,23 +123,11 @@ earlier_is_higher (g ∷ gs) k lt = elim (cases (slice_index_or (g ∷ gs) (lowe
           (λ g'. list_all (nat_le g') (g ∷ gs)) (g ∷ gs) k 0 lt in
           let t : list_all (nat_le (slice_index_or (g ∷ gs) k 0)) (g ∷ gs) ≡ true =
           all_from (nat_le (slice_index_or (g ∷ gs) k 0)) (g ∷ gs)
-          (λ x i. test_le (slice_index_or (g ∷ gs) k 0) x (let z = lowest_is (g ∷ gs) x i in omega arith)) in
+          (λ x i. is_at_most (slice_index_or (g ∷ gs) k 0) x (let z = lowest_is (g ∷ gs) x i in omega arith)) in
           cc)
     ]
-  where
-    cases : (m n : ℕ) → (m < n) ⊎ (n ≤ m)
-    cases m n = grind arith
 
 -- ---- the best start
-item_at : {X : Type 0} (xs : List X) (k : ℕ) (d : X) → k < length xs → IsIn (slice_index_or xs k d) xs
-item_at [] k d lt = absurd (omega arith)
-item_at (x ∷ xs) zero d lt = inl refl
-item_at (x ∷ xs) (suc k) d lt = inr (item_at xs k d (omega arith))
-
-length_map : {X Y : Type 0} (f : X → Y) (xs : List X) → length (map f xs) ≡ length xs
-length_map f [] = refl
-length_map f (x ∷ xs) = ap suc (length_map f xs)
-
 get_map_at : {X : Type 0} (f : X → ℕ) (xs : List X) (k : ℕ) (d : X) → k < length xs →
     slice_index_or (map f xs) k 0 ≡ f (slice_index_or xs k d)
 get_map_at f [] k d lt = absurd (omega arith)
@@ -155,12 +139,12 @@ unfolding starts orders
 six_starts I = refl
 
 pub best_place_within : (I : Instance) → lowest_place (map (layout_height I) (starts I)) < length (starts I)
-best_place_within I = let n = length_map (layout_height I) (starts I) in let k = six_starts I in
+best_place_within I = let n = length-map (starts I) (layout_height I) in let k = six_starts I in
     let w = lowest_within (map (layout_height I) (starts I)) (omega arith) in omega arith
 
 pub best_start_is_start : (I : Instance) → IsIn (best_start I) (starts I)
 unfolding best_start
-best_start_is_start I = item_at (starts I) (lowest_place (map (layout_height I) (starts I))) [] (best_place_within I)
+best_start_is_start I = in_at (starts I) (lowest_place (map (layout_height I) (starts I))) [] (best_place_within I)
 
 pub best_start_is_lowest : (I : Instance) (offsets : List ℕ) → IsIn offsets (starts I) →
     layout_height I (best_start I) ≤ layout_height I offsets

@@ -1,33 +1,15 @@
 -- Best-fit's free ranges are the greatest that meet no placed buffer.
-use Rattle.std.proofs.Common.{◌≡◌, ℕ, ◌+◌, ◌-◌, ◌<◌, ◌≤◌, ◌≢◌, ◌⊎◌, ◌↔◌, inl, inr, true, false, ◌&&◌, ◌==◌, List, [], ◌∷◌, map, nat_lt, sym, refl, ap, ap₂, ◌∙◌, subst, arith}
-use Rattle.std.specs.List.{list_any, flat_map}
-use Rattle.std.proofs.lemmas.Bool.Decides.{nat_tests}
+use Rattle.std.proofs.Common.{◌≡◌, ℕ, ◌+◌, ◌-◌, ◌<◌, ◌≤◌, ◌⊎◌, ◌↔◌, inl, inr, true, false, ◌&&◌, ◌==◌, List, ◌∷◌, map, nat_lt, sym, refl, ap, ap₂, ◌∙◌, subst, arith}
+use Rattle.std.specs.List.{list_any}
 use Rattle.dsa_terms.specs.Buffers.{Instance, IsInstance}
 use Rattle.dsa_terms.specs.Claims.{Entry, IsIn}
 use Rattle.dsa_terms.specs.Logs.{greatest}
 use Rattle.dsa_terms.specs.Fits.{top, highest, is_free, Range, IsOpen, IsFreeRange, stretches, free_ranges}
-use Rattle.dsa_terms.proofs.Lists.{into_map, from_map, into_filter, from_filter, any_gives, none_passes, true_or_false}
+use Rattle.dsa_terms.proofs.Lists.{into_map, from_map, into_filter, from_filter, any_gives, none_passes, true_or_false, into_flat, from_flat}
 use Rattle.dsa_terms.proofs.Moments.{and_true, both_true, sound}
+use Rattle.dsa_terms.proofs.NumberTests.{differ, equal, is_below, less}
 use Rattle.dsa_start_laws.proofs.Stacks.{greatest_is}
-use Rattle.dsa_terms.proofs.Lists.{from_append, left_append, right_append}
 use Rattle.dsa_start_laws.proofs.Places.{free_at, free_from, under_highest}
-
--- ---- flat_map
-into_flat_map : {X Y : Type 0} (f : X → List Y) (xs : List X) (x : X) (y : Y) → IsIn x xs → IsIn y (f x) →
-    IsIn y (flat_map f xs)
-into_flat_map f [] x y i j = absurd i
-into_flat_map f (z ∷ zs) x y (inl q) j = left_append (f z) (flat_map f zs) y (rw (← q) j)
-into_flat_map f (z ∷ zs) x y (inr i) j = right_append (f z) (flat_map f zs) y (into_flat_map f zs x y i j)
-
-from_flat_map : {X Y : Type 0} (f : X → List Y) (xs : List X) (y : Y) → IsIn y (flat_map f xs) →
-    (x : X) × IsIn x xs × IsIn y (f x)
-from_flat_map f [] y i = absurd i
-from_flat_map {X} f (z ∷ zs) y i = go (from_flat_map f zs y) (from_append (f z) (flat_map f zs) y i)
-  where
-    go : (IsIn y (flat_map f zs) → (x : X) × IsIn x zs × IsIn y (f x)) → IsIn y (f z) ⊎ IsIn y (flat_map f zs) →
-        (x : X) × IsIn x (z ∷ zs) × IsIn y (f x)
-    go ih (inl j) = (z, inl refl, j)
-    go ih (inr j) = let r = ih j in (r.0, inr r.1, r.2)
 
 -- ---- ranges
 pub range : ℕ → ℕ → Range
@@ -35,18 +17,6 @@ range x y = record { start = x; stop = y }
 
 same_range : (r s : Range) → r.start ≡ s.start → r.stop ≡ s.stop → r ≡ s
 same_range r s p q = ap₂ (λ (x y : ℕ). let r : Range = record { start = x; stop = y } in r) p q
-
-lt_test : (m n : ℕ) → m < n → nat_lt m n ≡ true
-lt_test m n h = grind (arith, nat_tests)
-
-test_lt : (m n : ℕ) → nat_lt m n ≡ true → m < n
-test_lt m n h = grind (arith, nat_tests)
-
-not_eq : (m n : ℕ) → (m == n) ≡ false → m ≢ n
-not_eq m n h k = grind (arith, nat_tests)
-
-eq_of : (m n : ℕ) → (m == n) ≡ true → m ≡ n
-eq_of m n h = grind (arith, nat_tests)
 
 top_past : (I : Instance) (e : Entry) → IsInstance I → e.1 < top I e
 unfolding top
@@ -60,7 +30,7 @@ record IsBetween (I : Instance) (placed : List Entry) (r : Range) : Type 0 where
 of_stretches : (I : Instance) (placed : List Entry) (r : Range) → IsIn r (stretches I placed) → IsBetween I placed r
 unfolding stretches
 of_stretches I placed r i =
-    let x = from_flat_map (λ x. map (λ (e : Entry). let r : Range = record { start = x; stop = e.1 } in r) placed)
+    let x = from_flat (λ x. map (λ (e : Entry). let r : Range = record { start = x; stop = e.1 } in r) placed)
     (0 ∷ map (top I) placed) r i in
     let e = from_map (λ (e : Entry). let r : Range = record { start = x.0; stop = e.1 } in r) placed r x.2 in
     record {
@@ -76,7 +46,7 @@ of_stretches I placed r i =
 into_stretches : (I : Instance) (placed : List Entry) (r : Range) → IsBetween I placed r → IsIn r (stretches I placed)
 unfolding stretches range
 into_stretches I placed r b =
-    into_flat_map (λ x. map (λ (e : Entry). let r : Range = record { start = x; stop = e.1 } in r) placed)
+    into_flat (λ x. map (λ (e : Entry). let r : Range = record { start = x; stop = e.1 } in r) placed)
     (0 ∷ map (top I) placed) r.start r (begins b.begins)
     (subst (λ (s : Range). IsIn s (map (λ (e : Entry). let s : Range = record { start = r.start; stop = e.1 } in
     s) placed)) (same_range (range r.start b.ends.0.1) r refl b.ends.2)
@@ -138,7 +108,7 @@ longer_down I placed r pos o t = record {
   under = o.under;
   free = λ e i. elim (o.free e i) [
     | inl q ↦ inl q
-    | inr q ↦ inr (let n = not_eq (top I e) r.start (none_passes (λ e. top I e == r.start) placed e t i) in omega arith)
+    | inr q ↦ inr (let n = differ (top I e) r.start (none_passes (λ e. top I e == r.start) placed e t i) in omega arith)
   ];
 }
 
@@ -173,7 +143,7 @@ longer_up I placed r s o t = record {
   not_empty = (let k = o.not_empty in omega arith);
   under = (let k = room_above I placed r s o in omega arith);
   free = λ e i. elim (o.free e i) [
-    | inl q ↦ inl (let n = not_eq e.1 r.stop (none_passes (λ (e : Entry). e.1 == r.stop) placed e t i) in omega arith)
+    | inl q ↦ inl (let n = differ e.1 r.stop (none_passes (λ (e : Entry). e.1 == r.stop) placed e t i) in omega arith)
     | inr q ↦ inr q
   ];
 }
@@ -191,7 +161,7 @@ begins_well I placed r f = go (zero_or_more r.start) (true_or_false (list_any (�
         (r.start ≡ 0) ⊎ ((e : Entry) × IsIn e placed × (top I e ≡ r.start))
     go (inl z) t = inl z
     go (inr pos) (inl t) = let e = any_gives (λ e. top I e == r.start) placed t in
-        inr (e.0, e.1, eq_of (top I e.0) r.start e.2)
+        inr (e.0, e.1, equal (top I e.0) r.start e.2)
     go (inr pos) (inr t) = absurd (
         let o = f.is_open in
         let longer : IsOpen I placed (range (r.start - 1) r.stop) = longer_down I placed r pos o t in
@@ -214,7 +184,7 @@ ends_well I placed r s f = go (true_or_false (list_any (λ (e : Entry). e.1 == r
   where
     go : (list_any (λ (e : Entry). e.1 == r.stop) placed ≡ true)
         ⊎ (list_any (λ (e : Entry). e.1 == r.stop) placed ≡ false) → (e : Entry) × IsIn e placed × (e.1 ≡ r.stop)
-    go (inl t) = let e = any_gives (λ (e : Entry). e.1 == r.stop) placed t in (e.0, e.1, eq_of e.0.1 r.stop e.2)
+    go (inl t) = let e = any_gives (λ (e : Entry). e.1 == r.stop) placed t in (e.0, e.1, equal e.0.1 r.stop e.2)
     go (inr t) = absurd (
         let o = f.is_open in
         let longer : IsOpen I placed (range r.start (r.stop + 1)) = longer_up I placed r s o t in
@@ -237,9 +207,9 @@ free_ranges_exactly I placed r s = (
   λ i. let x = from_filter (λ (r : Range). nat_lt r.start r.stop && is_free I placed r.start r.stop)
       (stretches I placed) r i in
       let q = and_true (nat_lt r.start r.stop) (is_free I placed r.start r.stop) x.1 in
-      listed_is_free I placed r s (test_lt r.start r.stop q.0) q.1 (of_stretches I placed r x.0),
+      listed_is_free I placed r s (less r.start r.stop q.0) q.1 (of_stretches I placed r x.0),
   λ f. into_filter (λ (r : Range). nat_lt r.start r.stop && is_free I placed r.start r.stop) (stretches I placed) r
       (into_stretches I placed r (record { begins = begins_well I placed r f; ends = ends_well I placed r s f }))
-      (both_true (nat_lt r.start r.stop) (is_free I placed r.start r.stop) (lt_test r.start r.stop f.is_open.not_empty)
+      (both_true (nat_lt r.start r.stop) (is_free I placed r.start r.stop) (is_below r.start r.stop f.is_open.not_empty)
       (to_free I placed r f.is_open.free)),
 )

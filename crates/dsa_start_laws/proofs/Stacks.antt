@@ -10,6 +10,7 @@ use Rattle.dsa_terms.specs.Parts.{numbers, whole}
 use Rattle.dsa_terms.specs.Bounds.{counted, rounded_size, stack, moduli, moments, highest_stack, lower_bound, IsReached, stack_log}
 use Rattle.dsa_terms.proofs.Lists.{from_map, from_filter}
 use Rattle.dsa_terms.proofs.Moments.{and_true, both_true, live_before, sound}
+use Rattle.dsa_terms.proofs.NumberTests.{below_or_from}
 use Rattle.dsa_search_laws.proofs.Logs.{in_greatest, accepted_is_infeasible}
 use Rattle.dsa_search_laws.proofs.Cuts.{item}
 use Rattle.dsa_search_laws.proofs.Members.{in_whole, buffers_of-whole, rises-filter_numbers, rises-range, from_range, into_range, whole_is_whole}
@@ -193,11 +194,8 @@ modulus_positive I G s (inr i) = let r = from_map (λ (b : Buffer). b.alignment)
 -- ---- the lower bound is at most each capacity with a layout
 pub stack_is_low : (I : Instance) (t G C : ℕ) → IsInstance I → 1 ≤ G → IsFeasible I C → stack I t G ≤ C
 unfolding stack_log
-stack_is_low I t G C s pos f = go (cases C (stack I t G))
+stack_is_low I t G C s pos f = go (below_or_from C (stack I t G))
   where
-    cases : (m n : ℕ) → (m < n) ⊎ (n ≤ m)
-    cases m n = grind arith
-
     go : (C < stack I t G) ⊎ (stack I t G ≤ C) → stack I t G ≤ C
     go (inl lt) = absurd (accepted_is_infeasible I (stack_log I t G C) s (stack_is_accepted I t G C pos lt) f.0 f.1)
     go (inr le) = le
@@ -221,11 +219,8 @@ no_stack_past I t G h = go (counted I t G) h
 
 pub stack_under_highest : (I : Instance) (t G : ℕ) → stack I t G ≤ greatest (map (λ t. stack I t G) (moments I))
 unfolding moments
-stack_under_highest I t G = go (cases t (greatest (map (λ (b : Buffer). b.upper) I)))
+stack_under_highest I t G = go (below_or_from t (greatest (map (λ (b : Buffer). b.upper) I)))
   where
-    cases : (m n : ℕ) → (m < n) ⊎ (n ≤ m)
-    cases m n = grind arith
-
     go : (t < greatest (map (λ (b : Buffer). b.upper) I)) ⊎ (greatest (map (λ (b : Buffer). b.upper) I) ≤ t) →
         stack I t G ≤ greatest (map (λ t. stack I t G) (numbers (greatest (map (λ (b : Buffer). b.upper) I))))
     go (inl lt) = in_greatest (λ t. stack I t G) (numbers (greatest (map (λ (b : Buffer). b.upper) I))) t

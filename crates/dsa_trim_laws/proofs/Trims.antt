@@ -8,6 +8,7 @@ use Rattle.dsa_terms.specs.Parts.{has}
 use Rattle.dsa_terms.specs.Trims.{cited_line, cited, IsKept, at_end, by_cite, needed, renumbered, moved_cite, moved_line, picked, kept_lines, trimmed, IsCited}
 use Rattle.dsa_search_laws.proofs.Logs.{from_take}
 use Rattle.dsa_terms.proofs.Lists.{has_in, left_append, right_append, true_or_false}
+use Rattle.std.proofs.lemmas.List.{length-map}
 use Rattle.dsa_trim_laws.proofs.Picked.{get_in, into_take, get_map, of_get_map, passing, passing_less, passing_ends, passing_last, passing_all, length-picked, picked_at, picked_from, picked_all}
 use Rattle.dsa_trim_laws.proofs.Needed.{CitesEarlier, later_cites, kept_up_to, cites_earlier, kept_exactly, claim_of-moved, cited-moved, StandsMoved, legal-moved}
 
@@ -83,16 +84,13 @@ last_kept : (I : Instance) (log : Log) → IsAccepted I log →
     length (kept_lines (needed log) log.lines) ≡ suc (renumbered (needed log) log.final)
 unfolding kept_lines
 last_kept I log a =
-    length_map (picked (λ k. has k (needed log)) 0 log.lines) ∙ (length-picked (λ k. has k (needed log)) 0 log.lines
+    length-map (picked (λ k. has k (needed log)) 0 log.lines) (moved_line (renumbered (needed log)))
+    ∙ (length-picked (λ k. has k (needed log)) 0 log.lines
     ∙ (passing_ends (λ k. has k (needed log)) 0 (suc log.final) (length log.lines) (let w = a.whole in
     get_in log.lines log.final w.0 w.1) past
     ∙ (passing_last (λ k. has k (needed log)) 0 log.final (let e : 0 + log.final ≡ log.final = omega arith in
     rw e ((kept_exactly I log log.final a).0 at_end)) ∙ ap suc (sym (rank_is log log.final)))))
   where
-    length_map : (xs : List Line) → length (map (moved_line (renumbered (needed log))) xs) ≡ length xs
-    length_map [] = refl
-    length_map (x ∷ xs) = ap suc (length_map xs)
-
     past : (i : ℕ) → suc log.final ≤ i → has (0 + i) (needed log) ≡ false
     past i le = not_needed I log i a le
 

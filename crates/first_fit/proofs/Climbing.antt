@@ -8,10 +8,11 @@ use Rattle.dsa_terms.specs.Claims.{Entry, IsIn}
 use Rattle.dsa_terms.specs.Fits.{IsClear, first_place, top}
 use Rattle.dsa_terms.specs.Layouts.{IsApart}
 use Rattle.dsa_terms.proofs.Numbers.{next_at_or_above, next_is_below, next_is_least, next_is_multiple}
+use Rattle.dsa_terms.proofs.Places.{in_at, place_of}
+use Rattle.dsa_terms.proofs.NumberTests.{below_or_last}
 use Rattle.dsa_start_laws.proofs.Places.{first_is_clear, first_is_least}
 use Rattle.first_fit.specs.Taken.{AreTaken, IsLow, IsSpanOf}
 use Rattle.first_fit.specs.declared.spans.Span.{Span}
-use Rattle.first_fit.proofs.Lists.{in_at, place_of}
 
 abbrev pub no_span : Span
 no_span = record { start = 0; stop = 0 }
@@ -43,9 +44,6 @@ climbing_none size a spans = record {
     zero_multiple : (a : ℕ) → 0 % a ≡ 0
     zero_multiple a = omega arith
 
-split : (j k : ℕ) → j < k + 1 → (j < k) ⊎ (j ≡ k)
-split j k h = grind arith
-
 -- beside the next one too
 pub climbing_stays : (size a : ℕ) (spans : List Span) (k x : ℕ) → IsBeside x size (slice_index_or spans k no_span) →
     IsClimbing size a spans k x → IsClimbing size a spans (k + 1) x
@@ -53,7 +51,7 @@ climbing_stays size a spans k x here h = record {
   limit = h.limit;
   climbed = λ up. let c = h.climbed up in record {
     aligned = c.aligned;
-    beside = λ j lt. elim (split j k lt) [
+    beside = λ j lt. elim (below_or_last j k lt) [
       | inl less ↦ c.beside j less
       | inr e ↦ subst (λ (j : ℕ). IsBeside x size (slice_index_or spans j no_span)) (sym e) here
     ];
@@ -70,7 +68,7 @@ climbing_past size a spans k x pos most lt low under over h = record {
   limit = (let b = next_is_below stop a pos in let l = (low k no_span lt).limit in omega arith);
   climbed = λ up. let c = h.climbed up in record {
     aligned = next_is_multiple stop a pos;
-    beside = λ j less. elim (split j k less) [
+    beside = λ j less. elim (below_or_last j k less) [
       | inl early ↦ before j early up (c.beside j early)
       | inr e ↦ subst (λ (j : ℕ). IsBeside next size (slice_index_or spans j no_span)) (sym e) (inr above)
     ];

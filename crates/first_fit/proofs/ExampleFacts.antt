@@ -6,6 +6,7 @@ use Rattle.dsa_terms.specs.Claims.{Entry, IsIn}
 use Rattle.dsa_terms.specs.Fits.{best_place, first_passing, first_place, free_ranges, highest, holds, is_free, is_tighter, neighbours, stretches, top}
 use Rattle.dsa_terms.specs.Orders.{falls_by, rises_by}
 use Rattle.dsa_terms.proofs.Examples.{evens, five, two_of_four, unlike}
+use Rattle.dsa_terms.proofs.Places.{all_from_in}
 use Rattle.first_fit.specs.Free.{narrowed, narrower, range_of}
 use Rattle.first_fit.specs.Orders.{before_by, in_order, key_of, keyed}
 use Rattle.first_fit.specs.Rules.{IsOrderOf, rule_of}
@@ -15,7 +16,6 @@ use Rattle.first_fit.specs.declared.fits.Rule.TheVariants.{Best, First}
 use Rattle.first_fit.specs.declared.orders.Order.TheVariants.{AreaFalling, LowerRising, SizeFalling}
 use Rattle.first_fit.specs.declared.spans.Span.{Span}
 use Rattle.first_fit.proofs.Gaps.{between}
-use Rattle.first_fit.proofs.Lists.{all_from_in}
 
 -- the first range, the shorter one, and of two that are as long the lower one
 first_range : narrower None (between 3 5) ≡ Some (between 3 5)

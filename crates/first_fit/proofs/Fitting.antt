@@ -1,6 +1,5 @@
 -- Buffers placed one after another: how high they reach, and the offsets that are kept of them.
-use Rattle.std.proofs.Common.{◌≡◌, ◌^◌, ℕ, ◌+◌, ◌*◌, ◌<◌, ◌≤◌, ◌⊎◌, inl, inr, Bool, true, false, cond, ◌==◌, List, [], ◌∷◌, ◌++◌, length, map, filter, drop, reverse, slice_index, slice_index_or, slice_set, replicate, ◌≢◌, Option, Some, None, refl, sym, ap, ◌∙◌, arith, add-one, drop-cons}
-use Rattle.std.proofs.lemmas.Bool.Decides.{nat_tests}
+use Rattle.std.proofs.Common.{◌≡◌, ◌^◌, ℕ, ◌+◌, ◌*◌, ◌<◌, ◌≤◌, ◌⊎◌, inl, inr, Bool, true, false, cond, ◌==◌, List, [], ◌∷◌, ◌++◌, length, map, filter, drop, reverse, slice_index, slice_index_or, slice_set, replicate, Option, Some, None, refl, sym, ap, ◌∙◌, arith, add-one, drop-cons}
 use Rattle.std.specs.Int.{next_multiple_of}
 use Rattle.std.specs.List.{All}
 use Rattle.std.proofs.lemmas.List.{drop_all, get_or-replicate, get_or-set_same, get_or-set_other, length-replicate, length-set, reverse-append}
@@ -15,6 +14,8 @@ use Rattle.dsa_terms.specs.Plans.{layout_height}
 use Rattle.dsa_terms.proofs.Lists.{from_append, from_filter, from_map}
 use Rattle.dsa_terms.proofs.Moments.{sound}
 use Rattle.dsa_terms.proofs.Numbers.{next_at_or_above, next_is_below, next_is_multiple}
+use Rattle.dsa_terms.proofs.NumberTests.{differ, equal}
+use Rattle.dsa_terms.proofs.Places.{all_from_in, in_from_all}
 use Rattle.dsa_search_laws.proofs.Members.{from_range}
 use Rattle.dsa_search_laws.proofs.Search.{has_seat}
 use Rattle.dsa_search_laws.proofs.Parts.{offset_at}
@@ -26,7 +27,7 @@ use Rattle.first_fit.specs.Rules.{IsOrderOf, rule_of}
 use Rattle.first_fit.specs.Taken.{IsSeat}
 use Rattle.first_fit.specs.declared.fits.Rule.{Rule}
 use Rattle.first_fit.specs.declared.fits.Rule.TheVariants.{Best, First}
-use Rattle.first_fit.proofs.Lists.{all_from_in, greatest_under, in_from_all, in_permutation}
+use Rattle.first_fit.proofs.Lists.{greatest_under, in_permutation}
 
 -- how much one more buffer can add to the height
 abbrev pub rise : ℕ
@@ -126,7 +127,7 @@ fitted_height I rule order low all o = greatest_under (map (λ b. slice_index of
     let r = from_map (λ b. slice_index offsets b + (buffer I b).size) (numbers (length I)) x i in
     let lt : r.0 < length I = let z = (from_range (length I) 0 r.0 r.1).1 in omega arith in
     let z = fitted_tops I rule order 0 [] low (λ b j. at_number I b all
-    (in_from_all (λ b. b < length I) order b o.in_range j)) (λ e j. absurd j)
+    (in_from_all (λ b. b < length I) order o.in_range b j)) (λ e j. absurd j)
     (r.0, number_of placed r.0) (has_seat placed r.0 (fitted_has I rule order [] r.0 (o.each r.0 lt))) in
     let e = offset_at I placed r.0 lt in let q = r.2 in omega arith)
   where
@@ -175,19 +176,14 @@ set_is I placed b x lt = fill_by_all (number_of ((b, x) ∷ placed)) (slice_set 
     (length-set (offsets_of I placed) b x ∙ length-map-range_with_len (number_of placed) 0 (length I))
     (λ k kn. at k kn (b == k) refl)
   where
-    eq : (m n : ℕ) → (m == n) ≡ true → n ≡ m
-    eq m n h = grind (arith, nat_tests)
-
-    not_eq : (m n : ℕ) → (m == n) ≡ false → n ≢ m
-    not_eq m n h k = grind (arith, nat_tests)
-
     long : b < length (offsets_of I placed)
     long = let z = length-map-range_with_len (number_of placed) 0 (length I) in omega arith
 
     at : (k : ℕ) → k < length I → (t : Bool) → (b == k) ≡ t →
         slice_index_or (slice_set (offsets_of I placed) b x) k 0 ≡ cond t x (number_of placed k)
-    at k kn true e = rw (eq b k e) (get_or-set_same (offsets_of I placed) b x 0 long)
-    at k kn false e = get_or-set_other (offsets_of I placed) b k x 0 (not_eq b k e) ∙ offset_at I placed k kn
+    at k kn true e = rw (← equal b k e) (get_or-set_same (offsets_of I placed) b x 0 long)
+    at k kn false e = get_or-set_other (offsets_of I placed) b k x 0 (λ q. differ b k e (sym q))
+        ∙ offset_at I placed k kn
 
 in_more : (placed : List Entry) (e f : Entry) → IsIn f (placed ++ e ∷ []) → IsIn f placed ⊎ (f ≡ e)
 in_more placed e f i = elim (from_append placed (e ∷ []) f i) [
@@ -208,14 +204,14 @@ fitting_more I rule order k placed more offsets now b d x low all o lt is at gro
   kept = set ∙ rw (h.kept, reverse-append placed ((b, x) ∷ [])) (set_is I (reverse placed) b x bn);
   in_range = all_from_in (λ (e : Entry). e.0 < length I) (placed ++ (b, x) ∷ [])
       (λ e i. elim (in_more placed (b, x) e i) [
-        | inl j ↦ in_from_all (λ (e : Entry). e.0 < length I) placed e h.in_range j
+        | inl j ↦ in_from_all (λ (e : Entry). e.0 < length I) placed h.in_range e j
         | inr q ↦ rw q bn
       ]);
   tops = all_from_in (λ (e : Entry). top I e ≤ (k + 1) * rise) (placed ++ (b, x) ∷ [])
       (λ e i. elim (in_more placed (b, x) e i) [
-        | inl j ↦ (let z = in_from_all (λ (e : Entry). top I e ≤ k * rise) placed e h.tops j in omega arith)
+        | inl j ↦ (let z = in_from_all (λ (e : Entry). top I e ≤ k * rise) placed h.tops e j in omega arith)
         | inr q ↦ rw (q, at) (placed_top I rule b k (reverse placed) low (at_number I b all bn) (λ f j.
-            in_from_all (λ (e : Entry). top I e ≤ k * rise) placed f h.tops
+            in_from_all (λ (e : Entry). top I e ≤ k * rise) placed h.tops f
             (in_permutation (reverse placed) placed f (IsPermutation-sym placed (reverse placed)
             (IsPermutation-reverse placed)) j)))
       ]);

@@ -1,6 +1,5 @@
 -- The free ranges, found by going up from start to start.
 use Rattle.std.proofs.Common.{◌≡◌, ℕ, ◌<◌, ◌≤◌, ◌⊎◌, ◌↔◌, inl, inr, Bool, true, false, cond, max, nat_lt, List, [], ◌∷◌, map, slice_index_or, suc, refl, sym, ap, ap₂, ◌∙◌, arith}
-use Rattle.std.proofs.lemmas.Bool.Decides.{nat_tests}
 use Rattle.std.specs.List.Sorted.{IsNonDecreasingBy}
 use Rattle.dsa_terms.specs.Buffers.{Instance, IsInstance}
 use Rattle.dsa_terms.specs.Claims.{Entry, IsIn}
@@ -10,9 +9,10 @@ use Rattle.dsa_terms.proofs.Moments.{sound}
 use Rattle.dsa_start_laws.proofs.Places.{under_highest}
 use Rattle.dsa_start_laws.proofs.Stacks.{greatest_is}
 use Rattle.dsa_terms.proofs.Lists.{from_map}
+use Rattle.dsa_terms.proofs.Places.{place_of}
+use Rattle.dsa_terms.proofs.NumberTests.{less, not_less}
 use Rattle.first_fit.specs.Taken.{AreTaken}
 use Rattle.first_fit.specs.declared.spans.Span.{Span}
-use Rattle.first_fit.proofs.Lists.{place_of}
 
 -- the addresses between two
 abbrev pub between : ℕ → ℕ → Range
@@ -183,9 +183,6 @@ module _ (I : Instance) (placed : List Entry) (all : List Span) (s : IsInstance 
   from_gaps passed reach (x ∷ xs) h r i =
       go (from_gaps (x ∷ passed) (max reach x.stop) xs (step passed reach x xs h) r) (nat_lt reach x.start) refl i
     where
-      less : (m n : ℕ) → nat_lt m n ≡ true → m < n
-      less m n q = grind (arith, nat_tests)
-
       go : (IsIn r (gaps (max reach x.stop) xs) → IsFreeRange I placed r) → (c : Bool) → nat_lt reach x.start ≡ c →
           IsIn r (cond c (between reach x.start ∷ gaps (max reach x.stop) xs) (gaps (max reach x.stop) xs)) →
           IsFreeRange I placed r
@@ -208,12 +205,6 @@ module _ (I : Instance) (placed : List Entry) (all : List Span) (s : IsInstance 
       go (into_gaps (x ∷ passed) (max reach x.stop) xs (step passed reach x xs h) r f)
       (beside r f.is_open x (h.among x (inr (inl refl)))) (nat_lt reach x.start) refl
     where
-      less : (m n : ℕ) → nat_lt m n ≡ true → m < n
-      less m n q = grind (arith, nat_tests)
-
-      not_less : (m n : ℕ) → nat_lt m n ≡ false → n ≤ m
-      not_less m n q = grind (arith, nat_tests)
-
       go : (max reach x.stop ≤ r.start → IsIn r (gaps (max reach x.stop) xs)) →
           (r.stop ≤ x.start) ⊎ (x.stop ≤ r.start) → (c : Bool) → nat_lt reach x.start ≡ c →
           IsIn r (cond c (between reach x.start ∷ gaps (max reach x.stop) xs) (gaps (max reach x.stop) xs))

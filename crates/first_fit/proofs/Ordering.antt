@@ -14,6 +14,7 @@ use Rattle.dsa_terms.specs.Claims.{IsIn, Rises}
 use Rattle.dsa_terms.specs.Orders.{IsOrder, IsOrdered, area}
 use Rattle.dsa_terms.specs.Parts.{numbers}
 use Rattle.dsa_terms.proofs.Lists.{from_map}
+use Rattle.dsa_terms.proofs.NumberTests.{differ, equal, not_less}
 use Rattle.dsa_search_laws.proofs.Members.{from_range, rises-range}
 use Rattle.dsa_start_laws.proofs.Orders.{measures_are_orders, numbers_are_ordered, one_order, ordered_members}
 use Rattle.dsa_model.specs.Buffer.{IsBuffer}
@@ -35,15 +36,6 @@ IsUpTo a b = (a.0 < b.0) ⊎ ((a.0 ≡ b.0) × (a.1 ≤ b.1))
 not_before : (k l b c : ℕ) → is_lt (ordering_then (nat_cmp l k) (nat_cmp c b)) ≡ false → (k < l) ⊎ ((k ≡ l) × (b ≤ c))
 not_before k l b c h = go (nat_lt l k) refl (l == k) refl (nat_lt c b) refl (c == b) h
   where
-    no : (m n : ℕ) → nat_lt m n ≡ false → n ≤ m
-    no m n q = grind (arith, nat_tests)
-
-    ne : (m n : ℕ) → (m == n) ≡ false → m ≢ n
-    ne m n q e = grind (arith, nat_tests)
-
-    eq : (m n : ℕ) → (m == n) ≡ true → n ≡ m
-    eq m n q = grind (arith, nat_tests)
-
     more : (m n : ℕ) → n ≤ m → m ≢ n → n < m
     more m n p q = grind arith
 
@@ -52,8 +44,8 @@ not_before k l b c h = go (nat_lt l k) refl (l == k) refl (nat_lt c b) refl (c =
         (k < l) ⊎ ((k ≡ l) × (b ≤ c))
     go true p q e r f s g = absurd cc
     go false p true e true f s g = absurd cc
-    go false p true e false f s g = inr (eq l k e, no c b f)
-    go false p false e r f s g = inl (more l k (no l k p) (ne l k e))
+    go false p true e false f s g = inr (sym (equal l k e), not_less c b f)
+    go false p false e r f s g = inl (more l k (not_less l k p) (differ l k e))
 
 along : (x y z : ℕ × ℕ) → IsUpTo x y → IsUpTo y z → IsUpTo x z
 along x y z (inl p) (inl q) = inl (omega arith)
@@ -95,9 +87,6 @@ ordered_from order I (e ∷ es) h = (
   }),
 )
   where
-    ne : (m n : ℕ) → (m == n) ≡ false → m ≢ n
-    ne m n q e = grind (arith, nat_tests)
-
     less : (m n : ℕ) → m ≤ n → m ≢ n → m < n
     less m n p q = grind arith
 
@@ -106,7 +95,7 @@ ordered_from order I (e ∷ es) h = (
         let r = from_map (λ (e : ℕ × ℕ). e.1) es c i in
         let x = h.each e (inl refl) in
         let y = h.each r.0 (inr r.1) in
-        let d = ne e.1 c (all_at (λ (c : ℕ). (e.1 == c) ≡ false) (map (λ (e : ℕ × ℕ). e.1) es) c h.distinct.0 i) in
+        let d = differ e.1 c (all_at (λ (c : ℕ). (e.1 == c) ≡ false) (map (λ (e : ℕ × ℕ). e.1) es) c h.distinct.0 i) in
         comes_first order I e.1 c x.1 (rw r.2 y.1) (elim (later e es h.climbs r.0 r.1) [
           | inl k ↦ inl (rw r.2 (rw (x.0, y.0) at k))
           | inr k ↦ inr (rw r.2 (rw (x.0, y.0) at k.0), less e.1 c (rw r.2 k.1) d)

@@ -9,9 +9,10 @@ use Rattle.dsa_terms.specs.Buffers.{Buffer, Instance, buffer, do_share}
 use Rattle.dsa_terms.specs.Claims.{Entry}
 use Rattle.dsa_terms.specs.Fits.{neighbours, top}
 use Rattle.dsa_terms.proofs.Lists.{from_filter, from_map, into_filter, into_map}
+use Rattle.dsa_terms.proofs.Places.{all_from_in, in_from_all}
 use Rattle.first_fit.specs.Taken.{AreTaken, IsLow, IsSeat}
 use Rattle.first_fit.specs.declared.spans.Span.{Span}
-use Rattle.first_fit.proofs.Lists.{all_from_in, in_from_all, in_permutation}
+use Rattle.first_fit.proofs.Lists.{in_permutation}
 
 -- its addresses
 abbrev pub span_of : Instance → Entry → Span
@@ -78,7 +79,7 @@ pub are_low : (I : Instance) (b : ℕ) (placed : List Entry) (spans : List Span)
 unfolding neighbours
 are_low I b placed spans seats t = all_from_in IsLow spans (λ s i. let r = t.each s i in
     let q = from_filter (λ (e : Entry). do_share (buffer I b) (buffer I e.0)) placed r.0 r.1 in
-    let l = (in_from_all (IsSeat I) placed r.0 seats q.0).limit in
+    let l = (in_from_all (IsSeat I) placed seats r.0 q.0).limit in
     let z = r.2.stop in record { limit = omega arith })
 
 -- the order in which they were placed does not matter

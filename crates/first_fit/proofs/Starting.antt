@@ -1,6 +1,5 @@
 -- The starts: their orders, their heights, and the best of them.
-use Rattle.std.proofs.Common.{◌≡◌, ◌^◌, ℕ, zero, suc, ◌+◌, ◌<◌, ◌≤◌, ◌⊎◌, inl, inr, Bool, true, false, not, cond, nat_le, nat_lt, List, [], ◌∷◌, ◌++◌, length, map, take, slice_index, slice_get, slice_index_or, Option, None, Some, option_map, refl, sym, ap, ap₂, ◌∙◌, arith}
-use Rattle.std.proofs.lemmas.Bool.Decides.{nat_tests}
+use Rattle.std.proofs.Common.{◌≡◌, ◌^◌, ℕ, zero, suc, ◌+◌, ◌<◌, ◌≤◌, inl, inr, Bool, true, false, not, cond, nat_le, nat_lt, List, [], ◌∷◌, ◌++◌, length, map, take, slice_index, slice_get, slice_index_or, Option, None, Some, option_map, refl, sym, ap, ap₂, ◌∙◌, arith}
 use Rattle.std.specs.List.{All, find, list_all, position, position_or_len}
 use Rattle.std.proofs.lemmas.List.{length-map, map-append, take_all, take_more}
 use Rattle.std.proofs.lemmas.List.Folds.{find_at}
@@ -16,6 +15,8 @@ use Rattle.dsa_terms.specs.Parts.{numbers}
 use Rattle.dsa_terms.specs.Plans.{layout_height}
 use Rattle.dsa_terms.specs.Starts.{lowest_place, starts}
 use Rattle.dsa_terms.proofs.Lists.{all_at, all_from, from_append, true_or_false}
+use Rattle.dsa_terms.proofs.Places.{all_from_in, in_at, in_from_all, place_of}
+use Rattle.dsa_terms.proofs.NumberTests.{at_most, below_or_last, is_at_most, less, not_less}
 use Rattle.dsa_search_laws.proofs.Members.{from_range, into_range}
 use Rattle.dsa_start_laws.proofs.Fits.{into_ordered_by}
 use Rattle.dsa_start_laws.proofs.Orders.{from_ordered_by}
@@ -27,7 +28,6 @@ use Rattle.first_fit.specs.declared.fits.Rule.TheVariants.{Best, First}
 use Rattle.first_fit.specs.declared.orders.Order.{Order}
 use Rattle.first_fit.specs.declared.orders.Order.TheVariants.{AreaFalling, LowerRising, SizeFalling}
 use Rattle.first_fit.specs.declared.start_list.Start.{Start}
-use Rattle.first_fit.proofs.Lists.{all_from_in, in_at, in_from_all, place_of}
 
 -- ---- an order has each buffer once
 length-put_by : (before : ℕ → ℕ → Bool) (b : ℕ) (cs : List ℕ) → length (put_by before b cs) ≡ suc (length cs)
@@ -69,7 +69,7 @@ offsets_low I offsets h lt = all_from_in (λ x. x ≤ 2 ^ 60) offsets low
         same (x ∷ xs) (suc k) d lt = same xs k d (omega arith)
 
     low : (x : ℕ) → IsIn x offsets → x ≤ 2 ^ 60
-    low x i = in_from_all (λ x. x ≤ 2 ^ 60) offsets x at i
+    low x i = in_from_all (λ x. x ≤ 2 ^ 60) offsets at x i
 
 pub is_start : (I : Instance) (s : Start) → s.height ≡ layout_height I (offsets_in s) →
     IsLayout I (layout_height I (offsets_in s)) (offsets_in s) → layout_height I (offsets_in s) < 2 ^ 54 → IsStart I s
@@ -132,9 +132,6 @@ pub record IsLowest (heights : List ℕ) (n best : ℕ) : Type 0 where
   pub lowest : (k : ℕ) → k < n → slice_index_or heights best 0 ≤ slice_index_or heights k 0
   pub first : (k : ℕ) → k < best → slice_index_or heights best 0 < slice_index_or heights k 0
 
-split : (k n : ℕ) → k < n + 1 → (k < n) ⊎ (k ≡ n)
-split k n h = grind arith
-
 pub lowest_none : (heights : List ℕ) → IsLowest heights 1 0
 lowest_none heights = record {
   within = omega arith;
@@ -146,7 +143,7 @@ pub lowest_stays : (heights : List ℕ) (n best : ℕ) → slice_index_or height
     IsLowest heights n best → IsLowest heights (n + 1) best
 lowest_stays heights n best le h = record {
   within = (let z = h.within in omega arith);
-  lowest = λ k lt. elim (split k n lt) [ inl q ↦ h.lowest k q | inr q ↦ rw q le ];
+  lowest = λ k lt. elim (below_or_last k n lt) [ inl q ↦ h.lowest k q | inr q ↦ rw q le ];
   first = h.first;
 }
 
@@ -154,7 +151,8 @@ pub lowest_moves : (heights : List ℕ) (n best : ℕ) → slice_index_or height
     IsLowest heights n best → IsLowest heights (n + 1) n
 lowest_moves heights n best less h = record {
   within = omega arith;
-  lowest = λ k lt. elim (split k n lt) [ inl q ↦ (let z = h.lowest k q in omega arith) | inr q ↦ rw q (omega arith) ];
+  lowest = λ k lt. elim (below_or_last k n lt)
+      [ inl q ↦ (let z = h.lowest k q in omega arith) | inr q ↦ rw q (omega arith) ];
   first = λ k lt. let z = h.lowest k lt in omega arith;
 }
 
@@ -177,17 +175,11 @@ lowest_found made n best low high h = sym (position_or_len_is (λ h. list_all (n
     long : length (map height_in made) ≡ length made
     long = length-map made height_in
 
-    le : (m n : ℕ) → m ≤ n → nat_le m n ≡ true
-    le m n q = grind (arith, nat_tests)
-
-    at_most : (m n : ℕ) → nat_le m n ≡ true → m ≤ n
-    at_most m n q = grind (arith, nat_tests)
-
     all_pass : list_all (nat_le (slice_index_or (map height_in made) best 0)) (map height_in made) ≡ true
     all_pass = all_from (nat_le (slice_index_or (map height_in made) best 0)) (map height_in made) (λ x i.
         let r = place_of (map height_in made) x 0 i in
         let k = h.lowest r.0 (let z = r.1 in let w = long in omega arith) in let e = r.2 in
-        le (slice_index_or (map height_in made) best 0) x (omega arith))
+        is_at_most (slice_index_or (map height_in made) best 0) x (omega arith))
 
     not_all : (k : ℕ) → k < best → list_all (nat_le (slice_index_or (map height_in made) k 0)) (map height_in made)
         ≡ false
@@ -226,16 +218,10 @@ pub found_within : (I : Instance) (C : ℕ) (made : List Start) (o : Option ℕ)
     option_map (offsets_at made) o ≡ find (λ offsets. nat_le (layout_height I offsets) C) (map offsets_in made)
 found_within I C made o e h = rw e (at (nat_lt place (length made)) refl
     ∙ sym (find_at (λ offsets. nat_le (layout_height I offsets) C) (map offsets_in made)
-    ∙ ap (slice_get (map offsets_in made)) (same_place I C made (λ s i. in_from_all (IsStart I) made s h i))))
+    ∙ ap (slice_get (map offsets_in made)) (same_place I C made (λ s i. in_from_all (IsStart I) made h s i))))
   where
     place : ℕ
     place = position_or_len (λ (s : Start). nat_le s.height C) made
-
-    less : (m n : ℕ) → nat_lt m n ≡ true → m < n
-    less m n q = grind (arith, nat_tests)
-
-    not_less : (m n : ℕ) → nat_lt m n ≡ false → n ≤ m
-    not_less m n q = grind (arith, nat_tests)
 
     long : length (map offsets_in made) ≡ length made
     long = length-map made offsets_in

@@ -9,6 +9,7 @@ use Rattle.dsa_terms.specs.Claims.{Entry, IsIn}
 use Rattle.dsa_terms.specs.Fits.{Range, best_place, free_ranges, highest, holds, is_tighter, start_in, tighter_of, tightest, top}
 use Rattle.dsa_terms.specs.Logs.{greatest}
 use Rattle.dsa_terms.proofs.Lists.{from_filter, into_filter, from_map, none_or_some}
+use Rattle.dsa_terms.proofs.NumberTests.{is_below, not_below}
 use Rattle.dsa_search_laws.proofs.Logs.{in_greatest}
 use Rattle.dsa_start_laws.proofs.Places.{tightest_is_in}
 use Rattle.dsa_start_laws.proofs.Ranges.{free_ranges_exactly}
@@ -201,25 +202,19 @@ module _ (I : Instance) (b : ℕ) (spans : List Span) (k reach next : ℕ) (s : 
 
   -- no range
   pub sweeping_on : s.start ≤ reach → now ≡ best → IsSweeping I b spans (k + 1) next now
-  sweeping_on le same = moves (rw (same, up, not_less reach s.start le) refl) (rw same h.below)
-    where
-      not_less : (m n : ℕ) → n ≤ m → nat_lt m n ≡ false
-      not_less m n q = grind (arith, nat_tests)
+  sweeping_on le same = moves (rw (same, up, not_below reach s.start le) refl) (rw same h.below)
 
   -- a range
   pub sweeping_over : reach < s.start → IfSome now (IsBelow reach) →
       option_map range_of now ≡ narrowed I b (option_map range_of best) (record { start = reach; stop = s.start }) →
       IsSweeping I b spans (k + 1) next now
-  sweeping_over less below e = moves (rw (less_is reach s.start less, up, e) (go (holds I b r))) below
+  sweeping_over less below e = moves (rw (is_below reach s.start less, up, e) (go (holds I b r))) below
     where
       r : Range
       r = record { start = reach; stop = s.start }
 
       T : List Range
       T = filter (holds I b) (gaps (max reach s.stop) (drop (k + 1) spans))
-
-      less_is : (m n : ℕ) → m < n → nat_lt m n ≡ true
-      less_is m n q = grind (arith, nat_tests)
 
       go : (c : Bool) → joined (option_map range_of best) (tightest (cond c (r ∷ T) T))
           ≡ joined (cond c (narrower (option_map range_of best) r) (option_map range_of best)) (tightest T)

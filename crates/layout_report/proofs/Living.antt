@@ -5,6 +5,7 @@ use Rattle.std.specs.List.{All, AllByRecursion, IsDistinct}
 use Rattle.std.specs.List.Sorted.{IsNonDecreasingBy, IsPermutation}
 use Rattle.std.proofs.lemmas.List.Sorted.{Contains-permutation, IsPermutation-map, IsPermutation-sym}
 use Rattle.std.proofs.lemmas.Map.Keys.{IsDistinct-IsPermutation}
+use Rattle.std.proofs.lemmas.List.{map-append}
 use Rattle.dsa_terms.specs.Buffers.{Buffer, Instance, IsInstance, IsLive, buffer, is_live}
 use Rattle.dsa_terms.specs.Claims.{IsIn, Rises}
 use Rattle.dsa_terms.specs.Layouts.{IsApart, IsLayout}
@@ -13,7 +14,9 @@ use Rattle.dsa_terms.specs.Parts.{numbers}
 use Rattle.dsa_terms.specs.Plans.{layout_height}
 use Rattle.dsa_terms.proofs.Lists.{from_filter, from_map, into_filter, into_map}
 use Rattle.dsa_terms.proofs.Moments.{sound}
-use Rattle.lifetime.proofs.Lists.{all_from_in, among, below, filter_more, from_contains, map-append, place_of, rises-numbers, to_contains}
+use Rattle.dsa_terms.proofs.Places.{all_from_in, from_contains, place_of, to_contains}
+use Rattle.dsa_terms.proofs.NumberTests.{apart, differ}
+use Rattle.lifetime.proofs.Lists.{among, below, filter_more, rises-numbers}
 use Rattle.layout_report.specs.Rows.{AreLiveRows, AreStacked, buffer_row}
 use Rattle.layout_report.specs.declared.row.Row.{Row}
 
@@ -73,12 +76,6 @@ into_rows I offsets t n b e lt l = into_map (buffer_row I offsets) (live_before 
     (into_filter (λ b. is_live (buffer I b) t) (numbers n) b (among n b (omega arith)) l)
 
 -- ---- no two at one place
-differ : (m n : ℕ) → m ≢ n → (m == n) ≡ false
-differ m n h = grind (arith, nat_tests)
-
-are_different : (m n : ℕ) → (m == n) ≡ false → m ≢ n
-are_different m n h e = grind (arith, nat_tests)
-
 all_by_recursion : {X : Type 0} (P : X → Type 0) (xs : List X) → ((x : X) → IsIn x xs → P x) → AllByRecursion P xs
 all_by_recursion P [] h = tt
 all_by_recursion P (x ∷ xs) h = (h x (inl refl), all_by_recursion P xs (λ y i. h y (inr i)))
@@ -118,7 +115,7 @@ distinct I C offsets t (b ∷ bs) s l r h = (
         let m = h q.0 (inr q.1) in
         let ne : b ≢ q.0 = λ e. (let z = r.0 q.0 q.1 in omega arith) in
         let e : y ≡ slice_index offsets q.0 = p.2 ∙ ap (λ (row : Row). row.place) q.2 in
-        differ (slice_index offsets b) y (λ f. apart_places I C offsets t b q.0 s l k.0 m.0 ne k.1 m.1 (f ∙ e))
+        apart (slice_index offsets b) y (λ f. apart_places I C offsets t b q.0 s l k.0 m.0 ne k.1 m.1 (f ∙ e))
 
 -- ---- in order, each above the one before it
 rise : (rows : List Row) → IsNonDecreasingBy (λ (row : Row). row.place) rows →
@@ -139,7 +136,7 @@ rise (q ∷ qs) up d = (
         let p = place_of qs r.0 q r.1 in
         let le : q.place ≤ r.0.place = rw p.2 at (up 0 (suc p.0) q (omega arith) (let k = p.1 in omega arith)) in
         less q.place y (rw r.2 le)
-        (are_different q.place y (all_at (λ y. (q.place == y) ≡ false) (map (λ (row : Row). row.place) qs) y d.0 i))
+        (differ q.place y (all_at (λ y. (q.place == y) ≡ false) (map (λ (row : Row). row.place) qs) y d.0 i))
 
 stack : (I : Instance) (C : ℕ) (offsets : List ℕ) (t x : ℕ) (rows : List Row) → IsInstance I → IsLayout I C offsets →
     ((row : Row) → IsIn row rows → IsRowOf I offsets t row) → Rises (map (λ (row : Row). row.place) rows) →

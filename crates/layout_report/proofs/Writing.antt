@@ -11,7 +11,7 @@ use Rattle.csv_instance.specs.Records.{Record}
 use Rattle.csv_instance.specs.Wrote.{Wrote}
 use Rattle.dsa_terms.specs.Buffers.{Instance}
 use Rattle.dsa_terms.specs.Plans.{layout_height}
-use Rattle.lifetime.proofs.Lists.{all_from_in}
+use Rattle.dsa_terms.proofs.Places.{all_from_in}
 use Rattle.layout_report.specs.Report.{AreRowsOf, id_of, row_fields}
 use Rattle.layout_report.specs.Rows.{IsRowAt}
 use Rattle.layout_report.specs.declared.row.Row.{Row}

@@ -1,12 +1,12 @@
 -- Rising lists whose numbers are all in another.
 use Rattle.std.proofs.Common.{◌≡◌, ℕ, ◌+◌, ◌<◌, ◌≤◌, ◌==◌, ◌⊎◌, ◌↔◌, inl, inr, IsTrue, true, false, List, [], ◌∷◌, length, drop, slice_index_or, refl, sym, ap, ◌∙◌, arith}
 use Rattle.std.proofs.lemmas.Bool.Decides.{nat_tests}
-use Rattle.std.proofs.lemmas.List.{drop_all}
+use Rattle.std.proofs.lemmas.List.{drop_all, drop_more}
 use Rattle.std.proofs.lemmas.List.Sums.{sum_by-cons}
 use Rattle.std.specs.List.{sum_by}
 use Rattle.dsa_terms.specs.Claims.{IsIn, Rises}
 use Rattle.lifetime.specs.Thin.{AreAmong}
-use Rattle.lifetime.proofs.Noting.{drop_at, rises_drop}
+use Rattle.lifetime.proofs.Noting.{rises_drop}
 
 pub among_trans : (xs ys zs : List ℕ) → AreAmong xs ys → AreAmong ys zs → AreAmong xs zs
 among_trans xs ys zs h k b i = k b (h b i)
@@ -62,10 +62,10 @@ pub record IsMerging (part whole : List ℕ) (found i : ℕ) : Type 0 where
 
 rises_from : (xs : List ℕ) (i x : ℕ) → Rises xs → i < length xs → x ≡ slice_index_or xs i 0 →
     Rises (x ∷ drop (i + 1) xs)
-rises_from xs i x r lt e = rw e (rw (drop_at xs i lt) at (rises_drop xs i r))
+rises_from xs i x r lt e = rw e (rw (drop_more xs i 0 lt) at (rises_drop xs i r))
 
 drop_from : (xs : List ℕ) (i x : ℕ) → i < length xs → x ≡ slice_index_or xs i 0 → drop i xs ≡ x ∷ drop (i + 1) xs
-drop_from xs i x lt e = drop_at xs i lt ∙ ap (λ y. y ∷ drop (i + 1) xs) (sym e)
+drop_from xs i x lt e = drop_more xs i 0 lt ∙ ap (λ y. y ∷ drop (i + 1) xs) (sym e)
 
 pub none_merged : (part whole : List ℕ) → IsMerging part whole 0 0
 none_merged part whole = record { within = omega arith; left = (λ h. h, λ h. h) }
@@ -159,7 +159,7 @@ merged_all part whole found i m le h = go (cases found (length part) m.within)
     go (inl e) = e
     go (inr lt) =
         let none : drop i whole ≡ [] = drop_all i whole le in
-        let k = rw (none, drop_at part found lt) at (m.left.0 h) in
+        let k = rw (none, drop_more part found 0 lt) at (m.left.0 h) in
         absurd (k (slice_index_or part found 0) (inl refl))
 
 pub whole_test : (part whole : List ℕ) (found i : ℕ) → IsMerging part whole found i → length whole ≤ i →

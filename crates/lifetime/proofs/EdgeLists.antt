@@ -1,13 +1,14 @@
 -- The edges of all buffers, put into order.
-use Rattle.std.proofs.Common.{◌≡◌, ℕ, zero, suc, ◌+◌, ◌*◌, ◌<◌, ◌≤◌, ◌⊎◌, inl, inr, List, [], ◌∷◌, ◌++◌, length, map, drop, slice_index_or, refl, sym, ap, ◌∙◌, subst, arith, append_assoc, length-append, append-nil}
+use Rattle.std.proofs.Common.{◌≡◌, ℕ, ◌+◌, ◌*◌, ◌<◌, ◌≤◌, inl, inr, List, [], ◌∷◌, ◌++◌, length, map, drop, slice_index_or, refl, sym, ap, ◌∙◌, subst, arith, append_assoc, length-append, append-nil}
 use Rattle.std.specs.List.Sorted.{IsNonDecreasingBy, IsPermutation}
-use Rattle.std.proofs.lemmas.List.{length-map, drop_all}
+use Rattle.std.proofs.lemmas.List.{length-map, drop_all, drop_more}
 use Rattle.std.proofs.lemmas.List.Sorted.{All-permutation, Contains-permutation, length_permutation}
 use Rattle.dsa_terms.specs.Buffers.{Buffer, Instance, buffer}
 use Rattle.dsa_terms.specs.Claims.{IsIn}
 use Rattle.dsa_terms.proofs.Lists.{from_append, from_map, into_map, left_append, right_append}
+use Rattle.dsa_terms.proofs.Places.{all_from_in, from_contains, to_contains}
+use Rattle.dsa_terms.proofs.NumberTests.{below_or_last}
 use Rattle.lifetime.specs.Edges.{AreEdges, edge_moments, edges_of, gap_ends}
-use Rattle.lifetime.proofs.Lists.{all_from_in, from_contains, to_contains}
 
 -- the edges of the buffers below n
 pub record AreEdgesBelow (I : Instance) (n : ℕ) (edges : List (ℕ × ℕ)) : Type 0 where
@@ -44,11 +45,8 @@ more_below I n x edges more h e few m = rw m (record {
           omega arith
     ]
 
-    split : (b n : ℕ) → b < n + 1 → (b < n) ⊎ (b ≡ n)
-    split b n h = grind arith
-
     complete : (b t : ℕ) → b < n + 1 → IsIn t (edge_moments (buffer I b)) → IsIn (t, b) (edges ++ edges_of x n)
-    complete b t lt i = elim (split b n lt) [
+    complete b t lt i = elim (below_or_last b n lt) [
       | inl k ↦ left_append edges (edges_of x n) (t, b) (h.complete b t k i)
       | inr k ↦ right_append edges (edges_of x n) (t, b) (own k)
     ]
@@ -79,7 +77,7 @@ pub gap_step : (edges : List (ℕ × ℕ)) (given gaps : List (ℕ × ℕ)) (i b
     whole ≡ two ++ map (λ t. (t, b)) (gap_ends (drop (i + 1) gaps))
 gap_step edges given gaps i b one two whole same lt h e f =
     h ∙ (ap (λ gs. edges ++ map (λ t. (t, b)) (gap_ends gs))
-    (drop_at gaps i (subst (λ (gs : List (ℕ × ℕ)). i < length gs) same lt))
+    (drop_more gaps i (0, 0) (subst (λ (gs : List (ℕ × ℕ)). i < length gs) same lt))
     ∙ rw (f, e, same) (sym (append_assoc (edges ++ (gap.0, b) ∷ []) ((gap.1, b) ∷ []) rest ∙ append_assoc edges
     ((gap.0, b) ∷ []) ((gap.1, b) ∷ rest))))
   where
@@ -88,12 +86,6 @@ gap_step edges given gaps i b one two whole same lt h e f =
 
     rest : List (ℕ × ℕ)
     rest = map (λ t. (t, b)) (gap_ends (drop (i + 1) gaps))
-
-    drop_at : (gaps : List (ℕ × ℕ)) (i : ℕ) → i < length gaps →
-        drop i gaps ≡ slice_index_or gaps i (0, 0) ∷ drop (i + 1) gaps
-    drop_at [] i lt = absurd (omega arith)
-    drop_at (g ∷ gs) zero lt = refl
-    drop_at (g ∷ gs) (suc i) lt = let k : suc i + 1 ≡ suc (i + 1) = omega arith in rw k (drop_at gs i (omega arith))
 
 pub gap_first : (edges one two : List (ℕ × ℕ)) (x : Buffer) (b low up : ℕ) → low ≡ x.lower → up ≡ x.upper →
     one ≡ edges ++ (low, b) ∷ [] → two ≡ one ++ (up, b) ∷ [] →

@@ -1,12 +1,13 @@
 -- What the stack keeps once all sections are done: those to which they are thinned.
 use Rattle.std.proofs.Common.{◌≡◌, ℕ, ◌+◌, ◌-◌, ◌<◌, ◌⊎◌, inl, inr, List, [], ◌∷◌, ◌++◌, length, reverse, slice_index_or, refl, sym, ap, ◌∙◌, subst, arith, append_assoc, length-append}
-use Rattle.std.proofs.lemmas.List.{get_or-append_right, get_or_append_left, length-reverse, reverse-append, reverse-reverse}
+use Rattle.std.proofs.lemmas.List.{get_or-append_right, get_or_append_left, length-reverse, map-append, reverse-append, reverse-reverse}
 use Rattle.dsa_terms.specs.Claims.{IsIn, Rises}
 use Rattle.dsa_terms.proofs.Lists.{from_append, from_map, into_map, left_append, right_append}
+use Rattle.dsa_terms.proofs.NumberTests.{below_or_last}
 use Rattle.lifetime.specs.Runs.{starts_of}
 use Rattle.lifetime.specs.SectionList.{Section, no_section}
 use Rattle.lifetime.specs.Thin.{AreAmong, IsThinnedTo, AreThin, IsBetween, StandsIn}
-use Rattle.lifetime.proofs.Lists.{map-append, rises-push}
+use Rattle.lifetime.proofs.Lists.{rises-push}
 use Rattle.lifetime.proofs.Stretches.{AreApart, AreStretches, IsAbove, IsNotOver}
 
 rises_left : (xs ys : List ℕ) → Rises (xs ++ ys) → Rises xs
@@ -91,11 +92,8 @@ thin (k ∷ ks) a = rw (reversed k ks) (record {
   where
     place : (s : ℕ) → s + 1 < length (reverse ks ++ k ∷ []) →
         (s + 1 < length (reverse ks)) ⊎ (s + 1 ≡ length (reverse ks))
-    place s lt = split (s + 1) (length (reverse ks))
+    place s lt = below_or_last (s + 1) (length (reverse ks))
         (let e = length-append (reverse ks) (k ∷ []) in omega arith)
-      where
-        split : (m n : ℕ) → m < n + 1 → (m < n) ⊎ (m ≡ n)
-        split m n h = grind arith
 
     at : (s : ℕ) → s < length (reverse ks) →
         slice_index_or (reverse ks ++ k ∷ []) s no_section ≡ slice_index_or (reverse ks) s no_section

@@ -1,9 +1,10 @@
--- Lists: membership, filters over numbers, and lists that rise.
-use Rattle.std.proofs.Common.{◌≡◌, ◌≢◌, ℕ, zero, suc, ◌+◌, ◌<◌, ◌⊎◌, inl, inr, Bool, true, false, cond, List, [], ◌∷◌, ◌++◌, length, map, filter, take, slice_index_or, refl, sym, ap, ◌∙◌, subst, arith, append-nil}
-use Rattle.std.specs.List.{All, Contains, flat_map, range_with_len}
+-- Lists of numbers: filtered, rising, and told apart.
+use Rattle.std.proofs.Common.{◌≡◌, ◌≢◌, ℕ, zero, suc, ◌+◌, ◌<◌, ◌⊎◌, inl, inr, Bool, true, false, cond, List, [], ◌∷◌, ◌++◌, length, filter, take, slice_index_or, refl, sym, ap, ◌∙◌, arith, append-nil}
+use Rattle.std.specs.List.{range_with_len}
 use Rattle.dsa_terms.specs.Claims.{IsIn, Rises}
 use Rattle.dsa_terms.specs.Parts.{numbers}
-use Rattle.dsa_terms.proofs.Lists.{from_append, from_filter, into_filter, left_append, right_append}
+use Rattle.dsa_terms.proofs.Lists.{from_append, from_filter, into_filter}
+use Rattle.dsa_terms.proofs.Places.{in_at}
 use Rattle.dsa_model.proofs.Ranges.{from_range, into_range}
 
 -- ---- numbers
@@ -27,40 +28,6 @@ rises-filter p (x ∷ xs) r = go (rises-filter p xs r.1) (p x)
 
 pub rises-numbers : (p : ℕ → Bool) (n : ℕ) → Rises (filter p (numbers n))
 rises-numbers p n = rises-filter p (numbers n) (rises-range n 0)
-
--- ---- places
-pub any_default : {X : Type 0} (xs : List X) (k : ℕ) (d e : X) → k < length xs →
-    slice_index_or xs k d ≡ slice_index_or xs k e
-any_default [] k d e lt = absurd (omega arith)
-any_default (x ∷ xs) zero d e lt = refl
-any_default (x ∷ xs) (suc k) d e lt = any_default xs k d e (omega arith)
-
-pub place_of : {X : Type 0} (xs : List X) (x d : X) → IsIn x xs →
-    (k : ℕ) × (k < length xs) × (slice_index_or xs k d ≡ x)
-place_of [] x d i = absurd i
-place_of (y ∷ ys) x d (inl e) = (0, omega arith, sym e)
-place_of (y ∷ ys) x d (inr i) = let r = place_of ys x d i in (suc r.0, (let k = r.1 in omega arith), r.2)
-
-pub in_at : {X : Type 0} (xs : List X) (k : ℕ) (d : X) → k < length xs → IsIn (slice_index_or xs k d) xs
-in_at [] k d lt = absurd (omega arith)
-in_at (y ∷ ys) zero d lt = inl refl
-in_at (y ∷ ys) (suc k) d lt = inr (in_at ys k d (omega arith))
-
-pub all_from_in : {X : Type 0} (P : X → Type 0) (xs : List X) → ((x : X) → IsIn x xs → P x) → All P xs
-all_from_in P [] h k d lt = absurd (omega arith)
-all_from_in P (x ∷ xs) h zero d lt = h x (inl refl)
-all_from_in P (x ∷ xs) h (suc k) d lt = all_from_in P xs (λ y i. h y (inr i)) k d (omega arith)
-
-pub in_from_all : {X : Type 0} (P : X → Type 0) (xs : List X) → All P xs → (x : X) → IsIn x xs → P x
-in_from_all P [] h x i = absurd i
-in_from_all P (y ∷ ys) h x (inl e) = subst P (sym e) (h 0 y (omega arith))
-in_from_all P (y ∷ ys) h x (inr i) = in_from_all P ys (λ k d lt. h (suc k) d (omega arith)) x i
-
-pub to_contains : {X : Type 0} (xs : List X) (x : X) → IsIn x xs → Contains xs x
-to_contains xs x i = let r = place_of xs x x i in (r.0, r.1, r.2)
-
-pub from_contains : {X : Type 0} (xs : List X) (x : X) → Contains xs x → IsIn x xs
-from_contains {X} xs x h = subst (λ (y : X). IsIn y xs) h.2 (in_at xs h.0 x h.1)
 
 -- ---- filters
 filter_more_from : (p : ℕ → Bool) (n a j : ℕ) → a + n ≡ j →
@@ -134,21 +101,6 @@ rises_at (x ∷ xs) zero (suc k) d r lt kn = r.0 (slice_index_or xs k d) (in_at 
 rises_at (x ∷ xs) (suc j) zero d r lt kn = absurd (omega arith)
 rises_at (x ∷ xs) (suc j) (suc k) d r lt kn = rises_at xs j k d r.1 (omega arith) (omega arith)
 
--- ---- lists put together
-pub into_flat : {X Y : Type 0} (f : X → List Y) (xs : List X) (x : X) (y : Y) → IsIn x xs → IsIn y (f x) →
-    IsIn y (flat_map f xs)
-into_flat f [] x y i j = absurd i
-into_flat {X} {Y} f (z ∷ zs) x y (inl e) j = left_append (f z) (flat_map f zs) y (subst (λ (x : X). IsIn y (f x)) e j)
-into_flat f (z ∷ zs) x y (inr i) j = right_append (f z) (flat_map f zs) y (into_flat f zs x y i j)
-
-pub from_flat : {X Y : Type 0} (f : X → List Y) (xs : List X) (y : Y) → IsIn y (flat_map f xs) →
-    (x : X) × IsIn x xs × IsIn y (f x)
-from_flat f [] y i = absurd i
-from_flat f (z ∷ zs) y i = elim (from_append (f z) (flat_map f zs) y i) [
-  | inl j ↦ (z, inl refl, j)
-  | inr j ↦ let r = from_flat f zs y j in (r.0, inr r.1, r.2)
-]
-
 -- ---- choices
 pub same_or_not : (xs ys : List ℕ) → (xs ≡ ys) ⊎ (xs ≢ ys)
 same_or_not [] [] = inl refl
@@ -188,10 +140,6 @@ in_or_not x (y ∷ ys) = go (equal_or_not x y) (in_or_not x ys)
     go (inl e) q = inl (inl e)
     go (inr n) (inl i) = inl (inr i)
     go (inr m) (inr n) = inr (neither m n)
-
-pub map-append : {X Y : Type 0} (f : X → Y) (xs ys : List X) → map f (xs ++ ys) ≡ map f xs ++ map f ys
-map-append f [] ys = refl
-map-append f (x ∷ xs) ys = ap (λ zs. f x ∷ zs) (map-append f xs ys)
 
 -- a slice that was lent and given back
 pub handed : {X : Type 0} (xs ys : List X) (n : ℕ) → length xs ≡ n → take n (xs ++ ys) ≡ xs

@@ -5,9 +5,9 @@ use Rattle.std.proofs.lemmas.List.FromFn.{length-range_with_len}
 use Rattle.dsa_terms.specs.Buffers.{Instance, buffer, is_live}
 use Rattle.dsa_terms.specs.Parts.{numbers}
 use Rattle.dsa_terms.proofs.Lists.{length-filter_le}
+use Rattle.dsa_terms.proofs.Places.{all_from_in}
 use Rattle.lifetime.specs.SectionList.{AreSectionsOf, SectionList, count_of, live_at, members_of, start_of}
 use Rattle.lifetime.proofs.Belonging.{from_live}
-use Rattle.lifetime.proofs.Lists.{all_from_in}
 
 pub members_in_range : (I : Instance) (S : SectionList) (s : ℕ) (members : List ℕ) → AreSectionsOf I S →
     s < count_of S → members ≡ members_of S s → All (λ b. b < length I) members

@@ -1,19 +1,20 @@
 -- Filling the lists of places.
 use Rattle.std.proofs.Common.{◌≡◌, ◌≢◌, ℕ, zero, suc, ◌+◌, ◌<◌, ◌≤◌, ◌==◌, ◌⊎◌, inl, inr, true, false, cond, List, [], ◌∷◌, ◌++◌, length, map, filter, drop, slice_index_or, slice_set, refl, sym, ap, ◌∙◌, subst, arith, append-nil}
 use Rattle.std.proofs.lemmas.Bool.Decides.{nat_tests}
-use Rattle.std.proofs.lemmas.List.{drop_all, get_or-set_same, get_or-set_other, length-map, length-set}
+use Rattle.std.proofs.lemmas.List.{drop_all, get_or-set_same, get_or-set_other, length-map, length-set, drop_more, map-append}
 use Rattle.std.proofs.lemmas.List.FromFn.{fill_by_all, get_or-map-range_with_len, length-map-range_with_len, map-range_with_len_more}
 use Rattle.std.specs.Global.{Vec}
 use Rattle.std.specs.List.{All}
 use Rattle.dsa_terms.specs.Claims.{IsIn, Rises}
 use Rattle.dsa_terms.specs.Parts.{has, numbers}
+use Rattle.dsa_terms.proofs.NumberTests.{same_or_not}
 use Rattle.dsa_model.specs.Lists.{items_of}
 use Rattle.lifetime.specs.Edges.{has_member}
 use Rattle.lifetime.specs.Places.{HasMembersBelow, ends_with}
 use Rattle.lifetime.specs.SectionList.{Section, no_section}
 use Rattle.lifetime.specs.Views.{section_of}
 use Rattle.lifetime.specs.declared.section_list.Section.{Section as Declared}
-use Rattle.lifetime.proofs.Lists.{below, filter_more, map-append}
+use Rattle.lifetime.proofs.Lists.{below, filter_more}
 
 -- s put last in the list where b is one of the members
 abbrev pub with_last : List ℕ → ℕ → ℕ → List ℕ → List ℕ
@@ -29,11 +30,6 @@ pub record IsNoting (members : List ℕ) (s i : ℕ) (old lists : List (Vec ℕ)
 pub none_noted : (members : List ℕ) (s : ℕ) (old : List (Vec ℕ)) → IsNoting members s 0 old old
 none_noted members s old = record { count = refl; left = λ b d lt. refl }
 
-pub drop_at : (xs : List ℕ) (i : ℕ) → i < length xs → drop i xs ≡ slice_index_or xs i 0 ∷ drop (i + 1) xs
-drop_at [] i lt = absurd (omega arith)
-drop_at (x ∷ xs) zero lt = refl
-drop_at (x ∷ xs) (suc i) lt = let k : suc i + 1 ≡ suc (i + 1) = omega arith in rw k (drop_at xs i (omega arith))
-
 pub rises_drop : (xs : List ℕ) (i : ℕ) → Rises xs → Rises (drop i xs)
 rises_drop xs zero r = r
 rises_drop [] (suc i) r = tt
@@ -47,9 +43,6 @@ not_among (y ∷ ys) x h = let k = h y (inl refl) in rw (differs y x k) (not_amo
     differs : (y x : ℕ) → x < y → (y == x) ≡ false
     differs y x h = grind (arith, nat_tests)
 
-equal_or_not : (m n : ℕ) → (m ≡ n) ⊎ (m ≢ n)
-equal_or_not m n = grind arith
-
 pub noted_more : (members : List ℕ) (s i x : ℕ) (old lists more : List (Vec ℕ)) (v w : Vec ℕ) → Rises members →
     IsNoting members s i old lists → i < length members → x ≡ slice_index_or members i 0 →
     x < length old → w ≡ slice_index_or lists x w → v.items ≡ w.items ++ s ∷ [] → more ≡ slice_set lists x v →
@@ -58,11 +51,11 @@ unfolding has
 noted_more members s i x old lists more v w r n lt at xn is pushed e = record {
   count = ap length e ∙ (length-set lists x v ∙ n.count);
   left = λ b d bn. n.left b d bn ∙ (ap (λ ms. with_last ms s b (slice_index_or lists b d).items) dropped ∙ step b d bn
-      (equal_or_not b x));
+      (same_or_not b x));
 }
   where
     dropped : drop i members ≡ x ∷ drop (i + 1) members
-    dropped = rw at (drop_at members i lt)
+    dropped = rw at (drop_more members i 0 lt)
 
     later : has x (drop (i + 1) members) ≡ false
     later = not_among (drop (i + 1) members) x (rw dropped at (rises_drop members i r)).0

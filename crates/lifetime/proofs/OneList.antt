@@ -5,12 +5,13 @@ use Rattle.dsa_terms.specs.Buffers.{Instance, buffer, is_live}
 use Rattle.dsa_terms.specs.Claims.{IsIn, Rises}
 use Rattle.dsa_terms.specs.Parts.{numbers}
 use Rattle.dsa_terms.proofs.Lists.{from_map, into_map, nil_or_not}
+use Rattle.dsa_terms.proofs.Places.{any_default, in_at, place_of}
+use Rattle.dsa_terms.proofs.NumberTests.{below_or_from}
 use Rattle.lifetime.specs.Determined.{AreSections}
 use Rattle.lifetime.specs.Runs.{starts_of}
 use Rattle.lifetime.specs.SectionList.{AreSectionsOf, Section, SectionList, count_of, live_at, members_of, no_section, section_with, sections_of, start_of}
 use Rattle.lifetime.specs.Thin.{AreAmong, IsBetween, StandsFor}
 use Rattle.lifetime.proofs.Among.{among_trans, same_members}
-use Rattle.lifetime.proofs.Lists.{any_default, in_at, place_of}
 use Rattle.lifetime.proofs.Live.{from_live, rises_live}
 use Rattle.lifetime.proofs.Standing.{between_ends}
 
@@ -25,15 +26,12 @@ carried I t u k first second w h = elim (parted w h) [
   | inr far ↦ second w far
 ]
   where
-    cases : (m n : ℕ) → (m < n) ⊎ (n ≤ m)
-    cases m n = grind arith
-
     parted : (w : ℕ) → IsBetween t k w → IsBetween t u w ⊎ IsBetween u k w
-    parted w (inl h) = elim (cases w u) [
+    parted w (inl h) = elim (below_or_from w u) [
       | inl lt ↦ inl (inl (h.0, (omega arith)))
       | inr le ↦ inr (inl (le, h.1))
     ]
-    parted w (inr h) = elim (cases u w) [
+    parted w (inr h) = elim (below_or_from u w) [
       | inl lt ↦ inl (inr ((omega arith), h.1))
       | inr le ↦ inr (inr (h.0, le))
     ]

@@ -5,11 +5,13 @@ use Rattle.dsa_terms.specs.Claims.{IsIn, Rises}
 use Rattle.dsa_terms.specs.Parts.{has, numbers}
 use Rattle.dsa_model.specs.Lists.{pair_at}
 use Rattle.dsa_terms.proofs.Lists.{from_filter, has_in, in_has}
+use Rattle.dsa_terms.proofs.Places.{place_of}
+use Rattle.dsa_terms.proofs.NumberTests.{below_or_from, below_or_last, same_or_not}
 use Rattle.lifetime.specs.Edges.{AreEdges, IsAfter, IsPassed, edge_moments}
 use Rattle.lifetime.specs.Runs.{live_before, was_live}
 use Rattle.lifetime.specs.SectionList.{live_at}
 use Rattle.lifetime.specs.Switching.{IsSwitched}
-use Rattle.lifetime.proofs.Lists.{among, below, filter_differs, filter_same, in_or_not, place_of, rises-numbers}
+use Rattle.lifetime.proofs.Lists.{among, below, filter_differs, filter_same, in_or_not, rises-numbers}
 use Rattle.lifetime.proofs.Stays.{quiet}
 use Rattle.lifetime.proofs.Switching.{filter_is, has_filter}
 
@@ -58,12 +60,6 @@ none_passed I edges first t live lt e = record {
   differs = λ h. absurd cc;
 }
 
-split : (k n : ℕ) → k < n + 1 → (k < n) ⊎ (k ≡ n)
-split k n h = grind arith
-
-equal_or_not : (m n : ℕ) → (m ≡ n) ⊎ (m ≢ n)
-equal_or_not m n = grind arith
-
 -- one more edge has been passed: whether its buffer is live has been brought up to date
 pub pass_more : (I : Instance) (edges : List (ℕ × ℕ)) (first t next : ℕ) (changed more lives : Bool)
     (live now : List ℕ) (e : ℕ × ℕ) → IsPassing I edges first t next changed live →
@@ -74,27 +70,27 @@ pub pass_more : (I : Instance) (edges : List (ℕ × ℕ)) (first t next : ℕ) 
     IsPassing I edges first t (next + 1) more now
 pass_more I edges first t next changed more lives live now e p lt at here in_range is s same differs = record {
   rises = s.rises;
-  in_range = λ b i. elim (equal_or_not b e.1) [
+  in_range = λ b i. elim (same_or_not b e.1) [
     | inl h ↦ (let k = in_range in omega arith)
     | inr h ↦ p.in_range b (has_in b live (sym (s.others b h) ∙ in_has b now i))
   ];
   begun = let k = p.begun in omega arith;
   within = omega arith;
-  at_moment = λ k low high. elim (split k next high) [
+  at_moment = λ k low high. elim (below_or_last k next high) [
     | inl h ↦ p.at_moment k low h
     | inr h ↦ subst
         (λ (k : ℕ). (pair_at edges k).0 ≡ t) (sym h) (ap (λ (e : ℕ × ℕ). e.0) (sym at) ∙ here)
   ];
-  touched = λ k low high. elim (split k next high) [
+  touched = λ k low high. elim (below_or_last k next high) [
     | inl h ↦ kept (pair_at edges k).1 (p.touched k low h)
     | inr h ↦ subst (λ (k : ℕ). has (pair_at edges k).1 now ≡ is_live (buffer I (pair_at edges k).1) t) (sym h)
         (subst (λ (f : ℕ × ℕ). has f.1 now ≡ is_live (buffer I f.1) t) at (s.own ∙ is))
   ];
-  others = λ b bn. elim (equal_or_not b e.1) [
+  others = λ b bn. elim (same_or_not b e.1) [
     | inl h ↦ inr (subst (λ (b : ℕ). has b now ≡ is_live (buffer I b) t) (sym h) (s.own ∙ is))
     | inr h ↦ elim (p.others b bn) [ inl q ↦ inl (s.others b h ∙ q) | inr q ↦ inr (s.others b h ∙ q) ]
   ];
-  same = λ f b bn. elim (equal_or_not b e.1) [
+  same = λ f b bn. elim (same_or_not b e.1) [
     | inl h ↦ subst (λ (b : ℕ). has b now ≡ was_live (buffer I b) t) (sym h)
         (s.own ∙ (sym (same f).1 ∙ p.same (same f).0 e.1 in_range))
     | inr h ↦ s.others b h ∙ p.same (same f).0 b bn
@@ -111,7 +107,7 @@ pass_more I edges first t next changed more lives live now e p lt at here in_ran
 }
   where
     kept : (b : ℕ) → has b live ≡ is_live (buffer I b) t → has b now ≡ is_live (buffer I b) t
-    kept b h = elim (equal_or_not b e.1) [
+    kept b h = elim (same_or_not b e.1) [
       | inl k ↦ subst (λ (b : ℕ). has b now ≡ is_live (buffer I b) t) (sym k) (s.own ∙ is)
       | inr k ↦ s.others b k ∙ h
     ]
@@ -154,7 +150,7 @@ pub record HasPassed (I : Instance) (edges : List (ℕ × ℕ)) (first t next : 
 
 pub passed_later : (I : Instance) (edges : List (ℕ × ℕ)) (first t next : ℕ) (changed : Bool) (live : List ℕ) →
     HasPassed I edges first t next changed live → first < next
-passed_later I edges first t next changed live h = go (equal_or_not first next)
+passed_later I edges first t next changed live h = go (same_or_not first next)
   where
     go : (first ≡ next) ⊎ (first ≢ next) → first < next
     go (inr n) = let k = h.passing.begun in omega arith
@@ -169,11 +165,8 @@ passed_after I edges first t next changed live h = record {
   later = later;
 }
   where
-    cases : (m n : ℕ) → (m < n) ⊎ (n ≤ m)
-    cases m n = grind arith
-
     passed : (k : ℕ) → k < next → (pair_at edges k).0 ≤ t
-    passed k lt = elim (cases k first) [
+    passed k lt = elim (below_or_from k first) [
       | inl q ↦ let z = h.fresh k q in omega arith
       | inr q ↦ let z = h.passing.at_moment k q lt in omega arith
     ]
@@ -196,9 +189,6 @@ passed_has I edges first t next changed live h b bn = elim (in_or_not t (edge_mo
   | inr n ↦ elim (h.passing.others b bn) [ inl q ↦ q ∙ sym (quiet (buffer I b) t n) | inr q ↦ q ]
 ]
   where
-    cases : (m n : ℕ) → (m < n) ⊎ (n ≤ m)
-    cases m n = grind arith
-
     at_edge : (b : ℕ) → (k : ℕ) × (k < length edges) × (slice_index_or edges k (0, 0) ≡ (t, b)) →
         has b live ≡ is_live (buffer I b) t
     at_edge b r = subst (λ (b : ℕ). has b live ≡ is_live (buffer I b) t) number (h.passing.touched r.0 low high)
@@ -210,14 +200,14 @@ passed_has I edges first t next changed live h b bn = elim (in_or_not t (edge_mo
         moment = ap (λ (e : ℕ × ℕ). e.0) r.2
 
         low : first ≤ r.0
-        low = elim (cases r.0 first) [
+        low = elim (below_or_from r.0 first) [
           | inl q ↦ absurd (let z = h.fresh r.0 q in let m = moment in omega arith)
           | inr q
               ↦ q
         ]
 
         high : r.0 < next
-        high = elim (cases r.0 next) [
+        high = elim (below_or_from r.0 next) [
           | inl q ↦ q
           | inr q ↦ absurd
               (let z = (passed_after I edges first t next changed live h).later r.0 q r.1 in let m = moment in omega

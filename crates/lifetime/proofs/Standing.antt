@@ -5,12 +5,14 @@ use Rattle.dsa_terms.specs.Buffers.{Instance, IsLive, buffer}
 use Rattle.dsa_terms.specs.Claims.{IsIn}
 use Rattle.dsa_terms.specs.Plans.{IsPeak, load}
 use Rattle.dsa_terms.proofs.Lists.{from_map, into_map}
+use Rattle.dsa_terms.proofs.Places.{place_of}
+use Rattle.dsa_terms.proofs.NumberTests.{below_or_from}
 use Rattle.dsa_model.specs.Buffer.{IsBuffer}
 use Rattle.lifetime.specs.Runs.{ArePlainRuns, BeginsRun}
 use Rattle.lifetime.specs.SectionList.{Section, SectionList, count_of, live_at, no_section, members_of, start_of}
 use Rattle.lifetime.specs.Thin.{AreAmong, IsThinnedTo, IsBetween, StandForAll, StandsFor, StandsIn}
 use Rattle.lifetime.proofs.Among.{equal_or_less}
-use Rattle.lifetime.proofs.Lists.{place_of, same_or_not}
+use Rattle.lifetime.proofs.Lists.{same_or_not}
 use Rattle.lifetime.proofs.Live.{before_suc, before_zero, from_live, into_live, not_nil, rises_live, size_positive}
 use Rattle.lifetime.proofs.Loads.{load_is}
 
@@ -111,13 +113,10 @@ module _ (I : Instance) (runs : List Section) (S : SectionList) (plain : ArePlai
 
   -- the runs of two moments lie as these do
   same_order : (t u r q : ℕ) → IsRunOf I t r → IsRunOf I u q → t ≤ u → r ≤ q
-  same_order t u r q a b le = elim (cases q r) [
+  same_order t u r q a b le = elim (below_or_from q r) [
     | inl lt ↦ absurd (b.none r lt (let k = a.before in omega arith) a.begins)
     | inr ge ↦ ge
   ]
-    where
-      cases : (m n : ℕ) → (m < n) ⊎ (n ≤ m)
-      cases m n = grind arith
 
   own_run : (t : ℕ) → BeginsRun I t → IsRunOf I t t
   own_run t h = record {

@@ -4,8 +4,7 @@ use Rattle.std.proofs.lemmas.Bool.Decides.{nat_tests}
 use Rattle.std.specs.List.{list_any}
 use Rattle.dsa_terms.specs.Buffers.{Buffer, is_live, is_within}
 use Rattle.dsa_terms.specs.Claims.{IsIn}
-use Rattle.dsa_terms.proofs.Lists.{true_or_false}
-use Rattle.dsa_terms.proofs.Moments.{live_at_or_after}
+use Rattle.dsa_model.proofs.Live.{not_live_before}
 use Rattle.lifetime.specs.Edges.{edge_moments, gap_ends}
 use Rattle.lifetime.specs.Runs.{was_live}
 
@@ -44,16 +43,10 @@ stays_over b t (suc k) h =
     ∙ (live_stays b (t + k) (h (suc (t + k)) (omega arith) (omega arith)) ∙ stays_over b t k
     (λ u low high. h u low (omega arith)))
 
-pub not_before : (b : Buffer) (t : ℕ) → t < b.lower → is_live b t ≡ false
-not_before b t lt = elim (true_or_false (is_live b t)) [
-  | inl h ↦ absurd (let k : b.lower ≤ t = live_at_or_after b t h in omega arith)
-  | inr h ↦ h
-]
-
 -- at a moment without an edge the buffer is live where it was
 pub quiet : (b : Buffer) (t : ℕ) → (IsIn t (edge_moments b) → ⊥) → is_live b t ≡ was_live b t
 unfolding was_live
-quiet b zero h = not_before b 0 (positive b.lower (λ e. h (inl e)))
+quiet b zero h = not_live_before b 0 (positive b.lower (λ e. h (inl e)))
   where
     positive : (n : ℕ) → 0 ≢ n → 0 < n
     positive n h = grind arith
@@ -72,4 +65,4 @@ was_live_after b t (suc next) lt h =
 pub not_live_before_lower : (b : Buffer) (t : ℕ) → t ≤ b.lower → was_live b t ≡ false
 unfolding was_live
 not_live_before_lower b zero le = refl
-not_live_before_lower b (suc t) le = not_before b t (omega arith)
+not_live_before_lower b (suc t) le = not_live_before b t (omega arith)

@@ -5,11 +5,15 @@ use Rattle.dsa_terms.specs.Claims.{IsIn}
 use Rattle.dsa_terms.specs.Parts.{numbers}
 use Rattle.dsa_model.specs.Lists.{pair_at}
 use Rattle.dsa_terms.proofs.Lists.{from_append, nil_or_not, left_append, right_append}
+use Rattle.dsa_terms.proofs.Places.{place_of}
+use Rattle.dsa_terms.proofs.NumberTests.{below_or_from}
+use Rattle.dsa_model.proofs.Live.{not_live_before}
+use Rattle.std.proofs.lemmas.List.{map-append}
 use Rattle.lifetime.specs.Edges.{AreEdges, AreRunsBefore, IsPassed, edge_moments}
 use Rattle.lifetime.specs.Runs.{BeginsRun, live_before, starts_of, was_live}
 use Rattle.lifetime.specs.SectionList.{Section, live_at}
-use Rattle.lifetime.proofs.Lists.{below, filter_same, map-append, place_of, rises-push}
-use Rattle.lifetime.proofs.Stays.{not_before, not_live_before_lower, quiet, was_live_after}
+use Rattle.lifetime.proofs.Lists.{below, filter_same, rises-push}
+use Rattle.lifetime.proofs.Stays.{not_live_before_lower, quiet, was_live_after}
 
 -- what is known before the edges from the next on
 pub record IsSweeping (I : Instance) (edges : List (ℕ × ℕ)) (next : ℕ) (live : List ℕ) (sections : List Section) :
@@ -19,9 +23,6 @@ pub record IsSweeping (I : Instance) (edges : List (ℕ × ℕ)) (next : ℕ) (l
   pub were : next < length edges → live ≡ live_before I (pair_at edges next).0
   pub runs : AreRunsBefore I edges next sections
   pub limit : length sections ≤ next
-
-cases : (m n : ℕ) → (m < n) ⊎ (n ≤ m)
-cases m n = grind arith
 
 which : (m n : ℕ) → (m < n) ⊎ ((m ≡ n) ⊎ (n < m))
 which m n = grind arith
@@ -44,7 +45,7 @@ nothing_before I edges t a h = none (numbers (length I)) (λ b i. i)
     dead b bn =
         let r = edge_place I edges b (buffer I b).lower a bn (inl refl) in
         let k = h r.0 r.1 in let e = r.2 in
-        not_before (buffer I b) t (omega arith)
+        not_live_before (buffer I b) t (omega arith)
 
     none : (bs : List ℕ) → ((b : ℕ) → IsIn b bs → IsIn b (numbers (length I))) →
         filter (λ b. is_live (buffer I b) t) bs ≡ []
@@ -118,7 +119,7 @@ module _ (I : Instance) (edges : List (ℕ × ℕ)) (first next : ℕ) (live now
   -- where a run begins before the next edges it begins before this moment or at it
   none_between : (t : ℕ) → (pair_at edges first).0 < t →
       ((k : ℕ) → next ≤ k → k < length edges → t < (pair_at edges k).0) → live_at I t ≡ live_before I t
-  none_between t low high = stays_at I edges t m.edges_of_it (λ k lt. elim (cases k next) [
+  none_between t low high = stays_at I edges t m.edges_of_it (λ k lt. elim (below_or_from k next) [
     | inl q ↦ (λ e. let z = m.passed.after.passed k q in absurd (omega arith))
     | inr q ↦ (λ e. let z = high k q lt in absurd (omega arith))
   ])
@@ -215,7 +216,7 @@ module _ (I : Instance) (edges : List (ℕ × ℕ)) (first next : ℕ) (live now
           IsIn u (edge_moments (buffer I b)) → ⊥
       between b bn u low high i =
           let r = edge_place I edges b u m.edges_of_it bn i in
-          elim (cases r.0 next) [
+          elim (below_or_from r.0 next) [
             | inl q ↦ (let z = m.passed.after.passed r.0 q in let e = r.2 in absurd (omega arith))
             | inr q ↦ (let z = m.edges_of_it.sorted next r.0 (0, 0) q r.1 in let e = r.2 in absurd (omega arith))
           ]

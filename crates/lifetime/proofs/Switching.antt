@@ -9,9 +9,11 @@ use Rattle.std.specs.Ordering.{nat_cmp, ordering_index}
 use Rattle.dsa_terms.specs.Claims.{IsIn, Rises}
 use Rattle.dsa_terms.specs.Parts.{has, numbers}
 use Rattle.dsa_terms.proofs.Lists.{from_filter, has_in, in_has, into_filter, true_or_false}
+use Rattle.dsa_terms.proofs.Places.{in_at, place_of}
+use Rattle.dsa_terms.proofs.NumberTests.{below_or_from}
 use Rattle.lifetime.specs.Switching.{IsSwitched}
 use Rattle.lifetime.proofs.Among.{same_members}
-use Rattle.lifetime.proofs.Lists.{among, below, in_at, place_of, rises-numbers, rises_at}
+use Rattle.lifetime.proofs.Lists.{among, below, rises-numbers, rises_at}
 
 -- ---- tests of membership
 pub has_is : (xs : List ℕ) (b : ℕ) (p : Bool) → (IsIn b xs → p ≡ true) → (p ≡ true → IsIn b xs) → has b xs ≡ p
@@ -141,14 +143,11 @@ has_found xs b place s = in_has b xs (subst (λ (c : ℕ). IsIn c xs) s.here (in
 has_none : (xs : List ℕ) (b place : ℕ) → WouldStandAt xs b place → has b xs ≡ false
 has_none xs b place s = has_is xs b false (λ i. absurd (not_in i)) (λ h. absurd cc)
   where
-    cases : (m n : ℕ) → (m < n) ⊎ (n ≤ m)
-    cases m n = grind arith
-
     not_in : IsIn b xs → ⊥
     not_in i =
         let q = place_of xs b 0 i in
         let e = q.2 in
-        elim (cases q.0 place) [
+        elim (below_or_from q.0 place) [
           | inl lt ↦ (let k = s.less q.0 q.1 lt in absurd (omega arith))
           | inr le ↦ (let k = s.greater q.0 q.1 le in absurd (omega arith))
         ]

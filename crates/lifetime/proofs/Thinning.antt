@@ -4,12 +4,12 @@ use Rattle.std.proofs.lemmas.List.{drop_all, length-map, length-take-le, reverse
 use Rattle.std.specs.List.{All, slice_get}
 use Rattle.dsa_terms.specs.Claims.{Rises}
 use Rattle.dsa_terms.proofs.Lists.{left_append, right_append}
+use Rattle.dsa_terms.proofs.Places.{all_from_in, in_from_all}
 use Rattle.lifetime.specs.Runs.{starts_of}
 use Rattle.lifetime.specs.SectionList.{Section, no_section}
 use Rattle.lifetime.specs.Thin.{AreAmong, IsThinnedTo, last_of}
 use Rattle.lifetime.specs.Views.{section_of}
 use Rattle.lifetime.specs.declared.section_list.Section.{Section as Declared}
-use Rattle.lifetime.proofs.Lists.{all_from_in, in_from_all}
 use Rattle.lifetime.proofs.Stretches.{AreApart, AreStretches, IsAbove, IsNotOver, IsPopping, left_out, none_popped, popped, pushed}
 use Rattle.lifetime.proofs.KeptStretches.{chosen, into_reverse, kept_of_all}
 

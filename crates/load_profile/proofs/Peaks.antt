@@ -7,6 +7,7 @@ use Rattle.dsa_terms.specs.Claims.{IsIn}
 use Rattle.dsa_terms.specs.Parts.{numbers}
 use Rattle.dsa_terms.specs.Plans.{IsPeak, load}
 use Rattle.dsa_terms.proofs.Lists.{nil_or_not}
+use Rattle.dsa_terms.proofs.NumberTests.{below_or_from, same_or_not}
 use Rattle.dsa_model.specs.Buffer.{IsBuffer}
 use Rattle.lifetime.specs.SectionList.{AreSectionsOf, Section, SectionList, count_of, live_at, members_of, no_section, start_of}
 use Rattle.lifetime.proofs.Belonging.{from_live}
@@ -40,20 +41,17 @@ least_with : (I : Instance) (M s : ℕ) → load I s ≡ M →
 least_with I M zero e = (0, omega arith, e, λ v lt. absurd (omega arith))
 least_with I M (suc s) e = go (search_from s)
   where
-    equal_or_not : (m n : ℕ) → (m ≡ n) ⊎ (m ≢ n)
-    equal_or_not m n = grind arith
-
     split : (v s : ℕ) → v < suc s → (v < s) ⊎ (v ≡ s)
     split v s h = grind arith
 
     -- a moment up to k with this load, or none
     search_from : (k : ℕ) → ((u : ℕ) × (u ≤ k) × (load I u ≡ M) × ((v : ℕ) → v < u → load I v ≢ M)) ⊎
         ((v : ℕ) → v ≤ k → load I v ≢ M)
-    search_from zero = elim (equal_or_not (load I 0) M) [
+    search_from zero = elim (same_or_not (load I 0) M) [
       | inl q ↦ inl (0, omega arith, q, λ v lt. absurd (omega arith))
       | inr q ↦ inr (λ v le. subst (λ (v : ℕ). load I v ≢ M) (let z : 0 ≡ v = omega arith in z) q)
     ]
-    search_from (suc k) = step (search_from k) (equal_or_not (load I (suc k)) M)
+    search_from (suc k) = step (search_from k) (same_or_not (load I (suc k)) M)
       where
         step : ((u : ℕ) × (u ≤ k) × (load I u ≡ M) × ((v : ℕ) → v < u → load I v ≢ M)) ⊎
             ((v : ℕ) → v ≤ k → load I v ≢ M) → (load I (suc k) ≡ M) ⊎ (load I (suc k) ≢ M) →
@@ -124,11 +122,8 @@ module _ (I : Instance) (S : SectionList) (a : AreSectionsOf I S) where
         | inr r ↦ no_member e r.0 (from_live I (start_of S g.place) r.0 (rw (a.live g.place g.in_range) at r.1)).0
       ]
 
-      cases : (m n : ℕ) → (m < n) ⊎ (n ≤ m)
-      cases m n = grind arith
-
       earliest : (s : ℕ) → s < p.0 → load I s < load I p.0
-      earliest s lt = elim (cases (load I s) (load I p.0)) [ inl q ↦ q | inr q ↦ absurd (late q) ]
+      earliest s lt = elim (below_or_from (load I s) (load I p.0)) [ inl q ↦ q | inr q ↦ absurd (late q) ]
         where
           late : load I p.0 ≤ load I s → ⊥
           late le = early (least_with I (load I p.0) s (let k = at_most p.1 g.most s in let z = is_load in omega arith))
@@ -145,10 +140,10 @@ module _ (I : Instance) (S : SectionList) (a : AreSectionsOf I S) where
                   }
 
                   found : (w : ℕ) × (w < count_of S) × (start_of S w ≡ r.0) → ⊥
-                  found w = elim (cases w.0 g.place) [
+                  found w = elim (below_or_from w.0 g.place) [
                     | inl b ↦ (let k = g.first w.0 b in let e = load_at w.0 w.1 in let f : load I (start_of S w.0) ≡
                         load I r.0 = ap (load I) w.2 in let z = is_load in let d = r.2 in omega arith)
-                    | inr b ↦ elim (cases g.place w.0) [
+                    | inr b ↦ elim (below_or_from g.place w.0) [
                       | inl c ↦ (let k = a.rise g.place w.0 c w.1 in let e = w.2 in let f = g.start in let l = r.1 in
                           omega arith)
                       | inr c ↦ (

@@ -21,7 +21,7 @@ use Rattle.log_check.specs.declared.fault.CheckFault.{CheckFault}
 use Rattle.log_check.specs.declared.fault.CheckFault.TheVariants as fault
 use Rattle.log_check.specs.Faults.{line_of, has_own_cites, raw_reason, reason_at, illegal_at, illegal_fault, end_fault, check_fault}
 use Rattle.dsa_model.proofs.Ranges.{find_none}
-use Rattle.refute_log.proofs.Legal.{neither}
+use Rattle.dsa_model.proofs.Faults.{neither}
 use Rattle.log_check.proofs.Options.{none_of_three, none_from}
 use Rattle.log_check.proofs.Texts.{line_back, own_cites}
 

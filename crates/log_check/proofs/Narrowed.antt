@@ -7,10 +7,11 @@ use Rattle.dsa_terms.specs.Claims.{Claim, Entry, IsIn, Rises, buffers_of}
 use Rattle.dsa_terms.specs.Logs.{Line, Cases, Below, Twin, claim_of, ends_below, is_twin}
 use Rattle.dsa_terms.specs.Firsts.{when}
 use Rattle.dsa_terms.specs.Parts.{is_empty}
-use Rattle.dsa_terms.proofs.Lists.{any_gives, into_map}
+use Rattle.dsa_terms.proofs.Lists.{any_gives, into_map, true_or_false}
 use Rattle.dsa_terms.proofs.Moments.{and_true}
 use Rattle.canonical_order.specs.Claims.{IsBoundedBy}
 use Rattle.dsa_terms.proofs.NumberTests.{equal}
+use Rattle.dsa_model.proofs.Faults.{neither}
 use Rattle.canonical_order.proofs.CoverLemmas.{length_within}
 use Rattle.refute_log.specs.Lines as lines
 use Rattle.refute_log.specs.Lines.{cite_value}
@@ -24,16 +25,12 @@ use Rattle.log_text.specs.declared.raw.RawCite.{RawCite}
 use Rattle.log_text.specs.declared.raw.RawCite.TheVariants as raw_cite
 use Rattle.log_check.specs.Faults.{cite_of, line_of, has_own_cites, raw_reason}
 use Rattle.log_check.specs.Narrowing.{IsNarrowed, narrow_cite, narrow_line}
-use Rattle.refute_log.proofs.Legal.{neither, so}
+use Rattle.refute_log.proofs.Legal.{so}
 use Rattle.log_check.proofs.Options.{none_of_two, third}
 
 -- the claim's buffers are below that number
 abbrev pub IsBelow : ℕ → Claim → Type 0
 IsBelow n l = (e : Entry) → IsIn e l → e.0 < n
-
-true_or_false : (b : Bool) → (b ≡ true) ⊎ (b ≡ false)
-true_or_false true = inl refl
-true_or_false false = inr refl
 
 -- ---- other buffers that are cited
 fits : (c : ℕ) → (min c (2 ^ 32 - 1) ≡ c) ⊎ ((512 ≤ c) × (512 ≤ min c (2 ^ 32 - 1)))

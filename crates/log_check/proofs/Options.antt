@@ -2,9 +2,9 @@
 use Rattle.std.proofs.Common.{◌≡◌, ℕ, zero, suc, ◌+◌, ◌<◌, [], ◌∷◌, Option, Some, None, refl, arith}
 use Rattle.std.specs.Option.{option_or}
 use Rattle.std.specs.List.{range_with_len}
-use Rattle.refute_log.proofs.Legal.{neither}
 use Rattle.dsa_terms.specs.Firsts.{first_fault}
 use Rattle.dsa_terms.specs.Search.{first_some}
+use Rattle.dsa_model.proofs.Faults.{neither}
 
 -- where one of the first two is a fault, it is the first of three
 pub first_of_two : {F : Type 0} (a b c : Option F) (f : F) → first_fault (a ∷ b ∷ []) ≡ Some f →

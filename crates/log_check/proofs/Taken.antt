@@ -1,6 +1,7 @@
 -- Lines that are taken one after another.
 use Rattle.std.proofs.Common.{◌≡◌, ℕ, zero, suc, ◌+◌, ◌-◌, ◌<◌, ◌≤◌, List, [], ◌∷◌, ◌++◌, map, length, take, Some, None, slice_get, slice_index_or, option_map, refl, sym, ap, subst, ◌∙◌, arith}
 use Rattle.dsa_terms.specs.Buffers.{Instance}
+use Rattle.std.proofs.lemmas.List.{map-append, take_all}
 use Rattle.refute_log.specs.Logs.{Belongs, OpenLog}
 use Rattle.refute_log.specs.declared.reason.Reason.{Reason}
 use Rattle.log_text.specs.Text.{raw_line_of}
@@ -31,16 +32,6 @@ take_next xs k x h = rw (add_one k) (go xs k x h)
         take_zero [] x = refl
         take_zero (z ∷ zs) x = refl
     go (y ∷ ys) (suc k) x h = ap (λ zs. y ∷ zs) (go ys k x h)
-
-map_append : {X Y : Type 0} (f : X → Y) (xs ys : List X) → map f (xs ++ ys) ≡ map f xs ++ map f ys
-map_append f [] ys = refl
-map_append f (x ∷ xs) ys = ap (λ zs. f x ∷ zs) (map_append f xs ys)
-
-take_all : {X : Type 0} (xs : List X) (n : ℕ) → length xs ≤ n → take n xs ≡ xs
-take_all [] zero h = refl
-take_all [] (suc n) h = refl
-take_all (x ∷ xs) zero h = absurd (omega arith)
-take_all (x ∷ xs) (suc n) h = ap (λ ys. x ∷ ys) (take_all xs n (omega arith))
 
 -- the reason of the line that comes next
 at_next : (I : Instance) (C : ℕ) (lines : List RawLine) (n : ℕ) (log : OpenLog) (line : RawLine) →
@@ -82,12 +73,12 @@ next_taken I C lines n log new line lt at t none e text b =
         ap (λ v. v.capacity) t.taken,
         ap (λ v. v.lines) t.taken,
         k,
-        map_append line_of (take n lines) (line ∷ []),
+        map-append line_of (take n lines) (line ∷ []),
       ) refl;
       text = rw (
         k,
-        map_append line_of (take n lines) (line ∷ []),
-        map_append raw_line_of (map line_of (take n lines)) (line_of line ∷ []),
+        map-append line_of (take n lines) (line ∷ []),
+        map-append raw_line_of (map line_of (take n lines)) (line_of line ∷ []),
         t.text,
         text,
       ) refl;
@@ -112,8 +103,8 @@ pub all_are_taken : (I : Instance) (C : ℕ) (lines : List RawLine) (n : ℕ) (l
     IsTaken I C lines n log → log ≡ record { count = length I; capacity = C; lines = map line_of lines }
 all_are_taken I C lines n log le t = subst
     (λ ls. log ≡ record { count = length I; capacity = C; lines = map line_of ls })
-    (take_all lines n le) t.taken
+    (take_all n lines le) t.taken
 
 pub all_have_text : (I : Instance) (C : ℕ) (lines : List RawLine) (n : ℕ) (log : OpenLog) → length lines ≤ n →
     IsTaken I C lines n log → map raw_line_of (map line_of lines) ≡ lines
-all_have_text I C lines n log le t = subst (λ ls. map raw_line_of (map line_of ls) ≡ ls) (take_all lines n le) t.text
+all_have_text I C lines n log le t = subst (λ ls. map raw_line_of (map line_of ls) ≡ ls) (take_all n lines le) t.text

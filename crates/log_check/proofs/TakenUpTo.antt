@@ -1,6 +1,7 @@
 -- Lines that are taken from the front of the list of those that are left.
 use Rattle.std.proofs.Common.{◌≡◌, ℕ, ◌+◌, ◌<◌, ◌≤◌, List, [], ◌∷◌, ◌++◌, map, length, take, Some, None, slice_index_or, refl, sym, ap, subst, ◌∙◌, arith}
 use Rattle.dsa_terms.specs.Buffers.{Instance}
+use Rattle.std.proofs.lemmas.List.{length-map}
 use Rattle.refute_log.specs.Logs.{Belongs, OpenLog}
 use Rattle.refute_log.specs.declared.reason.Reason.{Reason}
 use Rattle.log_text.specs.Text.{raw_line_of}
@@ -54,10 +55,6 @@ next_in_front I C lines rest more log new line t e none made text b =
           (next_taken I C lines (length t.front) log new line (rw w p.0) (rw w p.1) t.are_taken none made text b);
     }
 
-length-map : {X Y : Type 0} (f : X → Y) (xs : List X) → length (map f xs) ≡ length xs
-length-map f [] = refl
-length-map f (x ∷ xs) = let h = length-map f xs in omega arith
-
 length_take : {X : Type 0} (xs ys : List X) → length (take (length xs) (xs ++ ys)) ≡ length xs
 length_take [] [] = refl
 length_take [] (y ∷ ys) = refl
@@ -68,7 +65,7 @@ count : (I : Instance) (C : ℕ) (lines rest : List RawLine) (log : OpenLog) (t 
     length log.lines ≡ length t.front
 count I C lines rest log t =
     ap (λ v. length v.lines) t.are_taken.taken
-    ∙ (length-map line_of (take (length t.front) lines)
+    ∙ (length-map (take (length t.front) lines) line_of
     ∙ (ap (λ ls. length (take (length t.front) ls)) t.whole ∙ length_take t.front rest))
 
 -- a line that is not legal

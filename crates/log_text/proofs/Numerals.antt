@@ -7,6 +7,7 @@ use Rattle.std.specs.Char.{digit_value}
 use Rattle.std.specs.Int.Digits.{AllBelowBase, digits_of, number_from_digits, number_from_digits_after}
 use Rattle.std.specs.List.{list_all}
 use Rattle.std.specs.Str.Parse.{digits_value}
+use Rattle.dsa_terms.proofs.Moments.{and_true}
 use Rattle.log_text.specs.Digits.{IsCanonical, is_digit}
 use Rattle.log_text.specs.Numerals.{numeral}
 
@@ -102,10 +103,6 @@ values_below (c ∷ cs) a = (below _ (and_true _ _ a).0, values_below cs (and_tr
   where
     below : (n : ℕ) → nat_lt n 10 ≡ true → n < 10
     below n h = grind (arith, nat_tests)
-
-    and_true : (a b : Bool) → (a && b) ≡ true → (a ≡ true) × (b ≡ true)
-    and_true true b h = (refl, h)
-    and_true false b h = absurd cc
 
 chars_back : (ds : List ℕ) → AllBelowBase 10 (map digit_value ds) → map (λ d. 48 + d) (map digit_value ds) ≡ ds
 chars_back [] a = refl

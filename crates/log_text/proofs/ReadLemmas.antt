@@ -8,6 +8,7 @@ use Rattle.std.specs.List.{list_all}
 use Rattle.std.specs.Option.{SomeIff, unwrap_or}
 use Rattle.std.specs.Str.Parse.{digits_value}
 use Rattle.dsa_terms.specs.Claims.{Entry}
+use Rattle.dsa_terms.proofs.NumberTests.{below_or_from, is_below, not_below}
 use Rattle.log_text.specs.Digits.{IsCanonical, is_digit, Stops}
 use Rattle.log_text.specs.Numerals.{numeral}
 use Rattle.log_text.specs.RawTexts.{cite_text, pair_text}
@@ -19,46 +20,34 @@ use Rattle.log_text.proofs.PrefixFree.{digits_split, head_of, number_split, tail
 
 pub fitting_small : (n : ℕ) → n < 2 ^ 64 → fitting n ≡ Some n
 unfolding fitting
-fitting_small n h = then_case (nat_lt n (2 ^ 64)) n (below n (2 ^ 64) h)
+fitting_small n h = then_case (nat_lt n (2 ^ 64)) n (is_below n (2 ^ 64) h)
   where
-    below : (m n : ℕ) → m < n → nat_lt m n ≡ true
-    below m n h = grind (arith, nat_tests)
-
     then_case : (b : Bool) (n : ℕ) → b ≡ true → cond b (Some n) None ≡ Some n
     then_case true n e = refl
     then_case false n e = absurd cc
 
 pub fitting_large : (n : ℕ) → 2 ^ 64 ≤ n → fitting n ≡ None
 unfolding fitting
-fitting_large n h = else_case (nat_lt n (2 ^ 64)) n (above n (2 ^ 64) h)
+fitting_large n h = else_case (nat_lt n (2 ^ 64)) n (not_below n (2 ^ 64) h)
   where
-    above : (m n : ℕ) → n ≤ m → nat_lt m n ≡ false
-    above m n h = grind (arith, nat_tests)
-
     else_case : (b : Bool) (n : ℕ) → b ≡ false → cond b (Some n) None ≡ None
     else_case true n e = absurd cc
     else_case false n e = refl
 
 pub unwrap-fitting : (n : ℕ) → unwrap_or (fitting n) (2 ^ 64 - 1) ≡ capped n
-unwrap-fitting n = elim (low_or_high n (2 ^ 64)) [
+unwrap-fitting n = elim (below_or_from n (2 ^ 64)) [
   | inl h ↦ rw (fitting_small n h) (omega arith)
   | inr h ↦
       rw (fitting_large n h) (omega arith)
 ]
-  where
-    low_or_high : (m n : ℕ) → (m < n) ⊎ (n ≤ m)
-    low_or_high m n = grind arith
 
 pub fitting_some : (n v : ℕ) → Some v ≡ fitting n → (v ≡ n) × (v < 2 ^ 64)
-fitting_some n v e = elim (low_or_high n (2 ^ 64)) [
+fitting_some n v e = elim (below_or_from n (2 ^ 64)) [
   | inl h ↦ low n v e h
   | inr h ↦ absurd
       (let q : Some v ≡ None = e ∙ fitting_large n h in cc)
 ]
   where
-    low_or_high : (m n : ℕ) → (m < n) ⊎ (n ≤ m)
-    low_or_high m n = grind arith
-
     low : (n v : ℕ) → Some v ≡ fitting n → n < 2 ^ 64 → (v ≡ n) × (v < 2 ^ 64)
     low n v e h = let q : Some v ≡ Some n = e ∙ fitting_small n h in let p : v ≡ n = cc in (p, rw p h)
 
@@ -123,12 +112,6 @@ next_digit ds k v a h d e = (
   list_all_more is_digit ds k 0 h ∙ rw (a, d) refl,
   e ∙ ap fitting (sym (digit_step ds k h d)),
 )
-
-pub take_all : (xs : List ℕ) (n : ℕ) → length xs ≤ n → take n xs ≡ xs
-take_all [] zero h = refl
-take_all [] (suc n) h = refl
-take_all (x ∷ xs) zero h = absurd (omega arith)
-take_all (x ∷ xs) (suc n) h = ap (λ ys. x ∷ ys) (take_all xs n (omega arith))
 
 pub parts : (xs ds more : List ℕ) (n : ℕ) → ds ≡ take n xs → more ≡ drop n xs → xs ≡ ds ++ more
 parts xs ds more n e q = sym (rw (e, q) (take_drop xs n))

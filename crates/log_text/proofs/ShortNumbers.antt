@@ -1,19 +1,20 @@
 -- Numbers that are read as ones of 64 bits, most of them of few digits.
-use Rattle.std.proofs.Common.{◌≡◌, ◌^◌, ◌-◌, ◌+◌, ◌*◌, ◌≤◌, ℕ, zero, suc, ◌<◌, true, Option, false, ◌⊎◌, inl, inr, map, get_or, List, [], ◌∷◌, length, take, drop, refl, sym, ap, ◌∙◌, arith, length-take-le}
+use Rattle.std.proofs.Common.{◌≡◌, ◌^◌, ◌-◌, ◌+◌, ◌*◌, ◌≤◌, ℕ, zero, suc, ◌<◌, true, Option, false, ◌⊎◌, inl, inr, get_or, List, [], ◌∷◌, length, take, drop, refl, sym, ap, ◌∙◌, arith, length-take-le}
 use Rattle.std.proofs.lemmas.Bool.Decides.{nat_tests}
 use Rattle.std.proofs.Math.Nat.{pow-le-pow_right}
 use Rattle.std.proofs.lemmas.Int.Digits.{length-digits_of-le}
-use Rattle.std.proofs.lemmas.List.{get_or-take}
+use Rattle.std.proofs.lemmas.List.{get_or-take, length-map}
 use Rattle.std.proofs.lemmas.List.Folds.{list_all_more}
 use Rattle.std.specs.Int.Digits.{digits_of}
 use Rattle.std.specs.List.{list_all}
 use Rattle.std.specs.Option.{unwrap_or}
 use Rattle.std.specs.Str.Parse.{digits_value}
+use Rattle.dsa_terms.proofs.NumberTests.{below_or_from}
+use Rattle.dsa_terms.proofs.Moments.{and_true}
 use Rattle.log_text.specs.Digits.{IsShortNumber, is_digit, Stops}
 use Rattle.log_text.specs.Numerals.{numeral}
 use Rattle.log_text.specs.Reading.{IsItemRead, IsNumberRead, capped}
 use Rattle.log_text.proofs.Numerals.{numeral_of, of_more, of_zero}
-use Rattle.log_text.proofs.PrefixFree.{and_true}
 use Rattle.log_text.proofs.ReadLemmas.{digit_step, parts, unwrap-fitting}
 
 -- ---- the digits so far
@@ -89,14 +90,10 @@ short_count ds count value p =
     let m = length_numeral value p.small in
     omega arith
   where
-    length_chars : (xs : List ℕ) → length (map (λ d. 48 + d) xs) ≡ length xs
-    length_chars [] = refl
-    length_chars (x ∷ xs) = ap suc (length_chars xs)
-
     length_numeral : (n : ℕ) → n < 10 ^ 18 → length (numeral n) ≤ 18
     length_numeral zero h = rw of_zero (omega arith)
     length_numeral (suc n) h =
-        let e = ap length (of_more (suc n) (omega arith)) ∙ length_chars (digits_of 10 (suc n)) in
+        let e = ap length (of_more (suc n) (omega arith)) ∙ length-map (digits_of 10 (suc n)) (λ d. 48 + d) in
         let m = length-digits_of-le 10 18 (suc n) (omega arith) h in
         omega arith
 
@@ -114,9 +111,6 @@ short_is_all ds k count value a h p = elim (below_or_is count (length ds) p.with
   where
     below_or_is : (m n : ℕ) → m ≤ n → (m < n) ⊎ (m ≡ n)
     below_or_is m n h = grind arith
-
-    below_or_from : (m n : ℕ) → (m < n) ⊎ (n ≤ m)
-    below_or_from m n = grind arith
 
 -- ---- numbers as ones of 64 bits
 

@@ -9,6 +9,7 @@ use Rattle.dsa_terms.specs.Logs.{Cite, Line, Log}
 use Rattle.dsa_terms.specs.Parts.{has}
 use Rattle.dsa_terms.specs.Trims.{cited, cited_line, needed, needed_from, with_cited}
 use Rattle.dsa_terms.proofs.Lists.{left_append, right_append}
+use Rattle.dsa_terms.proofs.NumberTests.{apart, same_or_not}
 use Rattle.dsa_trim_laws.proofs.Picked.{get_in}
 use Rattle.dsa_trim_laws.proofs.Trims.{get_some}
 use Rattle.log_trim.specs.Marks.{AreMarkedToo, marks_of}
@@ -49,20 +50,14 @@ has-append k (j ∷ ks) ls = go (j == k) (has-append k ks ls)
     go true e = refl
     go false e = e
 
-cases : (m n : ℕ) → (m ≡ n) ⊎ (m ≢ n)
-cases m n = grind arith
-
 equal : (n : ℕ) → (n == n) ≡ true
 equal n = grind (arith, nat_tests)
-
-apart : (m n : ℕ) → m ≢ n → (m == n) ≡ false
-apart m n h = grind (arith, nat_tests)
 
 -- one more mark
 set_mark : (n k : ℕ) (ks : List ℕ) (marks : List Bool) → k < n → marks ≡ marks_of n ks →
     slice_set marks k true ≡ marks_of n (k ∷ ks)
 set_mark n k ks marks lt e =
-    marks_by n (k ∷ ks) (slice_set marks k true) (length-set marks k true ∙ count) (λ j jn. at j jn (cases j k))
+    marks_by n (k ∷ ks) (slice_set marks k true) (length-set marks k true ∙ count) (λ j jn. at j jn (same_or_not j k))
   where
     count : length marks ≡ n
     count = rw e (length-marks n ks)

@@ -1,18 +1,18 @@
 -- The moduli in question, sorted.
 use Rattle.std.proofs.Common.{◌≡◌, ℕ, zero, suc, ◌+◌, ◌<◌, ◌↔◌, inl, inr, List, [], ◌∷◌, ◌++◌, length, map, slice_index_or, refl, sym, ap, ◌∙◌, arith}
-use Rattle.std.specs.List.{All, AllPairs, dedup}
-use Rattle.std.specs.List.Sorted.{IsPermutation, IsStrictlyIncreasing}
+use Rattle.std.specs.List.{All, dedup}
+use Rattle.std.specs.List.Sorted.{IsPermutation}
 use Rattle.std.proofs.lemmas.List.{length-map}
 use Rattle.std.proofs.lemmas.List.FromFn.{fill_by_all, map-range_with_len_more}
-use Rattle.std.proofs.lemmas.List.Kept.{AllPairs-from_increasing, Contains-dedup_nat, Contains-from_dedup}
+use Rattle.std.proofs.lemmas.List.Kept.{Contains-dedup_nat, Contains-from_dedup}
 use Rattle.std.proofs.lemmas.List.Sorted.{Contains-permutation, IsPermutation-sym}
 use Rattle.dsa_terms.specs.Bounds.{moduli}
 use Rattle.dsa_terms.specs.Buffers.{Buffer, Instance, buffer, no_buffer}
-use Rattle.dsa_terms.specs.Claims.{IsIn, Rises}
+use Rattle.dsa_terms.specs.Claims.{IsIn}
 use Rattle.dsa_terms.specs.Parts.{numbers}
 use Rattle.dsa_terms.proofs.Lists.{from_map}
+use Rattle.dsa_terms.proofs.Places.{all_from_in, from_contains, in_from_all, to_contains}
 use Rattle.dsa_model.specs.Buffer.{IsBuffer}
-use Rattle.lifetime.proofs.Lists.{all_from_in, from_contains, in_from_all, to_contains}
 use lib.Dec.{eqb}
 use Rattle.lower_bounds.specs.Stacks.{IsModulus}
 
@@ -52,24 +52,6 @@ is_modulus I h G (inr i) =
 pub all_moduli : (I : Instance) (found : List ℕ) → All IsBuffer I → ((G : ℕ) → IsIn G found ↔ IsIn G (moduli I)) →
     All IsModulus found
 all_moduli I found h same = all_from_in IsModulus found (λ G i. is_modulus I h G ((same G).0 i))
-
--- ---- lists that rise
-rises_from_pairs : (xs : List ℕ) → AllPairs (λ x y. x < y) xs → Rises xs
-rises_from_pairs [] h = tt
-rises_from_pairs (x ∷ xs) h = (
-  first,
-  rises_from_pairs xs
-      (λ i j d lt jn. h (suc i) (suc j) d (omega arith) (omega arith)),
-)
-  where
-    first : (y : ℕ) → IsIn y xs → x < y
-    first y i =
-        let r = to_contains xs y i in
-        let k : x < slice_index_or xs r.0 y = h 0 (suc r.0) y (omega arith) (let z = r.1 in omega arith) in
-        rw r.2 at k
-
-pub rises_from_increasing : (xs : List ℕ) → IsStrictlyIncreasing xs → Rises xs
-rises_from_increasing xs h = rises_from_pairs xs (AllPairs-from_increasing xs h)
 
 -- what the sorted list has
 pub moduli_found : (I : Instance) (n : ℕ) (xs sorted found : List ℕ) → xs ≡ moduli_below I n → n ≡ length I →

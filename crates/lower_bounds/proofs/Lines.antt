@@ -1,6 +1,5 @@
 -- The one line of a bound, and the limits of its numbers.
-use Rattle.std.proofs.Common.{◌≡◌, ℕ, suc, ◌+◌, ◌*◌, ◌%◌, ◌^◌, ◌<◌, ◌≤◌, ◌==◌, ◌⊎◌, inl, inr, true, List, [], ◌∷◌, ◌++◌, length, filter, Some, slice_get, refl, ap, ◌∙◌, arith, suc-mul}
-use Rattle.std.proofs.lemmas.Bool.Decides.{nat_tests}
+use Rattle.std.proofs.Common.{◌≡◌, ℕ, suc, ◌+◌, ◌*◌, ◌%◌, ◌^◌, ◌<◌, ◌≤◌, ◌⊎◌, inl, inr, List, [], ◌∷◌, ◌++◌, length, filter, Some, slice_get, refl, ap, ◌∙◌, arith, suc-mul}
 use Rattle.std.proofs.lemmas.List.FromFn.{length-range_with_len}
 use Rattle.std.proofs.lemmas.List.Sums.{sum_by-cons}
 use native.Mathlib.Nat.{mod-eq_of_lt}
@@ -13,6 +12,9 @@ use Rattle.dsa_terms.specs.Parts.{numbers, whole}
 use Rattle.dsa_terms.proofs.Lists.{from_map, length-filter_le, nil_or_not}
 use Rattle.dsa_terms.proofs.Moments.{live_before}
 use Rattle.dsa_terms.proofs.Numbers.{next_is_below}
+use Rattle.dsa_terms.proofs.NumberTests.{equal}
+use Rattle.canonical_order.proofs.Entries.{sound_buffer}
+use Rattle.dsa_search_laws.proofs.Members.{whole_is_whole}
 use Rattle.dsa_start_laws.proofs.Stacks.{in_counted}
 use Rattle.dsa_model.specs.Buffer.{IsBuffer}
 use Rattle.canonical_order.specs.Claims.{IsBoundedBy}
@@ -40,10 +42,6 @@ few_counted I t G =
     omega arith
 
 -- ---- a stack with something in it
-sound_at : (I : Instance) (b : ℕ) → All IsBuffer I → b < length I → IsBuffer (buffer I b)
-unfolding buffer
-sound_at I b h lt = h b _ lt
-
 no_stack : (I : Instance) (t G : ℕ) → counted I t G ≡ [] → stack I t G ≡ 0
 unfolding stack
 no_stack I t G e = rw e refl
@@ -56,12 +54,9 @@ some_counted I t G C lt = elim (nil_or_not (counted I t G))
 modulus_limit : (I : Instance) (t G b : ℕ) → All IsBuffer I → IsIn b (counted I t G) → G ≤ 2 ^ 32
 modulus_limit I t G b h i =
     let q = in_counted I t G b i in
-    let s = sound_at I b h q.0 in
-    divides (buffer I b).alignment G s.sound.1 s.within_alignment (zero_of ((buffer I b).alignment % G) q.2)
+    let s = sound_buffer I b h q.0 in
+    divides (buffer I b).alignment G s.sound.1 s.within_alignment (equal ((buffer I b).alignment % G) 0 q.2)
   where
-    zero_of : (n : ℕ) → (n == 0) ≡ true → n ≡ 0
-    zero_of n h = grind (arith, nat_tests)
-
     divides : (a G : ℕ) → 1 ≤ a → a ≤ 2 ^ 32 → a % G ≡ 0 → G ≤ 2 ^ 32
     divides a G pos le z = go (cases G a)
       where
@@ -78,7 +73,7 @@ rounded_limit : (I : Instance) (t G b : ℕ) → All IsBuffer I → 1 ≤ G → 
 unfolding rounded_size
 rounded_limit I t G b h some i =
     let q = in_counted I t G b i in
-    let s = (sound_at I b h q.0).within_size in
+    let s = (sound_buffer I b h q.0).within_size in
     let g = modulus_limit I t G b h i in
     let k = next_is_below (buffer I b).size G some in
     omega arith
@@ -128,7 +123,7 @@ pub line_within : (I : Instance) (b : Bound) (C : ℕ) (members : List ℕ) (cla
 line_within I b C members claim a e f =
     let r = some_counted I b.moment b.modulus C a.above in
     let q = in_counted I b.moment b.modulus r.0 r.1 in
-    let s = (sound_at I r.0 a.buffers q.0).upper_limit in
+    let s = (sound_buffer I r.0 a.buffers q.0).upper_limit in
     let l = live_before (buffer I r.0) b.moment q.1 in
     let g = modulus_limit I b.moment b.modulus r.0 a.buffers r.1 in
     (rw f (whole_bounds members), omega arith, omega arith, omega arith)
@@ -139,9 +134,6 @@ pub line_legal : (I : Instance) (b : Bound) (C : ℕ) (claim : List Entry) → I
 unfolding stack_log
 line_legal I b C claim a e =
     rw e (a.accepted.legal 0 (Over (whole (counted I b.moment b.modulus)) b.moment 0 b.modulus) refl)
-
-pub line_whole : (members : List ℕ) → IsWhole (whole members)
-line_whole members e i = ap (λ (e : Entry). e.1) (from_map (λ (b : ℕ). let f : Entry = (b, 0) in f) members e i).2
 
 -- the log with the one line
 pub log_is : (I : Instance) (b : Bound) (C end : ℕ) (claim : List Entry) (old new : OpenLog) (closed : Log) →
@@ -173,4 +165,4 @@ pub few_members_of : (I : Instance) (t G : ℕ) (members given : List ℕ) → m
 few_members_of I t G members given e f few = rw (f, e) (let k = few_counted I t G in omega arith)
 
 pub whole_of : (members : List ℕ) (claim : List Entry) → claim ≡ whole members → IsWhole claim
-whole_of members claim e = rw e (line_whole members)
+whole_of members claim e = rw e (whole_is_whole members)

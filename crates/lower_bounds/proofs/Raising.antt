@@ -5,6 +5,7 @@ use Rattle.dsa_terms.specs.Bounds.{counted, rounded_size, stack}
 use Rattle.dsa_terms.specs.Buffers.{Instance, buffer, is_live}
 use Rattle.dsa_terms.specs.Logs.{greatest}
 use Rattle.dsa_terms.specs.Parts.{numbers}
+use Rattle.dsa_terms.proofs.NumberTests.{below_or_last}
 use Rattle.lifetime.specs.SectionList.{AreSectionsOf, SectionList, count_of, live_at, members_of, start_of}
 use Rattle.lower_bounds.specs.Best.{IsFirstToReach, IsRaised, stack_at}
 use Rattle.lower_bounds.specs.Stacks.{is_counted, rounding_of, stack_of}
@@ -33,9 +34,6 @@ stack_is I S G s members a lt e =
     ∙ ap (λ (bs : List ℕ). sum_by (rounded_size I G) bs - greatest (map (rounding_of I G) bs))
     (counted_is I (start_of S s) G)
 
-split : (r s : ℕ) → r < s + 1 → (r < s) ⊎ (r ≡ s)
-split r s h = grind arith
-
 pub none_raised : (I : Instance) (S : SectionList) (G : ℕ) (b : Bound) → IsRaised I S G 0 b b
 none_raised I S G b = record { most = λ s lt. absurd (omega arith); found = inl refl }
 
@@ -43,7 +41,7 @@ none_raised I S G b = record { most = λ s lt. absurd (omega arith); found = inl
 pub raised_same : (I : Instance) (S : SectionList) (G s value : ℕ) (old best : Bound) → IsRaised I S G s old best →
     value ≡ stack_at I S G s → value ≤ best.capacity → IsRaised I S G (s + 1) old best
 raised_same I S G s value old best h e le = record {
-  most = λ r lt. elim (split r s lt) [
+  most = λ r lt. elim (below_or_last r s lt) [
     | inl q ↦ h.most r q
     | inr q ↦
         (let k : stack_at I S G r ≡ stack_at I S G s = ap (stack_at I S G) q in omega arith)
@@ -70,7 +68,7 @@ pub raised_more : (I : Instance) (S : SectionList) (G s value moment : ℕ) (old
     IsRaised I S G s old best → value ≡ stack_at I S G s → best.capacity < value → moment ≡ start_of S s →
     IsRaised I S G (s + 1) old (record { capacity = value; moment = moment; modulus = G })
 raised_more I S G s value moment old best h e lt m = record {
-  most = λ r rn. elim (split r s rn) [
+  most = λ r rn. elim (below_or_last r s rn) [
     | inl q ↦ (let k = h.most r q in omega arith)
     | inr q ↦ (let k : stack_at I S G r ≡ stack_at I S G s = ap (stack_at I S G) q in omega arith)
   ];

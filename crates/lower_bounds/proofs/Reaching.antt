@@ -9,12 +9,13 @@ use Rattle.dsa_terms.specs.Buffers.{Instance, IsInstance, IsLive, IsSound, buffe
 use Rattle.dsa_terms.specs.Claims.{IsIn}
 use Rattle.dsa_terms.specs.Logs.{greatest}
 use Rattle.dsa_terms.proofs.Lists.{from_map, into_map, nil_or_not}
+use Rattle.dsa_terms.proofs.Places.{all_from_in, in_at, in_from_all, place_of}
+use Rattle.dsa_terms.proofs.NumberTests.{below_or_from}
 use Rattle.dsa_start_laws.proofs.Stacks.{greatest_is}
 use Rattle.dsa_model.specs.Buffer.{IsBuffer}
 use Rattle.lifetime.specs.Runs.{starts_of}
 use Rattle.lifetime.specs.SectionList.{AreSectionsOf, Section, SectionList, count_of, members_of, no_section, start_of}
 use Rattle.lifetime.proofs.Belonging.{from_live}
-use Rattle.lifetime.proofs.Lists.{all_from_in, in_at, in_from_all, place_of}
 use Rattle.lower_bounds.specs.Best.{IsBest, IsBoundOf, IsFirstToReach, no_bound, stack_at}
 use Rattle.lower_bounds.specs.declared.value.Bound.{Bound}
 use Rattle.lower_bounds.proofs.Candidates.{is_modulus, one_is_modulus}
@@ -133,11 +134,8 @@ module _ (I : Instance) (S : SectionList) (candidates : List ℕ) (b : Bound) (l
 
   modulus_found : (0 < b.capacity) → IsIn b.modulus candidates → IsFirstToReach I S b.modulus (count_of S) b →
       b.modulus ≡ bound_modulus I
-  modulus_found pos i first = close (cases (bound_modulus I) b.modulus)
+  modulus_found pos i first = close (below_or_from (bound_modulus I) b.modulus)
     where
-      cases : (m n : ℕ) → (m < n) ⊎ (n ≤ m)
-      cases m n = grind arith
-
       among : IsIn b.modulus (moduli I)
       among = (same b.modulus).0 i
 

@@ -3,8 +3,9 @@ use Rattle.std.proofs.Common.{◌≡◌, ℕ, zero, suc, ◌+◌, ◌<◌, ◌�
 use Rattle.dsa_terms.specs.Buffers.{Instance}
 use Rattle.dsa_terms.specs.Claims.{IsIn, Rises}
 use Rattle.dsa_terms.proofs.Lists.{from_append, left_append, right_append}
+use Rattle.dsa_terms.proofs.Places.{in_at}
+use Rattle.std.proofs.lemmas.List.{take_all}
 use Rattle.lifetime.specs.SectionList.{SectionList, count_of}
-use Rattle.lifetime.proofs.Lists.{in_at}
 use Rattle.lower_bounds.specs.Best.{IsBest, IsFirstToReach, IsRaised, no_bound, stack_at}
 use Rattle.lower_bounds.specs.declared.value.Bound.{Bound}
 
@@ -104,12 +105,6 @@ module _ (I : Instance) (S : SectionList) (candidates : List ℕ) (q G : ℕ) (o
 pub best_none : (I : Instance) (S : SectionList) → IsBest I S [] no_bound
 best_none I S = record { most = λ G s i. absurd i; found = inl refl; least = λ G s i. absurd i }
 
-take_all : (xs : List ℕ) (q : ℕ) → length xs ≤ q → take q xs ≡ xs
-take_all [] zero le = refl
-take_all [] (suc q) le = refl
-take_all (x ∷ xs) zero le = absurd (omega arith)
-take_all (x ∷ xs) (suc q) le = ap (λ ys. x ∷ ys) (take_all xs q (omega arith))
-
 pub best_all : (I : Instance) (S : SectionList) (candidates : List ℕ) (q : ℕ) (b : Bound) → length candidates ≤ q →
     IsBest I S (take q candidates) b → IsBest I S candidates b
-best_all I S candidates q b le h = rw (take_all candidates q le) at h
+best_all I S candidates q b le h = rw (take_all q candidates le) at h

@@ -1,7 +1,7 @@
 -- Adding up a stack, one buffer after another.
-use Rattle.std.proofs.Common.{◌≡◌, ℕ, zero, suc, ◌+◌, ◌-◌, ◌*◌, ◌%◌, ◌^◌, ◌<◌, ◌≤◌, ◌==◌, Bool, true, false, cond, max, List, [], ◌∷◌, length, filter, drop, slice_index_or, refl, sym, ap, ◌∙◌, arith}
+use Rattle.std.proofs.Common.{◌≡◌, ℕ, ◌+◌, ◌-◌, ◌*◌, ◌%◌, ◌^◌, ◌<◌, ◌≤◌, ◌==◌, Bool, true, false, cond, max, List, [], ◌∷◌, length, filter, drop, slice_index_or, refl, sym, ap, ◌∙◌, arith}
 use Rattle.std.proofs.lemmas.Bool.Decides.{nat_tests}
-use Rattle.std.proofs.lemmas.List.{drop_all}
+use Rattle.std.proofs.lemmas.List.{drop_all, drop_more}
 use Rattle.std.proofs.lemmas.List.Sums.{sum_by-cons}
 use Rattle.std.specs.Int.{next_multiple_of}
 use Rattle.dsa_terms.specs.Bounds.{rounded_size}
@@ -20,11 +20,6 @@ pub record IsStacking (I : Instance) (G : ℕ) (members : List ℕ) (i total spa
 pub none_stacked : (I : Instance) (G : ℕ) (members : List ℕ) → IsStacking I G members 0 0 0
 none_stacked I G members = record { sum = omega arith; top = omega arith; limit = omega arith; under = omega arith }
 
-drop_at : (xs : List ℕ) (i : ℕ) → i < length xs → drop i xs ≡ slice_index_or xs i 0 ∷ drop (i + 1) xs
-drop_at [] i lt = absurd (omega arith)
-drop_at (x ∷ xs) zero lt = refl
-drop_at (x ∷ xs) (suc i) lt = let k : suc i + 1 ≡ suc (i + 1) = omega arith in rw k (drop_at xs i (omega arith))
-
 total_cons : (I : Instance) (G b : ℕ) (rest : List ℕ) (c : Bool) → is_counted I G b ≡ c →
     total_of I G (b ∷ rest) ≡ cond c (rounded_size I G b) 0 + total_of I G rest
 total_cons I G b rest true e = rw e (sum_by-cons (rounded_size I G) b (filter (is_counted I G) rest))
@@ -42,9 +37,9 @@ pub stacked_more : (I : Instance) (G : ℕ) (members : List ℕ) (i total spare 
     IsStacking I G members (i + 1) (total + rounded) (max (rounded - x.size) spare)
 unfolding rounded_size
 stacked_more I G members i total spare rounded x m h lt e sound counted r = record {
-  sum = h.sum ∙ (ap (λ ms. total + total_of I G ms) (drop_at members i lt) ∙
+  sum = h.sum ∙ (ap (λ ms. total + total_of I G ms) (drop_more members i 0 lt) ∙
       (let k = total_cons I G b rest true counted in let z = is in omega arith));
-  top = h.top ∙ (ap (λ ms. max spare (spare_of I G ms)) (drop_at members i lt) ∙
+  top = h.top ∙ (ap (λ ms. max spare (spare_of I G ms)) (drop_more members i 0 lt) ∙
       (let k = spare_cons I G b rest true counted in let z = is in let s = size in omega arith));
   limit = let k = below in let z = h.limit in let s = sound.within_size in let g = m.limit in omega arith;
   under = let z = h.under in omega arith;
@@ -69,9 +64,9 @@ pub stacked_same : (I : Instance) (G : ℕ) (members : List ℕ) (i total spare 
     IsStacking I G members i total spare → i < length members →
     is_counted I G (slice_index_or members i 0) ≡ false → IsStacking I G members (i + 1) total spare
 stacked_same I G members i total spare h lt counted = record {
-  sum = h.sum ∙ (ap (λ ms. total + total_of I G ms) (drop_at members i lt) ∙
+  sum = h.sum ∙ (ap (λ ms. total + total_of I G ms) (drop_more members i 0 lt) ∙
       (let k = total_cons I G (slice_index_or members i 0) (drop (i + 1) members) false counted in omega arith));
-  top = h.top ∙ (ap (λ ms. max spare (spare_of I G ms)) (drop_at members i lt) ∙
+  top = h.top ∙ (ap (λ ms. max spare (spare_of I G ms)) (drop_more members i 0 lt) ∙
       (let k = spare_cons I G (slice_index_or members i 0) (drop (i + 1) members) false counted in omega arith));
   limit = let z = h.limit in omega arith;
   under = h.under;

@@ -1,17 +1,8 @@
 -- The hunt as an equation, and what one call at the middle leaves of it.
 use Rattle.std.proofs.Common.{◌≡◌, ℕ, zero, suc, ◌+◌, ◌-◌, ◌/◌, ◌<◌, ◌≤◌, Bool, true, false, cond, nat_le, Option, Some, None, refl, ap, ◌∙◌, arith}
-use Rattle.std.proofs.lemmas.Bool.Decides.{nat_tests}
 use Rattle.std.specs.Prelude.{min}
+use Rattle.dsa_terms.proofs.NumberTests.{above, is_at_most, not_at_most}
 use Rattle.refute_log.specs.Hunts.{after_turn, hunt_within, hunt}
-
-test_le : (m n : ℕ) → m ≤ n → nat_le m n ≡ true
-test_le m n h = grind (arith, nat_tests)
-
-test_not_le : (m n : ℕ) → n < m → nat_le m n ≡ false
-test_not_le m n h = grind (arith, nat_tests)
-
-not_le_test : (m n : ℕ) → nat_le m n ≡ false → n < m
-not_le_test m n h = grind (arith, nat_tests)
 
 pub middle : (a b : ℕ) → a < b → (a ≤ (a + b) / 2) × ((a + b) / 2 < b)
 middle a b lt = (omega arith, omega arith)
@@ -20,8 +11,8 @@ middle a b lt = (omega arith, omega arith)
 hunt_enough : (most : ℕ → ℕ) (turn : ℕ → Option ℕ) (j k a b : ℕ) → b - a ≤ j → b - a ≤ k →
     hunt_within j most turn a b ≡ hunt_within k most turn a b
 hunt_enough most turn zero zero a b p q = refl
-hunt_enough most turn zero (suc k) a b p q = let e = test_le b a (omega arith) in rw e refl
-hunt_enough most turn (suc j) zero a b p q = let e = test_le b a (omega arith) in rw e refl
+hunt_enough most turn zero (suc k) a b p q = let e = is_at_most b a (omega arith) in rw e refl
+hunt_enough most turn (suc j) zero a b p q = let e = is_at_most b a (omega arith) in rw e refl
 hunt_enough most turn (suc j) (suc k) a b p q = go (λ x y. hunt_enough most turn j k x y) (nat_le b a) refl
   where
     go : ((x y : ℕ) → y - x ≤ j → y - x ≤ k → hunt_within j most turn x y ≡ hunt_within k most turn x y) →
@@ -32,7 +23,7 @@ hunt_enough most turn (suc j) (suc k) a b p q = go (λ x y. hunt_enough most tur
     go ih false e = ap (λ w. most ((a + b) / 2) + w) (by (turn ((a + b) / 2)))
       where
         m : (a ≤ (a + b) / 2) × ((a + b) / 2 < b)
-        m = middle a b (not_le_test b a e)
+        m = middle a b (above b a e)
 
         by : (o : Option ℕ) → after_turn (hunt_within j most turn) a b ((a + b) / 2) o
             ≡ after_turn (hunt_within k most turn) a b ((a + b) / 2) o
@@ -56,7 +47,7 @@ hunt_equation most turn a b lt =
     ∙ rw e (ap (λ w. most ((a + b) / 2) + w) (by (turn ((a + b) / 2))))
   where
     e : nat_le b a ≡ false
-    e = test_not_le b a lt
+    e = not_at_most b a lt
 
     m : (a ≤ (a + b) / 2) × ((a + b) / 2 < b)
     m = middle a b lt

@@ -1,25 +1,16 @@
 -- Below the height of the best start there is no start, and at it the plan is the best start.
-use Rattle.std.proofs.Common.{◌≡◌, ℕ, zero, suc, ◌<◌, ◌≤◌, inl, inr, Bool, true, false, List, [], ◌∷◌, map, length, find, nat_le, slice_index_or, Some, None, refl, arith}
-use Rattle.std.proofs.lemmas.Bool.Decides.{nat_tests}
+use Rattle.std.proofs.Common.{◌≡◌, ℕ, zero, suc, ◌<◌, inl, inr, Bool, true, false, List, [], ◌∷◌, map, length, find, slice_index_or, Some, None, refl, arith}
 use Rattle.std.proofs.lemmas.List.{get_or-map}
 use Rattle.dsa_terms.specs.Buffers.{Instance}
 use Rattle.dsa_terms.specs.Parts.{searched}
 use Rattle.dsa_terms.specs.Plans.{layout_height, plan}
 use Rattle.dsa_terms.specs.Starts.{best_start, lowest_place, planned, starts}
 use Rattle.dsa_terms.proofs.Lists.{none_or_some}
+use Rattle.dsa_terms.proofs.NumberTests.{above, is_at_most, not_at_most}
 use Rattle.dsa_search_laws.proofs.Plans.{found_under, is_under}
 use Rattle.dsa_start_laws.proofs.Planned.{best_place_within, best_start_is_lowest, best_start_is_start, earlier_is_higher}
 use Rattle.dsa_start_laws.proofs.Stacks.{found_in, none_found}
 use Rattle.planner.specs.FirstStart.{start_within}
-
-test_le : (m n : ℕ) → m ≤ n → nat_le m n ≡ true
-test_le m n h = grind (arith, nat_tests)
-
-test_not_le : (m n : ℕ) → n < m → nat_le m n ≡ false
-test_not_le m n h = grind (arith, nat_tests)
-
-not_le_test : (m n : ℕ) → nat_le m n ≡ false → n < m
-not_le_test m n h = grind (arith, nat_tests)
 
 -- the first item that passes, at a place before which none does
 found_at : {X : Type 0} (p : X → Bool) (xs : List X) (n : ℕ) (d : X) → n < length xs →
@@ -34,7 +25,7 @@ found_at p (x ∷ xs) (suc n) d lt t f =
 -- ---- below the best start
 pub past_starts : (I : Instance) (C : ℕ) → start_within I C ≡ None → C < layout_height I (best_start I)
 past_starts I C none =
-    not_le_test (layout_height I (best_start I)) C
+    above (layout_height I (best_start I)) C
     (none_found (is_under I C) (starts I) (best_start I) none (best_start_is_start I))
 
 pub below_starts : (I : Instance) (C : ℕ) → C < layout_height I (best_start I) → start_within I C ≡ None
@@ -69,12 +60,12 @@ best_is_first I =
     (lowest_place (map (layout_height I) (starts I))) []
     (best_place_within I)
     at_best
-    (λ k lt. test_not_le (layout_height I (slice_index_or (starts I) k [])) (layout_height I (best_start I))
+    (λ k lt. not_at_most (layout_height I (slice_index_or (starts I) k [])) (layout_height I (best_start I))
     (higher_before I k lt))
   where
     at_best : is_under I (layout_height I (best_start I))
         (slice_index_or (starts I) (lowest_place (map (layout_height I) (starts I))) []) ≡ true
-    at_best = test_le (layout_height I (best_start I)) (layout_height I (best_start I)) (omega arith)
+    at_best = is_at_most (layout_height I (best_start I)) (layout_height I (best_start I)) (omega arith)
 
 pub planned_at_best : (I : Instance) → planned I (layout_height I (best_start I)) ≡ Some (best_start I)
 unfolding planned plan

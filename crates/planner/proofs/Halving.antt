@@ -2,12 +2,12 @@
 use Rattle.std.proofs.Common.{◌≡◌, ℕ, ◌+◌, ◌/◌, ◌<◌, ◌≤◌, ◌^◌, inl, inr, Bool, true, false, [], ◌∷◌, length, nat_le, cond, Option, Some, None, IfSome, refl, sym, ap, ◌∙◌, subst, arith}
 use Rattle.std.specs.Prelude.{min}
 use Rattle.std.specs.List.{All}
-use Rattle.std.proofs.lemmas.Bool.Decides.{nat_tests}
 use Rattle.dsa_terms.specs.Bounds.{lower_bound}
 use Rattle.dsa_terms.specs.Buffers.{Instance}
 use Rattle.dsa_terms.specs.Parts.{whole_work}
 use Rattle.dsa_terms.specs.Plans.{layout_height}
 use Rattle.dsa_terms.specs.Starts.{best_start, hunted}
+use Rattle.dsa_terms.proofs.NumberTests.{not_at_most}
 use Rattle.dsa_model.specs.Buffer.{IsBuffer}
 use Rattle.dsa_model.proofs.Instances.{sound_instance}
 use Rattle.search_core.specs.Courses.{at_start, Course}
@@ -49,15 +49,12 @@ has_halved I steps budget start before used (Open b) buffers h e q n all short =
     (omega (arith, z, short))
 
 -- ---- what the steps have paid for
-test_not_le : (m n : ℕ) → n < m → nat_le m n ≡ false
-test_not_le m n h = grind (arith, nat_tests)
-
 -- so many units are counted as are charged
 counted_is_numbered : (most : Option ℕ) (n : ℕ) → IfSome most (λ k. k < 2 ^ 64) →
     counted most n ≤ where_numbered (allowance_of most) n
 counted_is_numbered None n range = omega arith
 counted_is_numbered (Some k) n range =
-    let e = test_not_le (2 ^ 64) k range in let f : cond (nat_le (2 ^ 64) k) 0 n ≡ n = rw e refl in omega (arith, f)
+    let e = not_at_most (2 ^ 64) k range in let f : cond (nat_le (2 ^ 64) k) 0 n ≡ n = rw e refl in omega (arith, f)
 
 -- the charges of two are the charge of both
 numbered_together : (allowance m n : ℕ) →

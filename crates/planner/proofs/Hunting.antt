@@ -1,15 +1,17 @@
 -- Halving by the search below the height of the best start takes the work that halving by the plan takes.
-use Rattle.std.proofs.Common.{◌≡◌, ℕ, zero, suc, ◌+◌, ◌-◌, ◌/◌, ◌<◌, ◌≤◌, ◌⊎◌, inl, inr, List, Option, Some, None, refl, sym, ap, ◌∙◌, arith}
+use Rattle.std.proofs.Common.{◌≡◌, ℕ, zero, suc, ◌+◌, ◌-◌, ◌/◌, ◌<◌, ◌≤◌, inl, inr, List, Option, Some, None, refl, sym, ap, ◌∙◌, arith}
 use Rattle.std.specs.Prelude.{min, option_map}
 use Rattle.dsa_terms.specs.Buffers.{Instance, IsInstance}
 use Rattle.dsa_terms.specs.Parts.{searched, whole_work}
 use Rattle.dsa_terms.specs.Plans.{after_plan, hunt, layout_height, plan}
 use Rattle.dsa_terms.specs.Starts.{best_start, hunted, planned, starts}
+use Rattle.dsa_terms.proofs.NumberTests.{below_or_from}
 use Rattle.dsa_search_laws.proofs.Parts.{searched_is_layout}
 use Rattle.dsa_search_laws.proofs.Plans.{hunt_equation, hunt_met, layout_under}
 use Rattle.refute_log.specs.Hunts as decider
 use Rattle.search_core.specs.Decisions.{turn_of}
 use Rattle.min_capacity.proofs.Hunts as halving
+use Rattle.min_capacity.proofs.Hunts.{middle}
 use Rattle.planner.proofs.BestStart.{planned_below}
 
 -- the work by the search, and the work by the plan
@@ -18,12 +20,6 @@ by_search I a b = decider.hunt (whole_work I) (turn_of I) a b
 
 abbrev by_plan : Instance → ℕ → ℕ → ℕ
 by_plan I a b = hunt (starts I) I a b
-
-middle : (a b : ℕ) → a < b → (a ≤ (a + b) / 2) × ((a + b) / 2 < b)
-middle a b lt = (omega arith, omega arith)
-
-lt_or_ge : (m n : ℕ) → (m < n) ⊎ (n ≤ m)
-lt_or_ge m n = grind arith
 
 plan_is_search : (I : Instance) (C : ℕ) → C < layout_height I (best_start I) → plan (starts I) I C ≡ searched I C
 unfolding planned
@@ -43,7 +39,7 @@ same_within : (n : ℕ) (I : Instance) (a b : ℕ) → IsInstance I → b ≤ la
     by_search I a b ≡ by_plan I a b
 same_within zero I a b s le few =
     halving.hunt_met (whole_work I) (turn_of I) a b (omega arith) ∙ sym (hunt_met (starts I) I a b (omega arith))
-same_within (suc n) I a b s le few = elim (lt_or_ge a b) [
+same_within (suc n) I a b s le few = elim (below_or_from a b) [
   | inr met ↦ halving.hunt_met (whole_work I) (turn_of I) a b met ∙ sym (hunt_met (starts I) I a b met)
   | inl lt ↦
       let m = middle a b lt in

@@ -1,7 +1,7 @@
 -- A line without a reason is legal, and a legal line has none.
 use Rattle.std.proofs.Common.{◌≡◌, ℕ, zero, suc, ◌%◌, ◌<◌, ◌≤◌, ◌≢◌, inl, inr, Bool, true, false, not, cond, ◌&&◌, ◌==◌, List, [], ◌∷◌, ◌++◌, length, Option, Some, None, slice_get, take, find, nat_le, option_map, map, All, refl, sym, ap, ◌∙◌, arith}
 use Rattle.std.proofs.lemmas.Bool.Decides.{nat_tests}
-use Rattle.std.proofs.lemmas.List.{take-append-le}
+use Rattle.std.proofs.lemmas.List.{map-append, take-append-le}
 use Rattle.dsa_terms.proofs.Lists.{from_map}
 use Rattle.std.proofs.lemmas.List.Elements.{All-push}
 use Rattle.refute_log.specs.Lines.{IsWithin, IsLineKept, HasCites}
@@ -14,23 +14,16 @@ use Rattle.dsa_terms.specs.Parts.{is_empty}
 use Rattle.dsa_terms.specs.Firsts.{when}
 use Rattle.canonical_order.specs.Stands.{Stands}
 use Rattle.dsa_terms.proofs.NumberTests.{equal, same, apart, above, not_at_most, below_or_from}
+use Rattle.dsa_model.proofs.Faults.{neither, not_so}
 use Rattle.refute_log.specs.Reasons.{first_reason, claim_reason, rule_reason, over_reason, cite_reason, cites_reason, line_reason, covers, stacked, stack_height}
 use Rattle.refute_log.specs.Logs.{OpenLog, Belongs, ended}
 use Rattle.refute_log.specs.declared.reason.Reason.TheVariants as reason
 use Rattle.dsa_search_laws.proofs.LineTests.{other_gives, other_from}
 use Rattle.refute_log.proofs.ListTests.{covers_gives, covers_from}
 
-pub neither : {F : Type 0} (a b : Option F) → option_or a b ≡ None → (a ≡ None) × (b ≡ None)
-neither None b h = (refl, h)
-neither (Some x) b h = absurd cc
-
 both_none : {F : Type 0} (a b : Option F) → a ≡ None → b ≡ None → option_or a b ≡ None
 both_none None b h k = k
 both_none (Some x) b h k = absurd cc
-
-not_so : {F : Type 0} (b : Bool) (f : F) → when b f ≡ None → b ≡ false
-not_so true f h = absurd cc
-not_so false f h = refl
 
 pub so : {F : Type 0} (b : Bool) (f : F) → when (not b) f ≡ None → b ≡ true
 so true f h = refl
@@ -209,17 +202,13 @@ belongs_next I log line b legal = record {
   ];
 }
 
-map_append : {X Y : Type 0} (f : X → Y) (xs ys : List X) → map f (xs ++ ys) ≡ map f xs ++ map f ys
-map_append f [] ys = refl
-map_append f (x ∷ xs) ys = ap (λ zs. f x ∷ zs) (map_append f xs ys)
-
 pub pushed_view : {X : Type 0} (f : X → Line) (view : OpenLog) (items new : List X) (x : X) → map f items ≡ view.lines →
     new ≡ items ++ x ∷ [] → map f new ≡ view.lines ++ f x ∷ []
-pushed_view f view items new x e q = rw (q, map_append f items (x ∷ []), e) refl
+pushed_view f view items new x e q = rw (q, map-append f items (x ∷ []), e) refl
 
 pub all_kept_pushed : {X : Type 0} (f : X → Line) (items new : List X) (x : X) → new ≡ items ++ x ∷ [] →
     All IsLineKept (map f items) → IsLineKept (f x) → All IsLineKept (map f new)
-all_kept_pushed f items new x q h k = rw (q, map_append f items (x ∷ [])) (All-push IsLineKept (map f items) (f x) h k)
+all_kept_pushed f items new x q h k = rw (q, map-append f items (x ∷ [])) (All-push IsLineKept (map f items) (f x) h k)
 
 -- a legal line keeps what lines keep
 pub legal_is_kept : (I : Instance) (C : ℕ) (earlier : List Line) (line : Line) → length I ≤ 512 → IsWithin line →

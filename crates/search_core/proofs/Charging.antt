@@ -1,8 +1,8 @@
 -- What an answer of the search takes at least.
 use Rattle.std.proofs.Common.{◌≡◌, ℕ, zero, suc, ◌+◌, ◌^◌, ◌<◌, ◌≤◌, Bool, true, false, cond, nat_le, length, Option, Some, None, refl, ap, arith}
 use Rattle.std.specs.Prelude.{min}
-use Rattle.std.proofs.lemmas.Bool.Decides.{nat_tests}
 use Rattle.dsa_terms.specs.Buffers.{Instance}
+use Rattle.dsa_terms.proofs.NumberTests.{is_at_most}
 use Rattle.refute_log.specs.Answers.{Offsets}
 use Rattle.refute_log.specs.Decided.{answer_of}
 use Rattle.refute_log.specs.declared.decided.Decided.{Decided}
@@ -11,11 +11,8 @@ use Rattle.search_core.specs.Decisions.{allowance_of, charge_of, where_numbered}
 use Rattle.search_core.specs.Meters.{AreMore, Units, counted}
 use Rattle.search_core.specs.Outcomes.{LinesAreCounted, UnlessSpent}
 
-test_le : (m n : ℕ) → m ≤ n → nat_le m n ≡ true
-test_le m n h = grind (arith, nat_tests)
-
 none_counted : (allowance n : ℕ) → cond (nat_le allowance allowance) 0 n ≡ 0
-none_counted allowance n = let e = test_le allowance allowance (omega arith) in rw e refl
+none_counted allowance n = let e = is_at_most allowance allowance (omega arith) in rw e refl
 
 at_most : (t : Bool) (n : ℕ) → cond t 0 n ≤ n
 at_most true n = omega arith

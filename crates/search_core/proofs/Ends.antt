@@ -1,5 +1,5 @@
 -- Which buffers another one ends below, by the least end of the claim.
-use Rattle.std.proofs.Common.{◌≡◌, ◌≢◌, ◌⊎◌, inl, inr, ℕ, ◌+◌, ◌<◌, ◌≤◌, ◌^◌, ◌==◌, ◌&&◌, Bool, true, false, not, nat_le, List, length, refl, sym, ap, subst, arith}
+use Rattle.std.proofs.Common.{◌≡◌, ◌≢◌, inl, inr, ℕ, ◌+◌, ◌<◌, ◌≤◌, ◌^◌, ◌==◌, ◌&&◌, Bool, true, false, not, nat_le, List, length, refl, sym, ap, subst, arith}
 use Rattle.std.specs.List.{list_any}
 use Rattle.dsa_terms.specs.Buffers.{Instance, buffer}
 use Rattle.dsa_terms.specs.Claims.{Claim, Entry, IsIn, Rises, buffers_of, up}
@@ -10,16 +10,13 @@ use Rattle.dsa_search_laws.proofs.Placing.{in_buffers}
 use Rattle.canonical_order.specs.Claims.{HasBuffer, entry_of}
 use Rattle.canonical_order.specs.Stands.{Stands}
 use Rattle.canonical_order.proofs.Entries.{entry_in, is_entry}
-use Rattle.dsa_terms.proofs.NumberTests.{apart, is_at_most, not_at_most}
+use Rattle.dsa_terms.proofs.NumberTests.{apart, below_or_last, is_at_most, not_at_most}
 use Rattle.conflicts.specs.Ends.{end_of}
 use Rattle.search_core.specs.declared.ending.Ending.{Ending}
 use Rattle.search_core.specs.Endings.{IsLeastEnd}
 use Rattle.search_core.proofs.Descent.{is_instance}
 
 -- ---- the loop over the buffers
-below_or_last : (k n : ℕ) → k < n + 1 → (k < n) ⊎ (k ≡ n)
-below_or_last k n lt = grind arith
-
 pub least_of_none : (I : Instance) (l : Claim) (n : ℕ) (x : Ending) → n ≡ 0 → 2 ^ 63 ≤ x.end → IsLeastEnd I l n x
 least_of_none I l n x q le = record {
   least = λ e i lt. absurd (omega arith);

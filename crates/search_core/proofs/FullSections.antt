@@ -18,7 +18,7 @@ use Rattle.lifetime.proofs.Live.{from_live, into_live, rises_live}
 use Rattle.canonical_order.specs.Claims.{HasBuffer, entry_of}
 use Rattle.canonical_order.specs.Stands.{Stands}
 use Rattle.canonical_order.proofs.Entries.{entry_in}
-use Rattle.dsa_terms.proofs.NumberTests.{is_at_most}
+use Rattle.dsa_terms.proofs.NumberTests.{is_at_most, less}
 use Rattle.skyline.specs.Overloads.{free_load, is_left, least_of, least_up, over, over_at, overloaded}
 use Rattle.skyline.proofs.Loads.{gives_left, left_gives}
 use Rattle.skyline.proofs.Overloads.{least_is_least}
@@ -95,9 +95,6 @@ full_section I S l C T H e =
     let r = some_answer (over I S l C) (numbers (count_of S)) (T, H) e in
     (r.0, of_answer r.0 (below (count_of S) r.0 r.1) (least_up I S l r.0) refl r.2)
   where
-    test : (m n : ℕ) → nat_lt m n ≡ true → m < n
-    test m n h = grind (arith, nat_tests)
-
     of_answer : (s : ℕ) → s < count_of S → (o : Option ℕ) → least_up I S l s ≡ o →
         over_at (start_of S s) (free_load I S l s) C o ≡ found T H → IsFull I S l C T H s
     of_answer s lt None q e = absurd (let k : None ≡ found T H = e in cc)
@@ -112,7 +109,7 @@ full_section I S l C T H e =
               in_range = lt;
               start = sym a;
               least = q ∙ ap (λ (h : ℕ). Some h) b;
-              full = let f = test C (h + free_load I S l s) t in omega arith;
+              full = let f = less C (h + free_load I S l s) t in omega arith;
             }
         go false t e = absurd (let k : None ≡ found T H = e in cc)
 

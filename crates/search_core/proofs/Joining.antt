@@ -8,7 +8,7 @@ use Rattle.dsa_terms.specs.Buffers.{Instance}
 use Rattle.dsa_terms.specs.Claims.{Entry, IsIn}
 use Rattle.dsa_terms.specs.Parts.{first_of_all, join, offsets_of, parts, searched, whole, whole_work}
 use Rattle.dsa_terms.specs.Search.{first, work}
-use Rattle.canonical_order.proofs.CoverLemmas.{in_at}
+use Rattle.dsa_terms.proofs.Places.{in_at}
 use Rattle.search_core.specs.Meters.{AreMore, Units}
 use Rattle.search_core.proofs.Taking.{more_after, some_part}
 

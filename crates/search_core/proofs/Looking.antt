@@ -4,8 +4,8 @@ use Rattle.std.proofs.lemmas.List.{take_more}
 use Rattle.std.proofs.lemmas.Bool.Decides.{nat_tests}
 use Rattle.dsa_terms.specs.Claims.{Claim, Entry, IsIn, Rises, buffers_of}
 use Rattle.dsa_terms.proofs.Lists.{from_append}
+use Rattle.dsa_terms.proofs.Places.{in_at}
 use Rattle.canonical_order.specs.Claims.{bound_of}
-use Rattle.canonical_order.proofs.CoverLemmas.{in_at}
 use Rattle.canonical_order.proofs.Entries.{bound_none, bound_some, entry_in, is_entry}
 use Rattle.dsa_search_laws.proofs.Placing.{in_buffers}
 

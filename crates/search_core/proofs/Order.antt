@@ -9,6 +9,7 @@ use Rattle.dsa_terms.specs.Buffers.{Instance}
 use Rattle.dsa_terms.specs.Claims.{Claim, Entry, IsIn, Rises, buffers_of, up}
 use Rattle.dsa_terms.specs.Search.{comes_before, put_in, in_order, choices, not_excluded}
 use Rattle.dsa_terms.proofs.Lists.{from_order, from_filter}
+use Rattle.dsa_terms.proofs.NumberTests.{is_at_most, not_at_most, same}
 use Rattle.dsa_search_laws.proofs.Complete.{from_choices}
 use Rattle.canonical_order.specs.Claims.{HasBuffer, entry_of}
 use Rattle.search_core.specs.Keys.{key_of}
@@ -52,22 +53,16 @@ put_key I e (f ∷ fs) h =
 abbrev pub entries_from : ℕ → Claim → Claim
 entries_from n l = filter (λ (e : Entry). nat_le n e.0) l
 
-at_or_above : (n a : ℕ) → n ≤ a → nat_le n a ≡ true
-at_or_above n a h = grind (arith, nat_tests)
-
-not_above : (n a : ℕ) → a < n → nat_le n a ≡ false
-not_above n a h = grind (arith, nat_tests)
-
 from_above : (l : Claim) (n : ℕ) → ((y : ℕ) → IsIn y (buffers_of l) → n ≤ y) → entries_from n l ≡ l
 from_above [] n h = refl
-from_above (x ∷ xs) n h = rw (at_or_above n x.0 (h x.0 (inl refl)), from_above xs n (λ y i. h y (inr i))) refl
+from_above (x ∷ xs) n h = rw (is_at_most n x.0 (h x.0 (inl refl)), from_above xs n (λ y i. h y (inr i))) refl
 
 from_zero : (l : Claim) → entries_from 0 l ≡ l
 from_zero l = from_above l 0 (λ y i. omega arith)
 
 from_past : (l : Claim) (n : ℕ) → ((e : Entry) → IsIn e l → e.0 < n) → entries_from n l ≡ []
 from_past [] n h = refl
-from_past (x ∷ xs) n h = rw (not_above n x.0 (h x (inl refl))) (from_past xs n (λ e i. h e (inr i)))
+from_past (x ∷ xs) n h = rw (not_at_most n x.0 (h x (inl refl))) (from_past xs n (λ e i. h e (inr i)))
 
 from_skip : (l : Claim) (n : ℕ) → (HasBuffer l n → ⊥) → entries_from n l ≡ entries_from (n + 1) l
 from_skip [] n h = refl
@@ -82,19 +77,16 @@ from_take : (l : Claim) (n : ℕ) → Rises (buffers_of l) → HasBuffer l n →
 from_take [] n r h = absurd h
 from_take (x ∷ xs) n r (inl q) =
     let k : x.0 ≡ n = sym q in
-    let e : nat_le n x.0 ≡ true = at_or_above n x.0 (omega arith) in
-    let f : nat_le (n + 1) x.0 ≡ false = not_above (n + 1) x.0 (omega arith) in
+    let e : nat_le n x.0 ≡ true = is_at_most n x.0 (omega arith) in
+    let f : nat_le (n + 1) x.0 ≡ false = not_at_most (n + 1) x.0 (omega arith) in
     let a : entries_from n xs ≡ xs = from_above xs n (λ y i. let m : x.0 < y = r.0 y i in omega arith) in
     let b : entries_from (n + 1) xs ≡ xs = from_above xs (n + 1) (λ y i. let m : x.0 < y = r.0 y i in omega arith) in
-    let t : (x.0 == n) ≡ true = equal x.0 n k in
+    let t : (x.0 == n) ≡ true = same x.0 n k in
     rw (e, f, a, b, t) (ap (λ (b : ℕ). let e : Claim = (b, x.1) ∷ xs in e) k)
-  where
-    equal : (a n : ℕ) → a ≡ n → (a == n) ≡ true
-    equal a n h = grind (arith, nat_tests)
 from_take (x ∷ xs) n r (inr i) =
     let k : x.0 < n = r.0 n i in
-    let e : nat_le n x.0 ≡ false = not_above n x.0 k in
-    let f : nat_le (n + 1) x.0 ≡ false = not_above (n + 1) x.0 (omega arith) in
+    let e : nat_le n x.0 ≡ false = not_at_most n x.0 k in
+    let f : nat_le (n + 1) x.0 ≡ false = not_at_most (n + 1) x.0 (omega arith) in
     let t : (x.0 == n) ≡ false = unequal x.0 n k in
     rw (e, f, t) (from_take xs n r.1 i)
   where

@@ -1,12 +1,12 @@
 -- The whole claim of a part, and the log that refutes it.
-use Rattle.std.proofs.Common.{◌≡◌, ℕ, zero, suc, ◌≤◌, ◌<◌, ◌==◌, true, List, [], ◌∷◌, length, slice_get, Some, sym, refl, ap, ◌∙◌, subst, inl, inr, arith}
-use Rattle.std.proofs.lemmas.Bool.Decides.{nat_tests}
+use Rattle.std.proofs.Common.{◌≡◌, ℕ, zero, suc, ◌≤◌, ◌<◌, ◌==◌, List, [], ◌∷◌, length, slice_get, Some, sym, refl, ap, ◌∙◌, subst, inl, inr, arith}
 use Rattle.std.specs.List.{All}
 use Rattle.dsa_terms.specs.Buffers.{Instance, IsInstance}
-use Rattle.dsa_terms.specs.Claims.{Claim, Entry, IsIn, Rises, Covers, IsWhole, up}
+use Rattle.dsa_terms.specs.Claims.{Claim, Entry, IsIn, Covers, IsWhole, up}
 use Rattle.dsa_terms.specs.Logs.{Line, Log, claim_of, IsAccepted}
 use Rattle.dsa_terms.specs.Parts.{numbers, part_of, parts, whole}
 use Rattle.dsa_terms.proofs.Lists.{from_filter, into_map}
+use Rattle.dsa_terms.proofs.NumberTests.{equal}
 use Rattle.dsa_search_laws.proofs.PartLists.{got_in}
 use Rattle.dsa_search_laws.proofs.Parts.{buffers_of-whole, claim_of_part, part_is_members, whole_is_whole}
 use Rattle.dsa_search_laws.proofs.Placing.{up_is_least}
@@ -16,9 +16,6 @@ use Rattle.refute_log.specs.Logs.{OpenLog, ended}
 use Rattle.search_core.specs.Cites.{IsCoveredBy}
 use Rattle.search_core.specs.Decisions.{IsRefutation}
 use Rattle.search_core.specs.Logs.{Extends, IsSearchLog}
-
-pub part_rises : (I : Instance) (p : List ℕ) → IsIn p (parts I) → Rises p
-part_rises I p h = rw buffers_of-whole at (claim_of_part I p h).rises
 
 pub stands_part : (I : Instance) (p : List ℕ) → All IsBuffer I → length I ≤ 512 → IsIn p (parts I) → Stands I (whole p)
 stands_part I p s n h = record {
@@ -56,10 +53,7 @@ part_of_member : (I : Instance) (p : List ℕ) (h : IsIn p (parts I)) (b : ℕ) 
 part_of_member I p h b i =
     let m = part_is_members I p h in
     let r = from_filter (λ b. part_of I b == m.0) (numbers (length I)) b (subst (IsIn b) m.1 i) in
-    same (part_of I b) m.0 r.1
-  where
-    same : (a b : ℕ) → (a == b) ≡ true → a ≡ b
-    same a b h = grind (arith, nat_tests)
+    equal (part_of I b) m.0 r.1
 
 pub refutes_part : (I : Instance) (C : ℕ) (p : List ℕ) (log : OpenLog) (closed : Log) (end : ℕ) → IsIn p (parts I) →
     IsSearchLog I C log → Extends (whole p) [] log.lines →

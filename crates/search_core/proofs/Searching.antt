@@ -8,12 +8,12 @@ use Rattle.dsa_terms.specs.Buffers.{Instance, buffer}
 use Rattle.dsa_terms.specs.Claims.{Claim, Entry, IsIn, IsClaim, Covers, child, up}
 use Rattle.dsa_terms.specs.Search.{choices, first, is_tall, not_excluded, seated}
 use Rattle.dsa_terms.proofs.Lists.{into_map, from_append, from_map, left_append}
+use Rattle.dsa_terms.proofs.Places.{in_at}
 use Rattle.dsa_search_laws.proofs.Complete.{from_choices, into_choices, tall_is}
 use Rattle.dsa_search_laws.proofs.Placing.{in_buffers}
 use Rattle.dsa_search_laws.proofs.Search.{first_equation, first_empty}
 use Rattle.canonical_order.specs.Claims.{HasBuffer, entry_of, least_buffer}
 use Rattle.canonical_order.specs.Levels.{AreLevels}
-use Rattle.canonical_order.proofs.CoverLemmas.{in_at}
 use Rattle.dsa_terms.specs.Logs.{Line}
 use Rattle.search_core.specs.declared.found.Refuted.{Refuted}
 use Rattle.search_core.specs.Cites.{IsChildCovered}

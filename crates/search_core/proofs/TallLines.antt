@@ -7,6 +7,7 @@ use Rattle.dsa_terms.specs.Buffers.{Instance, buffer, is_live}
 use Rattle.dsa_terms.specs.Claims.{Claim, Entry, IsClaim, up}
 use Rattle.dsa_terms.specs.Logs.{Line, Over, IsLegal, is_stacked, rounded, rounding, greatest}
 use Rattle.dsa_terms.proofs.Numbers.{next_at_or_above, next_is_below}
+use Rattle.dsa_terms.proofs.NumberTests.{is_at_most}
 use Rattle.dsa_model.specs.Buffer.{IsBuffer}
 
 next_of_one : (x : ℕ) → next_multiple_of x 1 ≡ x
@@ -37,14 +38,11 @@ stacked_alone : (I : Instance) (b T H : ℕ) → IsBuffer (buffer I b) → is_li
     filter (is_stacked I T H 1) (Alone b H) ≡ Alone b H
 unfolding is_stacked up
 stacked_alone I b T H s live =
-    let high : nat_le H (next_multiple_of H (buffer I b).alignment) ≡ true = at_or_above H
+    let high : nat_le H (next_multiple_of H (buffer I b).alignment) ≡ true = is_at_most H
     (next_multiple_of H (buffer I b).alignment) (next_at_or_above H (buffer I b).alignment s.sound.1) in
     let even : ((buffer I b).alignment % 1 == 0) ≡ true = by_one (buffer I b).alignment in
     rw (live, high, even) refl
   where
-    at_or_above : (n a : ℕ) → n ≤ a → nat_le n a ≡ true
-    at_or_above n a h = grind (arith, nat_tests)
-
     by_one : (a : ℕ) → (a % 1 == 0) ≡ true
     by_one a = grind (arith, nat_tests)
 

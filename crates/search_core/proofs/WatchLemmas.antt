@@ -1,12 +1,12 @@
 -- Lines that are watched at the levels of a claim, and what becomes of their watches.
-use Rattle.std.proofs.Common.{◌≡◌, ◌≢◌, ℕ, ◌^◌, ◌<◌, ◌≤◌, ◌⊎◌, inl, inr, List, ◌++◌, length, length-append, slice_get, slice_index, slice_set, Some, sym, ap, ◌∙◌, subst, refl, arith}
+use Rattle.std.proofs.Common.{◌≡◌, ◌≢◌, ℕ, ◌^◌, ◌<◌, ◌≤◌, inl, inr, List, ◌++◌, length, length-append, slice_get, slice_index, slice_set, Some, sym, ap, ◌∙◌, subst, refl, arith}
 use Rattle.std.proofs.lemmas.List.{get_or_past, get_or-set_other, get_or-set_same, length-set}
 use Rattle.std.proofs.lemmas.Option.{slice_get-get_or, slice_get_past, slice_get_within}
 use Rattle.dsa_terms.specs.Buffers.{Instance}
 use Rattle.dsa_terms.specs.Claims.{Claim, Entry, IsIn}
 use Rattle.dsa_terms.specs.Logs.{Line, claim_of}
 use Rattle.canonical_order.specs.Levels.{AreLevels}
-use Rattle.dsa_terms.proofs.NumberTests.{below_or_from}
+use Rattle.dsa_terms.proofs.NumberTests.{below_or_from, same_or_not}
 use Rattle.search_core.specs.Cites.{IsCoveredBy}
 use Rattle.search_core.specs.Logs.{NoneCovers}
 use Rattle.search_core.specs.Looks.{IsLacked, IsUnmet}
@@ -75,9 +75,6 @@ lacked_fails levels k e f lacked has =
     absurd (let lt : 0 < slice_index levels f.0 = has f lacked.among in let z = lacked.none in omega arith)
 
 -- ---- one watch more, or another
-same_or_not : (s t : ℕ) → (s ≡ t) ⊎ (s ≢ t)
-same_or_not s t = grind arith
-
 pub get_set_same : {X : Type 0} (xs : List X) (k : ℕ) (x : X) → k < length xs → slice_get (slice_set xs k x) k ≡ Some x
 get_set_same xs k x lt =
     let le : k < length (slice_set xs k x) = (let q = length-set xs k x in omega arith) in

@@ -1,13 +1,13 @@
 -- Watches that are filed in rows.
-use Rattle.std.proofs.Common.{◌≡◌, ◌≢◌, ℕ, zero, suc, ◌+◌, ◌-◌, ◌<◌, ◌≤◌, ◌⊎◌, inl, inr, List, [], ◌∷◌, ◌++◌, length, length-append, slice_get, slice_index, slice_index_or, slice_set, take, Some, sym, ap, ◌∙◌, subst, refl, arith}
+use Rattle.std.proofs.Common.{◌≡◌, ℕ, zero, suc, ◌+◌, ◌-◌, ◌<◌, ◌≤◌, ◌⊎◌, inl, inr, List, [], ◌∷◌, ◌++◌, length, length-append, slice_get, slice_index, slice_index_or, slice_set, take, Some, sym, ap, ◌∙◌, subst, refl, arith}
 use Rattle.std.proofs.lemmas.List.{append-nil, get_or-set_other, get_or-set_same, get_or-take, get_or_past, take-append-le, get_or_read, length-set, length-take, take-set-le, take_more}
 use Rattle.std.proofs.lemmas.Option.{get_or_from_slice_get, slice_get-get_or, slice_get_within}
 use Rattle.std.specs.List.{swap_remove}
 use Rattle.dsa_terms.specs.Claims.{Claim, Entry, IsIn}
 use Rattle.dsa_terms.specs.Logs.{Line, claim_of}
 use Rattle.dsa_terms.proofs.Lists.{from_append, left_append, right_append}
-use Rattle.canonical_order.proofs.CoverLemmas.{in_at}
-use Rattle.dsa_terms.proofs.NumberTests.{below_or_from}
+use Rattle.dsa_terms.proofs.NumberTests.{below_or_from, same_or_not}
+use Rattle.dsa_terms.proofs.Places.{any_default, from_contains, place_of}
 use Rattle.search_core.specs.declared.watch_row.Mark.{Mark}
 use Rattle.search_core.specs.Looks.{IsLacked, IsUnmet}
 use Rattle.search_core.specs.Watches.{Fails}
@@ -15,32 +15,20 @@ use Rattle.search_core.specs.Watching.{AreAppended, AreFiled, AreMoved, FailsAtM
 use Rattle.refute_log.proofs.Legal.{get_before}
 use Rattle.search_core.proofs.WatchLemmas.{get_set_same, lacked_fails}
 
-same_or_not : (s t : ℕ) → (s ≡ t) ⊎ (s ≢ t)
-same_or_not s t = grind arith
-
 pub same_some : {X : Type 0} {x y : X} → Some x ≡ Some y → x ≡ y
 same_some e = cc
 
 -- ---- one row
-place_of : {X : Type 0} (xs : List X) (x : X) → IsIn x xs → (j : ℕ) × (j < length xs) × ((d : X) →
-    slice_index_or xs j d ≡ x)
-place_of [] x i = absurd i
-place_of (y ∷ ys) x (inl q) = (zero, omega arith, λ d. sym q)
-place_of (y ∷ ys) x (inr i) = let r = place_of ys x i in (suc r.0, (let k = r.1 in omega arith), r.2)
-
-at_place : {X : Type 0} (xs : List X) (j : ℕ) (x : X) → j < length xs → slice_index_or xs j x ≡ x → IsIn x xs
-at_place xs j x lt q = subst (λ y. IsIn y xs) q (in_at xs j x lt)
-
 taken_before : {X : Type 0} (xs : List X) (n j : ℕ) (x : X) → j < n → n ≤ length xs → slice_index_or xs j x ≡ x →
     IsIn x (take n xs)
-taken_before xs n j x lt le q = at_place (take n xs) j x (let k = length-take n xs in omega arith)
-    (get_or-take n xs j x lt ∙ q)
+taken_before xs n j x lt le q = from_contains (take n xs) x
+    (j, (let k = length-take n xs in omega arith), get_or-take n xs j x lt ∙ q)
 
 -- an item that is not the one taken out stays
 pub in_swap_remove : {X : Type 0} (xs : List X) (i : ℕ) (d x : X) → i < length xs → IsIn x xs →
     IsIn x (swap_remove xs i d) ⊎ (slice_get xs i ≡ Some x)
 in_swap_remove xs i d x lt h = go xs i x (slice_index_or xs (length xs - 1) d) lt
-    (λ q. q d) (place_of xs x h)
+    (λ q. q d) (let r = place_of xs x x h in (r.0, r.1, λ e. any_default xs r.0 e x r.1 ∙ r.2))
   where
     go : {X : Type 0} (xs : List X) (i : ℕ) (x last : X) → i < length xs →
         (((e : X) → slice_index_or xs (length xs - 1) e ≡ x) → last ≡ x) →

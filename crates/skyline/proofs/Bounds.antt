@@ -7,8 +7,9 @@ use Rattle.dsa_terms.specs.Parts.{whole}
 use Rattle.dsa_terms.proofs.Lists.{from_append}
 use Rattle.dsa_terms.proofs.Moments.{sound}
 use Rattle.dsa_terms.proofs.Numbers.{next_is_below}
+use Rattle.dsa_model.proofs.Instances.{sound_instance}
 use Rattle.dsa_search_laws.proofs.Placing.{in_buffers, up_at_or_above}
-use Rattle.dsa_search_laws.proofs.Members.{buffers_of-whole}
+use Rattle.dsa_search_laws.proofs.Members.{buffers_of-whole, whole_is_whole}
 use Rattle.dsa_model.specs.Buffer.{IsBuffer}
 use Rattle.lifetime.specs.SectionList.{AreSectionsOf, SectionList}
 use Rattle.canonical_order.specs.Stands.{Stands}
@@ -16,8 +17,8 @@ use Rattle.skyline.specs.Carried.{claims_of}
 use Rattle.skyline.specs.Skies.{AreLow, Sky, last_claim}
 use Rattle.skyline.specs.Skylines.{IsSkyline}
 use Rattle.skyline.specs.Standing.{IsStack, claim_after, raised}
-use Rattle.skyline.proofs.Carrying.{alignment_limited, has_place, is_whole, last_of_claims, member_in_range, raised_limited, rises_after, stack_in_range}
-use Rattle.skyline.proofs.SectionFacts.{is_instance, members_few}
+use Rattle.skyline.proofs.Carrying.{alignment_limited, has_place, last_of_claims, member_in_range, raised_limited, rises_after, stack_in_range}
+use Rattle.skyline.proofs.SectionFacts.{members_few}
 use Rattle.skyline.proofs.Standing.{up_is_raised}
 
 -- a bound is at most the up, which is the rounded height to which the standing buffers raise
@@ -25,8 +26,8 @@ pub bound_low : (I : Instance) (members bs : List ℕ) (e : Entry) → All IsBuf
     All (λ b. b < length I) members → Rises members → IsStack I (whole members) bs →
     IsIn e (claim_after I (whole members) bs) → e.1 < 2 ^ 54
 bound_low I members bs e buffers count range rise stack i =
-    let s = is_instance I buffers in
-    let w = is_whole members in
+    let s = sound_instance I buffers in
+    let w = whole_is_whole members in
     let b = in_buffers (claim_after I (whole members) bs) e i in
     let lt = member_in_range I members bs e.0 range b in
     let u = up_is_raised I (whole members) bs e s w i in

@@ -4,13 +4,15 @@ use Rattle.std.specs.Int.{next_multiple_of}
 use Rattle.std.specs.List.{All}
 use Rattle.std.proofs.lemmas.List.{length-map, length-set, get_or-set_other, get_or-set_same}
 use Rattle.dsa_terms.specs.Buffers.{Instance, IsInstance, buffer}
-use Rattle.dsa_terms.specs.Claims.{Claim, Entry, IsIn, IsWhole, Rises, buffers_of}
+use Rattle.dsa_terms.specs.Claims.{Claim, IsIn, IsWhole, Rises, buffers_of}
 use Rattle.dsa_terms.specs.Logs.{greatest}
 use Rattle.dsa_terms.specs.Parts.{whole}
 use Rattle.dsa_search_laws.proofs.Claims.{rises-child, length-child}
 use Rattle.dsa_terms.proofs.Numbers.{next_is_below}
 use Rattle.dsa_terms.proofs.Moments.{sound}
-use Rattle.dsa_search_laws.proofs.Members.{buffers_of-whole}
+use Rattle.dsa_terms.proofs.NumberTests.{same_or_not}
+use Rattle.dsa_model.proofs.Instances.{sound_instance}
+use Rattle.dsa_search_laws.proofs.Members.{buffers_of-whole, whole_is_whole}
 use Rattle.dsa_model.specs.Buffer.{IsBuffer}
 use Rattle.lifetime.specs.SectionList.{sections_of, SectionList}
 use Rattle.skyline.specs.Standing.{claim_after, offset_after, IsStack, raised, floor}
@@ -21,7 +23,6 @@ use Rattle.skyline.proofs.Standing.{offset_is_raised, up_is_over_tops}
 use Rattle.skyline.proofs.Tops.{AllIn, heights_are_tops}
 use Rattle.canonical_order.specs.Claims.{entry_of, HasBuffer}
 use Rattle.skyline.specs.Skies.{last_claim}
-use Rattle.skyline.proofs.SectionFacts.{is_instance}
 use Rattle.canonical_order.proofs.CoverLemmas.{from_child, in_child_by, step_limit}
 use Rattle.canonical_order.proofs.Entries.{sound_buffer, entry_in}
 
@@ -76,11 +77,6 @@ pub stack_in_range : (I : Instance) (members bs : List ℕ) → All (λ b. b < l
 stack_in_range I members [] h s = tt
 stack_in_range I members (b ∷ bs) h s = (member_in_range I members bs b h s.0, stack_in_range I members bs h s.1)
 
-pub is_whole : (members : List ℕ) → IsWhole (whole members)
-is_whole [] e i = absurd i
-is_whole (b ∷ bs) e (inl q) = ap (λ (x : Entry). x.1) q
-is_whole (b ∷ bs) e (inr i) = is_whole bs e i
-
 pub rises_after : (I : Instance) (root : Claim) (bs : List ℕ) → Rises (buffers_of root) →
     Rises (buffers_of (claim_after I root bs))
 rises_after I root [] r = r
@@ -125,11 +121,11 @@ pub low_is : (I : Instance) (S : SectionList) (members bs ys hs : List ℕ) (row
     offset_after I (whole members) bs b ≡ next_multiple_of (max (greatest (at_places hs (sections_of S b)))
     (floor_at bs ys b)) (buffer I b).alignment
 low_is I S members bs ys hs rows flags b h i =
-    up_is_over_tops I (whole members) bs (entry_of (claim_after I (whole members) bs) b) (is_instance I h.buffers)
-    (is_whole members) h.stands (entry_in (claim_after I (whole members) bs) b i)
+    up_is_over_tops I (whole members) bs (entry_of (claim_after I (whole members) bs) b) (sound_instance I h.buffers)
+    (whole_is_whole members) h.stands (entry_in (claim_after I (whole members) bs) b i)
     ∙ ap (λ t. next_multiple_of (max t (floor I (whole members) bs b)) (buffer I b).alignment)
-    (sym (heights_are_tops I S (whole members) bs b (is_instance I h.buffers) h.belongs (is_whole members) h.stands
-    (stack_in_range I members bs h.in_range h.stands) (member_in_range I members bs b h.in_range i))
+    (sym (heights_are_tops I S (whole members) bs b (sound_instance I h.buffers) h.belongs (whole_is_whole members)
+    h.stands (stack_in_range I members bs h.in_range h.stands) (member_in_range I members bs b h.in_range i))
     ∙ ap (λ x. greatest (at_places x (sections_of S b))) (sym h.heights))
     ∙ ap (λ f. next_multiple_of (max (greatest (at_places hs (sections_of S b))) f) (buffer I b).alignment)
     (sym (floor_is I (whole members) bs ys b h.offsets))
@@ -160,9 +156,6 @@ saved_other I S root rows (d ∷ ds) b row out h = (
   (let ne : d ≢ b = λ e. out (inl (sym e)) in get_or-set_other rows b d row [] ne ∙ h.0),
   saved_other I S root rows ds b row (λ i. out (inr i)) h.1,
 )
-
-equal : (m n : ℕ) → (m ≡ n) ⊎ (m ≢ n)
-equal m n = grind arith
 
 pub pushed : (I : Instance) (S : SectionList) (members bs ys hs : List ℕ) (rows : List (List ℕ)) (flags : List Bool)
     (b y : ℕ) (hs' : List ℕ) (row : List ℕ) →
@@ -197,7 +190,7 @@ pushed I S members bs ys hs rows flags b y hs' row h i at heights saved = record
 
     room : (c : ℕ) → c < length I → IsIn c members →
         length (slice_index_or (set rows b row) c []) ≡ length (sections_of S c)
-    room c l m = go (equal c b)
+    room c l m = go (same_or_not c b)
       where
         go : (c ≡ b) ⊎ (c ≢ b) → length (slice_index_or (set rows b row) c []) ≡ length (sections_of S c)
         go (inl e) = ap (λ x. length (slice_index_or (set rows b row) x [])) e
@@ -210,7 +203,7 @@ pushed I S members bs ys hs rows flags b y hs' row h i at heights saved = record
     free c l = (there, back)
       where
         there : slice_index_or (set flags b false) c false ≡ true → HasBuffer (claim_after I (whole members) (b ∷ bs)) c
-        there q = go (equal c b)
+        there q = go (same_or_not c b)
           where
             go : (c ≡ b) ⊎ (c ≢ b) → HasBuffer (claim_after I (whole members) (b ∷ bs)) c
             go (inl e) = absurd (let r : slice_index_or (set flags b false) c false ≡ false =
@@ -257,7 +250,7 @@ popped I S members bs ys hs rows flags b y hs' h back = record {
     free c l = (there, again)
       where
         there : slice_index_or (set flags b true) c false ≡ true → HasBuffer (claim_after I (whole members) bs) c
-        there q = go (equal c b)
+        there q = go (same_or_not c b)
           where
             go : (c ≡ b) ⊎ (c ≢ b) → HasBuffer (claim_after I (whole members) bs) c
             go (inl e) = subst (λ x. HasBuffer (claim_after I (whole members) bs) x) (sym e) h.stands.0
@@ -265,7 +258,7 @@ popped I S members bs ys hs rows flags b y hs' h back = record {
                 ((h.free c l).0 (sym (get_or-set_other flags b c true false ne) ∙ q))).0
 
         again : HasBuffer (claim_after I (whole members) bs) c → slice_index_or (set flags b true) c false ≡ true
-        again j = go (equal c b)
+        again j = go (same_or_not c b)
           where
             go : (c ≡ b) ⊎ (c ≢ b) → slice_index_or (set flags b true) c false ≡ true
             go (inl e) = ap (λ x. slice_index_or (set flags b true) x false) e ∙ get_or-set_same flags b true false

@@ -1,14 +1,17 @@
 -- What a skyline's fields say of a buffer that is left.
-use Rattle.std.proofs.Common.{◌≡◌, inl, inr, ◌+◌, ◌-◌, ◌*◌, ◌<◌, ◌≤◌, ◌^◌, ℕ, zero, suc, Bool, true, false, List, [], ◌∷◌, length, max, take, reverse, slice_index, slice_index_or, refl, ap, sym, subst, ◌∙◌, arith, ◌↔◌}
+use Rattle.std.proofs.Common.{◌≡◌, ◌+◌, ◌-◌, ◌*◌, ◌<◌, ◌≤◌, ◌^◌, ℕ, zero, suc, Bool, true, false, List, [], ◌∷◌, length, max, take, reverse, slice_index, slice_index_or, ap, sym, subst, ◌∙◌, arith, ◌↔◌}
 use Rattle.std.specs.Int.{next_multiple_of}
 use Rattle.std.specs.List.{All}
 use Rattle.std.proofs.lemmas.List.{take_more, reverse-append, length-reverse, length-take-le}
 use Rattle.dsa_terms.specs.Buffers.{Instance, buffer}
-use Rattle.dsa_terms.specs.Claims.{Claim, IsIn, up}
+use Rattle.dsa_terms.specs.Claims.{Claim, up}
 use Rattle.dsa_terms.specs.Logs.{greatest}
 use Rattle.dsa_terms.specs.Parts.{whole}
 use Rattle.dsa_terms.proofs.Numbers.{next_is_below}
 use Rattle.dsa_terms.proofs.Moments.{sound}
+use Rattle.dsa_terms.proofs.Places.{in_at}
+use Rattle.dsa_model.proofs.Instances.{sound_instance}
+use Rattle.dsa_search_laws.proofs.Members.{whole_is_whole}
 use Rattle.lifetime.specs.SectionList.{count_of, sections_of, SectionList}
 use Rattle.skyline.specs.Standing.{claim_after, offset_after, raised, floor, top_under}
 use Rattle.skyline.specs.Places.{at_places}
@@ -16,20 +19,15 @@ use Rattle.skyline.specs.Carried.{claims_of, Carries, floor_at}
 use Rattle.skyline.specs.Skylines.{IsSkyline}
 use Rattle.skyline.proofs.Standing.{offset_is_raised, raised_is_split}
 use Rattle.skyline.proofs.Tops.{heights_are_tops, length-heights_after}
-use Rattle.skyline.proofs.Carrying.{length-claims_of, last_of_claims, member_in_range, stack_in_range, is_whole, has_place, floor_is, low_is, raised_limited, alignment_limited}
+use Rattle.skyline.proofs.Carrying.{length-claims_of, last_of_claims, member_in_range, stack_in_range, has_place, floor_is, low_is, raised_limited, alignment_limited}
 use Rattle.canonical_order.specs.Claims.{entry_of, HasBuffer}
 use Rattle.skyline.specs.Skies.{Sky, last_claim}
-use Rattle.skyline.proofs.SectionFacts.{is_instance, members_few, section_in_range}
+use Rattle.skyline.proofs.SectionFacts.{members_few, section_in_range}
 
 -- one more item, the last one first
 pub reverse_take_more : (xs : List ℕ) (k : ℕ) → k < length xs → reverse (take (k + 1) xs) ≡ slice_index xs k ∷ reverse
     (take k xs)
 reverse_take_more xs k lt = ap reverse (take_more xs k 0 lt) ∙ reverse-append (take k xs) (slice_index xs k ∷ [])
-
-pub get_in : (xs : List ℕ) (k d : ℕ) → k < length xs → IsIn (slice_index_or xs k d) xs
-get_in [] k d lt = absurd (omega arith)
-get_in (x ∷ xs) zero d lt = inl refl
-get_in (x ∷ xs) (suc k) d lt = inr (get_in xs k d (omega arith))
 
 -- what is in the last claim is in the claim that is left
 pub left_over : (I : Instance) (S : SectionList) (root : Claim) (bs : List ℕ) (k : Sky) (b : ℕ) →
@@ -57,13 +55,13 @@ first_limited : (I : Instance) (members bs ys : List ℕ) (hs : List ℕ) (S : S
 first_limited I members [] ys hs S rows flags h = let e = ap (λ zs. slice_index zs 0) h.offsets in omega arith
 first_limited I members (d ∷ ds) ys hs S rows flags h =
     let e : slice_index ys 0 ≡ offset_after I (whole members) ds d = ap (λ zs. slice_index zs 0) h.offsets in
-    let f = offset_is_raised I (whole members) ds d (is_instance I h.buffers) (is_whole members) h.stands.0 in
+    let f = offset_is_raised I (whole members) ds d (sound_instance I h.buffers) (whole_is_whole members) h.stands.0 in
     let lt = member_in_range I members ds d h.in_range h.stands.0 in
     let n = next_is_below (raised I (whole members) ds d) (buffer I d).alignment
-    (sound I d (is_instance I h.buffers)).1 in
+    (sound I d (sound_instance I h.buffers)).1 in
     let a = alignment_limited I d h.buffers lt in
-    let r = raised_limited I (whole members) ds d (is_instance I h.buffers) h.buffers (is_whole members) h.stands.1
-    (stack_in_range I members ds h.in_range h.stands.1) in
+    let r = raised_limited I (whole members) ds d (sound_instance I h.buffers) h.buffers (whole_is_whole members)
+    h.stands.1 (stack_in_range I members ds h.in_range h.stands.1) in
     let p = has_place I members ds d h.rise h.stands.1 h.stands.0 in
     let q = members_few I members h.in_range h.rise h.count in
     omega arith
@@ -77,17 +75,17 @@ low_facts I S members n stack floors hs rows flags b h i = record {
   in_range = lt;
   in_sections = omega (arith, lt, h.carries.belongs.buffers);
   sections = λ k d l. let r = section_in_range I S h.carries.belongs (slice_index_or (sections_of S b) k d) b lt
-      (get_in (sections_of S b) k d l) in omega (arith, r, hs_count);
+      (in_at (sections_of S b) k d l) in omega (arith, r, hs_count);
   floor_limit = λ pos. floor_limit pos;
   bound = λ t f et ef. let e = split t f et ef in omega (arith, e, small);
   value = λ t f et ef. ap (λ x. next_multiple_of (max x f) (buffer I b).alignment) et
       ∙ ap (λ x. next_multiple_of (max (greatest (at_places hs (sections_of S b))) x) (buffer I b).alignment) ef
       ∙ sym (low_is I S members (reverse (take n stack)) (reverse (take n floors)) hs rows flags b h.carries i);
   limit =
-      let e = offset_is_raised I (whole members) (reverse (take n stack)) b (is_instance I h.carries.buffers)
-      (is_whole members) i in
+      let e = offset_is_raised I (whole members) (reverse (take n stack)) b (sound_instance I h.carries.buffers)
+      (whole_is_whole members) i in
       let k = next_is_below (raised I (whole members) (reverse (take n stack)) b) (buffer I b).alignment
-      (sound I b (is_instance I h.carries.buffers)).1 in
+      (sound I b (sound_instance I h.carries.buffers)).1 in
       let a = alignment_limited I b h.carries.buffers lt in
       omega (arith, small);
 }
@@ -101,7 +99,7 @@ low_facts I S members n stack floors hs rows flags b h i = record {
     small : raised I (whole members) (reverse (take n stack)) b ≤ 512 * 1103806595072
     small =
         let r = raised_limited I (whole members) (reverse (take n stack)) b
-        (is_instance I h.carries.buffers) h.carries.buffers (is_whole members) h.carries.stands
+        (sound_instance I h.carries.buffers) h.carries.buffers (whole_is_whole members) h.carries.stands
         (stack_in_range I members (reverse (take n stack)) h.carries.in_range h.carries.stands) in
         let p = has_place I members (reverse (take n stack)) b h.carries.rise h.carries.stands i in
         let q = members_few I members h.carries.in_range h.carries.rise h.carries.count in omega arith
@@ -109,10 +107,10 @@ low_facts I S members n stack floors hs rows flags b h i = record {
     split : (t f : ℕ) → t ≡ greatest (at_places hs (sections_of S b)) → f ≡ floor_at (reverse (take n stack))
         (reverse (take n floors)) b → max t f ≡ raised I (whole members) (reverse (take n stack)) b
     split t f et ef =
-        let e = raised_is_split I (whole members) (reverse (take n stack)) b (is_instance I h.carries.buffers)
-        (is_whole members) h.carries.stands in
+        let e = raised_is_split I (whole members) (reverse (take n stack)) b (sound_instance I h.carries.buffers)
+        (whole_is_whole members) h.carries.stands in
         let u = heights_are_tops I S (whole members) (reverse (take n stack)) b
-        (is_instance I h.carries.buffers) h.carries.belongs (is_whole members) h.carries.stands
+        (sound_instance I h.carries.buffers) h.carries.belongs (whole_is_whole members) h.carries.stands
         (stack_in_range I members (reverse (take n stack)) h.carries.in_range h.carries.stands) lt in
         let v = floor_is I (whole members) (reverse (take n stack)) (reverse (take n floors)) b h.carries.offsets in
         let w = ap (λ x. greatest (at_places x (sections_of S b))) h.carries.heights in

@@ -4,11 +4,11 @@ use Rattle.std.specs.List.{All}
 use Rattle.dsa_terms.specs.Buffers.{Instance, buffer}
 use Rattle.dsa_terms.specs.Claims.{IsIn, Rises, buffers_of, child}
 use Rattle.dsa_terms.specs.Parts.{whole}
+use Rattle.dsa_terms.proofs.Places.{in_at}
 use Rattle.lifetime.specs.SectionList.{sections_of, AreSectionsOf, SectionList}
 use Rattle.skyline.specs.Standing.{claim_after}
 use Rattle.skyline.specs.Places.{set_each}
 use Rattle.skyline.specs.Loads.{HasLoads, IsLoaded}
-use Rattle.skyline.proofs.Lefts.{get_in}
 use Rattle.skyline.proofs.Carrying.{member_in_range}
 use Rattle.skyline.proofs.Loads.{load_with, load_limited, lighter, heavier}
 use Rattle.skyline.proofs.Steps.{reverse_set, reverse_last, last_stands}
@@ -30,9 +30,9 @@ push_facts I S members n stack floors hs rows flags ls b h i = record {
   in_range = lt;
   rise = rise_of I S p b lt;
   sections = λ k d l. let r = section_in_range I S p (slice_index_or (sections_of S b) k d) b lt
-      (get_in (sections_of S b) k d l) in omega (arith, r, h.loads.count);
+      (in_at (sections_of S b) k d l) in omega (arith, r, h.loads.count);
   enough = λ k d l.
-      let j = get_in (sections_of S b) k d l in
+      let j = in_at (sections_of S b) k d l in
       let r = section_in_range I S p (slice_index_or (sections_of S b) k d) b lt j in
       let e = h.loads.each (slice_index_or (sections_of S b) k d) r in
       let w = load_with I S (claim_after I (whole members) (reverse (take n stack))) b
@@ -81,10 +81,10 @@ pop_facts I S members n stack floors hs rows flags ls b h pos e = subst (BackFac
   in_range = lt;
   rise = rise_of I S p (slice_index stack (n - 1)) lt;
   sections = λ k d l. let r = section_in_range I S p (slice_index_or (sections_of S (slice_index stack (n - 1))) k d)
-      (slice_index stack (n - 1)) lt (get_in (sections_of S (slice_index stack (n - 1))) k d l) in
+      (slice_index stack (n - 1)) lt (in_at (sections_of S (slice_index stack (n - 1))) k d l) in
       omega (arith, r, h.loads.count);
   room = λ k d l.
-      let j = get_in (sections_of S (slice_index stack (n - 1))) k d l in
+      let j = in_at (sections_of S (slice_index stack (n - 1))) k d l in
       let r = section_in_range I S p (slice_index_or (sections_of S (slice_index stack (n - 1))) k d)
       (slice_index stack (n - 1)) lt j in
       let x = (last_loads I S members n stack floors hs rows flags ls h pos).each

@@ -1,6 +1,5 @@
 -- What is left to stand, when a buffer is taken from the claim or put back.
 use Rattle.std.proofs.Common.{◌≡◌, ◌≢◌, ◌⊎◌, inl, inr, ◌+◌, ◌-◌, ◌*◌, ◌<◌, ◌≤◌, ◌^◌, ◌==◌, ℕ, suc, Bool, true, false, cond, List, [], ◌∷◌, length, slice_index, slice_index_or, lit≤, ◌↔◌, refl, ap, sym, subst, ◌∙◌, arith}
-use Rattle.std.proofs.lemmas.Bool.Decides.{nat_tests}
 use Rattle.std.specs.List.{All, filter, sum_by}
 use Rattle.std.proofs.lemmas.List.Sums.{sum_by-cons}
 use Rattle.std.proofs.lemmas.List.{get_or_past}
@@ -11,6 +10,7 @@ use Rattle.dsa_terms.specs.Claims.{Claim, Entry, IsIn, Rises, child}
 use Rattle.dsa_search_laws.proofs.Placing.{in_buffers}
 use Rattle.canonical_order.proofs.Entries.{sound_buffer}
 use Rattle.dsa_terms.proofs.Lists.{any_gives, any_from, true_or_false, from_map}
+use Rattle.dsa_terms.proofs.NumberTests.{below_or_from, equal, same}
 use Rattle.dsa_model.specs.Buffer.{IsBuffer}
 use Rattle.lifetime.specs.SectionList.{count_of, members_of, sections_of, AreSectionsOf, SectionList}
 use Rattle.skyline.specs.Places.{set_each}
@@ -22,22 +22,16 @@ use Rattle.canonical_order.specs.Claims.{entry_of, HasBuffer}
 use Rattle.skyline.specs.Overloads.{is_left, free_load}
 use Rattle.skyline.proofs.SectionFacts.{member_in, members_rise, few_in, listed_in}
 
-same_true : (x y : ℕ) → (x == y) ≡ true → x ≡ y
-same_true x y h = grind (arith, nat_tests)
-
-true_same : (x y : ℕ) → x ≡ y → (x == y) ≡ true
-true_same x y h = grind (arith, nat_tests)
-
 -- the test says what membership says
 pub left_gives : (l : Claim) (b : ℕ) → is_left l b ≡ true → HasBuffer l b
 unfolding is_left
 left_gives l b h = let r = any_gives (λ (e : Entry). e.0 == b) l h in subst (λ x. HasBuffer l x)
-    (same_true r.0.0 b r.2) (in_buffers l r.0 r.1)
+    (equal r.0.0 b r.2) (in_buffers l r.0 r.1)
 
 pub gives_left : (l : Claim) (b : ℕ) → HasBuffer l b → is_left l b ≡ true
 unfolding is_left
 gives_left l b i = let r = from_map (λ (e : Entry). e.0) l b i in any_from (λ (e : Entry). e.0 == b) l r.0 r.1
-    (true_same r.0.0 b (sym r.2))
+    (same r.0.0 b (sym r.2))
 
 agree : (s t : Bool) → (s ≡ true → t ≡ true) → (t ≡ true → s ≡ true) → s ≡ t
 agree true t h k = sym (h refl)
@@ -175,11 +169,8 @@ unfolding buffer
 past_the_end I b le = get_or_past I b no_buffer le
 
 size_limited : (I : Instance) (b : ℕ) → All IsBuffer I → (buffer I b).size ≤ 2 ^ 40
-size_limited I b h = go (cases b (length I))
+size_limited I b h = go (below_or_from b (length I))
   where
-    cases : (m n : ℕ) → (m < n) ⊎ (n ≤ m)
-    cases m n = grind arith
-
     go : (b < length I) ⊎ (length I ≤ b) → (buffer I b).size ≤ 2 ^ 40
     go (inl lt) = (sound_buffer I b h lt).within_size
     go (inr le) = rw (past_the_end I b le) (lit≤ tt)

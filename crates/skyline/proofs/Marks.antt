@@ -5,6 +5,7 @@ use Rattle.std.proofs.lemmas.List.{take_more, get_or-set_other, get_or-set_same,
 use Rattle.std.proofs.Math.ListN.{get_or-map}
 use Rattle.dsa_terms.specs.Buffers.{Instance}
 use Rattle.dsa_terms.specs.Claims.{IsIn, Rises}
+use Rattle.dsa_terms.proofs.NumberTests.{same_or_not}
 use Rattle.dsa_search_laws.proofs.Members.{buffers_of-whole}
 use Rattle.dsa_model.specs.Buffer.{IsBuffer}
 use Rattle.dsa_model.specs.Lists.{items_of}
@@ -24,9 +25,6 @@ into_append (x ∷ xs) y c (inl (inl e)) = inl e
 into_append (x ∷ xs) y c (inl (inr i)) = inr (into_append xs y c (inl i))
 into_append (x ∷ xs) y c (inr e) = inr (into_append xs y c (inr e))
 
-equal : (m n : ℕ) → (m ≡ n) ⊎ (m ≢ n)
-equal m n = grind arith
-
 pub marked-more : (marks : List Bool) (ms : List ℕ) (i n : ℕ) → i < length ms → slice_index ms i < n →
     length marks ≡ n →
     ((c : ℕ) → c < n → (slice_index_or marks c false ≡ true) ↔ IsIn c (take i ms)) →
@@ -38,7 +36,7 @@ marked-more marks ms i n li lt len h c lc =
   where
     there : slice_index_or (slice_set marks (slice_index ms i) true) c false ≡ true →
         IsIn c (take i ms ++ slice_index ms i ∷ [])
-    there q = go (equal c (slice_index ms i))
+    there q = go (same_or_not c (slice_index ms i))
       where
         go : (c ≡ slice_index ms i) ⊎ (c ≢ slice_index ms i) → IsIn c (take i ms ++ slice_index ms i ∷ [])
         go (inl e) = into_append (take i ms) (slice_index ms i) c (inr e)
@@ -47,7 +45,7 @@ marked-more marks ms i n li lt len h c lc =
 
     back : IsIn c (take i ms ++ slice_index ms i ∷ []) →
         slice_index_or (slice_set marks (slice_index ms i) true) c false ≡ true
-    back j = go (equal c (slice_index ms i)) (in_append (take i ms) (slice_index ms i) c j)
+    back j = go (same_or_not c (slice_index ms i)) (in_append (take i ms) (slice_index ms i) c j)
       where
         go : (c ≡ slice_index ms i) ⊎ (c ≢ slice_index ms i) → IsIn c (take i ms) ⊎ (c ≡ slice_index ms i) →
             slice_index_or (slice_set marks (slice_index ms i) true) c false ≡ true

@@ -6,10 +6,10 @@ use Rattle.std.proofs.lemmas.List.{take_more}
 use Rattle.dsa_terms.specs.Parts.{numbers}
 use Rattle.dsa_terms.specs.Search.{first_some}
 use Rattle.std.specs.Prelude.{IfNone, IfSome, is_some, nat_lt, reverse, ◌*◌, ◌^◌}
-use Rattle.std.proofs.lemmas.Bool.Decides.{nat_tests}
 use Rattle.dsa_terms.specs.Buffers.{Instance}
 use Rattle.dsa_terms.specs.Claims.{Claim, IsIn, up}
 use Rattle.dsa_terms.proofs.Lists.{into_filter, into_map}
+use Rattle.dsa_terms.proofs.NumberTests.{is_below, not_below}
 use Rattle.dsa_terms.specs.Parts.{whole}
 use Rattle.lifetime.specs.SectionList.{count_of, start_of, members_of, SectionList}
 use Rattle.canonical_order.specs.Claims.{HasBuffer, entry_of}
@@ -159,22 +159,16 @@ pub over_full : (I : Instance) (S : SectionList) (l : Claim) (C s H load start :
     load ≡ free_load I S l s → start ≡ start_of S s → C < H + load → Some (start, H) ≡ over I S l C s
 unfolding over
 over_full I S l C s H load start e f g lt =
-    let t : nat_lt C (H + free_load I S l s) ≡ true = test C (H + free_load I S l s) (omega arith) in
+    let t : nat_lt C (H + free_load I S l s) ≡ true = is_below C (H + free_load I S l s) (omega arith) in
     ap (λ x. Some (x, H)) g ∙ sym (ap (over_at (start_of S s) (free_load I S l s) C) e
     ∙ ap (λ b. cond b (Some (start_of S s, H)) None) t)
-  where
-    test : (m n : ℕ) → m < n → nat_lt m n ≡ true
-    test m n h = grind (arith, nat_tests)
 
 pub over_fits : (I : Instance) (S : SectionList) (l : Claim) (C s H load : ℕ) → least_up I S l s ≡ Some H →
     load ≡ free_load I S l s → H + load ≤ C → None ≡ over I S l C s
 unfolding over
 over_fits I S l C s H load e f le =
-    let t : nat_lt C (H + free_load I S l s) ≡ false = test C (H + free_load I S l s) (omega arith) in
+    let t : nat_lt C (H + free_load I S l s) ≡ false = not_below C (H + free_load I S l s) (omega arith) in
     sym (ap (over_at (start_of S s) (free_load I S l s) C) e ∙ ap (λ b. cond b (Some (start_of S s, H)) None) t)
-  where
-    test : (m n : ℕ) → n ≤ m → nat_lt m n ≡ false
-    test m n h = grind (arith, nat_tests)
 
 pub over_from : (I : Instance) (S : SectionList) (l : Claim) (C s load : ℕ) → load ≡ free_load I S l s →
     FitsFrom load C (least_up I S l s) → None ≡ over I S l C s

@@ -1,19 +1,16 @@
 -- What a skyline uses of an instance and of its sections.
 use Rattle.std.proofs.Common.{◌≡◌, ℕ, ◌+◌, ◌-◌, ◌<◌, ◌≤◌, ◌↔◌, true, List, [], ◌∷◌, length, inl, inr, refl, sym, ap, subst, arith}
 use Rattle.std.specs.List.{All}
-use Rattle.dsa_terms.specs.Buffers.{Instance, IsInstance, IsLive, buffer, do_share, is_live}
+use Rattle.dsa_terms.specs.Buffers.{Instance, IsLive, buffer, do_share, is_live}
 use Rattle.dsa_terms.specs.Claims.{IsIn, Rises}
 use Rattle.dsa_terms.specs.Parts.{numbers}
 use Rattle.dsa_terms.proofs.Lists.{from_filter, into_filter, true_or_false}
 use Rattle.dsa_terms.proofs.Moments.{do_share-false, do_share-gives}
-use Rattle.dsa_model.specs.Buffer.{IsBuffer}
+use Rattle.dsa_terms.proofs.Places.{in_from_all}
 use Rattle.lifetime.specs.SectionList.{count_of, start_of, members_of, sections_of, AreSectionsOf, SectionList}
 use Rattle.lifetime.proofs.Live.{from_live, into_live, rises_live}
 use Rattle.lifetime.proofs.Members.{live_few}
-use Rattle.lifetime.proofs.Lists.{among, below, in_from_all, rises-numbers}
-
-pub is_instance : (I : Instance) → All IsBuffer I → IsInstance I
-is_instance I h k d lt = (h k d lt).sound
+use Rattle.lifetime.proofs.Lists.{among, below, rises-numbers}
 
 -- ---- members that rise are few
 rising_few : (xs : List ℕ) (a n : ℕ) → Rises xs → ((x : ℕ) → IsIn x xs → a ≤ x) → ((x : ℕ) → IsIn x xs → x < n) →

@@ -1,11 +1,11 @@
 -- The up of a claim after standing buffers is the least multiple above their tops and the floor.
-use Rattle.std.proofs.Common.{◌≡◌, ◌⊎◌, inl, inr, ◌+◌, ◌<◌, ◌≤◌, ℕ, zero, suc, Bool, true, false, cond, nat_lt, max, List, [], ◌∷◌, refl, ap, sym, ◌∙◌, arith}
-use Rattle.std.proofs.lemmas.Bool.Decides.{nat_tests}
+use Rattle.std.proofs.Common.{◌≡◌, ◌⊎◌, inl, inr, ◌+◌, ◌≤◌, ℕ, zero, suc, Bool, true, false, cond, nat_lt, max, List, [], ◌∷◌, refl, ap, sym, ◌∙◌, arith}
 use Rattle.std.specs.Int.{next_multiple_of}
 use Rattle.dsa_terms.specs.Buffers.{Instance, IsInstance, buffer, do_share}
 use Rattle.dsa_terms.specs.Claims.{Claim, Entry, IsIn, IsWhole, up, step}
 use Rattle.dsa_terms.proofs.Numbers.{next_at_or_above, next_is_multiple, next_is_least}
 use Rattle.dsa_terms.proofs.Moments.{sound}
+use Rattle.dsa_terms.proofs.NumberTests.{less, not_less}
 use Rattle.dsa_search_laws.proofs.Placing.{of_child}
 use Rattle.canonical_order.proofs.Entries.{entry_in}
 use Rattle.skyline.specs.Standing.{claim_after, offset_after, IsStack, raised, top_under, floor}
@@ -100,12 +100,6 @@ at_most_one false = omega arith
 floor_step : (y z b c d s : ℕ) → z + s ≤ y → ((s ≡ 0) → d ≤ b) → z + cond (nat_lt c d) 1 0 ≤ y + cond (nat_lt c b) 1 0
 floor_step y z b c d zero le rise = go (nat_lt c d) refl (nat_lt c b) refl
   where
-    less : (m n : ℕ) → nat_lt m n ≡ true → m < n
-    less m n h = grind (arith, nat_tests)
-
-    not_less : (m n : ℕ) → nat_lt m n ≡ false → n ≤ m
-    not_less m n h = grind (arith, nat_tests)
-
     go : (t : Bool) → nat_lt c d ≡ t → (u : Bool) → nat_lt c b ≡ u → z + cond t 1 0 ≤ y + cond u 1 0
     go true e true f = omega arith
     go false e true f = omega arith
@@ -121,9 +115,6 @@ no_step I d b s h = elim (step_cases I d b) [
   | inr q ↦ not_below (nat_lt b d) refl (sym q.1 ∙ h)
 ]
   where
-    not_less : (m n : ℕ) → nat_lt m n ≡ false → n ≤ m
-    not_less m n h = grind (arith, nat_tests)
-
     not_below : (t : Bool) → nat_lt b d ≡ t → cond {A = ℕ} t 1 0 ≡ 0 → d ≤ b
     not_below true e z = absurd (omega arith)
     not_below false e z = not_less b d e

@@ -8,13 +8,14 @@ use Rattle.lifetime.specs.SectionList.{count_of, sections_of, SectionList}
 use Rattle.dsa_terms.specs.Buffers.{Instance, buffer}
 use Rattle.dsa_terms.specs.Claims.{Claim, child}
 use Rattle.dsa_terms.specs.Parts.{whole}
+use Rattle.dsa_terms.proofs.Places.{in_at}
 use Rattle.dsa_model.specs.Lists.{items_of}
 use Rattle.skyline.specs.Standing.{claim_after, offset_after}
 use Rattle.skyline.specs.Places.{set_each, at_places}
 use Rattle.skyline.specs.Carried.{claims_of, Carries}
 use Rattle.skyline.specs.Skylines.{IsSkyline}
 use Rattle.skyline.proofs.Carrying.{member_of, member_in_range, has_place, pushed, popped, last_of_claims}
-use Rattle.skyline.proofs.Lefts.{reverse_take_more, get_in}
+use Rattle.skyline.proofs.Lefts.{reverse_take_more}
 use Rattle.skyline.proofs.Tops.{length-heights_after}
 use Rattle.canonical_order.specs.Claims.{entry_of, HasBuffer}
 use Rattle.skyline.specs.Skies.{Sky, last_claim}
@@ -154,7 +155,7 @@ last_facts I S members n stack floors hs rows flags b h pos e = subst (LastFacts
   in_flags = omega (arith, lt, c.free_count);
   sections = λ k d l. let r = section_in_range I S c.belongs
       (slice_index_or (sections_of S (slice_index stack (n - 1))) k d) (slice_index stack (n - 1)) lt
-      (get_in (sections_of S (slice_index stack (n - 1))) k d l) in omega (arith, r, hs_count);
+      (in_at (sections_of S (slice_index stack (n - 1))) k d l) in omega (arith, r, hs_count);
   room = c.saved_room (slice_index stack (n - 1)) lt
       (member_of I members (reverse (take (n - 1) stack)) (slice_index stack (n - 1)) c.stands.0);
 })

@@ -1,22 +1,16 @@
 -- The parts are, for each cut at which one begins, the buffers whose part begins there.
 use Rattle.std.proofs.Common.{◌≡◌, ℕ, suc, ◌<◌, ◌^◌, ◌==◌, ◌↔◌, inl, Bool, true, not, List, [], ◌∷◌, length, map, filter, refl, sym, subst, arith}
-use Rattle.std.proofs.lemmas.Bool.Decides.{nat_tests}
 use Rattle.dsa_terms.specs.Buffers.{Buffer, Instance, buffer}
 use Rattle.dsa_terms.specs.Claims.{IsIn, Rises}
 use Rattle.dsa_terms.specs.Logs.{greatest}
 use Rattle.dsa_terms.specs.Parts.{is_empty, members, numbers, part_of, parts}
 use Rattle.dsa_terms.proofs.Lists.{from_filter, from_map, into_filter, into_map}
+use Rattle.dsa_terms.proofs.NumberTests.{equal, same}
+use Rattle.dsa_terms.proofs.Places.{all_from_in}
 use Rattle.dsa_search_laws.proofs.Logs.{in_greatest}
 use Rattle.dsa_search_laws.proofs.Parts.{from_range, into_range, item, last_cut_le, part_is_members, rises-filter_numbers, rises-range}
 use Rattle.split_sections.specs.PartList.{ArePartsKept, IsPart}
-use Rattle.split_sections.proofs.Kept.{all_from_in}
 use Rattle.split_sections.proofs.Lists.{filter_of_map, rises_same}
-
-pub equal_true : (m n : ℕ) → m ≡ n → (m == n) ≡ true
-equal_true m n h = grind (arith, nat_tests)
-
-pub true_equal : (m n : ℕ) → (m == n) ≡ true → m ≡ n
-true_equal m n h = grind (arith, nat_tests)
 
 pub below : (I : Instance) (b : ℕ) → IsIn b (numbers (length I)) → b < length I
 below I b i = let k = (from_range (length I) 0 b i).1 in omega arith
@@ -55,7 +49,7 @@ cut_begins I t i =
     into_filter (λ t. not (is_empty (members I t))) (numbers (suc (last_lower I))) t
     (into_range (suc (last_lower I)) 0 t (omega arith) (let k = starts_below I r.0 lt in let e = r.2 in omega arith))
     (has_some (members I t) r.0 (into_filter (λ b. part_of I b == t) (numbers (length I)) r.0 r.1
-    (equal_true (part_of I r.0) t (sym r.2))))
+    (same (part_of I r.0) t (sym r.2))))
 
 begins_cut : (I : Instance) (t : ℕ) → IsIn t (filter (begins I) (numbers (suc (last_lower I)))) → IsIn t (part_starts I)
 unfolding begins part_starts
@@ -63,7 +57,7 @@ begins_cut I t i =
     let q = from_filter (λ t. not (is_empty (members I t))) (numbers (suc (last_lower I))) t i in
     let r = some_in (members I t) q.1 in
     let s = from_filter (λ b. part_of I b == t) (numbers (length I)) r.0 r.1 in
-    subst (λ (t : ℕ). IsIn t (part_starts I)) (true_equal (part_of I r.0) t s.1)
+    subst (λ (t : ℕ). IsIn t (part_starts I)) (equal (part_of I r.0) t s.1)
     (into_map (part_of I) (numbers (length I)) r.0 s.0)
 
 parts_by_begins : (I : Instance) → parts I ≡ map (members I) (filter (begins I) (numbers (suc (last_lower I))))

@@ -1,12 +1,12 @@
 -- Cuts: which moments are cuts, and the last one at or below a moment.
 use Rattle.std.proofs.Common.{◌≡◌, ℕ, zero, suc, ◌+◌, ◌<◌, ◌≤◌, ◌⊎◌, inl, inr, Bool, true, false, cond, not, ◌&&◌, ◌||◌, List, [], ◌∷◌, length, nat_lt, refl, sym, ap, ◌∙◌, arith}
-use Rattle.std.proofs.lemmas.Bool.Decides.{nat_tests}
 use Rattle.std.specs.List.{list_any}
 use Rattle.dsa_terms.specs.Buffers.{Buffer, Instance, buffer}
 use Rattle.dsa_terms.specs.Claims.{IsIn}
 use Rattle.dsa_terms.specs.Parts.{is_cut, last_cut}
 use Rattle.dsa_terms.proofs.Lists.{any_from}
 use Rattle.dsa_terms.proofs.Moments.{both_true}
+use Rattle.dsa_terms.proofs.NumberTests.{below_or_from, is_below, not_below}
 use Rattle.dsa_search_laws.proofs.Parts.{item}
 
 -- each item has a number
@@ -16,17 +16,14 @@ number [] x i = absurd i
 number (y ∷ ys) x (inl e) = (0, omega arith, sym e)
 number (y ∷ ys) x (inr i) = let r = number ys x i in (suc r.0, (let k = r.1 in omega arith), r.2)
 
-less : (m n : ℕ) → m < n → nat_lt m n ≡ true
-less m n h = grind (arith, nat_tests)
-
 -- no cut is strictly inside a lifetime
 pub not_cut : (I : Instance) (t b : ℕ) → b < length I → (buffer I b).lower < t → t < (buffer I b).upper →
     is_cut I t ≡ false
 unfolding is_cut
 not_cut I t b lt low high = ap not
     (any_from (λ (b : Buffer). nat_lt b.lower t && nat_lt t b.upper) I (buffer I b) (item I b lt)
-    (both_true (nat_lt (buffer I b).lower t) (nat_lt t (buffer I b).upper) (less (buffer I b).lower t low)
-    (less t (buffer I b).upper high)))
+    (both_true (nat_lt (buffer I b).lower t) (nat_lt t (buffer I b).upper) (is_below (buffer I b).lower t low)
+    (is_below t (buffer I b).upper high)))
 
 none_inside : (xs : List Buffer) (t : ℕ) → ((x : Buffer) → IsIn x xs → x.lower < t → x.upper ≤ t) →
     list_any (λ (b : Buffer). nat_lt b.lower t && nat_lt t b.upper) xs ≡ false
@@ -34,14 +31,8 @@ none_inside [] t h = refl
 none_inside (x ∷ xs) t h = go (none_inside xs t (λ y i. h y (inr i))) (outside x.lower x.upper t (h x (inl refl)))
   where
     outside : (low high t : ℕ) → (low < t → high ≤ t) → (nat_lt low t && nat_lt t high) ≡ false
-    outside low high t h = by_case (cases low t)
+    outside low high t h = by_case (below_or_from low t)
       where
-        cases : (m n : ℕ) → (m < n) ⊎ (n ≤ m)
-        cases m n = grind arith
-
-        first : (m n : ℕ) → n ≤ m → nat_lt m n ≡ false
-        first m n h = grind (arith, nat_tests)
-
         and_false : (a b : Bool) → b ≡ false → (a && b) ≡ false
         and_false true b h = h
         and_false false b h = refl
@@ -51,8 +42,8 @@ none_inside (x ∷ xs) t h = go (none_inside xs t (λ y i. h y (inr i))) (outsid
         false_and false b h = refl
 
         by_case : (low < t) ⊎ (t ≤ low) → (nat_lt low t && nat_lt t high) ≡ false
-        by_case (inl lt) = and_false (nat_lt low t) (nat_lt t high) (first t high (h lt))
-        by_case (inr le) = false_and (nat_lt low t) (nat_lt t high) (first low t le)
+        by_case (inl lt) = and_false (nat_lt low t) (nat_lt t high) (not_below t high (h lt))
+        by_case (inr le) = false_and (nat_lt low t) (nat_lt t high) (not_below low t le)
 
     go : list_any (λ (b : Buffer). nat_lt b.lower t && nat_lt t b.upper) xs ≡ false →
         (nat_lt x.lower t && nat_lt t x.upper) ≡ false →

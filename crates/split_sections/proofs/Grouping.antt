@@ -7,15 +7,16 @@ use Rattle.dsa_terms.specs.Buffers.{Instance, buffer}
 use Rattle.dsa_terms.specs.Claims.{IsIn, Rises}
 use Rattle.dsa_terms.specs.Parts.{is_cut, last_cut, members, numbers, part_of, parts}
 use Rattle.dsa_terms.proofs.Lists.{from_append, from_filter, from_map, into_filter, into_map, left_append, right_append}
+use Rattle.dsa_terms.proofs.NumberTests.{below_or_from, equal, same}
+use Rattle.dsa_terms.proofs.Places.{in_at, in_from_all, place_of}
 use Rattle.dsa_search_laws.proofs.Parts.{into_range, item, last_cut_le, rises-filter_numbers, rises-range}
 use Rattle.split_sections.specs.PartList.{ArePartsKept}
 use Rattle.dsa_model.specs.Buffer.{IsBuffer}
 use Rattle.dsa_model.specs.Lists.{pair_at}
 use Rattle.split_sections.specs.Sweep.{AreByLower, BeginsAt, IsRun, lower_entry}
-use Rattle.split_sections.proofs.Kept.{in_at, in_from_all}
 use Rattle.split_sections.proofs.Lists.{rises-push, rises_same}
-use Rattle.split_sections.proofs.Sweeping.{cut_here, place_of}
-use Rattle.split_sections.proofs.Beginnings.{below, equal_true, kept, part_starts, parts_are, true_equal}
+use Rattle.split_sections.proofs.Sweeping.{cut_here}
+use Rattle.split_sections.proofs.Beginnings.{below, kept, part_starts, parts_are}
 
 -- a cut that is no later than the moment is no later than the last cut there
 last_cut_from : (I : Instance) (s t : ℕ) → is_cut I s ≡ true → s ≤ t → s ≤ last_cut I t
@@ -82,9 +83,6 @@ pub record ArePartsBelow (I : Instance) (order : List (ℕ × ℕ)) (first : ℕ
   pub within : first ≤ length order
   pub begins : first < length order → BeginsAt I order first
 
-below_or_from : (m n : ℕ) → (m < n) ⊎ (n ≤ m)
-below_or_from m n = grind arith
-
 -- a buffer's lifetime is not empty
 lasts : (I : Instance) (b : ℕ) → All IsBuffer I → b < length I → (buffer I b).lower < (buffer I b).upper
 lasts I b h lt = (in_from_all IsBuffer I h (buffer I b) (item I b lt)).sound.2
@@ -113,12 +111,12 @@ run_members : (I : Instance) (order : List (ℕ × ℕ)) (first next : ℕ) (p :
     All IsBuffer I → BeginsAt I order first → IsRun I order first next → Rises p →
     ((b : ℕ) → IsIn b p ↔ IsIn b (map (λ (e : ℕ × ℕ). e.1) (between first next order))) →
     p ≡ members I (pair_at order first).0
-run_members I order first next p a sound h run r same = rises_same p (members I (pair_at order first).0) r
+run_members I order first next p a sound h run r both = rises_same p (members I (pair_at order first).0) r
     (rises-filter_numbers (λ b. part_of I b == (pair_at order first).0) (numbers (length I))
     (rises-range (length I) 0))
     (λ b. (
-      λ i. forth b (stands_from order first next b run.within ((same b).0 i)),
-      λ i. (same b).1
+      λ i. forth b (stands_from order first next b run.within ((both b).0 i)),
+      λ i. (both b).1
           (stands_in order first next b run.within (back b i)),
     ))
   where
@@ -127,7 +125,7 @@ run_members I order first next p a sound h run r same = rises_same p (members I 
         (into_filter (λ b. part_of I b == (pair_at order first).0) (numbers (length I)) (pair_at order s.0).1
         (into_range (length I) 0 (pair_at order s.0).1 (omega arith)
         (let z = (a.each s.0 (0, 0) (let y = s.2 in let w = run.within in omega arith)).in_range in omega arith))
-        (equal_true (part_of I (pair_at order s.0).1) (pair_at order first).0 (run.same s.0 s.1 s.2)))
+        (same (part_of I (pair_at order s.0).1) (pair_at order first).0 (run.same s.0 s.1 s.2)))
 
     back : (b : ℕ) → IsIn b (members I (pair_at order first).0) → Stands order first next b
     back b i =
@@ -135,7 +133,7 @@ run_members I order first next p a sound h run r same = rises_same p (members I 
         let r = place_of order (lower_entry I b) (0, 0) (a.complete b (below I b q.0)) in
         let e : (pair_at order r.0).1 ≡ b = ap (λ (e : ℕ × ℕ). e.1) r.2 in
         let t : part_of I (pair_at order r.0).1 ≡ (pair_at order first).0 =
-        ap (part_of I) e ∙ true_equal (part_of I b) (pair_at order first).0 q.1 in
+        ap (part_of I) e ∙ equal (part_of I b) (pair_at order first).0 q.1 in
         (r.0, not_before r.0 t, not_after r.0 r.1 t, e)
       where
         not_before : (k : ℕ) → part_of I (pair_at order k).1 ≡ (pair_at order first).0 → first ≤ k
@@ -163,10 +161,10 @@ pub one_part_more : (I : Instance) (order : List (ℕ × ℕ)) (first next : ℕ
     AreByLower I order → All IsBuffer I → ArePartsBelow I order first ps → IsRun I order first next → Rises p →
     ((b : ℕ) → IsIn b p ↔ IsIn b (map (λ (e : ℕ × ℕ). e.1) (between first next order))) → new ≡ ps ++ p ∷ [] →
     ArePartsBelow I order next new
-one_part_more I order first next ps new p a sound s run r same e = record {
+one_part_more I order first next ps new p a sound s run r both e = record {
   cuts = s.cuts ++ (pair_at order first).0 ∷ [];
   rises = rises-push s.cuts (pair_at order first).0 s.rises (λ t i. earlier t (s.some t i));
-  parts_of = e ∙ (rw (s.parts_of, run_members I order first next p a sound here run r same)
+  parts_of = e ∙ (rw (s.parts_of, run_members I order first next p a sound here run r both)
       (sym (map_push (members I) s.cuts (pair_at order first).0)));
   some = λ t i. elim (from_append s.cuts ((pair_at order first).0 ∷ []) t i) [
     | inl j ↦ (let q = s.some t j in (q.0, (let z = q.1 in let y = run.some in omega arith), q.2))

@@ -1,17 +1,7 @@
 -- Lists of numbers, filtered, and lists that rise.
-use Rattle.std.proofs.Common.{◌≡◌, ℕ, zero, suc, ◌<◌, ◌↔◌, inl, inr, Bool, true, false, cond, List, [], ◌∷◌, ◌++◌, length, map, filter, slice_index_or, refl, sym, ap, arith}
-use Rattle.std.specs.List.{AllPairs, Contains}
-use Rattle.std.specs.List.Sorted.{IsStrictlyIncreasing}
-use Rattle.std.proofs.lemmas.List.Kept.{AllPairs-from_increasing}
+use Rattle.std.proofs.Common.{◌≡◌, ℕ, ◌<◌, ◌↔◌, inl, inr, Bool, true, false, cond, List, [], ◌∷◌, ◌++◌, map, filter, refl, sym, ap, arith}
 use Rattle.dsa_terms.specs.Claims.{IsIn, Rises}
 use Rattle.dsa_terms.proofs.Lists.{from_append}
-
--- the item does not hang on what is answered past the end
-pub any_default : {X : Type 0} (xs : List X) (k : ℕ) (d e : X) → k < length xs →
-    slice_index_or xs k d ≡ slice_index_or xs k e
-any_default [] k d e lt = absurd (omega arith)
-any_default (x ∷ xs) zero d e lt = refl
-any_default (x ∷ xs) (suc k) d e lt = any_default xs k d e (omega arith)
 
 pub filter_of_map : {X Y : Type 0} (p : Y → Bool) (f : X → Y) (xs : List X) →
     filter p (map f xs) ≡ map f (filter (λ x. p (f x)) xs)
@@ -24,38 +14,7 @@ filter_of_map {X} {Y} p f (x ∷ xs) = go (filter_of_map p f xs) (p (f x))
     go ih true = ap (λ ys. f x ∷ ys) ih
     go ih false = ih
 
--- ---- membership as std has it
-pub to_contains : {X : Type 0} (xs : List X) (x : X) → IsIn x xs → Contains xs x
-to_contains [] x i = absurd i
-to_contains (y ∷ ys) x (inl e) = (0, omega arith, sym e)
-to_contains (y ∷ ys) x (inr i) = let r = to_contains ys x i in (suc r.0, (let k = r.1 in omega arith), r.2)
-
-pub from_contains : {X : Type 0} (xs : List X) (x : X) → Contains xs x → IsIn x xs
-from_contains {X} xs x h = at xs h.0 h.1 h.2
-  where
-    at : (xs : List X) (k : ℕ) → k < length xs → slice_index_or xs k x ≡ x → IsIn x xs
-    at [] k lt e = absurd (omega arith)
-    at (y ∷ ys) zero lt e = inl (sym e)
-    at (y ∷ ys) (suc k) lt e = inr (at ys k (omega arith) e)
-
 -- ---- lists that rise
-rises_from_pairs : (xs : List ℕ) → AllPairs (λ x y. x < y) xs → Rises xs
-rises_from_pairs [] h = tt
-rises_from_pairs (x ∷ xs) h = (
-  first,
-  rises_from_pairs xs
-      (λ i j d lt jn. h (suc i) (suc j) d (omega arith) (omega arith)),
-)
-  where
-    first : (y : ℕ) → IsIn y xs → x < y
-    first y i =
-        let r = to_contains xs y i in
-        let k : x < slice_index_or xs r.0 y = h 0 (suc r.0) y (omega arith) (let z = r.1 in omega arith) in
-        rw r.2 at k
-
-pub rises_from_increasing : (xs : List ℕ) → IsStrictlyIncreasing xs → Rises xs
-rises_from_increasing xs h = rises_from_pairs xs (AllPairs-from_increasing xs h)
-
 -- two that rise and have the same items are one
 pub rises_same : (xs ys : List ℕ) → Rises xs → Rises ys → ((x : ℕ) → IsIn x xs ↔ IsIn x ys) → xs ≡ ys
 rises_same [] [] r s h = refl

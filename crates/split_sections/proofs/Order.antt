@@ -7,10 +7,9 @@ use Rattle.std.proofs.lemmas.List.FromFn.{length-map-range_with_len, map-range_w
 use Rattle.dsa_terms.specs.Claims.{IsIn}
 use Rattle.dsa_terms.specs.Parts.{numbers}
 use Rattle.dsa_terms.proofs.Lists.{from_map, into_map}
+use Rattle.dsa_terms.proofs.Places.{all_from_in, from_contains, to_contains}
 use Rattle.dsa_search_laws.proofs.Parts.{from_range, into_range}
 use Rattle.split_sections.specs.Sweep.{AreByLower, IsLowerEntry, lower_entry}
-use Rattle.split_sections.proofs.Kept.{all_from_in}
-use Rattle.split_sections.proofs.Lists.{from_contains, to_contains}
 
 entry_is : (I : Instance) (e : ℕ × ℕ) → IsIn e (map (lower_entry I) (numbers (length I))) → IsLowerEntry I e
 entry_is I e i =

@@ -1,9 +1,10 @@
 -- Going over the buffers by rising lower, each buffer's part begins at its lower or where the part of the buffer
 -- before it begins.
-use Rattle.std.proofs.Common.{◌≡◌, ℕ, suc, ◌+◌, ◌-◌, ◌<◌, ◌≤◌, ◌⊎◌, inl, inr, true, false, List, [], ◌∷◌, length, max, slice_index_or, sym, ap, ◌∙◌, subst, arith}
+use Rattle.std.proofs.Common.{◌≡◌, ℕ, ◌+◌, ◌-◌, ◌<◌, ◌≤◌, ◌⊎◌, inl, inr, true, false, List, length, max, slice_index_or, sym, ap, ◌∙◌, subst, arith}
 use Rattle.dsa_terms.specs.Buffers.{Instance, buffer}
-use Rattle.dsa_terms.specs.Claims.{IsIn}
 use Rattle.dsa_terms.specs.Parts.{is_cut, last_cut, part_of}
+use Rattle.dsa_terms.proofs.Places.{place_of}
+use Rattle.dsa_terms.proofs.NumberTests.{below_or_from, below_or_last}
 use Rattle.dsa_model.specs.Lists.{pair_at}
 use Rattle.split_sections.specs.Sweep.{AreByLower, BeginsAt, lower_entry}
 use Rattle.split_sections.proofs.Cuts.{cut_from, last_at_cut, last_stays, not_cut}
@@ -14,15 +15,6 @@ pub record IsReaching (I : Instance) (order : List (ℕ × ℕ)) (first i reach 
   pub same : (k : ℕ) → first ≤ k → k < i → part_of I (pair_at order k).1 ≡ (pair_at order first).0
   pub over : (k : ℕ) → first ≤ k → k < i → (buffer I (pair_at order k).1).upper ≤ reach
   pub reached : (k : ℕ) × (first ≤ k) × (k < i) × ((buffer I (pair_at order k).1).upper ≡ reach)
-
-pub place_of : {X : Type 0} (xs : List X) (x d : X) → IsIn x xs →
-    (k : ℕ) × (k < length xs) × (slice_index_or xs k d ≡ x)
-place_of [] x d i = absurd i
-place_of (y ∷ ys) x d (inl e) = (0, omega arith, sym e)
-place_of (y ∷ ys) x d (inr i) = let r = place_of ys x d i in (suc r.0, (let k = r.1 in omega arith), r.2)
-
-cases : (m n : ℕ) → (m < n) ⊎ (n ≤ m)
-cases m n = grind arith
 
 -- nothing before reaches past its lower: that is a cut
 pub cut_here : (I : Instance) (order : List (ℕ × ℕ)) (i : ℕ) → AreByLower I order → BeginsAt I order i →
@@ -35,7 +27,7 @@ cut_here I order i a h lt = cut_from I (pair_at order i).0 outside
       where
         at_place : (k : ℕ) × (k < length order) × (slice_index_or order k (0, 0) ≡ lower_entry I b) →
             (buffer I b).upper ≤ (pair_at order i).0
-        at_place r = go (cases r.0 i)
+        at_place r = go (below_or_from r.0 i)
           where
             at_number : (pair_at order r.0).1 ≡ b
             at_number = ap (λ (e : ℕ × ℕ). e.1) r.2
@@ -101,9 +93,6 @@ goes_on I order first i reach a s lt past =
         (λ u low high. h u low (omega arith)) in
         rw e at k
 
-split : (k i : ℕ) → k < i + 1 → (k < i) ⊎ (k ≡ i)
-split k i h = grind arith
-
 -- the first of a part
 pub reaching_first : (I : Instance) (order : List (ℕ × ℕ)) (first i reach : ℕ) → AreByLower I order →
     first < length order → BeginsAt I order first → i ≡ first + 1 → (buffer I (pair_at order first).1).upper ≡ reach →
@@ -125,16 +114,16 @@ pub reaching_more : (I : Instance) (order : List (ℕ × ℕ)) (first i reach to
     top ≡ max (buffer I e.1).upper reach → IsReaching I order first (i + 1) top
 reaching_more I order first i reach top e a s lt is past up = record {
   started = (let z = s.started in omega arith);
-  same = λ k le kn. elim (split k i kn) [
+  same = λ k le kn. elim (below_or_last k i kn) [
     | inl h ↦ s.same k le h
     | inr h ↦ subst (λ (k : ℕ). part_of I (pair_at order k).1 ≡ (pair_at order first).0) (sym h)
         (goes_on I order first i reach a s lt (let z = ap (λ (e : ℕ × ℕ). e.0) is in omega arith))
   ];
-  over = λ k le kn. elim (split k i kn) [
+  over = λ k le kn. elim (below_or_last k i kn) [
     | inl h ↦ (let z = s.over k le h in omega arith)
     | inr h ↦ (let z = ap (λ k. (buffer I (pair_at order k).1).upper) h in let u = own in omega arith)
   ];
-  reached = highest (cases reach (buffer I (pair_at order i).1).upper);
+  reached = highest (below_or_from reach (buffer I (pair_at order i).1).upper);
 }
   where
     own : (buffer I e.1).upper ≡ (buffer I (pair_at order i).1).upper

@@ -1,13 +1,13 @@
 use Rattle.std.proofs.Common.{◌≡◌, ◌∙◌, length, map, sym}
 use Rattle.dsa_terms.specs.Buffers.{Instance}
 use Rattle.dsa_terms.specs.Claims.{Claim}
+use Rattle.std.proofs.lemmas.List.{length-map}
 use Rattle.canonical_order.specs.Stands.{Stands}
 use Rattle.refute_log.specs.Lines.{cite_value, line_value}
 use Rattle.conflicts.specs.Eased.{IsLower, lowered}
 use Rattle.conflicts.proofs.CasesLines.{lower_line, lower_whole}
 use Rattle.conflicts.proofs.Easings.{cites_of_all}
 use Rattle.conflicts.proofs.LeastBounds.{lowered_is_lower, lowered_legal}
-use Rattle.conflicts.proofs.ListSteps.{mapped_length}
 use Rattle.conflicts.proofs.LowerClaims.{lower_bounded, lower_stands}
 use Rattle.conflicts.proofs.easing.ease_cases.Goals as goal
 
@@ -16,7 +16,7 @@ least : (I : Instance) (l k : Claim) → Stands I l → k ≡ map (lowered I) l 
 least I l k s q = rw q (lowered_is_lower I l s)
 
 same_length : (I : Instance) (l k : Claim) → k ≡ map (lowered I) l → length k ≡ length l
-same_length I l k q = rw q (mapped_length (lowered I) l)
+same_length I l k q = rw q (length-map l (lowered I))
 
 pub eased_part-requires-clause-stands : goal.eased_part-requires-clause-stands
 eased_part-requires-clause-stands c =

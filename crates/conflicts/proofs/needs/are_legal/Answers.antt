@@ -1,9 +1,10 @@
 use Rattle.std.proofs.Common.{◌<◌, ◌≤◌, ◌∙◌, length, map, slice_index_or, ap, sym, subst, arith}
 use Rattle.dsa_terms.specs.Claims.{Entry}
 use Rattle.dsa_terms.specs.Logs.{IsLegalCite}
+use Rattle.std.proofs.lemmas.List.{length-map}
 use Rattle.refute_log.specs.Lines.{cite_value}
 use Rattle.refute_log.specs.declared.line.Cite.TheVariants.{Line}
-use Rattle.conflicts.proofs.ListSteps.{mapped_length, mapped_place, zip_done, zip_left}
+use Rattle.conflicts.proofs.ListSteps.{mapped_place, zip_done, zip_left}
 use Rattle.canonical_order.proofs.Places.{entry_at, has_at, at_place}
 use Rattle.conflicts.proofs.needs.are_legal.Goals as goal
 
@@ -33,7 +34,7 @@ returns c t =
     let l = c.args.lows.now.claim.now in
     let q = c.requires.each in
     let p : length l ≤ c.loop-place.place = omega arith in
-    let r = mapped_length cite_value c.args.cites.now in
+    let r = length-map c.args.cites.now cite_value in
     let s : length (map cite_value c.args.cites.now) ≤ c.loop-place.place = omega arith in
     zip_done (IsLegalCite c.args.lows.now.instance.now c.args.log.now.lines l) l (map cite_value c.args.cites.now)
     c.loop-place.place p s c.loop-place.invariant

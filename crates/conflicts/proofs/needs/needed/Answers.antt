@@ -1,9 +1,9 @@
 use Rattle.std.proofs.Common.{◌≡◌, length, map}
 use Rattle.std.proofs.lemmas.Result.{IfOk-weaker}
+use Rattle.std.proofs.lemmas.List.{length-map}
 use Rattle.conflicts.specs.Eased.{IsLower, cut}
 use Rattle.refute_log.specs.Lines.{cite_value}
 use Rattle.conflicts.proofs.Easings.{cites_of_all}
-use Rattle.conflicts.proofs.ListSteps.{mapped_length}
 use Rattle.conflicts.proofs.LowerClaims.{cut_is_lower}
 use Rattle.conflicts.proofs.needs.needed.Goals as goal
 
@@ -20,4 +20,4 @@ pub returns-clause-count : goal.returns-clause-count
 returns-clause-count c =
     IfOk-weaker c.cut.result (λ (made : _). made ≡ map (cut c.deref.result.now) c.args.claim.now)
     (λ (made : _). length made ≡ length c.args.claim.now)
-    (λ made q. rw q (mapped_length (cut c.deref.result.now) c.args.claim.now)) c.cut.ensures
+    (λ made q. rw q (length-map c.args.claim.now (cut c.deref.result.now))) c.cut.ensures

@@ -1,5 +1,5 @@
 use Rattle.std.proofs.Common.{◌+◌, ◌≤◌}
-use Rattle.lifetime.proofs.Lists.{in_from_all}
+use Rattle.dsa_terms.proofs.Places.{in_from_all}
 use Rattle.layout_report.specs.declared.row.Row.{Row}
 use Rattle.layout_report.proofs.Filling.{filled_are_rows, filling_done}
 use Rattle.layout_report.proofs.row_list.with_free.Goals as goal

@@ -1,7 +1,7 @@
 use Rattle.std.proofs.Common.{rules, List, [], ◌∷◌, ℕ, map, ap, ◌∙◌}
+use Rattle.std.proofs.lemmas.List.{map-append}
 use Rattle.lifetime.specs.Thin.{AreAmong}
 use Rattle.lifetime.specs.Views.{section_of}
-use Rattle.lifetime.proofs.Lists.{map-append}
 use Rattle.lifetime.proofs.Thinning.{fewer_is, giving_kept_rises, giving_more, giving_none, kept_rises, next_rises, no, none_left, one_left, thinned_all, thinning_left, thinning_none, thinning_pushed, told, yes}
 use Rattle.lifetime.proofs.thin.thinned.Goals as goal
 

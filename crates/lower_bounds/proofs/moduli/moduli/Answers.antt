@@ -1,7 +1,8 @@
 use Rattle.std.proofs.Common.{rules}
 use Rattle.std.proofs.lemmas.List.Filters.{dedup_is}
 use Rattle.std.proofs.lemmas.Map.Keys.{IsStrictlyIncreasing-dedup}
-use Rattle.lower_bounds.proofs.Candidates.{all_moduli, moduli_found, moduli_more, rises_from_increasing}
+use Rattle.dsa_terms.proofs.Places.{rises_from_increasing}
+use Rattle.lower_bounds.proofs.Candidates.{all_moduli, moduli_found, moduli_more}
 use Rattle.lower_bounds.proofs.moduli.moduli.Goals as goal
 
 pub loop-b-preserved : goal.loop-b-preserved

@@ -2,10 +2,11 @@ use Rattle.std.proofs.Common.{length, ap}
 use Rattle.std.proofs.lemmas.Option.{slice_get_within}
 use Rattle.dsa_terms.specs.Logs.{Log}
 use Rattle.dsa_terms.specs.Parts.{whole}
+use Rattle.dsa_search_laws.proofs.PartLists.{part_rises}
 use Rattle.refute_log.specs.Logs.{OpenLog}
 use Rattle.search_core.proofs.Counting.{counted_from_nothing}
 use Rattle.search_core.proofs.Descent.{is_instance}
-use Rattle.search_core.proofs.Parting.{part_in_range, part_rises, refutes_part, stands_part, whole_end}
+use Rattle.search_core.proofs.Parting.{part_in_range, refutes_part, stands_part, whole_end}
 use Rattle.search_core.proofs.part.search_part.Goals as goal
 
 pub search-requires-clause-rises : goal.search-requires-clause-rises

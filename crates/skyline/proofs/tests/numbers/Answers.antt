@@ -2,7 +2,8 @@ use Rattle.std.proofs.Common.{◌+◌, ◌<◌, List, sym, subst, ℕ, arith, in
 use Rattle.std.specs.List.{All}
 use Rattle.dsa_terms.specs.Claims.{Rises}
 use Rattle.dsa_terms.proofs.Lists.{from_append}
-use Rattle.lifetime.proofs.Lists.{all_from_in, in_from_all, rises-push}
+use Rattle.dsa_terms.proofs.Places.{all_from_in, in_from_all}
+use Rattle.lifetime.proofs.Lists.{rises-push}
 use Rattle.skyline.proofs.tests.numbers.Goals as goal
 
 pub loop-b-preserved : goal.loop-b-preserved

@@ -2,7 +2,7 @@ use Rattle.std.proofs.lemmas.List.Filters.{dedup_is}
 use Rattle.std.proofs.lemmas.List.Kept.{Contains-dedup_nat, Contains-from_dedup}
 use Rattle.std.proofs.lemmas.List.Sorted.{Contains-permutation, IsPermutation-sym}
 use Rattle.std.proofs.lemmas.Map.Keys.{IsStrictlyIncreasing-dedup}
-use Rattle.split_sections.proofs.Lists.{rises_from_increasing, to_contains, from_contains}
+use Rattle.dsa_terms.proofs.Places.{from_contains, rises_from_increasing, to_contains}
 use Rattle.split_sections.proofs.split.distinct.Goals as goal
 
 pub returns-clause-rises : goal.returns-clause-rises

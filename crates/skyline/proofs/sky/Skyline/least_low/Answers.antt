@@ -3,6 +3,7 @@ use Rattle.std.specs.Prelude.{IfSome, Option, ◌^◌}
 use Rattle.std.specs.List.{filter}
 use Rattle.std.proofs.lemmas.List.{take_all}
 use Rattle.dsa_terms.proofs.Lists.{true_or_false}
+use Rattle.dsa_terms.proofs.Places.{in_at}
 use Rattle.dsa_terms.specs.Claims.{up}
 use Rattle.lifetime.specs.SectionList.{members_of}
 use Rattle.skyline.specs.Overloads.{is_left, lower, least_of, least_up}
@@ -10,7 +11,6 @@ use Rattle.skyline.proofs.Loads.{gives_left, left_gives}
 use Rattle.skyline.proofs.Overloads.{least_next, least_kept, fits_from, lesser_over, none_of, some_of}
 use Rattle.skyline.proofs.sky.Skyline.least_low.Goals.{then-has+else-low-load, else-has}
 use Rattle.canonical_order.specs.Claims.{entry_of}
-use Rattle.canonical_order.proofs.CoverLemmas.{in_at}
 use Rattle.dsa_terms.specs.Claims.{IsIn}
 use Rattle.skyline.specs.Skies.{Sky, last_claim}
 use Rattle.skyline.proofs.sky.Skyline.least_low.Goals as goal
