@@ -1,9 +1,9 @@
 -- What the words of a command line ask for, or their first fault.
-use Rattle.std.specs.Prelude.{ℕ, ◌≤◌, ◌^◌, List, [], ◌∷◌, Option, Some, None, IfSome, Result, Ok, Err, find}
+use Rattle.std.specs.Prelude.{ℕ, ◌≤◌, List, [], ◌∷◌, Option, Some, None, IfSome, Result, Ok, Err, find}
 use Rattle.std.specs.Option.{option_map_or}
 use Rattle.std.specs.Str.{bytes_eq}
 use Rattle.dsa_terms.specs.Firsts.{when, first_fault}
-use Rattle.command_words.specs.Options.{Word, verb_word, verbs}
+use Rattle.command_words.specs.Options.{Word, number_limit, verb_word, verbs}
 use Rattle.command_words.specs.Pairs.{Pair, pairs_of, pairs_fault, missing_fault, has_equal, word_at, number_at, number_given}
 use Rattle.command_words.specs.declared.option.OptionName.TheVariants as option
 use Rattle.command_words.specs.declared.verb.Verb.{Verb}
@@ -54,14 +54,14 @@ names_of (Trial seed count steps) = []
 
 -- each number of the command is at most 2^60
 abbrev pub IsWithinLimit : Command → Type 0
-IsWithinLimit (Solve capacity input output log steps) = (capacity ≤ 2 ^ 60) × IfSome steps (λ k. k ≤ 2 ^ 60)
-IsWithinLimit (Least input output log steps) = IfSome steps (λ k. k ≤ 2 ^ 60)
-IsWithinLimit (Verify capacity input layout) = capacity ≤ 2 ^ 60
+IsWithinLimit (Solve capacity input output log steps) = (capacity ≤ number_limit) × IfSome steps (λ k. k ≤ number_limit)
+IsWithinLimit (Least input output log steps) = IfSome steps (λ k. k ≤ number_limit)
+IsWithinLimit (Verify capacity input layout) = capacity ≤ number_limit
 IsWithinLimit (Refute input log) = Unit {0}
 IsWithinLimit (Trim input log output) = Unit {0}
 IsWithinLimit (Bounds input) = Unit {0}
 IsWithinLimit (Report input layout) = Unit {0}
-IsWithinLimit (Trial seed count steps) = (seed ≤ 2 ^ 60) × (count ≤ 2 ^ 60) × (steps ≤ 2 ^ 60)
+IsWithinLimit (Trial seed count steps) = (seed ≤ number_limit) × (count ≤ number_limit) × (steps ≤ number_limit)
 
 -- the first fault of the pairs of a command: in a pair, then an option that is missing, then two equal names
 abbrev pub command_fault : Verb → List Pair → Option UsageFault

@@ -1,8 +1,9 @@
 //! The words after the command, taken two by two.
 
-ghost use Rattle.std.specs.Prelude.{◌≡◌, ◌∷◌, ◌<◌, ◌≤◌, ◌^◌, [], map, take, length, string_bytes, MatchOption, IfSome, option_map, is_some};
+ghost use Rattle.std.specs.Prelude.{◌≡◌, ◌∷◌, ◌<◌, ◌≤◌, [], map, take, length, string_bytes, MatchOption, IfSome, option_map, is_some};
 ghost use Rattle.std.specs.List.{list_any};
 ghost use Rattle.std.specs.Str.{bytes_eq};
+ghost use Rattle.command_words.specs.Options.{number_limit};
 ghost use Rattle.command_words.specs.Pairs.{pairs_of, pair_value, value_of, word_at, number_at, number_given};
 
 use crate::OptionName;
@@ -85,7 +86,7 @@ pub(crate) fn word_at(words: &[String], option: OptionName) -> &str
 /// The number that the pairs give an option, where they give one.
 pub(crate) fn number_given(words: &[String], option: OptionName) -> Option<u64>
     ensures value { result ≡ number_given (pairs_of (map string_bytes words.now)) option }
-    ensures within { IfSome result (λ number. number ≤ 2 ^ 60) }
+    ensures within { IfSome result (λ number. number ≤ number_limit) }
 {
     let word = value_of(words, option)?;
     number_of(word)
@@ -94,7 +95,7 @@ pub(crate) fn number_given(words: &[String], option: OptionName) -> Option<u64>
 /// The number that the pairs give an option, and 0 where they give none that can be.
 pub(crate) fn number_at(words: &[String], option: OptionName) -> u64
     ensures value { result ≡ number_at (pairs_of (map string_bytes words.now)) option }
-    ensures within { result ≤ 2 ^ 60 }
+    ensures within { result ≤ number_limit }
 {
     number_of(word_at(words, option)).unwrap_or(0)
 }

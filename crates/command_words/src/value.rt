@@ -1,8 +1,8 @@
 //! The values of options.
 
-ghost use Rattle.std.specs.Prelude.{◌≡◌, ◌≤◌, ◌^◌, IfSome};
+ghost use Rattle.std.specs.Prelude.{◌≡◌, ◌≤◌, IfSome};
 ghost use Rattle.dsa_model.specs.Numbers.{written_number};
-ghost use Rattle.command_words.specs.Options.{is_bad};
+ghost use Rattle.command_words.specs.Options.{is_bad, number_limit};
 
 use crate::OptionName;
 use dsa_model::parse_number;
@@ -12,8 +12,8 @@ const NUMBER_LIMIT: u64 = 1 << 60;
 
 /// The number that a word of 1 to 20 digits writes, where it is at most 2^60.
 pub(crate) fn number_of(word: &str) -> Option<u64>
-    ensures value { result ≡ written_number (2 ^ 60) word.now }
-    ensures within { IfSome result (λ number. number ≤ 2 ^ 60) }
+    ensures value { result ≡ written_number number_limit word.now }
+    ensures within { IfSome result (λ number. number ≤ number_limit) }
 {
     parse_number(word.as_bytes(), NUMBER_LIMIT)
 }

@@ -8,4 +8,5 @@ pub mod Walking
 pub mod Easings
 pub mod OverLines
 pub mod CasesLines
-mod ExampleFacts
+pub mod ExampleFacts
+mod LowerCasesFacts

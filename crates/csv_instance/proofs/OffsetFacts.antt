@@ -48,8 +48,8 @@ offsets-count ids (header ∷ rows) os e = sym (ap length (answered _ (map (offs
 within : (most : ℕ) (field : List ℕ) → is_number most field ≡ true → digits_value 10 field ≤ most
 within most field is = grind (arith, nat_tests, common_steps)
 
-number_limit : (most : ℕ) (field : List ℕ) → unwrap_or (written_number most field) 0 ≤ most
-number_limit most field = elim (cases_Bool (is_number most field)) [
+number_within : (most : ℕ) (field : List ℕ) → unwrap_or (written_number most field) 0 ≤ most
+number_within most field = elim (cases_Bool (is_number most field)) [
   | inl is ↦ rw is (within most field is)
   | inr other ↦ rw other (omega arith)
 ]
@@ -59,7 +59,7 @@ offset_within header rows id = go (find (is_of header id) rows)
   where
     go : (o : Option Record) → unwrap_or (option_and_then (offset_in header) o) 0 ≤ offset_limit
     go None = omega arith
-    go (Some row) = number_limit offset_limit (field_of header row Offset)
+    go (Some row) = number_within offset_limit (field_of header row Offset)
 
 all_mapped : (f : List ℕ → ℕ) (ids : List (List ℕ)) → ((id : List ℕ) → f id ≤ offset_limit) → AreOffsets (map f ids)
 all_mapped f [] h k d within = absurd (omega arith)

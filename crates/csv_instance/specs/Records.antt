@@ -12,7 +12,7 @@ Record = List (List ℕ)
 abbrev pub table_of : List ℕ → List Record
 table_of bytes = records default_config (strip_bom bytes)
 
--- the greatest length of a file, in bytes
+-- the greatest number of bytes of an instance or a layout file
 abbrev pub file_limit : ℕ
 file_limit = 67108864
 

@@ -6,7 +6,7 @@ use Rattle.std.proofs.lemmas.List.Elements.{All-push}
 use Rattle.std.specs.Vec.{with_item, with_items}
 use Rattle.dsa_terms.specs.Buffers.{Buffer, Instance, buffer, do_share, no_buffer}
 use Rattle.dsa_model.specs.Buffer.{IsBuffer}
-use Rattle.dsa_model.specs.Rows.{AreRows, IsNoted, IsTable, instance_of, table_of}
+use Rattle.dsa_model.specs.Rows.{AreRows, IsNoted, IsTable, instance_of, entries_of}
 use Rattle.dsa_model.specs.declared.instance.Row.{Row}
 use Rattle.dsa_model.proofs.Sharing.{noted_next, table_kept, table_pushed, within_row}
 
@@ -16,7 +16,7 @@ same_count old rows same =
     sym (length-map rows (λ (r : Row). r.buffer)) ∙ ap length same ∙ length-map old (λ (r : Row). r.buffer)
 
 pub within_noted : (old rows : List Row) (own : List Bool) (n : ℕ) (next : Buffer) (row : Row) →
-    instance_of rows ≡ instance_of old → IsNoted (instance_of old) (table_of old) (table_of rows) own n next →
+    instance_of rows ≡ instance_of old → IsNoted (instance_of old) (entries_of old) (entries_of rows) own n next →
     n < length old → length old < 512 → length old < vec_len (slice_index_or rows n row).shares
 within_noted old rows own n next row same h lt few =
     within_row rows n (length old) row h.wide (rw (same_count old rows same) lt) few
@@ -38,13 +38,13 @@ same_written old rows n row both same =
     map-set_same (λ (r : Row). r.buffer) rows n (written (slice_index_or rows n row) (length old) both) row refl ∙ same
 
 pub noted_written : (old rows : List Row) (own : List Bool) (n : ℕ) (next : Buffer) (seen row : Row) (both : Bool) →
-    instance_of rows ≡ instance_of old → IsNoted (instance_of old) (table_of old) (table_of rows) own n next →
+    instance_of rows ≡ instance_of old → IsNoted (instance_of old) (entries_of old) (entries_of rows) own n next →
     n < length old → length old < 512 → both ≡ do_share (slice_index_or rows n seen).buffer next →
-    IsNoted (instance_of old) (table_of old)
-    (table_of (slice_set rows n (written (slice_index_or rows n row) (length old) both))) (slice_set own n both)
+    IsNoted (instance_of old) (entries_of old)
+    (entries_of (slice_set rows n (written (slice_index_or rows n row) (length old) both))) (slice_set own n both)
     (n + 1) next
 noted_written old rows own n next seen row both same h lt few is =
-    subst (λ (t : List (List Bool)). IsNoted (instance_of old) (table_of old) t (slice_set own n both) (n + 1) next)
+    subst (λ (t : List (List Bool)). IsNoted (instance_of old) (entries_of old) t (slice_set own n both) (n + 1) next)
     (sym table) step
   where
     some : n < length rows
@@ -53,16 +53,18 @@ noted_written old rows own n next seen row both same h lt few is =
     count : length (instance_of old) ≡ length old
     count = length-map old (λ (r : Row). r.buffer)
 
-    table : table_of (slice_set rows n (written (slice_index_or rows n row) (length old) both))
-        ≡ slice_set (table_of rows) n (slice_set (slice_index_or (table_of rows) n []) (length (instance_of old)) both)
+    table : entries_of (slice_set rows n (written (slice_index_or rows n row) (length old) both))
+        ≡ slice_set (entries_of rows) n
+        (slice_set (slice_index_or (entries_of rows) n []) (length (instance_of old)) both)
     table =
         map-set (λ (r : Row). r.shares.items) rows n (written (slice_index_or rows n row) (length old) both)
         ∙ rw (count, get_or-map (λ (r : Row). r.shares.items) rows n row [] some) refl
 
-    step : IsNoted (instance_of old) (table_of old)
-        (slice_set (table_of rows) n (slice_set (slice_index_or (table_of rows) n []) (length (instance_of old)) both))
+    step : IsNoted (instance_of old) (entries_of old)
+        (slice_set (entries_of rows) n
+        (slice_set (slice_index_or (entries_of rows) n []) (length (instance_of old)) both))
         (slice_set own n both) (n + 1) next
-    step = noted_next (instance_of old) (table_of old) (table_of rows) own n next both h
+    step = noted_next (instance_of old) (entries_of old) (entries_of rows) own n next both h
         (rw (length-map rows (λ (r : Row). r.shares.items)) some) (rw count few) (omega (arith, lt, few))
         (is ∙ ap (λ b. do_share b next) (noted_row old rows n seen same lt))
 
@@ -79,19 +81,19 @@ buffers_unpushed v I old rows now view is same e =
 pub unpushed : (v : Vec Row Global) (old rows now : List Row) (own : List Bool) (next : Buffer) →
     length v.items ≤ 512 → All IsBuffer (instance_of v.items) → AreRows v.items → old ≡ v.items →
     instance_of rows ≡ instance_of old →
-    IsNoted (instance_of old) (table_of old) (table_of rows) own (length old) next →
+    IsNoted (instance_of old) (entries_of old) (entries_of rows) own (length old) next →
     now ≡ (with_items v rows).items → (length now ≤ 512) × All IsBuffer (instance_of now) × AreRows now
 unpushed v old rows now own next limit all told is same h e =
     rw (e ∙ put_back v old rows is same) (
       rw (same_count old rows same, is) limit,
       rw (same, is) all,
-      rw same (table_kept (instance_of old) (table_of old) (table_of rows) own (length old) next h (rw is told)),
+      rw same (table_kept (instance_of old) (entries_of old) (entries_of rows) own (length old) next h (rw is told)),
     )
 
 pub pushed : (v : Vec Row Global) (w : Vec Bool Global) (I : Instance) (old rows now : List Row) (own : List Bool)
     (next : Buffer) (place : ℕ) → instance_of v.items ≡ I → length I < 512 → All IsBuffer (instance_of v.items) →
     AreRows v.items → IsBuffer next → old ≡ v.items → instance_of rows ≡ instance_of old →
-    IsNoted (instance_of old) (table_of old) (table_of rows) own (length old) next → w.len ≡ 512 → place ≡ v.len →
+    IsNoted (instance_of old) (entries_of old) (entries_of rows) own (length old) next → w.len ≡ 512 → place ≡ v.len →
     now ≡ (with_items v rows).items ++ record { buffer = next; shares = with_item (with_items w own) place true } ∷ [] →
     (length now ≤ 512) × All IsBuffer (instance_of now) × AreRows now
 pushed v w I old rows now own next place view lt all told sound is same h wide at e =
@@ -127,11 +129,12 @@ pushed v w I old rows now own next place view lt all told sound is same h wide a
         ap (λ (xs : List Bool). slice_set xs place true) (with_items_is w own (h.own_wide ∙ sym wide))
         ∙ ap (λ n. slice_set own n true) (at ∙ v.ok.0 ∙ ap length (sym is) ∙ sym long)
 
-    table : table_of (rows ++ last ∷ []) ≡ table_of rows ++ slice_set own (length (instance_of old)) true ∷ []
+    table : entries_of (rows ++ last ∷ []) ≡ entries_of rows ++ slice_set own (length (instance_of old)) true ∷ []
     table =
         map_push (λ (r : Row). r.shares.items) rows last
-        ∙ ap (λ (row : List Bool). table_of rows ++ row ∷ []) entries
+        ∙ ap (λ (row : List Bool). entries_of rows ++ row ∷ []) entries
 
-    step : IsTable (instance_of old ++ next ∷ []) (table_of rows ++ slice_set own (length (instance_of old)) true ∷ [])
-    step = table_pushed (instance_of old) (table_of old) (table_of rows) own next (rw long h) (rw is told) sound
+    step : IsTable (instance_of old ++ next ∷ [])
+        (entries_of rows ++ slice_set own (length (instance_of old)) true ∷ [])
+    step = table_pushed (instance_of old) (entries_of old) (entries_of rows) own next (rw long h) (rw is told) sound
         (length-map rows (λ (r : Row). r.shares.items) ∙ count ∙ sym long) (rw (long, is) few)

@@ -1,15 +1,16 @@
 -- Worked facts of the rows of an instance.
-use Rattle.std.proofs.Common.{◌≡◌, ℕ, zero, suc, ◌<◌, Bool, true, false, List, [], ◌∷◌, replicate, All, refl, ap, arith}
+use Rattle.std.proofs.Common.{◌≡◌, ℕ, zero, suc, ◌<◌, Bool, true, false, List, [], ◌∷◌, replicate, slice_index_or, All, refl, ap, arith}
 use Rattle.std.proofs.lemmas.List.{length-replicate}
+use Rattle.std.proofs.lemmas.List.Elements.{All-cons, All-nil}
 use Rattle.dsa_terms.specs.Buffers.{Buffer, Instance, buffer, do_share, is_live, some_before}
 use Rattle.dsa_model.specs.Buffer.{lasting}
-use Rattle.dsa_model.specs.Rows.{IsNoted, IsTable, IsWide, entry, instance_of, table_of}
+use Rattle.dsa_model.specs.Rows.{AreRows, IsNoted, IsTable, IsWide, entries_of, entry, instance_of}
 use Rattle.dsa_model.specs.declared.instance.Row.{Row}
 
 its_buffers : (first second : Row) → instance_of (first ∷ second ∷ []) ≡ first.buffer ∷ second.buffer ∷ []
 its_buffers first second = refl
 
-its_table : (first second : Row) → table_of (first ∷ second ∷ []) ≡ first.shares.items ∷ second.shares.items ∷ []
+its_table : (first second : Row) → entries_of (first ∷ second ∷ []) ≡ first.shares.items ∷ second.shares.items ∷ []
 its_table first second = refl
 
 -- two buffers that share moment 2
@@ -47,6 +48,15 @@ denied : (others : Bool) → IsTable two (row true true others ∷ row false tru
 unfolding two row buffer do_share some_before is_live
 denied others h = let told = h.told 1 0 (omega arith) (omega arith) in absurd cc
 
+-- of any rows with these buffers and entries
+are_rows : (rows : List Row) (others : Bool) → instance_of rows ≡ two →
+    entries_of rows ≡ row true true others ∷ row true true others ∷ [] → AreRows rows
+are_rows rows others buffers entries = rw (buffers, entries) (each_other others)
+
+no_rows : (rows : List Row) (others : Bool) → instance_of rows ≡ two →
+    entries_of rows ≡ row true true others ∷ row false true others ∷ [] → AreRows rows → ⊥
+no_rows rows others buffers entries told = denied others (rw (← buffers, ← entries) told)
+
 -- ---- what is noted where a buffer is put behind others
 nothing_to_note : (next : Buffer) → IsNoted [] [] [] (row false false false) 0 next
 nothing_to_note next = record {
@@ -56,6 +66,34 @@ nothing_to_note next = record {
   own_wide = is_wide false false false;
   owns = λ b lt. absurd (omega arith);
 }
+
+-- the buffer before it shares moment 2
+noted_one : (others : Bool) →
+    IsNoted (lasting 0 3 [] ∷ []) (row true false others ∷ []) (row true true others ∷ []) (row true false others) 1
+    (lasting 2 4 [])
+unfolding row buffer do_share some_before is_live
+noted_one others = record {
+  wide = All-cons IsWide (row true true others) [] (is_wide true true others) (All-nil IsWide);
+  kept = kept;
+  theirs = theirs;
+  own_wide = is_wide true false others;
+  owns = owns;
+}
+  where
+    kept : (b c : ℕ) → c < 1 → entry (row true true others ∷ []) b c ≡ entry (row true false others ∷ []) b c
+    kept zero zero lt = refl
+    kept (suc b) zero lt = refl
+    kept b (suc c) lt = absurd (omega arith)
+
+    theirs : (b : ℕ) → b < 1 →
+        entry (row true true others ∷ []) b 1 ≡ do_share (buffer (lasting 0 3 [] ∷ []) b) (lasting 2 4 [])
+    theirs zero lt = refl
+    theirs (suc b) lt = absurd (omega arith)
+
+    owns : (b : ℕ) → b < 1 →
+        slice_index_or (row true false others) b false ≡ do_share (buffer (lasting 0 3 [] ∷ []) b) (lasting 2 4 [])
+    owns zero lt = refl
+    owns (suc b) lt = absurd (omega arith)
 
 -- only the row before the new one tells
 not_its_own : (others : Bool) →

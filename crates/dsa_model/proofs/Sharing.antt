@@ -8,7 +8,7 @@ use Rattle.dsa_terms.specs.Buffers.{Buffer, Instance, buffer, do_share, no_buffe
 use Rattle.dsa_terms.proofs.Moments.{do_share-gives, do_share-false}
 use Rattle.dsa_terms.proofs.NumberTests.{below_or_last}
 use Rattle.dsa_model.specs.Buffer.{IsBuffer}
-use Rattle.dsa_model.specs.Rows.{AreRows, IsNoted, IsTable, IsWide, instance_of, entry, table_of}
+use Rattle.dsa_model.specs.Rows.{AreRows, IsNoted, IsTable, IsWide, instance_of, entry, entries_of}
 use Rattle.dsa_model.specs.declared.instance.Row.{Row}
 
 -- a buffer shares a moment with itself
@@ -110,8 +110,8 @@ table_pushed I old new own next h t is count few = record {
     above : (b c : ℕ) → b < length I → entry (new ++ row ∷ []) b c ≡ entry new b c
     above b c l = ap (λ r. slice_index_or r c false) (get_or_append_left new (row ∷ []) [] b (rw count l))
 
-    lowest : (c : ℕ) → entry (new ++ row ∷ []) (length I) c ≡ slice_index_or row c false
-    lowest c = ap (λ r. slice_index_or r c false)
+    in_last : (c : ℕ) → entry (new ++ row ∷ []) (length I) c ≡ slice_index_or row c false
+    in_last c = ap (λ r. slice_index_or r c false)
         (subst (λ n. slice_index_or (new ++ row ∷ []) n [] ≡ row) count (get_or-append_seam new row [] []))
 
     go : (b c : ℕ) → (b < length I) ⊎ (b ≡ length I) → (c < length I) ⊎ (c ≡ length I) →
@@ -119,21 +119,21 @@ table_pushed I old new own next h t is count few = record {
     go b c (inl l) (inl m) = rw (at b l, at c m) (above b c l ∙ h.kept b c m ∙ t.told b c l m)
     go b c (inl l) (inr q) = rw (q, at b l, last) (above b (length I) l ∙ h.theirs b l)
     go b c (inr p) (inl m) =
-        rw (p, last, at c m) (lowest c ∙ get_or-set_other own (length I) c true false (apart c (length I) m)
+        rw (p, last, at c m) (in_last c ∙ get_or-set_other own (length I) c true false (apart c (length I) m)
         ∙ h.owns c m ∙ shared_both (slice_index_or I c no_buffer) next)
     go b c (inr p) (inr q) =
-        rw (p, q, last) (lowest (length I)
+        rw (p, q, last) (in_last (length I)
         ∙ get_or-set_same own (length I) true false (rw h.own_wide few) ∙ sym (shares_with_itself next is))
 
 -- ---- the rows of an instance
-row_wide : (rows : List Row) (n : ℕ) (row : Row) → All IsWide (table_of rows) → n < length rows →
+row_wide : (rows : List Row) (n : ℕ) (row : Row) → All IsWide (entries_of rows) → n < length rows →
     length (slice_index_or rows n row).shares.items ≡ 512
 row_wide rows n row wide lt =
     ap length (sym (get_or-map (λ (r : Row). r.shares.items) rows n row [] lt))
     ∙ wide n [] (rw (length-map rows (λ (r : Row). r.shares.items)) lt)
 
 -- a place below 512 is within each row
-pub within_row : (rows : List Row) (n c : ℕ) (row : Row) → All IsWide (table_of rows) → n < length rows → c < 512 →
+pub within_row : (rows : List Row) (n c : ℕ) (row : Row) → All IsWide (entries_of rows) → n < length rows → c < 512 →
     c < vec_len (slice_index_or rows n row).shares
 within_row rows n c row wide lt few =
     rw ((slice_index_or rows n row).shares.ok.0, row_wide rows n row wide lt) few
@@ -155,7 +155,7 @@ looked_up rows I b c row told view h limit lb lc at is =
     (rw (← row.shares.ok.0) (within_looked_up rows I b c row view h limit lb lc at))
     ∙ ap (λ (r : Row). slice_index_or r.shares.items c false) at
     ∙ ap (λ r. slice_index_or r c false) (sym (get_or-map (λ (r : Row). r.shares.items) rows b row [] some))
-    ∙ subst (λ (J : Instance). entry (table_of rows) b c ≡ do_share (buffer J b) (buffer J c)) view
+    ∙ subst (λ (J : Instance). entry (entries_of rows) b c ≡ do_share (buffer J b) (buffer J c)) view
     (h.told b c (rw view lb) (rw view lc))
   where
     some : b < length rows

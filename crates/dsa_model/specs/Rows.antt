@@ -9,8 +9,8 @@ abbrev pub instance_of : List Row → Instance
 instance_of rows = map (λ (r : Row). r.buffer) rows
 
 -- what each row tells of each place
-abbrev pub table_of : List Row → List (List Bool)
-table_of rows = map (λ (r : Row). r.shares.items) rows
+abbrev pub entries_of : List Row → List (List Bool)
+entries_of rows = map (λ (r : Row). r.shares.items) rows
 
 -- what the row at place b tells of place c
 abbrev pub entry : List (List Bool) → ℕ → ℕ → Bool
@@ -28,7 +28,7 @@ pub record IsTable (I : Instance) (table : List (List Bool)) : Type 0 where
 
 -- the rows tell of any two of their buffers whether they share a moment
 abbrev pub AreRows : List Row → Type 0
-AreRows rows = IsTable (instance_of rows) (table_of rows)
+AreRows rows = IsTable (instance_of rows) (entries_of rows)
 
 -- the first n rows of the table tell of the next place whether their buffers share a moment with `next`, and so do the
 -- entries of `own` of these; what the table told of the places before it is as it was

@@ -9,7 +9,7 @@ use Rattle.log_text.proofs.Unique.{log_split}
 use Rattle.command_words.specs.Options.{Word}
 use Rattle.command_words.specs.Commands.{Command, Refute, command_of}
 use Rattle.dsaplan_core.specs.Seen.{FilesSeen, SinkSeen}
-use Rattle.dsaplan_core.specs.Steps.{log_limit, IsWhole}
+use Rattle.dsaplan_core.specs.Steps.{log_limit, IsWholeFile}
 use Rattle.dsaplan_core.specs.Asked.{checked_log_of}
 use Rattle.dsaplan_core.specs.Checked.{ReadsLog, AcceptsLog, RefusesText, RefusesLog}
 use Rattle.dsaplan_core.specs.Answers.{Answers}
@@ -36,7 +36,7 @@ module _ (words : List Word) (old new : FilesSeen) (before after : SinkSeen) (in
   read_text : (c : Command) (J : Instance) (bytes : List ℕ) → ReadsLog words old c J bytes → bytes ≡ log_text g
   read_text c J bytes read =
       let is = named c read.log read.asked.words_ask read.its_log in
-      let whole = subst (λ n. IsWhole old n log_limit bytes) is read.whole in
+      let whole = subst (λ n. IsWholeFile old n log_limit bytes) is read.whole in
       same_bytes old log log_limit bytes (log_text g) holds.held whole
 
   read_instance : (c : Command) (J : Instance) (bytes : List ℕ) → ReadsLog words old c J bytes → J ≡ I

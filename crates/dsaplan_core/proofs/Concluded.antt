@@ -11,7 +11,7 @@ use Rattle.csv_instance.specs.declared.fault.InstanceFault.{InstanceFault}
 use Rattle.command_words.specs.Options.{Word}
 use Rattle.command_words.specs.Commands.{Command, Solve, Least, Verify, Refute, Trim, Bounds, Report, Trial, command_of, names_of}
 use Rattle.dsaplan_core.specs.Seen.{FilesSeen, SinkSeen}
-use Rattle.dsaplan_core.specs.Steps.{log_limit, IsWhole, HoldsMore, IsUnread}
+use Rattle.dsaplan_core.specs.Steps.{log_limit, IsWholeFile, HoldsMore, IsUnread}
 use Rattle.dsaplan_core.specs.Asked.{IsAsked, input_of, layout_of, checked_log_of}
 use Rattle.dsaplan_core.specs.Decided.{MayStayOpen}
 use Rattle.dsaplan_core.specs.Shown.{ShowsFacts, ShowsLayout, ShowsTrial}
@@ -35,7 +35,7 @@ not_missing None name bytes is missing = missing
 not_missing (Some m) name bytes is missing = cc
 
 pub same_bytes : (files : FilesSeen) (name : Word) (most : ℕ) (bytes b : List ℕ) → file_at files.held name ≡ Some b →
-    IsWhole files name most bytes → bytes ≡ b
+    IsWholeFile files name most bytes → bytes ≡ b
 same_bytes files name most bytes b is whole =
     let other : file_at files.held name ≡ Some bytes = whole.held (told files.held name b is) in cc
 
@@ -142,7 +142,7 @@ module _ (words : List Word) (old new : FilesSeen) (before after : SinkSeen) (co
   not_long name most there long = not_more old name most there (long (told old.held name there.bytes there.held))
 
   has_instance : (c : Command) (name : Word) (bytes : List ℕ) (fault : InstanceFault) → command_of words ≡ Ok c →
-      input_of c ≡ Some name → IsWhole old name file_limit bytes → parse (table_of bytes) ≡ Err fault → ⊥
+      input_of c ≡ Some name → IsWholeFile old name file_limit bytes → parse (table_of bytes) ≡ Err fault → ⊥
   has_instance c name bytes fault is its whole refused =
       let held = held_instance c name is its in
       let same = same_bytes old name file_limit bytes held.file.bytes held.file.held whole in

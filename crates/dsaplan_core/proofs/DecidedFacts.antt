@@ -5,7 +5,7 @@ use Rattle.dsa_terms.specs.Parts.{has}
 use Rattle.dsa_terms.specs.Trims.{kept_lines, needed, renumbered, trimmed, with_cited}
 use Rattle.dsaplan_core.specs.Decided.{LaysOut, WritesRefutationBelow, RefutesCapacity, with_log}
 use Rattle.dsaplan_core.specs.Seen.{FilesSeen}
-use Rattle.dsaplan_core.specs.Steps.{IsWhole, log_limit}
+use Rattle.dsaplan_core.specs.Steps.{IsWholeFile, log_limit}
 use Rattle.dsaplan_core.proofs.OneFacts.{log_file, one, zero_log, zero_reads, zero_refuted, zero_text}
 use Rattle.dsaplan_core.proofs.WorldFacts.{input_alone, named_capacity, other_number, out_file, reads_log, solve_words, told, with_log_file}
 
@@ -54,5 +54,5 @@ zero_is_trimmed = refl
 abbrev pub logged : FilesSeen
 logged = told (with_log_file log_file)
 
-pub whole_log : IsWhole logged (codes "l") log_limit log_file
+pub whole_log : IsWholeFile logged (codes "l") log_limit log_file
 whole_log = record { held = λ told. reads_log log_file; short = lit≤ tt }

@@ -8,14 +8,14 @@ use Rattle.csv_instance.specs.Records.{Record}
 use Rattle.csv_instance.specs.Parse.{parse}
 use Rattle.command_words.specs.Options.{Word}
 use Rattle.dsaplan_core.specs.Seen.{FilesSeen}
-use Rattle.dsaplan_core.specs.Steps.{IsWhole, HoldsMore, IsUnread, IsInput}
+use Rattle.dsaplan_core.specs.Steps.{IsWholeFile, HoldsMore, IsUnread, IsInput}
 
 pub rose_since : (a b c : ℕ) → a ≤ b → Rose b c → Rose a c
 rose_since a b c le (inl more) = inl (omega (arith, le, more))
 rose_since a b c le (inr end) = inr end
 
 pub whole_since : (old mid : FilesSeen) (name : Word) (most : ℕ) (bytes : List ℕ) → mid.held ≡ old.held →
-    IsWhole mid name most bytes → IsWhole old name most bytes
+    IsWholeFile mid name most bytes → IsWholeFile old name most bytes
 whole_since old mid name most bytes same whole = record {
   held = subst (λ h. IsSome h → file_at h name ≡ Some bytes) same whole.held;
   short = whole.short;

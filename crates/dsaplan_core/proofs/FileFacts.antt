@@ -9,18 +9,18 @@ use Rattle.command_words.specs.Options.{Word}
 use Rattle.dsaplan_core.specs.Complete.{HoldsLog, IsReadable, IsReady, IsUndisturbed}
 use Rattle.dsaplan_core.specs.Seen.{FilesSeen}
 use Rattle.csv_instance.specs.Records.{file_limit}
-use Rattle.dsaplan_core.specs.Steps.{HoldsMore, IsUnread, IsWhole}
+use Rattle.dsaplan_core.specs.Steps.{HoldsMore, IsUnread, IsWholeFile}
 use Rattle.dsaplan_core.proofs.OneFacts.{log_file, one, zero_log, zero_reads, zero_refuted, zero_text}
 use Rattle.dsaplan_core.proofs.WorldFacts.{in_file, input_alone, reads_input, reads_log, reads_no_layout, told, verify_words, with_log_file}
 
 -- ---- what a file holds: the input has 28 bytes
-whole_input : IsWhole (told input_alone) (codes "i") 28 in_file
+whole_input : IsWholeFile (told input_alone) (codes "i") 28 in_file
 whole_input = record { held = λ told. reads_input; short = lit≤ tt }
 
-longer_than_27 : IsWhole (told input_alone) (codes "i") 27 in_file → ⊥
+longer_than_27 : IsWholeFile (told input_alone) (codes "i") 27 in_file → ⊥
 longer_than_27 w = let k : 28 ≤ 27 = w.short in omega arith
 
-not_other_bytes : IsWhole (told input_alone) (codes "i") 28 [] → ⊥
+not_other_bytes : IsWholeFile (told input_alone) (codes "i") 28 [] → ⊥
 not_other_bytes w = let e = sym reads_input ∙ w.held refl in absurd cc
 
 holds_more : HoldsMore (told input_alone) (codes "i") 27

@@ -10,7 +10,7 @@ use Rattle.csv_instance.specs.declared.fault.OffsetsFault.{OffsetsFault}
 use Rattle.csv_instance.specs.declared.fault.OffsetsFault.TheVariants as offsets
 use Rattle.dsaplan_core.specs.Reads.{GivesLayout, GivesNoLayout, GivesNoOffsets, GivesWrongOffsets, JudgesAt, JudgesTable, layout_too_long, layout_unread, no_offsets, wrong_offsets}
 use Rattle.dsaplan_core.specs.Seen.{FilesSeen}
-use Rattle.dsaplan_core.specs.Steps.{IsWhole}
+use Rattle.dsaplan_core.specs.Steps.{IsWholeFile}
 use Rattle.dsaplan_core.specs.declared.judged.Judged.{Judged}
 use Rattle.dsaplan_core.specs.declared.judged.Judged.TheVariants as judged
 use Rattle.dsaplan_core.specs.declared.status.Role.TheVariants as role
@@ -24,7 +24,7 @@ use Rattle.dsaplan_core.proofs.TableFacts.{bare_file, bare_offsets, high_file, h
 use Rattle.dsaplan_core.proofs.WorldFacts.{input_alone, reads_layout, reads_no_layout, told, with_layout}
 
 -- the bytes of the file are those that are read
-its_bytes : (given bytes : List ℕ) → IsWhole (beside given) (codes "a") file_limit bytes → given ≡ bytes
+its_bytes : (given bytes : List ℕ) → IsWholeFile (beside given) (codes "a") file_limit bytes → given ≡ bytes
 its_bytes given bytes whole =
     only_bytes (with_layout given) (codes "a") given bytes file_limit (reads_layout given) whole
 

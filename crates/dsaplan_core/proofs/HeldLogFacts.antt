@@ -11,7 +11,7 @@ use Rattle.log_text.specs.declared.raw.RawLog.{RawLog}
 use Rattle.log_text.proofs.Unique.{log_split}
 use Rattle.dsaplan_core.specs.Reads.{ChecksLog, GivesNoLog, HoldsAccepted, HoldsNoRefutation, HoldsNoText, log_not_accepted, log_too_long, log_unread, no_log_text}
 use Rattle.dsaplan_core.specs.Seen.{FilesSeen}
-use Rattle.dsaplan_core.specs.Steps.{IsWhole, log_limit}
+use Rattle.dsaplan_core.specs.Steps.{IsWholeFile, log_limit}
 use Rattle.dsaplan_core.specs.declared.checked.Checked.TheVariants as checked
 use Rattle.dsaplan_core.specs.declared.status.LogCause.TheVariants as refused
 use Rattle.dsaplan_core.specs.declared.status.Role.TheVariants as role
@@ -23,7 +23,7 @@ use Rattle.dsaplan_core.proofs.OneFacts.{log_file, one, zero_accepted, zero_log,
 use Rattle.dsaplan_core.proofs.WorldFacts.{input_alone, reads_log, reads_no_log, told, with_log_file}
 
 -- the bytes of the file are those that are read
-its_bytes : (given bytes : List ℕ) → IsWhole (logged given) (codes "l") log_limit bytes → given ≡ bytes
+its_bytes : (given bytes : List ℕ) → IsWholeFile (logged given) (codes "l") log_limit bytes → given ≡ bytes
 its_bytes given bytes whole =
     only_bytes (with_log_file given) (codes "l") given bytes log_limit (reads_log given) whole
 

@@ -13,7 +13,7 @@ use Rattle.command_words.specs.Options.{Word}
 use Rattle.dsaplan_core.specs.Asked.{IsAsked, input_of}
 use Rattle.dsaplan_core.specs.Complete.{HoldsInstance, IsReady}
 use Rattle.dsaplan_core.specs.Refused.{HasNoInstance}
-use Rattle.dsaplan_core.specs.Steps.{IsInput, IsWhole}
+use Rattle.dsaplan_core.specs.Steps.{IsInput, IsWholeFile}
 use Rattle.dsaplan_core.proofs.OneFacts.{one, rows, rows_are_one}
 use Rattle.dsaplan_core.proofs.TableFacts.{in_reads, no_sizes, sizeless_file}
 use Rattle.dsaplan_core.proofs.WorldFacts.{bounds_words, in_file, input_alone, reads_i, reads_input, told}
@@ -24,7 +24,7 @@ same_instance I J e = cc
 
 -- a name holds no other bytes than those that it holds
 pub only_bytes : (files : FileMap) (name given bytes : List ℕ) (most : ℕ) → file_at (Some files) name ≡ Some given →
-    IsWhole (told files) name most bytes → given ≡ bytes
+    IsWholeFile (told files) name most bytes → given ≡ bytes
 only_bytes files name given bytes most reads whole = let e = sym reads ∙ whole.held refl in cc
 
 -- ---- the one buffer

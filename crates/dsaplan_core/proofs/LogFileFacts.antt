@@ -21,7 +21,7 @@ use Rattle.dsaplan_core.specs.Asked.{checked_log_of}
 use Rattle.dsaplan_core.specs.Checked.{AcceptsLog, HasLongLog}
 use Rattle.dsaplan_core.specs.Decided.{TrimsLog}
 use Rattle.dsaplan_core.specs.Seen.{FilesSeen}
-use Rattle.dsaplan_core.specs.Steps.{IsWhole, log_limit}
+use Rattle.dsaplan_core.specs.Steps.{IsWholeFile, log_limit}
 use Rattle.dsaplan_core.proofs.InputFacts.{asks_one, only_command, only_instance}
 use Rattle.dsaplan_core.proofs.OneFacts.{log_file, one, one_laid, rows, zero_accepted, zero_log, zero_reads, zero_refuted, zero_text}
 use Rattle.dsaplan_core.proofs.WorldFacts.{in_file, reads_beside_log, reads_log, refute_words, told, with_log_file}
@@ -37,7 +37,7 @@ abbrev zero_line : Line
 zero_line = Over ((0, 0) ∷ []) 0 0 1
 
 -- ---- the log of one line is accepted at 0
-pub whole_zero : IsWhole (logged log_file) (codes "l") log_limit (log_text zero_log)
+pub whole_zero : IsWholeFile (logged log_file) (codes "l") log_limit (log_text zero_log)
 whole_zero = record {
   held = λ told. reads_log log_file ∙ ap Some (sym zero_text);
   short = subst (λ (bytes : List ℕ). length bytes ≤ log_limit) (sym zero_text) (lit≤ tt);

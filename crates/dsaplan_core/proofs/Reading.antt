@@ -13,7 +13,7 @@ use Rattle.csv_instance.specs.Records.{Record, file_limit}
 use Rattle.command_words.specs.Options.{Word}
 use Rattle.command_words.specs.Commands.{Command, command_of}
 use Rattle.dsaplan_core.specs.Seen.{FilesSeen}
-use Rattle.dsaplan_core.specs.Steps.{log_limit, IsWhole, IsInput}
+use Rattle.dsaplan_core.specs.Steps.{log_limit, IsWholeFile, IsInput}
 use Rattle.dsaplan_core.specs.Asked.{IsAsked, checked_log_of, input_of, layout_of}
 use Rattle.dsaplan_core.specs.Judged.{ReadsLayout}
 use Rattle.dsaplan_core.specs.Checked.{ReadsLog}
@@ -32,25 +32,25 @@ asks words old command input table I asked its given = record {
 
 pub layout_read : (words : List Word) (old mid : FilesSeen) (command : Command) (table : List Record) (I : Instance)
     (layout : Word) (seen bytes : List ℕ) → IsAsked words old command table I → layout_of command ≡ Some layout →
-    mid.held ≡ old.held → seen ≡ bytes → IsWhole mid layout file_limit bytes →
+    mid.held ≡ old.held → seen ≡ bytes → IsWholeFile mid layout file_limit bytes →
     ReadsLayout words old command table I seen
 layout_read words old mid command table I layout seen bytes asked its same value whole = record {
   layout = layout;
   asked = asked;
   its_layout = its;
-  whole = subst (λ b. IsWhole old layout file_limit b) (sym value)
+  whole = subst (λ b. IsWholeFile old layout file_limit b) (sym value)
       (whole_since old mid layout file_limit bytes same whole);
 }
 
 pub log_read : (words : List Word) (old mid : FilesSeen) (command : Command) (table : List Record) (I : Instance)
     (log : Word) (seen bytes : List ℕ) → IsAsked words old command table I → checked_log_of command ≡ Some log →
-    mid.held ≡ old.held → seen ≡ bytes → IsWhole mid log log_limit bytes → ReadsLog words old command I seen
+    mid.held ≡ old.held → seen ≡ bytes → IsWholeFile mid log log_limit bytes → ReadsLog words old command I seen
 log_read words old mid command table I log seen bytes asked its same value whole = record {
   log = log;
   table = table;
   asked = asked;
   its_log = its;
-  whole = subst (λ b. IsWhole old log log_limit b) (sym value) (whole_since old mid log log_limit bytes same whole);
+  whole = subst (λ b. IsWholeFile old log log_limit b) (sym value) (whole_since old mid log log_limit bytes same whole);
 }
 
 -- the text of a log, by its numbers
@@ -76,5 +76,5 @@ fault_gives P Q r f e is f_is said =
 
 -- what was read of a file is its whole content
 pub whole_read : (files : FilesSeen) (name : Word) (most : ℕ) (seen bytes : List ℕ) → seen ≡ bytes →
-    IsWhole files name most bytes → IsWhole files name most seen
-whole_read files name most seen bytes same whole = subst (λ b. IsWhole files name most b) (sym same) whole
+    IsWholeFile files name most bytes → IsWholeFile files name most seen
+whole_read files name most seen bytes same whole = subst (λ b. IsWholeFile files name most b) (sym same) whole

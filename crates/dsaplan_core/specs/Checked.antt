@@ -13,7 +13,7 @@ use Rattle.log_check.specs.declared.fault.CheckFault.{CheckFault}
 use Rattle.command_words.specs.Options.{Word}
 use Rattle.command_words.specs.Commands.{Command, Refute}
 use Rattle.dsaplan_core.specs.Seen.{FilesSeen}
-use Rattle.dsaplan_core.specs.Steps.{log_limit, IsWhole, HoldsMore, IsUnread}
+use Rattle.dsaplan_core.specs.Steps.{log_limit, IsWholeFile, HoldsMore, IsUnread}
 use Rattle.dsaplan_core.specs.Asked.{IsAsked, checked_log_of}
 
 -- the log's file that the command reads, whole
@@ -23,7 +23,7 @@ pub record ReadsLog (words : List Word) (old : FilesSeen) (command : Command) (I
   pub table : List Record
   pub asked : IsAsked words old command table I
   pub its_log : checked_log_of command ≡ Some log
-  pub whole : IsWhole old log log_limit bytes
+  pub whole : IsWholeFile old log log_limit bytes
 
 -- the log's file is the text of a log that is accepted at the capacity, so no layout fits within it
 pub record AcceptsLog (words : List Word) (old new : FilesSeen) (C : ℕ) : Type 0 where

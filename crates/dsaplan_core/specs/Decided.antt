@@ -21,7 +21,7 @@ use Rattle.planner.specs.Openings.{AreGiven, IsOpen}
 use Rattle.command_words.specs.Options.{Word}
 use Rattle.command_words.specs.Commands.{Command, Solve, Least, Trim}
 use Rattle.dsaplan_core.specs.Seen.{FilesSeen}
-use Rattle.dsaplan_core.specs.Steps.{IsWhole, log_limit}
+use Rattle.dsaplan_core.specs.Steps.{IsWholeFile, log_limit}
 use Rattle.dsaplan_core.specs.Asked.{IsAsked, capacity_of, log_of, output_of, steps_of}
 
 -- a layout of the capacity is written to the output, the plan; where no start is within the capacity, a step was given
@@ -147,7 +147,7 @@ pub record TrimsLog (words : List Word) (old new : FilesSeen) (before after : â„
   pub instance : Instance
   pub original : Log
   pub asked : IsAsked words old (Trim input log output) table instance
-  pub whole : IsWhole old log log_limit (log_text original)
+  pub whole : IsWholeFile old log log_limit (log_text original)
   pub text : IsTextOf (log_text original) (raw_log_of original)
   pub accepted : IsAccepted instance original
   pub still_accepted : IsAccepted instance (trimmed original)

@@ -10,7 +10,7 @@ use Rattle.csv_instance.specs.declared.fault.OffsetsFault.{OffsetsFault}
 use Rattle.command_words.specs.Options.{Word}
 use Rattle.command_words.specs.Commands.{Command, Verify}
 use Rattle.dsaplan_core.specs.Seen.{FilesSeen}
-use Rattle.dsaplan_core.specs.Steps.{IsWhole, HoldsMore, IsUnread}
+use Rattle.dsaplan_core.specs.Steps.{IsWholeFile, HoldsMore, IsUnread}
 use Rattle.dsaplan_core.specs.Asked.{IsAsked, judged_at, layout_of}
 
 -- the layout file of the command, whole
@@ -19,7 +19,7 @@ pub record ReadsLayout (words : List Word) (old : FilesSeen) (command : Command)
   pub layout : Word
   pub asked : IsAsked words old command table I
   pub its_layout : layout_of command ≡ Some layout
-  pub whole : IsWhole old layout file_limit bytes
+  pub whole : IsWholeFile old layout file_limit bytes
 
 -- the layout file gives a layout at the capacity
 pub record JudgesRight (words : List Word) (old new : FilesSeen) : Type 0 where

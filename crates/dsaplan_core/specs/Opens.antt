@@ -6,7 +6,7 @@ use Rattle.csv_instance.specs.Parse.{parse}
 use Rattle.csv_instance.specs.declared.fault.InstanceFault.{InstanceFault}
 use Rattle.command_words.specs.Options.{Word}
 use Rattle.dsaplan_core.specs.Seen.{FilesSeen}
-use Rattle.dsaplan_core.specs.Steps.{IsWhole, HoldsMore, IsUnread, IsInput}
+use Rattle.dsaplan_core.specs.Steps.{IsWholeFile, HoldsMore, IsUnread, IsInput}
 use Rattle.dsaplan_core.specs.declared.open.Content.{Content}
 use Rattle.dsaplan_core.specs.declared.open.Content.TheVariants.{Bytes, Unreadable}
 use Rattle.dsaplan_core.specs.declared.open.Input.{Input}
@@ -24,13 +24,13 @@ IsUnreadable old new name most role status = ⊥
 
 -- the whole content, or why there is none
 abbrev pub Opens : FilesSeen → FilesSeen → Word → ℕ → Role → Content → Type 0
-Opens old new name most role (Bytes bytes) = IsWhole old name most bytes.items
+Opens old new name most role (Bytes bytes) = IsWholeFile old name most bytes.items
 Opens old new name most role (Unreadable status) = IsUnreadable old new name most role status
 
 -- the input's bytes are no instance, for their first fault
 pub record IsMalformed (old : FilesSeen) (name : Word) (fault : InstanceFault) : Type 0 where
   pub bytes : List ℕ
-  pub whole : IsWhole old name file_limit bytes
+  pub whole : IsWholeFile old name file_limit bytes
   pub refused : parse (table_of bytes) ≡ Err fault
 
 -- the input gives no instance, as the status says

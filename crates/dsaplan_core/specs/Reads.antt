@@ -17,7 +17,7 @@ use Rattle.log_check.specs.Faults.{check_fault}
 use Rattle.log_check.specs.declared.fault.CheckFault.{CheckFault}
 use Rattle.command_words.specs.Options.{Word}
 use Rattle.dsaplan_core.specs.Seen.{FilesSeen}
-use Rattle.dsaplan_core.specs.Steps.{log_limit, IsWhole, HoldsMore, IsUnread}
+use Rattle.dsaplan_core.specs.Steps.{log_limit, IsWholeFile, HoldsMore, IsUnread}
 use Rattle.dsaplan_core.specs.declared.checked.Checked.{Checked}
 use Rattle.dsaplan_core.specs.declared.checked.Checked.TheVariants as checked
 use Rattle.dsaplan_core.specs.declared.judged.Judged.{Judged}
@@ -30,7 +30,7 @@ use Rattle.dsaplan_core.specs.declared.status.LogCause.TheVariants as refused
 
 -- the file is the text of a log that is accepted for the instance
 pub record HoldsAccepted (files : FilesSeen) (name : Word) (I : Instance) (log : Log) : Type 0 where
-  pub whole : IsWhole files name log_limit (log_text log)
+  pub whole : IsWholeFile files name log_limit (log_text log)
   pub text : IsTextOf (log_text log) (raw_log_of log)
   pub accepted : IsAccepted I log
   pub infeasible : IsInfeasible I log.capacity
@@ -38,7 +38,7 @@ pub record HoldsAccepted (files : FilesSeen) (name : Word) (I : Instance) (log :
 -- the file is no log's text, for its first fault
 pub record HoldsNoText (files : FilesSeen) (name : Word) (fault : TextFault) : Type 0 where
   pub bytes : List ℕ
-  pub whole : IsWhole files name log_limit bytes
+  pub whole : IsWholeFile files name log_limit bytes
   pub refused : IsFirstFault bytes fault
   pub no_text : (raw : RawLog) → IsTextOf bytes raw → ⊥
 
@@ -46,7 +46,7 @@ pub record HoldsNoText (files : FilesSeen) (name : Word) (fault : TextFault) : T
 pub record HoldsNoRefutation (files : FilesSeen) (name : Word) (I : Instance) (fault : CheckFault) : Type 0 where
   pub bytes : List ℕ
   pub raw : RawLog
-  pub whole : IsWhole files name log_limit bytes
+  pub whole : IsWholeFile files name log_limit bytes
   pub text : IsTextOf bytes raw
   pub refused : check_fault I raw ≡ Some fault
   pub not_accepted : (log : Log) → raw_log_of log ≡ raw → IsAccepted I log → ⊥
@@ -70,7 +70,7 @@ ChecksLog old new name I (checked.Unaccepted s) = GivesNoLog old new name I s
 pub record GivesLayout (files : FilesSeen) (name : Word) (table : List Record) (I : Instance) (C : ℕ)
     (offsets : List ℕ) : Type 0 where
   pub bytes : List ℕ
-  pub whole : IsWhole files name file_limit bytes
+  pub whole : IsWholeFile files name file_limit bytes
   pub parsed : offsets_of (ids_of table) (table_of bytes) ≡ Ok offsets
   pub layout : IsLayout I C offsets
 
@@ -78,7 +78,7 @@ pub record GivesLayout (files : FilesSeen) (name : Word) (table : List Record) (
 pub record GivesNoOffsets (files : FilesSeen) (name : Word) (table : List Record) (fault : OffsetsFault) :
     Type 0 where
   pub bytes : List ℕ
-  pub whole : IsWhole files name file_limit bytes
+  pub whole : IsWholeFile files name file_limit bytes
   pub refused : offsets_of (ids_of table) (table_of bytes) ≡ Err fault
 
 -- the file gives offsets, which are no layout at the capacity, for their first fault
@@ -86,7 +86,7 @@ pub record GivesWrongOffsets (files : FilesSeen) (name : Word) (table : List Rec
     (fault : LayoutFault) : Type 0 where
   pub bytes : List ℕ
   pub offsets : List ℕ
-  pub whole : IsWhole files name file_limit bytes
+  pub whole : IsWholeFile files name file_limit bytes
   pub parsed : offsets_of (ids_of table) (table_of bytes) ≡ Ok offsets
   pub refused : layout_fault I C offsets ≡ Some fault
 

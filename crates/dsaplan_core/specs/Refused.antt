@@ -7,7 +7,7 @@ use Rattle.command_words.specs.Options.{Word}
 use Rattle.command_words.specs.Commands.{Command, Trial, command_of}
 use Rattle.command_words.specs.declared.fault.UsageFault.{UsageFault}
 use Rattle.dsaplan_core.specs.Seen.{FilesSeen}
-use Rattle.dsaplan_core.specs.Steps.{IsWhole, HoldsMore, IsUnread}
+use Rattle.dsaplan_core.specs.Steps.{IsWholeFile, HoldsMore, IsUnread}
 use Rattle.dsaplan_core.specs.Asked.{input_of}
 
 -- the words are no command, for their first fault
@@ -30,7 +30,7 @@ pub record HasNoInstance (words : List Word) (old new : FilesSeen) (fault : Inst
   pub bytes : List ℕ
   pub asked : command_of words ≡ Ok command
   pub its_input : input_of command ≡ Some input
-  pub whole : IsWhole old input file_limit bytes
+  pub whole : IsWholeFile old input file_limit bytes
   pub refused : parse (table_of bytes) ≡ Err fault
   pub files : new.held ≡ old.held
 

@@ -13,7 +13,7 @@ abbrev pub log_limit : ℕ
 log_limit = 2 ^ 40
 
 -- these are all bytes of the file, where that is told, and at most so many
-pub record IsWhole (files : FilesSeen) (name : Word) (most : ℕ) (bytes : List ℕ) : Type 0 where
+pub record IsWholeFile (files : FilesSeen) (name : Word) (most : ℕ) (bytes : List ℕ) : Type 0 where
   pub held : IsSome files.held → file_at files.held name ≡ Some bytes
   pub short : length bytes ≤ most
 
@@ -30,6 +30,6 @@ IsUnread old new name = Rose (old.faults name) (new.faults name) ⊎ IsMissing o
 -- the input holds this table, which is this instance
 pub record IsInput (files : FilesSeen) (name : Word) (table : List Record) (I : Instance) : Type 0 where
   pub bytes : List ℕ
-  pub whole : IsWhole files name file_limit bytes
+  pub whole : IsWholeFile files name file_limit bytes
   pub records : table ≡ table_of bytes
   pub parsed : parse table ≡ Ok I

@@ -4,7 +4,7 @@ ghost use Rattle.std.specs.Prelude.{◌≡◌, IfOk};
 ghost use Rattle.dsa_outside.specs.Faults.{NoneFell};
 ghost use Rattle.dsaplan_core.specs.Reads.{JudgesTable};
 
-use crate::open::{Content, TABLE_LIMIT, read_file};
+use crate::open::{Content, FILE_LIMIT, read_file};
 use crate::status::{Role, Status, WrongCause};
 use csv_instance::{Table, read_offsets};
 use dsa_model::{Fail, NoMemory, judge};
@@ -34,7 +34,7 @@ pub(crate) fn read_judged_layout<F: Files>(
     ensures counts { NoneFell (F.faults files.old) (F.faults files.new) }
 {
     let instance = table.instance();
-    let bytes = match read_file(files, name, TABLE_LIMIT, Role::Layout)? {
+    let bytes = match read_file(files, name, FILE_LIMIT, Role::Layout)? {
         Content::Bytes(bytes) => bytes,
         Content::Unreadable(status) => return Ok(Judged::NoLayout(status)),
     };

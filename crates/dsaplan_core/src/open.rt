@@ -11,7 +11,7 @@ use dsa_outside::{FileFault, Files};
 use std::alloc::Global;
 
 /// The greatest number of bytes of an instance or a layout file.
-pub(crate) const TABLE_LIMIT: u64 = 67108864;
+pub(crate) const FILE_LIMIT: u64 = 67108864;
 
 /// The greatest number of bytes of a log's file.
 pub(crate) const LOG_LIMIT: u64 = 1 << 40;
@@ -68,7 +68,7 @@ pub(crate) fn open_input<F: Files>(
     ensures files { F.held files.new ≡ F.held files.old }
     ensures counts { NoneFell (F.faults files.old) (F.faults files.new) }
 {
-    let bytes = match read_file(files, name, TABLE_LIMIT, Role::Input)? {
+    let bytes = match read_file(files, name, FILE_LIMIT, Role::Input)? {
         Content::Bytes(bytes) => bytes,
         Content::Unreadable(status) => return Ok(Input::Missing(status)),
     };

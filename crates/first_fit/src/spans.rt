@@ -1,6 +1,6 @@
 //! The addresses that placed buffers take.
 
-ghost use Rattle.std.specs.Prelude.{◌≡◌, ◌<◌, ◌≤◌, length, IfOk};
+ghost use Rattle.std.specs.Prelude.{◌<◌, length, IfOk};
 ghost use Rattle.std.specs.List.{All};
 ghost use Rattle.dsa_terms.specs.Fits.{neighbours};
 ghost use Rattle.first_fit.specs.Taken.{AreTaken, IsLow, IsSeat};

@@ -1,7 +1,7 @@
 -- Worked parts of a text: what is read from them, and where nothing of the kind stands.
-use Rattle.std.proofs.Common.{◌≡◌, Some, [], ◌∷◌, ◌++◌, codes, refl, sym, ap, arith}
+use Rattle.std.proofs.Common.{◌≡◌, Some, [], ◌∷◌, ◌++◌, codes, refl, sym, ap, lit≤, arith}
 use Rattle.std.specs.Str.Parse.{digits_value}
-use Rattle.log_text.specs.Digits.{IsCanonical, IsShortNumber, Stops}
+use Rattle.log_text.specs.Digits.{HasNoShortNumber, IsCanonical, IsShortNumber, Stops}
 use Rattle.log_text.specs.Numerals.{numeral}
 use Rattle.log_text.specs.RawTexts.{pair_text}
 use Rattle.log_text.specs.Reading.{BeginsDigit, HasNoCases, HasNoField, HasNoItem, HasNoList, HasNoMarked, HasNoNumber, HasNoOver, HasNoStart, IsBreak, IsCasesRead, IsFieldRead, IsItemRead, IsListEnd, IsListRead, IsMarkedRead, IsNumberRead, IsOverRead, IsStartRead, capped, capped_cite, capped_line, capped_pair, cases_rest, fitting, over_rest, over_start}
@@ -11,6 +11,7 @@ use Rattle.log_text.proofs.ListLemmas.{no_first}
 use Rattle.log_text.proofs.Numerals.{numeral_of}
 use Rattle.log_text.proofs.ReadLemmas.{field_no_number, marked_no_number, no_number, pair_no_marked}
 use Rattle.log_text.proofs.RowLemmas.{cases_no_claim, colon_ends, over_no_start}
+use Rattle.log_text.proofs.ShortNumbers.{short_is_all}
 
 -- ---- digits
 stops_at_a_space : Stops (codes " 3")
@@ -42,6 +43,12 @@ not_short_with_a_zero s = not_with_a_zero s.canonical
 
 not_short_of_19_digits : IsShortNumber (codes "1000000000000000000 ") 19 1000000000000000000 → ⊥
 not_short_of_19_digits s = let h = s.small in omega arith
+
+one_that_is_all : HasNoShortNumber (codes "12")
+one_that_is_all count value s = short_is_all (codes "12") 2 count value refl (λ few. lit≤ tt) s
+
+one_before_a_space : HasNoShortNumber (codes "12 3") → ⊥
+one_before_a_space h = let k = h 2 12 two_digits in omega arith
 
 a_space_breaks : IsBreak (codes " ")
 a_space_breaks = refl

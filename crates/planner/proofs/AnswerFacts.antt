@@ -19,7 +19,7 @@ use Rattle.dsa_start_laws.proofs.Planned.{planned_is_layout}
 use Rattle.min_capacity.specs.declared.brackets.Bracket.{Bracket}
 use Rattle.min_capacity.specs.declared.brackets.Least.TheVariants as least
 use Rattle.planner.specs.Decides.{IsAnswered}
-use Rattle.planner.specs.Decisions.{Decides, IsByBound, IsLaidOut, IsRefuted}
+use Rattle.planner.specs.Decisions.{Decides, IsByBound, IsByLog, IsLaidOut}
 use Rattle.planner.specs.LeastCapacity.{FindsLeast, IsOpenAfter, work_of_least}
 use Rattle.planner.specs.declared.decision.Decision.TheVariants.{Layout, Open, Refuted}
 use Rattle.planner.proofs.ExampleFacts.{bound_log, one_line}
@@ -58,7 +58,7 @@ module _ (offsets : Vec ℕ) where
   a_layout : IsLaidOut (Layout offsets)
   a_layout = tt
 
-  a_layout_is_no_log : IsRefuted (Layout offsets) → ⊥
+  a_layout_is_no_log : IsByLog (Layout offsets) → ⊥
   a_layout_is_no_log h = h
 
   a_layout_is_not_by_the_bound : IsByBound two_of_four 6 (Layout offsets) → ⊥
@@ -76,7 +76,7 @@ not_refuted_at_5 r = let k : 6 ≡ 5 = r.its_capacity in omega arith
 not_refuted_at_7 : (log : Log) → Decides two_of_four 7 None (Refuted log) → ⊥
 not_refuted_at_7 log r = r.infeasible (0 ∷ 4 ∷ []) seven_is_laid
 
-a_log : (log : Log) → IsRefuted (Refuted log)
+a_log : (log : Log) → IsByLog (Refuted log)
 a_log log = tt
 
 a_log_is_no_layout : (log : Log) → IsLaidOut (Refuted log) → ⊥
@@ -105,7 +105,7 @@ module _ (b : Bracket) where
   open_is_no_layout : IsLaidOut (Open b) → ⊥
   open_is_no_layout h = h
 
-  open_is_no_log : IsRefuted (Open b) → ⊥
+  open_is_no_log : IsByLog (Open b) → ⊥
   open_is_no_log h = h
 
   open_is_not_by_the_bound : IsByBound small_below 4 (Open b) → ⊥

@@ -10,7 +10,7 @@ use Rattle.dsa_terms.specs.Starts.{planned}
 use Rattle.dsa_start_laws.proofs.Planned.{planned_is_layout}
 use Rattle.dsa_start_laws.proofs.Stacks.{bound_is_low}
 use Rattle.planner.specs.Decides.{IsAnswered}
-use Rattle.planner.specs.Decisions.{Decides, IsLaidOut, IsRefuted}
+use Rattle.planner.specs.Decisions.{Decides, IsByLog, IsLaidOut}
 use Rattle.planner.specs.FirstStart.{start_within}
 use Rattle.planner.specs.declared.decision.Decision.{Decision}
 use Rattle.planner.specs.declared.decision.Decision.TheVariants.{Layout, Refuted, Open}
@@ -41,7 +41,7 @@ laid_out_fits I C steps (Layout offsets) h laid = (offsets.items, h.layout)
 laid_out_fits I C steps (Refuted log) h laid = absurd laid
 laid_out_fits I C steps (Open b) h laid = absurd laid
 
-pub refuted_refutes : (I : Instance) (C : ℕ) (steps : Option ℕ) (d : Decision) → Decides I C steps d → IsRefuted d →
+pub refuted_refutes : (I : Instance) (C : ℕ) (steps : Option ℕ) (d : Decision) → Decides I C steps d → IsByLog d →
     IsInfeasible I C
 refuted_refutes I C steps (Layout offsets) h refuted = absurd refuted
 refuted_refutes I C steps (Refuted log) h refuted = h.infeasible
@@ -55,7 +55,7 @@ laid_out_exactly I C steps (Refuted log) none h =
 laid_out_exactly I C steps (Open b) none h = let given = h.too_few.given in absurd cc
 
 pub refuted_exactly : (I : Instance) (C : ℕ) (steps : Option ℕ) (d : Decision) → steps ≡ None → Decides I C steps d →
-    IsRefuted d ↔ IsInfeasible I C
+    IsByLog d ↔ IsInfeasible I C
 refuted_exactly I C steps (Layout offsets) none h =
     (λ refuted. absurd refuted, λ infeasible. absurd (infeasible offsets.items h.layout))
 refuted_exactly I C steps (Refuted log) none h = (λ refuted. h.infeasible, λ infeasible. tt)

@@ -20,10 +20,10 @@ IsLaidOut (Refuted log) = ⊥
 IsLaidOut (Open b) = ⊥
 
 -- the decision is a log
-abbrev pub IsRefuted : Decision → Type 0
-IsRefuted (Layout offsets) = ⊥
-IsRefuted (Refuted log) = Unit {0}
-IsRefuted (Open b) = ⊥
+abbrev pub IsByLog : Decision → Type 0
+IsByLog (Layout offsets) = ⊥
+IsByLog (Refuted log) = Unit {0}
+IsByLog (Open b) = ⊥
 
 -- the decision is the bound's log of one line
 abbrev pub IsByBound : Instance → ℕ → Decision → Type 0

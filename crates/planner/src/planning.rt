@@ -3,7 +3,7 @@
 ghost use Rattle.std.specs.Prelude.{◌≡◌, ◌<◌, ◌≤◌, ◌^◌, ◌↔◌, None, IfOk};
 ghost use Rattle.dsa_terms.specs.Bounds.{lower_bound};
 ghost use Rattle.dsa_terms.specs.Layouts.{IsFeasible, IsInfeasible};
-ghost use Rattle.planner.specs.Decisions.{Decides, IsByBound, IsLaidOut, IsRefuted, decision_steps};
+ghost use Rattle.planner.specs.Decisions.{Decides, IsByBound, IsByLog, IsLaidOut, decision_steps};
 ghost use Rattle.planner.specs.FirstStart.{IsBestStart, start_within};
 ghost use Rattle.planner.specs.Openings.{AreGiven};
 
@@ -74,11 +74,11 @@ pub fn plan(
     ensures fits { IfOk result (λ decision.
         IsLaidOut decision → IsFeasible instance.now capacity) }
     ensures refutes { IfOk result (λ decision.
-        IsRefuted decision → IsInfeasible instance.now capacity) }
+        IsByLog decision → IsInfeasible instance.now capacity) }
     ensures feasible { steps ≡ None → IfOk result (λ decision.
         IsLaidOut decision ↔ IsFeasible instance.now capacity) }
     ensures infeasible { steps ≡ None → IfOk result (λ decision.
-        IsRefuted decision ↔ IsInfeasible instance.now capacity) }
+        IsByLog decision ↔ IsInfeasible instance.now capacity) }
     ensures bound { capacity < lower_bound instance.now →
         IfOk result (IsByBound instance.now capacity) }
     ensures steps { start_within instance.now capacity ≡ None →
