@@ -1,5 +1,5 @@
 -- A log's file that gives no accepted log, and a layout file that gives no layout, as they are answered.
-use Rattle.std.proofs.Common.{◌≡◌, ℕ, List, Result, Ok, Some, IfOk, refl, sym, subst, ◌∙◌}
+use Rattle.std.proofs.Common.{◌≡◌, List, Result, Ok, Some, IfOk, sym, subst, ◌∙◌}
 use Rattle.dsa_terms.specs.Buffers.{Instance}
 use Rattle.dsa_model.specs.declared.fail.NoMemory.{NoMemory}
 use Rattle.dsa_outside.specs.Faults.{NoneFell}
@@ -9,15 +9,12 @@ use Rattle.command_words.specs.Commands.{Command, command_of}
 use Rattle.dsaplan_core.specs.Seen.{FilesSeen}
 use Rattle.dsaplan_core.specs.Steps.{log_limit, IsInput}
 use Rattle.dsaplan_core.specs.Asked.{input_of, checked_log_of, judged_at, layout_of}
-use Rattle.dsaplan_core.specs.Opens.{IsUnreadable}
 use Rattle.dsaplan_core.specs.Answers.{Cause}
 use Rattle.dsaplan_core.specs.Prepares.{IsSilent, Prepares}
 use Rattle.dsaplan_core.specs.Reads.{GivesNoLog, log_unread, log_too_long, no_log_text, log_not_accepted, GivesNoLayout, layout_unread, layout_too_long, no_offsets, wrong_offsets}
 use Rattle.dsaplan_core.specs.declared.prepared.Prepared.{Prepared}
 use Rattle.dsaplan_core.specs.declared.status.Status.{Status}
-use Rattle.dsaplan_core.specs.declared.status.Role.TheVariants as role
 use Rattle.dsaplan_core.proofs.Earlier.{unread_since, more_since, whole_since}
-use Rattle.dsaplan_core.proofs.Missing.{unreadable}
 use Rattle.dsaplan_core.proofs.Saying.{HasLine, only_said}
 
 -- a status is printed by its line, and has its cause whenever words ask for the command
@@ -182,17 +179,3 @@ no_layout old mid new command input layout table I s r its_input its_layout give
             files = second ∙ first;
           },
         )
-
--- a log's file that could not be read, or is too long, gives no accepted log
-pub unread_log : (old new : FilesSeen) (name : Word) (I : Instance) (s : Status) →
-    IsUnreadable old new name log_limit role.Log s → GivesNoLog old new name I s
-unread_log old new name I s is =
-    unreadable (λ x. GivesNoLog old new name I x) old new name log_limit role.Log s (λ cause. log_unread refl cause)
-    (λ long. log_too_long refl long) is
-
--- and so a layout file gives no layout
-pub unread_layout : (old new : FilesSeen) (name : Word) (table : List Record) (I : Instance) (C : ℕ) (s : Status) →
-    IsUnreadable old new name file_limit role.Layout s → GivesNoLayout old new name table I C s
-unread_layout old new name table I C s is =
-    unreadable (λ x. GivesNoLayout old new name table I C x) old new name file_limit role.Layout s
-    (λ cause. layout_unread refl cause) (λ long. layout_too_long refl long) is

@@ -26,9 +26,6 @@ pub record IsNoting (members : List ℕ) (s i : ℕ) (old lists : List (Vec ℕ)
       with_last members s b (slice_index_or old b d).items ≡ with_last (drop i members) s b
       (slice_index_or lists b d).items
 
-pub none_noted : (members : List ℕ) (s : ℕ) (old : List (Vec ℕ)) → IsNoting members s 0 old old
-none_noted members s old = record { count = refl; left = λ b d lt. refl }
-
 pub drop_at : (xs : List ℕ) (i : ℕ) → i < length xs → drop i xs ≡ slice_index_or xs i 0 ∷ drop (i + 1) xs
 drop_at [] i lt = absurd (omega arith)
 drop_at (x ∷ xs) zero lt = refl

@@ -101,9 +101,6 @@ module _ (I : Instance) (S : SectionList) (candidates : List ℕ) (q G : ℕ) (o
     | inr r ↦ risen r.0 r.1 r.2
   ])
 
-pub best_none : (I : Instance) (S : SectionList) → IsBest I S [] no_bound
-best_none I S = record { most = λ G s i. absurd i; found = inl refl; least = λ G s i. absurd i }
-
 take_all : (xs : List ℕ) (q : ℕ) → length xs ≤ q → take q xs ≡ xs
 take_all [] zero le = refl
 take_all [] (suc q) le = refl

@@ -20,12 +20,6 @@ use Rattle.search_core.proofs.Descent.{is_instance}
 below_or_last : (k n : ℕ) → k < n + 1 → (k < n) ⊎ (k ≡ n)
 below_or_last k n lt = grind arith
 
-pub least_of_none : (I : Instance) (l : Claim) (n : ℕ) (x : Ending) → n ≡ 0 → 2 ^ 63 ≤ x.end → IsLeastEnd I l n x
-least_of_none I l n x q le = record {
-  least = λ e i lt. absurd (omega arith);
-  is_end = λ lt. absurd (omega arith);
-}
-
 pub least_skip : (I : Instance) (l : Claim) (n : ℕ) (x : Ending) → (HasBuffer l n → ⊥) → IsLeastEnd I l n x →
     IsLeastEnd I l (n + 1) x
 least_skip I l n x out h = record {
