@@ -17,10 +17,6 @@ pub option_or-assoc : {A : Type 0} (a b c : Option A) → option_or a (option_or
 option_or-assoc None b c = refl
 option_or-assoc (Some x) b c = refl
 
-option_or-none : {A : Type 0} (a : Option A) → option_or a None ≡ a
-option_or-none None = refl
-option_or-none (Some x) = refl
-
 -- the first fault of rows is that of the first rows, or else that of the others
 pub rows-append : (header : Record) (before xs ys : List Record)
     → rows_fault header before (xs ++ ys) ≡ option_or (rows_fault header before xs)

@@ -7,12 +7,9 @@ use Rattle.dsa_terms.specs.Parts.{numbers}
 use Rattle.dsa_terms.specs.Search.{first_some}
 use Rattle.dsa_model.specs.Moments.{IsLeastFrom}
 
--- the numbers from a on and below n: a and those from a + 1 on, or none
+-- the numbers from a on and below n: a and those from a + 1 on
 pub range_step : (a n : ℕ) → a < n → range_with_len a (n - a) ≡ a ∷ range_with_len (a + 1) (n - (a + 1))
 range_step a n lt = let e : n - a ≡ suc (n - (a + 1)) = omega arith in rw e refl
-
-pub range_end : (a n : ℕ) → n ≤ a → range_with_len a (n - a) ≡ []
-range_end a n le = let e : n - a ≡ 0 = omega arith in rw e refl
 
 pub rest_of_all : (n : ℕ) → range_with_len 0 (n - 0) ≡ numbers n
 rest_of_all n = let e : n - 0 ≡ n = omega arith in rw e refl
@@ -24,9 +21,6 @@ find_here test a n lt h = rw (range_step a n lt, h) refl
 pub find_later : (test : ℕ → Bool) (a n : ℕ) → a < n → test a ≡ false →
     find test (range_with_len a (n - a)) ≡ find test (range_with_len (a + 1) (n - (a + 1)))
 find_later test a n lt h = rw (range_step a n lt, h) refl
-
-pub find_end : (test : ℕ → Bool) (a n : ℕ) → n ≤ a → find test (range_with_len a (n - a)) ≡ None
-find_end test a n le = rw (range_end a n le) refl
 
 -- the least moment is found, wherever before it the walk begins
 pub least_is_found : (test : ℕ → Bool) (n t : ℕ) → IsLeastFrom test 0 t → t < n → find test (numbers n) ≡ Some t
@@ -94,9 +88,6 @@ pub some_later : {Y : Type 0} (f : ℕ → Option Y) (a n : ℕ) → a < n → f
     first_some f (range_with_len a (n - a)) ≡ first_some f (range_with_len (a + 1) (n - (a + 1)))
 some_later f a n lt h = rw (range_step a n lt, h) refl
 
-pub some_end : {Y : Type 0} (f : ℕ → Option Y) (a n : ℕ) → n ≤ a → first_some f (range_with_len a (n - a)) ≡ None
-some_end f a n le = rw (range_end a n le) refl
-
 pub some_none : {X Y : Type 0} (f : X → Option Y) (xs : List X) → ((x : X) → IsIn x xs → f x ≡ None) →
     first_some f xs ≡ None
 some_none f [] h = refl
@@ -106,9 +97,6 @@ some_none f (x ∷ xs) h = rw (h x (inl refl)) (some_none f xs (λ y i. h y (inr
 pub greatest_step : (f : ℕ → ℕ) (a n : ℕ) → a < n →
     greatest (map f (range_with_len a (n - a))) ≡ max (f a) (greatest (map f (range_with_len (a + 1) (n - (a + 1)))))
 greatest_step f a n lt = rw (range_step a n lt) refl
-
-pub greatest_end : (f : ℕ → ℕ) (a n : ℕ) → n ≤ a → greatest (map f (range_with_len a (n - a))) ≡ 0
-greatest_end f a n le = rw (range_end a n le) refl
 
 -- ---- membership
 pub from_range : (n a x : ℕ) → IsIn x (range_with_len a n) → (a ≤ x) × (x < a + n)

@@ -131,10 +131,6 @@ has_none : (l : Claim) → length l ≡ 0 → l ≡ []
 has_none [] h = refl
 has_none (x ∷ xs) h = absurd (omega arith)
 
--- the tries of a claim that is not empty
-tries : Rule → ℕ → Instance → ℕ → Claim → Entry → Option (List Entry)
-tries rule k I C l e = seated I l e (first_of rule k I C (child I l e))
-
 -- an answer of none: no offsets place the claim
 pub none_is_refuted : (I : Instance) (C : ℕ) (rule : Rule) → IsInstance I → IsComplete I C rule →
     (k : ℕ) (l : Claim) → length l ≡ k → IsClaim I l → first_of rule k I C l ≡ None → (o : ℕ → ℕ) → Places I C l o → ⊥

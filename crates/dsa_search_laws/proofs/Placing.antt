@@ -41,9 +41,6 @@ same_entry (x ∷ xs) e f r (inr a) (inl b) q = absurd (let k : x.0 < e.0 = r.0 
 same_entry (x ∷ xs) e f r (inr a) (inr b) q = same_entry xs e f r.1 a b q
 
 -- ---- the entries of a child
-pub is_other : ℕ → Entry → Bool
-is_other b f = not (f.0 == b)
-
 other_true : (b : ℕ) (f : Entry) → not (f.0 == b) ≡ true → f.0 ≢ b
 other_true b f h q = grind (arith, nat_tests)
 

@@ -32,10 +32,6 @@ lighter_at m x y v w pos xy h = go (y - suc x) (m - 1) (omega arith) (omega arit
 in_range : (I : Instance) (l : Claim) (e : Entry) → IsClaim I l → IsIn e l → 0 < length I - e.0
 in_range I l e c i = let k = c.in_range e i in omega arith
 
--- lighter offsets that place the claim
-IsLighter : (I : Instance) (C : ℕ) (l : Claim) (o p : ℕ → ℕ) → Type 0
-IsLighter I C l o p = Places I C l p × (weight I p l < weight I o l)
-
 moved_lighter : (I : Instance) (l : Claim) (o : ℕ → ℕ) (e : Entry) (x : ℕ) → IsClaim I l → IsIn e l → x < o e.0 →
     weight I (put_at e.0 x o) l < weight I o l
 moved_lighter I l o e x c i lt =

@@ -1,5 +1,5 @@
 -- Membership in a list, and the lists that are made of others.
-use Rattle.std.proofs.Common.{◌≡◌, ◌<◌, ◌≤◌, ◌⊎◌, inl, inr, ℕ, Bool, true, false, cond, ◌==◌, ◌||◌, List, [], ◌∷◌, ◌++◌, map, length, filter, Option, Some, None, refl, ap, ◌∙◌, subst, arith}
+use Rattle.std.proofs.Common.{◌≡◌, ◌≤◌, ◌⊎◌, inl, inr, ℕ, Bool, true, false, cond, ◌==◌, ◌||◌, List, [], ◌∷◌, ◌++◌, map, length, filter, Option, Some, None, refl, ap, ◌∙◌, subst, arith}
 use Rattle.std.specs.List.{flat_map, list_any, list_all}
 use Rattle.std.specs.Option.{option_or}
 use Rattle.dsa_terms.specs.Claims.{IsIn, Entry}
@@ -62,18 +62,6 @@ length-filter_le {X} p (y ∷ ys) = go (length-filter_le p ys) (p y)
         length (cond b (y ∷ filter p ys) (filter p ys)) ≤ length (y ∷ ys)
     go ih true = omega arith
     go ih false = omega arith
-
--- a filter that drops an item is shorter
-pub length-filter_lt : {X : Type 0} (p : X → Bool) (xs : List X) (x : X) → IsIn x xs → p x ≡ false →
-    length (filter p xs) < length xs
-length-filter_lt p [] x h f = absurd h
-length-filter_lt {X} p (y ∷ ys) x h f = go (λ q. length-filter_lt p ys x q f) (p y) refl h
-  where
-    go : (IsIn x ys → length (filter p ys) < length ys) → (b : Bool) → p y ≡ b → IsIn x (y ∷ ys) →
-        length (cond b (y ∷ filter p ys) (filter p ys)) < length (y ∷ ys)
-    go ih true e (inl q) = absurd (let k : p x ≡ p y = ap p q in cc)
-    go ih true e (inr q) = omega (arith, ih q)
-    go ih false e q = omega (arith, length-filter_le p ys)
 
 -- ---- tests
 pub any_gives : {X : Type 0} (p : X → Bool) (xs : List X) → list_any p xs ≡ true → (x : X) × IsIn x xs × (p x ≡ true)

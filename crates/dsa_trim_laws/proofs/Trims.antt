@@ -13,9 +13,6 @@ use Rattle.dsa_trim_laws.proofs.Picked.{get_in, into_take, get_map, of_get_map, 
 use Rattle.dsa_trim_laws.proofs.Needed.{CitesEarlier, later_cites, kept_up_to, cites_earlier, kept_exactly, claim_of-moved, cited-moved, StandsMoved, legal-moved}
 
 -- ---- the trimmed log
-rank : Log → ℕ → ℕ
-rank log k = renumbered (needed log) k
-
 rank_is : (log : Log) (k : ℕ) → renumbered (needed log) k ≡ passing (λ j. has j (needed log)) 0 k
 unfolding renumbered
 rank_is log k = refl

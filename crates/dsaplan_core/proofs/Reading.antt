@@ -9,11 +9,11 @@ use Rattle.log_text.specs.RawLogs.{IsRawKept}
 use Rattle.log_text.specs.Text.{log_text, raw_log_of}
 use Rattle.log_text.specs.declared.raw.RawLog.{RawLog}
 use Rattle.dsa_terms.specs.Buffers.{Instance}
-use Rattle.csv_instance.specs.Records.{Record, file_limit}
+use Rattle.csv_instance.specs.Records.{Record}
 use Rattle.command_words.specs.Options.{Word}
 use Rattle.command_words.specs.Commands.{Command, command_of}
 use Rattle.dsaplan_core.specs.Seen.{FilesSeen}
-use Rattle.dsaplan_core.specs.Steps.{log_limit, IsWholeFile, IsInput}
+use Rattle.dsaplan_core.specs.Steps.{log_limit, IsWholeFile, IsInput, IsWhole}
 use Rattle.dsaplan_core.specs.Asked.{IsAsked, checked_log_of, input_of, layout_of}
 use Rattle.dsaplan_core.specs.Judged.{ReadsLayout}
 use Rattle.dsaplan_core.specs.Checked.{ReadsLog}
@@ -28,29 +28,6 @@ asks words old command input table I asked its given = record {
   name = input;
   its_input = its;
   input = given;
-}
-
-pub layout_read : (words : List Word) (old mid : FilesSeen) (command : Command) (table : List Record) (I : Instance)
-    (layout : Word) (seen bytes : List ℕ) → IsAsked words old command table I → layout_of command ≡ Some layout →
-    mid.held ≡ old.held → seen ≡ bytes → IsWholeFile mid layout file_limit bytes →
-    ReadsLayout words old command table I seen
-layout_read words old mid command table I layout seen bytes asked its same value whole = record {
-  layout = layout;
-  asked = asked;
-  its_layout = its;
-  whole = subst (λ b. IsWholeFile old layout file_limit b) (sym value)
-      (whole_since old mid layout file_limit bytes same whole);
-}
-
-pub log_read : (words : List Word) (old mid : FilesSeen) (command : Command) (table : List Record) (I : Instance)
-    (log : Word) (seen bytes : List ℕ) → IsAsked words old command table I → checked_log_of command ≡ Some log →
-    mid.held ≡ old.held → seen ≡ bytes → IsWholeFile mid log log_limit bytes → ReadsLog words old command I seen
-log_read words old mid command table I log seen bytes asked its same value whole = record {
-  log = log;
-  table = table;
-  asked = asked;
-  its_log = its;
-  whole = subst (λ b. IsWholeFile old log log_limit b) (sym value) (whole_since old mid log log_limit bytes same whole);
 }
 
 -- the text of a log, by its numbers

@@ -1,5 +1,5 @@
 -- Rows with the free addresses between them.
-use Rattle.std.proofs.Common.{◌≡◌, ℕ, ◌+◌, ◌<◌, ◌≤◌, ◌⊎◌, inl, inr, Bool, true, false, cond, nat_lt, List, [], ◌∷◌, ◌++◌, length, map, drop, get_or, refl, sym, ap, ap₂, ◌∙◌, arith, add-one, drop-cons, append_assoc}
+use Rattle.std.proofs.Common.{◌≡◌, ℕ, ◌+◌, ◌<◌, ◌≤◌, ◌⊎◌, inl, inr, Bool, true, false, cond, nat_lt, List, [], ◌∷◌, ◌++◌, length, map, drop, refl, sym, ap, ap₂, ◌∙◌, arith}
 use Rattle.std.proofs.lemmas.Bool.Decides.{nat_tests}
 use Rattle.std.proofs.lemmas.List.{drop_all}
 use Rattle.dsa_terms.specs.Buffers.{Instance, buffer, IsLive}
@@ -278,16 +278,6 @@ filled_are_rows I offsets t height live a w = record {
 -- so far, with what is left
 abbrev pub IsFilling : ℕ → List Row → ℕ → ℕ → List Row → Type 0
 IsFilling height live k top rows = filled height 0 live ≡ rows ++ filled height top (drop k live)
-
-pub filling_more : (height : ℕ) (live : List Row) (k top : ℕ) (d row : Row) (old free now : List Row) →
-    k < length live →
-    row ≡ get_or live k d → IsFilling height live k top old → free ≡ old ++ rows_between top row.place →
-    now ≡ free ++ row ∷ [] → IsFilling height live (k + 1) (row.place + row.size) now
-filling_more height live k top d row old free now lt is h f n =
-    let e : drop k live ≡ row ∷ drop (k + 1) live = rw (add-one, is) (drop-cons live k d lt) in
-    let between = rows_between top row.place in
-    let rest = filled height (row.place + row.size) (drop (k + 1) live) in
-    h ∙ rw (e, n, f) (sym (append_assoc (old ++ between) (row ∷ []) rest ∙ append_assoc old between (row ∷ rest)))
 
 pub filling_done : (height : ℕ) (live : List Row) (k top : ℕ) (old now : List Row) → length live ≤ k →
     IsFilling height live k top old → now ≡ old ++ rows_between top height → now ≡ filled height 0 live

@@ -67,9 +67,6 @@ rises_from xs i x r lt e = rw e (rw (drop_more xs i 0 lt) at (rises_drop xs i r)
 drop_from : (xs : List ℕ) (i x : ℕ) → i < length xs → x ≡ slice_index_or xs i 0 → drop i xs ≡ x ∷ drop (i + 1) xs
 drop_from xs i x lt e = drop_more xs i 0 lt ∙ ap (λ y. y ∷ drop (i + 1) xs) (sym e)
 
-pub none_merged : (part whole : List ℕ) → IsMerging part whole 0 0
-none_merged part whole = record { within = omega arith; left = (λ h. h, λ h. h) }
-
 pub all_found : (part whole : List ℕ) (found i : ℕ) → IsMerging part whole found i → found ≡ length part →
     AreAmong part whole
 all_found part whole found i m e = m.left.1 (nothing (drop found part) (drop_all found part (omega arith)))

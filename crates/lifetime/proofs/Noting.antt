@@ -27,9 +27,6 @@ pub record IsNoting (members : List ℕ) (s i : ℕ) (old lists : List (Vec ℕ)
       with_last members s b (slice_index_or old b d).items ≡ with_last (drop i members) s b
       (slice_index_or lists b d).items
 
-pub none_noted : (members : List ℕ) (s : ℕ) (old : List (Vec ℕ)) → IsNoting members s 0 old old
-none_noted members s old = record { count = refl; left = λ b d lt. refl }
-
 pub rises_drop : (xs : List ℕ) (i : ℕ) → Rises xs → Rises (drop i xs)
 rises_drop xs zero r = r
 rises_drop [] (suc i) r = tt

@@ -1,5 +1,5 @@
 -- Putting numbers into rising lists and taking them out.
-use Rattle.std.proofs.Common.{◌≡◌, ◌≢◌, ◌↔◌, ℕ, zero, suc, ◌<◌, ◌≤◌, ◌==◌, ◌⊎◌, inl, inr, Bool, true, false, IsTrue, not, List, [], ◌∷◌, ◌++◌, length, filter, take, drop, slice_index_or, Ok, Err, refl, sym, ap, ◌∙◌, subst, arith}
+use Rattle.std.proofs.Common.{◌≡◌, ◌≢◌, ◌↔◌, ℕ, zero, suc, ◌<◌, ◌≤◌, ◌⊎◌, inl, inr, Bool, true, false, IsTrue, not, List, [], ◌∷◌, ◌++◌, length, filter, take, drop, slice_index_or, Ok, Err, refl, sym, ap, ◌∙◌, subst, arith}
 use Rattle.std.proofs.lemmas.Bool.Decides.{nat_tests}
 use Rattle.std.proofs.lemmas.Cmp.{ranked}
 use Rattle.std.proofs.lemmas.List.Sorted.{IsNonDecreasingBy-from_default}
@@ -37,9 +37,6 @@ filter_is f n xs r small h = same_members xs (filter f (numbers n)) r (rises-num
     (λ b i. let q = from_filter f (numbers n) b i in has_in b xs (h b (below n b q.0) ∙ q.1))
 
 -- ---- a number more
-head_other : (x c b : ℕ) → c ≢ b → x ≡ b → (x == c) ≡ false
-head_other x c b n e = grind (arith, nat_tests)
-
 in_insert : (xs : List ℕ) (place b c : ℕ) → IsIn c (take place xs ++ b ∷ drop place xs) → (c ≡ b) ⊎ IsIn c xs
 in_insert xs zero b c i = i
 in_insert [] (suc place) b c i = i

@@ -18,7 +18,7 @@ use Rattle.refute_log.specs.Lines.{cite_value}
 use Rattle.refute_log.specs.Reasons.{claim_reason, rule_reason, cite_reason, cites_reason, first_reason}
 use Rattle.refute_log.specs.declared.reason.Reason.TheVariants as reason
 use Rattle.refute_log.proofs.Legal.{all_within}
-use Rattle.log_text.specs.RawLogs.{IsLineKept, IsPairWithin, IsCiteWithin, IsRising, IsWithin, raw_claim_of}
+use Rattle.log_text.specs.RawLogs.{IsLineKept, IsPairWithin, IsCiteWithin, IsWithin, raw_claim_of}
 use Rattle.log_text.specs.declared.raw.RawLine.{RawLine}
 use Rattle.log_text.specs.declared.raw.RawLine.TheVariants as raw
 use Rattle.log_text.specs.declared.raw.RawCite.{RawCite}
@@ -191,10 +191,6 @@ in_all P (y ∷ ys) x h (inr i) = in_all P ys x (λ k d lt. h (suc k) d (omega a
 pub bounded : (line : RawLine) → IsWithin line → IsBoundedBy (2 ^ 60) (raw_claim_of line)
 bounded (raw.Over T H G l) h e i = (in_all IsPairWithin l e h.3 i).1
 bounded (raw.Cases l cites) h e i = (in_all IsPairWithin l e h.0 i).1
-
-pub claim_rises : (line : RawLine) → IsRising line → Rises (buffers_of (raw_claim_of line))
-claim_rises (raw.Over T H G l) h = h
-claim_rises (raw.Cases l cites) h = h.0
 
 cite_within : (p : ℕ × RawCite) → IsCiteWithin p → lines.IsCiteWithin (cite_value (narrow_cite p.1))
 cite_within (b, raw_cite.Line k) h = h.1

@@ -6,13 +6,6 @@ use Rattle.dsa_terms.specs.Firsts.{first_fault}
 use Rattle.dsa_terms.specs.Search.{first_some}
 use Rattle.dsa_model.proofs.Faults.{neither}
 
--- where one of the first two is a fault, it is the first of three
-pub first_of_two : {F : Type 0} (a b c : Option F) (f : F) → first_fault (a ∷ b ∷ []) ≡ Some f →
-    first_fault (a ∷ b ∷ c ∷ []) ≡ Some f
-first_of_two (Some x) b c f h = h
-first_of_two None (Some x) c f h = h
-first_of_two None None c f h = absurd cc
-
 -- where neither of the first two is a fault, the third is the first
 pub third : {F : Type 0} (a b c : Option F) → first_fault (a ∷ b ∷ []) ≡ None → first_fault (a ∷ b ∷ c ∷ []) ≡ c
 third (Some x) b c h = absurd cc

@@ -1,5 +1,5 @@
 -- Lines that are taken one after another.
-use Rattle.std.proofs.Common.{◌≡◌, ℕ, zero, suc, ◌+◌, ◌-◌, ◌<◌, ◌≤◌, List, [], ◌∷◌, ◌++◌, map, length, take, Some, None, slice_get, slice_index_or, option_map, refl, sym, ap, subst, ◌∙◌, arith}
+use Rattle.std.proofs.Common.{◌≡◌, ℕ, zero, suc, ◌+◌, ◌<◌, ◌≤◌, List, [], ◌∷◌, ◌++◌, map, length, take, Some, None, slice_get, slice_index_or, option_map, refl, sym, ap, subst, ◌∙◌, arith}
 use Rattle.dsa_terms.specs.Buffers.{Instance}
 use Rattle.std.proofs.lemmas.List.{map-append, take_all}
 use Rattle.refute_log.specs.Logs.{Belongs, OpenLog}
@@ -9,7 +9,7 @@ use Rattle.log_text.specs.declared.raw.RawLine.{RawLine}
 use Rattle.log_check.specs.declared.fault.CheckFault.TheVariants as fault
 use Rattle.log_check.specs.Faults.{illegal_at, illegal_fault, line_of, raw_reason}
 use Rattle.log_check.specs.Taking.{IsTaken}
-use Rattle.dsa_model.proofs.Ranges.{some_end, some_here, some_later}
+use Rattle.dsa_model.proofs.Ranges.{some_here, some_later}
 
 pub get_at : {X : Type 0} (xs : List X) (k : ℕ) (x : X) → k < length xs → x ≡ slice_index_or xs k x →
     slice_get xs k ≡ Some x
@@ -38,22 +38,6 @@ at_next : (I : Instance) (C : ℕ) (lines : List RawLine) (n : ℕ) (log : OpenL
     IsTaken I C lines n log → slice_get lines n ≡ Some line →
     illegal_at I C lines n ≡ option_map (fault.Illegal n) (raw_reason I log.capacity log.lines line)
 at_next I C lines n log line t h = rw h (rw (ap (λ v. v.capacity) t.taken, ap (λ v. v.lines) t.taken) refl)
-
--- no line is taken yet
-pub none_taken : (I : Instance) (C : ℕ) (lines : List RawLine) (log : OpenLog) →
-    log ≡ record { count = length I; capacity = C; lines = [] } → Belongs I log → IsTaken I C lines 0 log
-none_taken I C lines log e b =
-    let z : length lines - 0 ≡ length lines = omega arith in
-    record { left = rw z refl; taken = e ∙ taken_none lines; text = text_none lines; belongs = b }
-  where
-    taken_none : (lines : List RawLine) → ◌≡◌ {A = OpenLog} (record { count = length I; capacity = C; lines = [] })
-        (record { count = length I; capacity = C; lines = map line_of (take 0 lines) })
-    taken_none [] = refl
-    taken_none (x ∷ xs) = refl
-
-    text_none : (lines : List RawLine) → map raw_line_of (map line_of (take 0 lines)) ≡ take 0 lines
-    text_none [] = refl
-    text_none (x ∷ xs) = refl
 
 -- one line more
 pub next_taken : (I : Instance) (C : ℕ) (lines : List RawLine) (n : ℕ) (log new : OpenLog) (line : RawLine) →
@@ -95,16 +79,8 @@ found_fault I C lines n log line r lt at t some =
     (at_next I C lines n log line t h ∙ ap (option_map (fault.Illegal n)) some)
 
 -- all lines are taken
-pub none_is_illegal : (I : Instance) (C : ℕ) (lines : List RawLine) (n : ℕ) (log : OpenLog) → length lines ≤ n →
-    IsTaken I C lines n log → illegal_fault I C lines ≡ None
-none_is_illegal I C lines n log le t = t.left ∙ some_end (illegal_at I C lines) n (length lines) le
-
 pub all_are_taken : (I : Instance) (C : ℕ) (lines : List RawLine) (n : ℕ) (log : OpenLog) → length lines ≤ n →
     IsTaken I C lines n log → log ≡ record { count = length I; capacity = C; lines = map line_of lines }
 all_are_taken I C lines n log le t = subst
     (λ ls. log ≡ record { count = length I; capacity = C; lines = map line_of ls })
     (take_all n lines le) t.taken
-
-pub all_have_text : (I : Instance) (C : ℕ) (lines : List RawLine) (n : ℕ) (log : OpenLog) → length lines ≤ n →
-    IsTaken I C lines n log → map raw_line_of (map line_of lines) ≡ lines
-all_have_text I C lines n log le t = subst (λ ls. map raw_line_of (map line_of ls) ≡ ls) (take_all n lines le) t.text

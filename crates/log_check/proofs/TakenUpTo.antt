@@ -9,7 +9,7 @@ use Rattle.log_text.specs.declared.raw.RawLine.{RawLine}
 use Rattle.log_check.specs.declared.fault.CheckFault.TheVariants as fault
 use Rattle.log_check.specs.Faults.{illegal_fault, line_of, raw_reason}
 use Rattle.log_check.specs.Taking.{IsTaken}
-use Rattle.log_check.proofs.Taken.{all_are_taken, all_have_text, found_fault, next_taken, none_is_illegal, none_taken}
+use Rattle.log_check.proofs.Taken.{all_are_taken, found_fault, next_taken}
 
 -- the lines in front of the rest are the log
 pub record IsTakenUpTo (I : Instance) (C : ℕ) (lines rest : List RawLine) (log : OpenLog) : Type 0 where
@@ -29,16 +29,6 @@ one_more (x ∷ xs) y = let h = one_more xs y in omega arith
 moved : {X : Type 0} (xs : List X) (y : X) (ys : List X) → xs ++ y ∷ ys ≡ (xs ++ y ∷ []) ++ ys
 moved [] y ys = refl
 moved (x ∷ xs) y ys = ap (λ zs. x ∷ zs) (moved xs y ys)
-
--- at the beginning
-pub none_in_front : (I : Instance) (C : ℕ) (lines rest : List RawLine) (log : OpenLog) →
-    log ≡ record { count = length I; capacity = C; lines = [] } → Belongs I log → rest ≡ lines →
-    IsTakenUpTo I C lines rest log
-none_in_front I C lines rest log e b q = record {
-  front = [];
-  whole = sym q;
-  are_taken = none_taken I C lines log e b;
-}
 
 -- one line more
 pub next_in_front : (I : Instance) (C : ℕ) (lines rest more : List RawLine) (log new : OpenLog) (line : RawLine) →
@@ -90,17 +80,7 @@ all_in_front I C lines rest log t e = go t.front lines (t.whole ∙ ap (λ r. t.
         short [] = omega arith
         short (x ∷ xs) = let h = short xs in omega arith
 
-pub none_in_rest : (I : Instance) (C : ℕ) (lines rest : List RawLine) (log : OpenLog) →
-    IsTakenUpTo I C lines rest log → rest ≡ [] → illegal_fault I C lines ≡ None
-none_in_rest I C lines rest log t e =
-    none_is_illegal I C lines (length t.front) log (all_in_front I C lines rest log t e) t.are_taken
-
 pub all_taken : (I : Instance) (C : ℕ) (lines rest : List RawLine) (log : OpenLog) → IsTakenUpTo I C lines rest log →
     rest ≡ [] → log ≡ record { count = length I; capacity = C; lines = map line_of lines }
 all_taken I C lines rest log t e =
     all_are_taken I C lines (length t.front) log (all_in_front I C lines rest log t e) t.are_taken
-
-pub all_with_text : (I : Instance) (C : ℕ) (lines rest : List RawLine) (log : OpenLog) →
-    IsTakenUpTo I C lines rest log → rest ≡ [] → map raw_line_of (map line_of lines) ≡ lines
-all_with_text I C lines rest log t e =
-    all_have_text I C lines (length t.front) log (all_in_front I C lines rest log t e) t.are_taken

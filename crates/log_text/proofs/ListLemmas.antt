@@ -4,7 +4,7 @@ use Rattle.std.proofs.lemmas.List.Concat.{flat_map-append}
 use Rattle.std.proofs.lemmas.List.{append-nil}
 use Rattle.log_text.specs.Digits.{is_digit, Ends, Stops}
 use Rattle.log_text.specs.RawTexts.{spaced}
-use Rattle.log_text.specs.Reading.{BeginsDigit, HasNoItem, HasNoList, IsItemRead, IsListEnd, IsListRead}
+use Rattle.log_text.specs.Reading.{BeginsDigit, HasNoItem, HasNoList, IsItemRead, IsListEnd}
 use Rattle.log_text.proofs.PrefixFree.{IsItemText, ends_stop, head_of, rest_stops, spaced_split, tail_of, tail_text}
 
 -- these items were read, one or more
@@ -60,17 +60,6 @@ more_read text_of fit old values mid y v more new p q s e = record {
 
     joined : {X : Type 0} {xs ys : List X} {x y : X} → xs ≡ ys → x ≡ y → xs ++ x ∷ [] ≡ ys ++ y ∷ []
     joined p q = cc
-
-pub list_read : {X : Type 0} (text_of : X → List ℕ) (fit : X → X) (end old : List ℕ) (values : List X)
-    (mid new : List ℕ) → IsReadSoFar text_of fit old values mid → mid ≡ end ++ new →
-    IsListRead text_of fit end old values new
-list_read text_of fit end old values mid new p q = record {
-  items = p.items;
-  some = p.some;
-  text = p.text ∙ ap (λ u. spaced text_of p.items ++ u) q;
-  values_are =
-      p.values_are;
-}
 
 -- ---- where no list stands
 pub no_first : {X : Type 0} (text_of : X → List ℕ) (end old : List ℕ) → IsListEnd end → HasNoItem text_of old →

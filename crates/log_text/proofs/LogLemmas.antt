@@ -1,19 +1,19 @@
 -- Headers that are read, and what is read of a log so far.
-use Rattle.std.proofs.Common.{◌≡◌, ◌≢◌, ◌^◌, ℕ, ◌<◌, ◌≤◌, Option, Some, None, Result, Ok, Err, IfOk, List, [], ◌∷◌, ◌++◌, All, codes, length, refl, sym, ap, ◌∙◌, arith, append_assoc}
+use Rattle.std.proofs.Common.{◌≡◌, ◌≢◌, ◌^◌, ℕ, ◌<◌, ◌≤◌, Option, Some, None, Result, Ok, Err, IfOk, List, [], ◌∷◌, ◌++◌, All, codes, refl, sym, ap, ◌∙◌, arith, append_assoc}
 use Rattle.std.proofs.lemmas.List.{append-nil}
 use Rattle.std.proofs.lemmas.List.Concat.{flat_map-append}
-use Rattle.std.proofs.lemmas.List.Elements.{All-nil, All-push}
+use Rattle.std.proofs.lemmas.List.Elements.{All-push}
 use Rattle.std.specs.List.{flat_map}
 use Rattle.dsa_model.specs.Fails.{UnlessNoMemory}
 use Rattle.dsa_model.specs.declared.fail.Fail.{Fail}
 use Rattle.dsa_model.specs.declared.fail.Fail.TheVariants as fail
-use Rattle.log_text.specs.Faults.{EndRow, GoesOn, HasHeader, IsFaultAt, IsFirstFault, IsGood, IsTextOf}
+use Rattle.log_text.specs.Faults.{HasHeader, IsFirstFault, IsGood, IsTextOf}
 use Rattle.log_text.specs.RawLogs.{IsRawKept}
 use Rattle.log_text.specs.RawTexts.{end_text, header_text, line_text}
 use Rattle.log_text.specs.Reading.{HasNoField, IsFieldRead}
 use Rattle.log_text.specs.Rows.{HasNoHeader, IsGoodRead, IsHeaderRead}
 use Rattle.log_text.specs.declared.fault.TextFault.{TextFault}
-use Rattle.log_text.specs.declared.fault.TextFault.TheVariants.{NotLog, BadVersion, BadLine, NumberTooLarge, NotRising, NoEnd, AfterEnd}
+use Rattle.log_text.specs.declared.fault.TextFault.TheVariants.{NotLog, BadVersion}
 use Rattle.log_text.specs.declared.raw.RawLine.{RawLine}
 use Rattle.log_text.specs.declared.raw.RawLog.{RawLog}
 use Rattle.log_text.specs.declared.rows.Read.TheVariants as read
@@ -21,7 +21,7 @@ use Rattle.log_text.proofs.FirstFault.{first_fault_unique, text_has_no_fault}
 use Rattle.log_text.proofs.PrefixFree.{cut}
 use Rattle.log_text.proofs.ReadLemmas.{fitting_none, fitting_small, fitting_some}
 use Rattle.log_text.proofs.RowLemmas.{field_split}
-use Rattle.log_text.proofs.Unique.{header_form, header_split, line_begins, log_split}
+use Rattle.log_text.proofs.Unique.{header_form, header_split, log_split}
 
 -- ---- headers
 pub header_no_count : (old mid rest : List ℕ) (v : Option ℕ) → old ≡ codes "dsalog " ++ mid →
@@ -92,11 +92,6 @@ pub record IsReadUpTo (bytes : List ℕ) (count capacity : ℕ) (lines : List Ra
   pub good : All IsGood lines
   pub text : bytes ≡ header_text 1 count capacity ++ (flat_map line_text lines ++ rest)
 
-pub up_to_start : (bytes : List ℕ) (count capacity : ℕ) (lines : List RawLine) (rest : List ℕ) →
-    HasHeader bytes 1 count capacity rest → lines ≡ [] → IsReadUpTo bytes count capacity lines rest
-up_to_start bytes count capacity lines rest p e = rw e (record
-    { count_limit = p.count_limit; capacity_limit = p.capacity_limit; good = All-nil IsGood; text = p.text })
-
 pub up_to_more : (bytes : List ℕ) (count capacity : ℕ) (lines : List RawLine) (mid : List ℕ) (line : RawLine)
     (new : List ℕ) (more : List RawLine) →
     IsReadUpTo bytes count capacity lines mid → IsGoodRead mid (read.Line line) new → more ≡ lines ++ line ∷ [] →
@@ -117,44 +112,6 @@ up_to_more bytes count capacity lines mid line new more p q e = rw e (record {
         regroup : (a b r : List ℕ) → (a ++ (b ++ [])) ++ r ≡ a ++ (b ++ r)
         regroup a b r = ap (λ u. (a ++ u) ++ r) (append-nil b) ∙ append_assoc a b r
 
-goes_on : (bytes : List ℕ) (count capacity : ℕ) (lines : List RawLine) (mid : List ℕ) →
-    IsReadUpTo bytes count capacity lines mid → GoesOn bytes lines mid
-goes_on bytes count capacity lines mid p = record {
-  count = count;
-  capacity = capacity;
-  count_limit = p.count_limit;
-  capacity_limit = p.capacity_limit;
-  good = p.good;
-  text = p.text;
-}
-
--- a fault of the row that comes is the first one
-pub fault_there : (bytes : List ℕ) (count capacity : ℕ) (lines : List RawLine) (mid : List ℕ) (k : ℕ)
-    (f : TextFault) → IsReadUpTo bytes count capacity lines mid → k ≡ length lines → IsFaultAt mid k f →
-    IsFirstFault bytes f
-fault_there bytes count capacity lines mid k NotLog p e h = absurd h.3
-fault_there bytes count capacity lines mid k (BadVersion v) p e h = absurd h.3
-fault_there bytes count capacity lines mid k (BadLine j) p e h =
-    (lines, mid, goes_on bytes count capacity lines mid p, rw (← e) h)
-fault_there bytes count capacity lines mid k (NumberTooLarge j) p e h =
-    (lines, mid, goes_on bytes count capacity lines mid p, rw (← e) h)
-fault_there bytes count capacity lines mid k (NotRising j) p e h =
-    (lines, mid, goes_on bytes count capacity lines mid p, rw (← e) h)
-fault_there bytes count capacity lines mid k NoEnd p e h = (lines, mid, goes_on bytes count capacity lines mid p, h)
-fault_there bytes count capacity lines mid k AfterEnd p e h = (lines, mid, goes_on bytes count capacity lines mid p, h)
-
-pub no_end_there : (bytes : List ℕ) (count capacity : ℕ) (lines : List RawLine) (mid : List ℕ) →
-    IsReadUpTo bytes count capacity lines mid → mid ≡ [] → IsFirstFault bytes NoEnd
-no_end_there bytes count capacity lines mid p e = fault_there bytes count capacity lines mid (length lines) NoEnd p
-    refl e
-
-pub bytes_after : (bytes : List ℕ) (count capacity : ℕ) (lines : List RawLine) (mid : List ℕ) (k : ℕ)
-    (new : List ℕ) → IsReadUpTo bytes count capacity lines mid → IsGoodRead mid (read.End k) new → (new ≡ [] → ⊥) →
-    IsFirstFault bytes AfterEnd
-bytes_after bytes count capacity lines mid k new p q h =
-    fault_there bytes count capacity lines mid (length lines) AfterEnd p refl
-    (EndRow k, new, q.is_row, ((k, refl), q.within, h))
-
 pub whole_text : (bytes : List ℕ) (count capacity : ℕ) (lines : List RawLine) (mid : List ℕ) (k : ℕ) (new : List ℕ) →
     IsReadUpTo bytes count capacity lines mid → IsGoodRead mid (read.End k) new → new ≡ [] →
     IsTextOf bytes (record { count = count; capacity = capacity; lines = lines; end = k })
@@ -170,24 +127,6 @@ whole_text bytes count capacity lines mid k new p q e = record {
       (q.is_row.text ∙ (ap (λ u. end_text k ++ u) e ∙ append-nil (end_text k)))
       ∙ sym (append_assoc (header_text 1 count capacity) (flat_map line_text lines) (end_text k)));
 }
-
--- a row takes bytes
-pub row_shorter : (old : List ℕ) (line : RawLine) (new : List ℕ) → IsGoodRead old (read.Line line) new →
-    length new < length old
-row_shorter old line new p = rw p.is_row.text (let t = line_begins line new in
-    let k : length new ≤ length (line_text line ++ new) = longer (line_text line) new in
-    shorter (line_text line) new (some line))
-  where
-    longer : (a b : List ℕ) → length b ≤ length (a ++ b)
-    longer [] b = omega arith
-    longer (x ∷ xs) b = let k = longer xs b in omega arith
-
-    some : (line : RawLine) → line_text line ≡ [] → ⊥
-    some line e = let t = line_begins line [] in let q : t.0 ∷ t.1 ≡ [] = sym t.2 ∙ ap (λ u. u ++ []) e in cc
-
-    shorter : (a b : List ℕ) → (a ≡ [] → ⊥) → length b < length (a ++ b)
-    shorter [] b h = absurd (h refl)
-    shorter (x ∷ xs) b h = let k : length b ≤ length (xs ++ b) = longer xs b in omega arith
 
 -- ---- what the answer is
 pub is_complete : (bytes : List ℕ) (r : Result RawLog (Fail TextFault)) →

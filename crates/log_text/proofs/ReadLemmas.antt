@@ -234,15 +234,6 @@ pub cite_read_twin : (old new : List ℕ) (f m s : ℕ) → IsMarkedRead old f m
 cite_read_twin old new f m s p q = cite_of_mark old new f m s 126 p q (λ a b. (a, raw_cite.Twin b)) (λ a b. refl)
     (λ a b. refl)
 
-pub cite_no_marked : (old : List ℕ) → HasNoMarked old → HasNoItem cite_text old
-cite_no_marked old h = λ x r s e. go old h x.0 x.1 r s e
-  where
-    go : (old : List ℕ) → HasNoMarked old → (b : ℕ) (x : RawCite) (r : List ℕ) → Stops r →
-        old ≡ cite_text (b, x) ++ r → ⊥
-    go old h b (raw_cite.Line k) r s e = h b k 62 r refl s (e ∙ sym (marked_text b 62 k r))
-    go old h b (raw_cite.Below k) r s e = h b k 60 r refl s (e ∙ sym (marked_text b 60 k r))
-    go old h b (raw_cite.Twin k) r s e = h b k 126 r refl s (e ∙ sym (marked_text b 126 k r))
-
 pub cite_none : (old new : List ℕ) (f m s : ℕ) → IsMarkedRead old f m s new → (m ≡ 62 → ⊥) → (m ≡ 60 → ⊥) →
     (m ≡ 126 → ⊥) → HasNoItem cite_text old
 cite_none old new f m s p h j k = λ x r st e. go p h j k x.0 x.1 r e

@@ -1,5 +1,5 @@
 -- Rows that are read, and where no row stands.
-use Rattle.std.proofs.Common.{◌≡◌, ◌≢◌, ◌^◌, ◌-◌, ℕ, Option, Result, Ok, Err, List, [], ◌++◌, codes, refl, sym, ap, ◌∙◌, arith, subst}
+use Rattle.std.proofs.Common.{◌≡◌, ◌^◌, ◌-◌, ℕ, Option, Result, Ok, Err, List, ◌++◌, codes, refl, sym, ap, ◌∙◌, arith, subst}
 use Rattle.std.specs.Option.{unwrap_or}
 use Rattle.std.specs.Result.{IsErrAnd}
 use Rattle.dsa_model.specs.Fails.{IfFault, UnlessNoMemory}
@@ -10,12 +10,11 @@ use Rattle.log_text.specs.Digits.{Ends}
 use Rattle.log_text.specs.Faults.{EndRow, HasNoRow, HasRow, IsFaultAt, IsFormed, IsRowRising, IsRowWithin, LineRow, Row, row_text}
 use Rattle.log_text.specs.Numerals.{numeral}
 use Rattle.log_text.specs.RawTexts.{cite_text, pair_text, spaced}
-use Rattle.log_text.specs.Reading.{HasNoCases, HasNoField, HasNoList, HasNoOver, HasNoStart, IsBreak, IsCasesRead, IsFieldRead, IsListRead, IsOverRead, IsStartRead, capped, capped_cite, capped_pair, over_start}
+use Rattle.log_text.specs.Reading.{HasNoCases, HasNoField, HasNoList, HasNoOver, HasNoStart, IsBreak, IsCasesRead, IsFieldRead, IsListRead, IsOverRead, IsStartRead, capped, capped_pair, over_start}
 use Rattle.log_text.specs.Rows.{IsGoodRead, IsRowRead, row_value}
-use Rattle.log_text.specs.declared.raw.RawCite.{RawCite}
 use Rattle.log_text.specs.declared.raw.RawLine.{RawLine}
 use Rattle.log_text.specs.declared.raw.RawLine.TheVariants as raw_line
-use Rattle.log_text.specs.declared.fault.TextFault.TheVariants.{BadLine, NumberTooLarge, NotRising}
+use Rattle.log_text.specs.declared.fault.TextFault.TheVariants.{NumberTooLarge, NotRising}
 use Rattle.log_text.specs.declared.rows.Read.{Read}
 use Rattle.log_text.specs.declared.rows.Read.TheVariants as read
 use Rattle.log_text.proofs.Capped.{within_back, within_same}
@@ -84,23 +83,6 @@ pub over_no_claim : (old : List ℕ) (a b c : ℕ) (mid : List ℕ) → IsStartR
     HasNoList pair_text (codes "\n") mid → HasNoOver old
 over_no_claim old a b c mid p h = λ T H G l r s e. h l r s (start_split old a b c mid p T H G _ e)
 
-pub over_read : (old : List ℕ) (a b c : ℕ) (mid : List ℕ) (claim : Claim) (new : List ℕ) →
-    IsStartRead old a b c mid → IsListRead pair_text capped_pair (codes "\n") mid claim new →
-    IsOverRead old (raw_line.Over a b c claim) new
-over_read old a b c mid claim new p q = record {
-  T = p.T;
-  H = p.H;
-  G = p.G;
-  claim = q.items;
-  some = q.some;
-  text = p.text ∙ ap (over_start p.T p.H p.G) q.text;
-  line_is = same p.moment_is p.height_is p.modulus_is q.values_are;
-}
-  where
-    same : {T U H J G K : ℕ} {k l : Claim} → T ≡ U → H ≡ J → G ≡ K → k ≡ l →
-        raw_line.Over T H G k ≡ raw_line.Over U J K l
-    same p q u v = cc
-
 -- ---- Cases lines
 pub cases_no_claim : (old : List ℕ) → HasNoList pair_text (codes " : ") old → HasNoCases old
 cases_no_claim old h = λ l cites r s t e. h l _ s e
@@ -116,21 +98,6 @@ cases_no_cites old claim mid p h = λ l cites r s t e.
     (spaced_split pair_text pairs_are_items p.items l (codes " : " ++ mid)
     (codes " : " ++ (spaced cite_text cites ++ (codes "\n" ++ r))) (colon_ends mid)
     (colon_ends (spaced cite_text cites ++ (codes "\n" ++ r))) (sym p.text ∙ e)).1)
-
-pub cases_read : (old : List ℕ) (claim : Claim) (mid : List ℕ) (cites : List (ℕ × RawCite)) (new : List ℕ) →
-    IsListRead pair_text capped_pair (codes " : ") old claim mid →
-    IsListRead cite_text capped_cite (codes "\n") mid cites new → IsCasesRead old (raw_line.Cases claim cites) new
-cases_read old claim mid cites new p q = record {
-  claim = p.items;
-  cites = q.items;
-  some = p.some;
-  cited = q.some;
-  text = p.text ∙ ap (λ u. spaced pair_text p.items ++ (codes " : " ++ u)) q.text;
-  line_is = same p.values_are q.values_are;
-}
-  where
-    same : {k l : Claim} {x y : List (ℕ × RawCite)} → k ≡ l → x ≡ y → raw_line.Cases k x ≡ raw_line.Cases l y
-    same p q = cc
 
 -- ---- rows
 pub row_over : (old mid : List ℕ) (line : RawLine) (new : List ℕ) → old ≡ codes "over " ++ mid →
@@ -185,26 +152,7 @@ row_no_over old mid e h = no_row old
     (λ r q. absurd (let n : 111 ≡ 99 = head_of _ _ _ _ (sym e ∙ q) in omega arith))
     (λ r q. absurd (let n : 111 ≡ 101 = head_of _ _ _ _ (sym e ∙ q) in omega arith))
 
-pub row_no_cases : (old mid : List ℕ) → old ≡ codes "case : " ++ mid → HasNoCases mid → HasNoRow old
-row_no_cases old mid e h = no_row old
-    (λ r q. absurd (let n : 99 ≡ 111 = head_of _ _ _ _ (sym e ∙ q) in omega arith))
-    (λ r q. subst HasNoCases (cut (codes "case : ") mid r (sym e ∙ q)) h)
-    (λ r q. absurd (let n : 99 ≡ 101 = head_of _ _ _ _ (sym e ∙ q) in omega arith))
-
-pub row_no_end : (old mid : List ℕ) → old ≡ codes "end " ++ mid → HasNoField (codes "\n") mid → HasNoRow old
-row_no_end old mid e h = no_row old
-    (λ r q. absurd (let n : 101 ≡ 111 = head_of _ _ _ _ (sym e ∙ q) in omega arith))
-    (λ r q. absurd (let n : 101 ≡ 99 = head_of _ _ _ _ (sym e ∙ q) in omega arith))
-    (λ r q. subst (HasNoField (codes "\n")) (cut (codes "end ") mid r (sym e ∙ q)) h)
-
-pub row_no_word : (old : List ℕ) → ((r : List ℕ) → old ≡ codes "over " ++ r → ⊥) →
-    ((r : List ℕ) → old ≡ codes "case : " ++ r → ⊥) → ((r : List ℕ) → old ≡ codes "end " ++ r → ⊥) → HasNoRow old
-row_no_word old f g h = no_row old (λ r q. absurd (f r q)) (λ r q. absurd (g r q)) (λ r q. absurd (h r q))
-
 -- ---- rows with their faults
-pub row_bad : (old : List ℕ) (k : ℕ) → old ≢ [] → HasNoRow old → IsFaultAt old k (BadLine k)
-row_bad old k n h = (refl, n, h)
-
 pub row_large : (old : List ℕ) (value : Read) (new : List ℕ) (k : ℕ) → IsRowRead old value new →
     (IsRowWithin (row_value value) → ⊥) → IsFaultAt old k (NumberTooLarge k)
 row_large old value new k p h = (

@@ -1,7 +1,7 @@
 -- Going over the lines forward, the kept ones make up the trimmed log.
-use Rattle.std.proofs.Common.{◌≡◌, ℕ, zero, suc, ◌+◌, ◌<◌, ◌≤◌, inl, Bool, true, false, cond, List, [], ◌∷◌, ◌++◌, length, map, filter, drop, take, slice_get, slice_index, Some, All, refl, sym, ap, ◌∙◌, subst, arith, append_assoc, append-nil}
+use Rattle.std.proofs.Common.{◌≡◌, ℕ, zero, suc, ◌+◌, ◌<◌, ◌≤◌, inl, Bool, true, false, cond, List, [], ◌∷◌, ◌++◌, length, map, filter, drop, take, slice_get, slice_index, Some, All, refl, sym, ap, ◌∙◌, subst, arith, append_assoc}
 use Rattle.std.specs.List.{flat_map, range_with_len}
-use Rattle.std.proofs.lemmas.List.{take_at, length_push, drop_all}
+use Rattle.std.proofs.lemmas.List.{take_at, length_push}
 use Rattle.std.proofs.lemmas.List.FromFn.{get_or-map-range_with_len, map-range_with_len_more, length-map-range_with_len, length-range_with_len}
 use Rattle.dsa_terms.specs.Buffers.{Instance}
 use Rattle.dsa_terms.specs.Claims.{IsIn}
@@ -199,8 +199,3 @@ legal_next I log k kept found line a s h t =
     before : take (length kept.lines) (kept_lines (needed log) log.lines) ≡ kept.lines
     before = rw whole (take_at kept.lines (moved_line (renumbered (needed log)) line ∷ left_from log (k + 1))
         (length kept.lines) refl)
-
-pub kept_all : (I : Instance) (log : Log) (k : ℕ) (kept : OpenLog) (found : List ℕ) →
-    IsKeptBelow I log k kept found → length log.lines ≤ k → kept.lines ≡ kept_lines (needed log) log.lines
-kept_all I log k kept found s le =
-    sym (s.left ∙ (rw (drop_all k log.lines le) (append-nil kept.lines)))

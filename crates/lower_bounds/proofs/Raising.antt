@@ -34,9 +34,6 @@ stack_is I S G s members a lt e =
     ∙ ap (λ (bs : List ℕ). sum_by (rounded_size I G) bs - greatest (map (rounding_of I G) bs))
     (counted_is I (start_of S s) G)
 
-pub none_raised : (I : Instance) (S : SectionList) (G : ℕ) (b : Bound) → IsRaised I S G 0 b b
-none_raised I S G b = record { most = λ s lt. absurd (omega arith); found = inl refl }
-
 -- the next section is no higher
 pub raised_same : (I : Instance) (S : SectionList) (G s value : ℕ) (old best : Bound) → IsRaised I S G s old best →
     value ≡ stack_at I S G s → value ≤ best.capacity → IsRaised I S G (s + 1) old best

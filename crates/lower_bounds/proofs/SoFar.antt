@@ -102,9 +102,6 @@ module _ (I : Instance) (S : SectionList) (candidates : List ℕ) (q G : ℕ) (o
     | inr r ↦ risen r.0 r.1 r.2
   ])
 
-pub best_none : (I : Instance) (S : SectionList) → IsBest I S [] no_bound
-best_none I S = record { most = λ G s i. absurd i; found = inl refl; least = λ G s i. absurd i }
-
 pub best_all : (I : Instance) (S : SectionList) (candidates : List ℕ) (q : ℕ) (b : Bound) → length candidates ≤ q →
     IsBest I S (take q candidates) b → IsBest I S candidates b
 best_all I S candidates q b le h = rw (take_all q candidates le) at h

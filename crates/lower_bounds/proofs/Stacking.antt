@@ -8,7 +8,7 @@ use Rattle.dsa_terms.specs.Bounds.{rounded_size}
 use Rattle.dsa_terms.specs.Buffers.{Buffer, Instance, buffer}
 use Rattle.dsa_terms.proofs.Numbers.{next_is_below}
 use Rattle.dsa_model.specs.Buffer.{IsBuffer}
-use Rattle.lower_bounds.specs.Stacks.{IsModulus, is_counted, rounding_of, spare_of, stack_of, total_of}
+use Rattle.lower_bounds.specs.Stacks.{IsModulus, is_counted, rounding_of, spare_of, total_of}
 
 -- the sums so far, with what is left
 pub record IsStacking (I : Instance) (G : ℕ) (members : List ℕ) (i total spare : ℕ) : Type 0 where
@@ -16,9 +16,6 @@ pub record IsStacking (I : Instance) (G : ℕ) (members : List ℕ) (i total spa
   pub top : spare_of I G members ≡ max spare (spare_of I G (drop i members))
   pub limit : total ≤ i * 2 ^ 41
   pub under : spare ≤ total
-
-pub none_stacked : (I : Instance) (G : ℕ) (members : List ℕ) → IsStacking I G members 0 0 0
-none_stacked I G members = record { sum = omega arith; top = omega arith; limit = omega arith; under = omega arith }
 
 total_cons : (I : Instance) (G b : ℕ) (rest : List ℕ) (c : Bool) → is_counted I G b ≡ c →
     total_of I G (b ∷ rest) ≡ cond c (rounded_size I G b) 0 + total_of I G rest
@@ -71,16 +68,6 @@ stacked_same I G members i total spare h lt counted = record {
   limit = let z = h.limit in omega arith;
   under = h.under;
 }
-
-pub stacked_all : (I : Instance) (G : ℕ) (members : List ℕ) (i total spare : ℕ) →
-    IsStacking I G members i total spare → length members ≤ i → total - spare ≡ stack_of I G members
-stacked_all I G members i total spare h le =
-    let none : drop i members ≡ [] = drop_all i members le in
-    let a : total_of I G members ≡ total = h.sum ∙ (ap (λ ms. total + total_of I G ms) none ∙
-    (let z : total + 0 ≡ total = omega arith in z)) in
-    let b : spare_of I G members ≡ spare = h.top ∙ (ap (λ ms. max spare (spare_of I G ms)) none ∙
-    (let z : max spare 0 ≡ spare = omega arith in z)) in
-    rw (a, b) refl
 
 pub counted_true : (I : Instance) (G b a : ℕ) (x : Buffer) → x ≡ buffer I b → a ≡ x.alignment → a % G ≡ 0 →
     is_counted I G b ≡ true

@@ -8,10 +8,8 @@ use Rattle.dsa_terms.specs.Parts.{whole_work}
 use Rattle.dsa_terms.specs.Plans.{layout_height}
 use Rattle.dsa_terms.specs.Starts.{best_start, planned}
 use Rattle.dsa_start_laws.proofs.BoundModuli.{bound_is_positive}
-use Rattle.dsa_start_laws.proofs.Stacks.{bound_is_low}
 use Rattle.dsa_model.specs.Buffer.{IsBuffer}
 use Rattle.dsa_model.proofs.Instances.{sound_instance}
-use Rattle.min_capacity.specs.Brackets.{IsBracket, Refutes}
 use Rattle.min_capacity.specs.declared.brackets.Bracket.{Bracket}
 use Rattle.planner.specs.Decides.{IsBoundLog, IsRefutation}
 use Rattle.planner.specs.FirstBracket.{IsFirstBracket, IsLogBelow}
@@ -38,22 +36,6 @@ height_of_none offsets = refl
 
 pub none_high : (I : Instance) (offsets : List ℕ) → I ≡ [] → layout_height I offsets ≡ 0
 none_high I offsets e = ap (λ i. layout_height i offsets) e ∙ height_of_none offsets
-
--- ---- the first bracket
-refutes_below : (I : Instance) (low bound : ℕ) (o : Option Log) → low ≡ bound → IsLogBelow I bound o → Refutes I low o
-refutes_below I low bound None e z = e ∙ z
-refutes_below I low bound (Some log) e h =
-    (h.1.refutation.accepted, let c = h.1.refutation.its_capacity in let p = h.0 in omega arith)
-
-pub is_bracket : (I : Instance) (b : Bracket) → All IsBuffer I → IsFirstBracket I b → IsBracket I b
-is_bracket I b buffers h = record {
-  ordered = let k = bound_is_low I b.high (sound_instance I buffers) (b.layout.items, h.layout) in let e = h.low in
-      omega arith;
-  limit = let k = h.limit in omega arith;
-  layout = h.layout;
-  height = ap (layout_height I) h.best ∙ sym h.high;
-  log = refutes_below I b.low (lower_bound I) b.log h.low h.log;
-}
 
 -- ---- open at a capacity
 pub opens_at : (I : Instance) (C : ℕ) (steps : Option ℕ) (b : Bracket) → All IsBuffer I → IsFirstBracket I b →

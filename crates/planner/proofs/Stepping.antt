@@ -1,11 +1,10 @@
 -- What the number of steps says of a layout and of a log.
-use Rattle.std.proofs.Common.{◌≡◌, ◌+◌, ◌-◌, ◌<◌, ◌≤◌, ◌⊎◌, inl, inr, ℕ, List, length, Option, Some, None, refl, ap, subst, arith}
+use Rattle.std.proofs.Common.{◌≡◌, ◌+◌, ◌-◌, ◌<◌, ◌≤◌, ◌⊎◌, inl, inr, ℕ, List, length, Option, Some, None, ap, subst, arith}
 use Rattle.dsa_terms.specs.Bounds.{lower_bound}
 use Rattle.dsa_terms.specs.Buffers.{Instance, IsInstance}
 use Rattle.dsa_terms.specs.Layouts.{IsInfeasible, IsLayout}
 use Rattle.dsa_terms.specs.Logs.{Log}
-use Rattle.dsa_terms.specs.Plans.{layout_height, plan}
-use Rattle.dsa_terms.specs.Starts.{planned}
+use Rattle.dsa_terms.specs.Plans.{layout_height}
 use Rattle.dsa_terms.proofs.Lists.{none_or_some}
 use Rattle.dsa_search_laws.proofs.Plans.{layout_under}
 use Rattle.dsa_start_laws.proofs.Planned.{planned_is_layout}

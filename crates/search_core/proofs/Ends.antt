@@ -17,11 +17,6 @@ use Rattle.search_core.specs.Endings.{IsLeastEnd}
 use Rattle.search_core.proofs.Descent.{is_instance}
 
 -- ---- the loop over the buffers
-pub least_of_none : (I : Instance) (l : Claim) (n : ℕ) (x : Ending) → n ≡ 0 → 2 ^ 63 ≤ x.end → IsLeastEnd I l n x
-least_of_none I l n x q le = record {
-  least = λ e i lt. absurd (omega arith);
-  is_end = λ lt. absurd (omega arith);
-}
 
 pub least_skip : (I : Instance) (l : Claim) (n : ℕ) (x : Ending) → (HasBuffer l n → ⊥) → IsLeastEnd I l n x →
     IsLeastEnd I l (n + 1) x

@@ -1,6 +1,5 @@
 -- A claim and the same one with the lows of its buffers as bounds.
 use Rattle.std.proofs.Common.{◌≡◌, ℕ, ◌<◌, ◌≤◌, ◌+◌, ◌%◌, ◌^◌, ◌==◌, Bool, true, false, not, cond, List, [], ◌∷◌, ◌++◌, filter, length, map, max, inl, inr, IfOk, Result, Ok, Err, refl, sym, ap, ◌∙◌, subst, arith}
-use Rattle.std.proofs.lemmas.List.{length-map}
 use Rattle.std.specs.Int.{next_multiple_of}
 use Rattle.std.specs.List.{list_any}
 use Rattle.dsa_terms.specs.Buffers.{Instance, IsInstance, buffer}
@@ -48,9 +47,6 @@ pub lifted_entry : (I : Instance) (l : Claim) (b : ℕ) → Rises (buffers_of l)
 lifted_entry I l b r h =
     is_entry (lifted I l) (lift I (entry_of l b)) (lifted_rises I l r) (into_map (lift I) l (entry_of l b)
     (entry_in l b h))
-
-pub length-lifted : (I : Instance) (l : Claim) → length (lifted I l) ≡ length l
-length-lifted I l = length-map l (lift I)
 
 pub bounded_next : (l after : Claim) (e : Entry) → after ≡ l ++ e ∷ [] → e.1 ≤ 2 ^ 60 → IsBoundedBy (2 ^ 60) l →
     IsBoundedBy (2 ^ 60) after

@@ -1,12 +1,11 @@
 -- The work of a claim, and what is left of it.
-use Rattle.std.proofs.Common.{◌≡◌, ◌≢◌, ℕ, ◌+◌, ◌≤◌, cond, List, [], ◌∷◌, Option, Some, None, is_some, refl, ◌∙◌, arith}
+use Rattle.std.proofs.Common.{◌≡◌, ◌≢◌, ℕ, ◌+◌, ◌≤◌, cond, List, [], ◌∷◌, None, is_some, refl, ◌∙◌}
 use Rattle.dsa_terms.specs.Buffers.{Instance}
 use Rattle.dsa_terms.specs.Claims.{Claim, Entry, IsClaim, child}
 use Rattle.dsa_terms.specs.Search.{choices, first, is_tall, not_excluded, work}
 use Rattle.dsa_search_laws.proofs.Search.{work_bounds, work_equation}
 use Rattle.canonical_order.specs.Claims.{least_buffer}
 use Rattle.search_core.specs.Descents.{through}
-use Rattle.search_core.specs.Meters.{counted}
 use Rattle.search_core.proofs.Least.{none_least}
 
 pub through_next : (I : Instance) (C : ℕ) (l : Claim) (e : Entry) (es : List Entry) →
@@ -14,18 +13,10 @@ pub through_next : (I : Instance) (C : ℕ) (l : Claim) (e : Entry) (es : List E
 unfolding through
 through_next I C l e es = refl
 
-pub through_none : (I : Instance) (C : ℕ) (l : Claim) → through I C l [] ≡ 0
-unfolding through
-through_none I C l = refl
-
 pub work_is : (I : Instance) (C : ℕ) (l : Claim) → IsClaim I l → l ≢ [] → None ≡ least_buffer (is_tall I C) l →
     work I C l ≡ 1 + through I C l (choices I (not_excluded I) l)
 unfolding through
 work_is I C l c ne none = work_equation I C l c ne ∙ (rw (none_least (is_tall I C) l none) refl)
-
-pub counts_one : (most : Option ℕ) → counted most 1 ≤ 1
-counts_one None = omega arith
-counts_one (Some k) = omega arith
 
 pub some_work : (I : Instance) (C : ℕ) (l : Claim) → IsClaim I l → 1 ≤ work I C l
 some_work I C l c = (work_bounds I C l c).0

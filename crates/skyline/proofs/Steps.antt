@@ -1,5 +1,5 @@
 -- A skyline's fields after a push and after a pop.
-use Rattle.std.proofs.Common.{Vec, Global, ◌≡◌, ◌+◌, ◌-◌, ◌<◌, ◌≤◌, ℕ, Bool, true, false, List, [], ◌∷◌, ◌++◌, length, map, take, drop, reverse, slice_index, slice_index_or, slice_set, set, refl, ap, sym, subst, ◌∙◌, arith, length-drop}
+use Rattle.std.proofs.Common.{Vec, Global, ◌≡◌, ◌+◌, ◌-◌, ◌<◌, ◌≤◌, ℕ, Bool, true, false, List, [], ◌∷◌, ◌++◌, length, map, take, reverse, slice_index, slice_index_or, slice_set, set, ap, sym, subst, ◌∙◌, arith}
 use Rattle.std.specs.List.{All}
 use Rattle.std.proofs.lemmas.List.{take_more_set, reverse-append, length-reverse, length-take-le, length-set}
 use Rattle.std.proofs.lemmas.List.{get_or_default, length-map}
@@ -20,18 +20,6 @@ use Rattle.skyline.proofs.Tops.{length-heights_after}
 use Rattle.canonical_order.specs.Claims.{entry_of, HasBuffer}
 use Rattle.skyline.specs.Skies.{Sky, last_claim}
 use Rattle.skyline.proofs.SectionFacts.{section_in_range}
-
--- a list of the same length, written over the whole of another
-pub written_back : (xs ys : List ℕ) (n : ℕ) → length xs ≡ n → length ys ≡ n → take n (ys ++ drop (length ys) xs) ≡ ys
-written_back xs ys n hx hy = same (drop (length ys) xs) (length-drop (length ys) xs)
-  where
-    over : (ys : List ℕ) → take (length ys) (ys ++ []) ≡ ys
-    over [] = refl
-    over (y ∷ ys) = ap (λ zs. y ∷ zs) (over ys)
-
-    same : (zs : List ℕ) → length zs ≡ length xs - length ys → take n (ys ++ zs) ≡ ys
-    same [] e = ap (λ m. take m (ys ++ [])) (sym hy) ∙ over ys
-    same (z ∷ zs) e = absurd (omega (arith, hx, hy))
 
 pub reverse_set : (xs : List ℕ) (n y : ℕ) → n < length xs → reverse (take (n + 1) (set xs n y)) ≡ y ∷ reverse
     (take n xs)
