@@ -1,7 +1,7 @@
 //! Small parts of a claim whose cites need no other buffer.
 
 ghost use Rattle.std.specs.Prelude.{◌≡◌, ◌^◌, ◌<◌, IfOk, OnOk, length};
-ghost use Rattle.canonical_order.specs.Claims.{HasBuffer, IsBoundedBy};
+ghost use Rattle.canonical_order.specs.Claims.{IsBoundedBy};
 ghost use Rattle.conflicts.specs.Eased.{IsLower};
 ghost use Rattle.conflicts.specs.Walks.{IsWalk};
 

@@ -13,11 +13,8 @@ use Rattle.csv_instance.specs.Records.{Record}
 use Rattle.command_words.specs.Options.{Word}
 use Rattle.command_words.specs.Commands.{Command, command_of}
 use Rattle.dsaplan_core.specs.Seen.{FilesSeen}
-use Rattle.dsaplan_core.specs.Steps.{log_limit, IsWholeFile, IsInput, IsWhole}
-use Rattle.dsaplan_core.specs.Asked.{IsAsked, checked_log_of, input_of, layout_of}
-use Rattle.dsaplan_core.specs.Judged.{ReadsLayout}
-use Rattle.dsaplan_core.specs.Checked.{ReadsLog}
-use Rattle.dsaplan_core.proofs.Earlier.{whole_since}
+use Rattle.dsaplan_core.specs.Steps.{IsWholeFile, IsInput}
+use Rattle.dsaplan_core.specs.Asked.{IsAsked, input_of}
 
 -- the words ask for this command over the input's instance
 pub asks : (words : List Word) (old : FilesSeen) (command : Command) (input : Word) (table : List Record)

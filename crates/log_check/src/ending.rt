@@ -1,7 +1,7 @@
 //! The end of a log.
 
 ghost use Rattle.std.specs.Prelude.{◌≡◌, List, map, find, nat_lt, option_map, slice_get, Some, None, IfOk, MatchResult};
-ghost use Rattle.dsa_terms.specs.Claims.{Entry, IsWhole};
+ghost use Rattle.dsa_terms.specs.Claims.{Entry};
 ghost use Rattle.dsa_terms.specs.Layouts.{IsInfeasible};
 ghost use Rattle.dsa_terms.specs.Logs.{IsAccepted};
 ghost use Rattle.refute_log.specs.Logs.{Belongs, ended};

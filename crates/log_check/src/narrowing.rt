@@ -6,7 +6,7 @@ ghost use Rattle.canonical_order.specs.Claims.{IsBoundedBy};
 ghost use Rattle.refute_log.specs.Lines.{line_value};
 ghost use Rattle.dsa_model.specs.Fails.{UnlessNoMemory};
 ghost use Rattle.log_text.specs.RawLogs.{IsLineKept, raw_claim_of};
-ghost use Rattle.log_check.specs.Narrowing.{IsNarrowed, narrow_cite, narrow_line, shape_reason};
+ghost use Rattle.log_check.specs.Narrowing.{IsNarrowed, narrow_cite, shape_reason};
 
 use canonical_order::Claim;
 use dsa_model::{Fail, Instance, NoMemory};
