@@ -4,6 +4,7 @@ use Rattle.std.proofs.lemmas.Bool.Decides.{nat_tests}
 use Rattle.std.proofs.lemmas.Grind.{common_steps}
 use Rattle.dsa_terms.specs.Buffers.{Instance, buffer, do_share}
 use Rattle.dsa_model.specs.Buffer.{IsBuffer}
+use Rattle.dsa_model.proofs.Instances.{sound_buffer}
 use Rattle.dsa_terms.specs.Claims.{Entry, Claim, IsIn, Rises, buffers_of, up, step, child, Covers}
 use Rattle.dsa_search_laws.proofs.Placing.{in_buffers, in_child, of_child}
 use Rattle.dsa_search_laws.proofs.Claims.{rises-child, length-child}
@@ -12,7 +13,7 @@ use Rattle.canonical_order.specs.Claims.{HasBuffer, entry_of, IsBoundedBy, IsKep
 use Rattle.canonical_order.specs.Stands.{Stands}
 use Rattle.dsa_terms.proofs.NumberTests.{same, apart, at_most, is_at_most, is_below, not_below, below_or_last}
 use Rattle.dsa_terms.proofs.Places.{in_at}
-use Rattle.canonical_order.proofs.Entries.{entry_in, is_entry, in_range, up_limit, sound_buffer}
+use Rattle.canonical_order.proofs.Entries.{entry_in, is_entry, in_range, up_limit}
 
 -- ---- the least buffer that passes
 pub pass_below_next : (test : Entry → Bool) (l : Claim) (n : ℕ) → Rises (buffers_of l) →

@@ -3,14 +3,16 @@ use Rattle.std.proofs.Common.{◌≡◌, ℕ, suc, ◌+◌, ◌<◌, ◌≤◌, 
 use Rattle.std.proofs.lemmas.Bool.Decides.{nat_tests}
 use Rattle.dsa_terms.specs.Claims.{Entry, Claim, IsIn, Rises, buffers_of, number_of, up}
 use Rattle.dsa_search_laws.proofs.Placing.{in_buffers, same_entry}
+use Rattle.dsa_search_laws.proofs.Members.{buffers_of-whole, length-whole}
 use Rattle.dsa_terms.proofs.Lists.{from_map}
 use Rattle.dsa_terms.proofs.Numbers.{next_is_below}
 use Rattle.canonical_order.specs.Claims.{HasBuffer, entry_of, bound_of, IsBoundedBy, IsKept}
 use Rattle.canonical_order.specs.Stands.{Stands}
-use Rattle.dsa_terms.specs.Buffers.{Instance, buffer, no_buffer}
+use Rattle.dsa_terms.specs.Buffers.{Instance, buffer}
 use Rattle.std.specs.Int.{next_multiple_of}
 use Rattle.dsa_terms.specs.Parts.{whole}
 use Rattle.dsa_model.specs.Buffer.{IsBuffer}
+use Rattle.dsa_model.proofs.Instances.{sound_buffer}
 
 -- a buffer of the claim stands in it with its bound
 pub entry_in : (l : Claim) (b : ℕ) → HasBuffer l b → IsIn (entry_of l b) l
@@ -62,20 +64,8 @@ stands I l k h bs n = record {
 pub in_range : (I : Instance) (l : Claim) (b : ℕ) → Stands I l → HasBuffer l b → b < length I
 in_range I l b s h = s.claim.in_range (entry_of l b) (entry_in l b h)
 
-pub sound_buffer : (I : Instance) (b : ℕ) → All IsBuffer I → b < length I → IsBuffer (buffer I b)
-unfolding buffer
-sound_buffer I b h lt = h b no_buffer lt
-
 pub raise_limit : (l : Claim) → IsBoundedBy (2 ^ 60) l → IsBoundedBy (2 ^ 61) l
 raise_limit l h e i = let k : e.1 ≤ 2 ^ 60 = h e i in omega arith
-
-buffers_of-whole : (bs : List ℕ) → buffers_of (whole bs) ≡ bs
-buffers_of-whole [] = refl
-buffers_of-whole (b ∷ bs) = ap (λ bs. b ∷ bs) (buffers_of-whole bs)
-
-length-whole : (bs : List ℕ) → length (whole bs) ≡ length bs
-length-whole [] = refl
-length-whole (b ∷ bs) = ap suc (length-whole bs)
 
 pub whole_is_kept : (bs : List ℕ) → Rises bs → length bs < 2 ^ 32 → IsKept (whole bs)
 whole_is_kept bs r n = record {

@@ -2,13 +2,13 @@
 use Rattle.std.proofs.Common.{◌≡◌, ℕ, ◌+◌, ◌-◌, ◌≤◌, inl, inr, Bool, true, false, not, cond, ◌==◌, List, [], ◌∷◌, map, max, filter, sym, refl, subst, ◌∙◌, arith}
 use Rattle.std.specs.Int.{next_multiple_of}
 use Rattle.std.specs.List.{AllZip}
+use Rattle.dsa_model.proofs.Instances.{sound_buffer}
 use Rattle.dsa_terms.specs.Buffers.{Buffer, Instance, buffer}
 use Rattle.dsa_terms.specs.Claims.{Claim, Covers, Entry, IsIn, child, step, up}
 use Rattle.dsa_terms.specs.Logs.{Cite, ByLine, Below, Twin, Line, IsLegalCite, claim_of, ends_below, is_twin}
 use Rattle.dsa_terms.proofs.Lists.{into_map}
 use Rattle.dsa_terms.proofs.Numbers.{multiple_steps, next_at_or_above, next_is_below, next_is_least, next_is_multiple}
 use Rattle.canonical_order.specs.Stands.{Stands}
-use Rattle.canonical_order.proofs.Entries.{sound_buffer}
 use Rattle.conflicts.specs.Eased.{IsLower, IsNoHigher, lowered}
 use Rattle.conflicts.proofs.ListSteps.{zip_mapped}
 use Rattle.conflicts.proofs.LowerClaims.{zip_lower}

@@ -1,13 +1,13 @@
 -- Claims with no higher bounds.
 use Rattle.std.proofs.Common.{◌≡◌, ◌≢◌, ℕ, ◌<◌, ◌≤◌, ◌^◌, Bool, List, [], ◌∷◌, filter, length, map, inl, inr, sym, refl, ◌∙◌, arith}
 use Rattle.std.specs.List.{AllZip}
+use Rattle.dsa_model.proofs.Instances.{sound_buffer}
 use Rattle.dsa_terms.specs.Buffers.{Instance, buffer}
 use Rattle.dsa_terms.specs.Claims.{Claim, Covers, Entry, IsIn, Rises, buffers_of, up}
 use Rattle.dsa_terms.proofs.Lists.{from_filter}
 use Rattle.dsa_terms.proofs.Numbers.{next_at_or_above}
 use Rattle.dsa_search_laws.proofs.Claims.{rises-filter}
 use Rattle.canonical_order.specs.Stands.{Stands}
-use Rattle.canonical_order.proofs.Entries.{sound_buffer}
 use Rattle.conflicts.specs.Eased.{IsLower, IsNoHigher, cut}
 
 same_buffers : (l k : Claim) → AllZip IsNoHigher l k → buffers_of k ≡ buffers_of l

@@ -3,6 +3,7 @@ use Rattle.std.proofs.Common.{◌≡◌, ℕ, ◌+◌, ◌-◌, ◌%◌, ◌<◌
 use Rattle.std.proofs.lemmas.List.Sums.{sum_by-cons}
 use Rattle.std.specs.List.{sum_by}
 use Rattle.std.specs.Int.{next_multiple_of}
+use Rattle.dsa_model.proofs.Instances.{sound_buffer}
 use Rattle.dsa_terms.specs.Buffers.{Instance, buffer, is_live}
 use Rattle.dsa_terms.specs.Claims.{Claim, Covers, Entry, IsClaim, IsIn, buffers_of, up}
 use Rattle.dsa_terms.specs.Lean.{IsLeanOver}
@@ -12,7 +13,6 @@ use Rattle.dsa_terms.proofs.Moments.{and_true}
 use Rattle.dsa_terms.proofs.Numbers.{next_at_or_above, next_is_below, next_is_least, next_is_multiple}
 use Rattle.dsa_search_laws.proofs.Claims.{buffers_of-map, rises-filter}
 use Rattle.dsa_terms.proofs.NumberTests.{at_most, is_at_most}
-use Rattle.canonical_order.proofs.Entries.{sound_buffer}
 use Rattle.canonical_order.proofs.CoverLemmas.{length_within}
 use Rattle.canonical_order.specs.Claims.{IsBoundedBy}
 use Rattle.canonical_order.specs.Stands.{Stands}

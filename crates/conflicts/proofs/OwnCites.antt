@@ -2,6 +2,7 @@
 use Rattle.std.proofs.Common.{◌≡◌, ◌≢◌, ℕ, ◌+◌, ◌<◌, ◌≤◌, ◌⊎◌, ◌||◌, not, inl, inr, Bool, true, false, [], ◌∷◌, drop, length, refl, subst, ap, arith}
 use Rattle.std.proofs.lemmas.List.{drop_all}
 use Rattle.std.specs.List.{list_any}
+use Rattle.dsa_model.proofs.Instances.{sound_buffer}
 use Rattle.dsa_terms.specs.Buffers.{Buffer, Instance, buffer}
 use Rattle.dsa_terms.specs.Claims.{Claim, Entry, IsIn, up}
 use Rattle.dsa_terms.specs.Lean.{CitesOwn}
@@ -10,7 +11,7 @@ use Rattle.dsa_terms.proofs.Lists.{any_gives}
 use Rattle.dsa_terms.proofs.Moments.{and_true, both_true}
 use Rattle.canonical_order.specs.Claims.{HasBuffer, entry_of}
 use Rattle.canonical_order.specs.Stands.{Stands}
-use Rattle.canonical_order.proofs.Entries.{entry_in, in_range, sound_buffer}
+use Rattle.canonical_order.proofs.Entries.{entry_in, in_range}
 use Rattle.dsa_terms.proofs.NumberTests.{apart, at_most, is_at_most}
 use Rattle.conflicts.specs.Eased.{HasNoOwn}
 use Rattle.conflicts.specs.Ends.{IsLeastEnd, end_of}

@@ -12,6 +12,7 @@ use Rattle.csv_instance.specs.Row.{length_fault}
 use Rattle.csv_instance.specs.declared.fault.InstanceFault.{InstanceFault}
 use Rattle.csv_instance.specs.declared.fault.InstanceFault.TheVariants as fault
 use Rattle.dsa_model.specs.Buffer.{first_fault, when}
+use Rattle.dsa_model.proofs.Faults.{neither, map_none}
 use Rattle.std.specs.Prelude.{⊤, IfOk, Result, Ok, Err, ◌==◌, not, nat_lt}
 use Rattle.std.specs.Result.{is_ok}
 use Rattle.csv_instance.specs.Records.{Record}
@@ -64,25 +65,13 @@ id_fault_by header before row number id lengths earlier n i l p =
     (option_map (fault.DuplicateId (length before))
     (position (λ e. bytes_eq (field_of header row Id) (field_of header e Id)) before))))
 
-pub or_none : {A : Type 0} (a b : Option A) → option_or a b ≡ None → (a ≡ None) × (b ≡ None)
-or_none None b e = (refl, e)
-or_none (Some x) b e = cc e
-
-pub map_none : {A B : Type 0} (f : A → B) (o : Option A) → option_map f o ≡ None → o ≡ None
-map_none f None e = refl
-map_none f (Some x) e = cc e
-
 abbrev pub AllNone : {A : Type 0} → List (Option A) → Type 0
 AllNone [] = ⊤
 AllNone (o ∷ os) = (o ≡ None) × AllNone os
 
 pub all_none : {A : Type 0} (os : List (Option A)) → first_fault os ≡ None → AllNone os
 all_none [] e = tt
-all_none (o ∷ os) e = let (h, t) = or_none o (first_fault os) e in (h, all_none os t)
-
-pub when_none : {F : Type 0} (b : Bool) (f : F) → when b f ≡ None → b ≡ false
-when_none true f e = cc e
-when_none false f e = refl
+all_none (o ∷ os) e = let (h, t) = neither o (first_fault os) e in (h, all_none os t)
 
 -- a row without such a fault has an id that no row before it has
 pub new_id : (header : Record) (rows : List Record) (row : Record) → id_fault header rows row ≡ None

@@ -16,11 +16,12 @@ use Rattle.csv_instance.proofs.Basics.{any_after, counted_last, find_after, find
 use Rattle.csv_instance.proofs.ReadBack.{layout-read}
 use Rattle.dsa_terms.specs.Buffers.{Buffer}
 use Rattle.dsa_model.specs.Numbers.{written_number}
+use Rattle.dsa_model.proofs.Faults.{neither, map_none, not_so}
 use Rattle.std.specs.Option.{option_map_or, option_or}
 use Rattle.csv_instance.specs.declared.fault.InstanceFault.TheVariants as fault
 use Rattle.csv_instance.specs.declared.columns.Column.{Column}
 use Rattle.csv_instance.specs.declared.columns.Column.TheVariants.{Id, Lower, Upper, Size, Alignment, Gaps, Offset}
-use Rattle.csv_instance.proofs.IdLemmas.{all_none, map-map, map_none, new_id, none_any, or_none, position-map, when_none}
+use Rattle.csv_instance.proofs.IdLemmas.{all_none, map-map, new_id, none_any, position-map}
 use Rattle.csv_instance.proofs.OffsetLemmas.{id-with, last-with, number-decimal, position-append, position-last}
 
 -- each number is at most the greatest offset, number by number
@@ -51,7 +52,7 @@ good header e =
       once = twice.0;
       id_place = there.0;
       id_there = there.1;
-      no_offset = none_if (place_of header Offset) (when_none _ fault.OffsetColumn n.1.1.0);
+      no_offset = none_if (place_of header Offset) (not_so _ fault.OffsetColumn n.1.1.0);
     }
 
 -- the header with the name `offset` put last
@@ -94,7 +95,7 @@ pub row-good : (ids : List (List ℕ)) (header : Record) (before before2 : List 
 row-good ids header before before2 row o g same e small known =
     let n = all_none (id_faults header before row) e in
     let even : length row ≡ length header =
-    eqb-true _ _ (not_false _ (when_none _ (fault.FieldCount (length before)) n.1.0)) in
+    eqb-true _ _ (not_false _ (not_so _ (fault.FieldCount (length before)) n.1.0)) in
     let id_is = id-with header row (name_of Offset) (decimal o) g.id_place g.id_there even in
     let last = last-with header row (decimal o) g.no_offset even in
     let value : offset_in (with_offset header) (row_with row o) ≡ Some o = ap (written_number offset_limit) last
@@ -134,8 +135,8 @@ pub rows-good : (ids : List (List ℕ)) (header : Record) (before before2 rows :
 rows-good ids header before before2 [] os g same e small known = refl
 rows-good ids header before before2 (row ∷ rows) [] g same e small known = refl
 rows-good ids header before before2 (row ∷ rows) (o ∷ os) g same e small known =
-    let (here, later) = or_none (row_fault header before row) (rows_fault header (before ++ row ∷ []) rows) e in
-    let id_good = (or_none (id_fault header before row) _ here).0 in
+    let (here, later) = neither (row_fault header before row) (rows_fault header (before ++ row ∷ []) rows) e in
+    let id_good = (neither (id_fault header before row) _ here).0 in
     let (fine, id_is, value) = row-good ids header before before2 row o g same id_good small.0 known.0 in
     let rest = rows-good ids header (before ++ row ∷ []) (before2 ++ row_with row o ∷ []) rows os g
     (same_more header before before2 row (row_with row o) same id_is) later small.1 known.1 in
@@ -150,8 +151,8 @@ offsets-are header before before2 [] [] g same e small even = refl
 offsets-are header before before2 [] (o ∷ os) g same e small even = absurd (omega arith)
 offsets-are header before before2 (row ∷ rows) [] g same e small even = absurd (omega arith)
 offsets-are header before before2 (row ∷ rows) (o ∷ os) g same e small even =
-    let (here, later) = or_none (row_fault header before row) (rows_fault header (before ++ row ∷ []) rows) e in
-    let id_good = (or_none (id_fault header before row) _ here).0 in
+    let (here, later) = neither (row_fault header before row) (rows_fault header (before ++ row ∷ []) rows) e in
+    let id_good = (neither (id_fault header before row) _ here).0 in
     let id = field_of header row Id in
     let (fine, id_is, value) = row-good (id ∷ []) header before before2 row o g same id_good small.0
     (rw (text_same id) refl) in
@@ -195,8 +196,8 @@ all_there : (header : Record) (before before2 rows : List Record) (os : List ℕ
 all_there header before before2 [] os g same e small even = tt
 all_there header before before2 (row ∷ rows) [] g same e small even = absurd (omega arith)
 all_there header before before2 (row ∷ rows) (o ∷ os) g same e small even =
-    let (here, later) = or_none (row_fault header before row) (rows_fault header (before ++ row ∷ []) rows) e in
-    let id_good = (or_none (id_fault header before row) _ here).0 in
+    let (here, later) = neither (row_fault header before row) (rows_fault header (before ++ row ∷ []) rows) e in
+    let id_good = (neither (id_fault header before row) _ here).0 in
     let id = field_of header row Id in
     let (fine, id_is, value) = row-good (id ∷ []) header before before2 row o g same id_good small.0
     (rw (text_same id) refl) in
@@ -239,14 +240,14 @@ pub layout-back : (table : List Record) (b : List Buffer) (os : List ℕ) → pa
     → offsets_of (ids_of table) (table_of (layout_text table os)) ≡ Ok os
 layout-back [] b os e small even = cc e
 layout-back ([] ∷ rows) b os e small even =
-    let (h, r) = or_none (header_fault []) (rows_fault [] [] rows)
+    let (h, r) = neither (header_fault []) (rows_fault [] [] rows)
     (parsed (option_or (header_fault []) (rows_fault [] [] rows)) (map (buffer_of []) rows) b e) in
     let g = good [] h in
     cc g.id_there
 layout-back ((f ∷ fs) ∷ rows) b os e small even =
-    let (h, r) = or_none (header_fault (f ∷ fs)) (rows_fault (f ∷ fs) [] rows)
+    let (h, r) = neither (header_fault (f ∷ fs)) (rows_fault (f ∷ fs) [] rows)
     (parsed (option_or (header_fault (f ∷ fs)) (rows_fault (f ∷ fs) [] rows))
     (map (buffer_of (f ∷ fs)) rows) b e) in
     let n = all_none (header_faults (f ∷ fs)) h in
-    ap (offsets_of (ids_of ((f ∷ fs) ∷ rows))) (layout-read f fs rows os (when_none _ fault.MarkedHeader n.0))
+    ap (offsets_of (ids_of ((f ∷ fs) ∷ rows))) (layout-read f fs rows os (not_so _ fault.MarkedHeader n.0))
     ∙ offsets-back (f ∷ fs) rows os h r (all_small os small) (omega arith)

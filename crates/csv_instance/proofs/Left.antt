@@ -1,6 +1,7 @@
 -- The records that are left of a text, from a state of the reader.
 use Rattle.std.proofs.Common.{◌≡◌, ◌<◌, ◌+◌, ◌⊎◌, ◌∷◌, ◌∙◌, ℕ, zero, suc, List, Option, Some, None, [], length, refl, sym, ap, inl, inr, arith}
 use Rattle.std.proofs.lemmas.Bool.{cases_Bool}
+use Rattle.dsa_terms.proofs.Lists.{same_some}
 use Rattle.csv.specs.Machine.{Read, next_record, ends_at_end, step, is_end, fields_after, field_after}
 use Rattle.csv.specs.Reading.{records_from}
 use Rattle.csv_instance.specs.Gives.{records_left}
@@ -12,9 +13,6 @@ use Rattle.csv.specs.declared.parser.State.TheVariants as st
 abbrev Falls : List ℕ → Read → Type 0
 Falls xs p = (length p.2 < length xs) ⊎ ((p.1 ≡ st.StartRecord) × (p.2 ≡ []))
 
-pub some_injective : {A : Type 0} {x y : A} → Some x ≡ Some y → x ≡ y
-some_injective e = cc
-
 falls_more : (c : ℕ) (xs : List ℕ) (p : Read) → Falls xs p → Falls (c ∷ xs) p
 falls_more c xs p (inl h) = inl (omega arith)
 falls_more c xs p (inr h) = inr h
@@ -23,12 +21,12 @@ read_falls : (cfg : Config) (s : State) (fields : List (List ℕ)) (field xs : L
     → next_record cfg s fields field xs ≡ Some p → Falls xs p
 unfolding next_record
 read_falls cfg s fields field [] p e = elim (cases_Bool (ends_at_end s)) [
-  | inl ends ↦ let q = some_injective (rw ends at e) in
+  | inl ends ↦ let q = same_some (rw ends at e) in
       inr (sym (ap (λ (r : Read). r.1) q), sym (ap (λ (r : Read). r.2) q))
   | inr on ↦ cc (rw on at e)
 ]
 read_falls cfg s fields field (c ∷ xs) p e = elim (cases_Bool (is_end (step cfg s c).1)) [
-  | inl ends ↦ let q = some_injective (rw ends at e) in
+  | inl ends ↦ let q = same_some (rw ends at e) in
       inl (let h : length p.2 ≡ length xs = sym (ap (λ (r : Read). length r.2) q) in omega arith)
   | inr on ↦ falls_more c xs p
       (read_falls cfg (step cfg s c).0 (fields_after (step cfg s c).1 fields field)

@@ -7,6 +7,7 @@ use Rattle.std.specs.List.{list_any, position_from}
 use Rattle.std.specs.Map.{keys_of}
 use Rattle.std.specs.Str.{bytes_eq}
 use Rattle.dsa_model.specs.Numbers.{written_number}
+use Rattle.dsa_model.proofs.Faults.{map_none}
 use Rattle.indexmap.specs.IndexMap.{insert_entry}
 use Rattle.csv_instance.specs.Columns.{field_of}
 use Rattle.csv_instance.specs.Found.{AreColumns, AreOf, Entries}
@@ -15,7 +16,7 @@ use Rattle.csv_instance.specs.Records.{Record}
 use Rattle.csv_instance.specs.declared.columns.Column.TheVariants.{Id}
 use Rattle.csv_instance.specs.declared.fault.OffsetsFault.TheVariants as fault
 use Rattle.csv_instance.specs.declared.offset_row.OffsetColumns.{OffsetColumns}
-use Rattle.csv_instance.proofs.IdLemmas.{all_none, map-map, map_none, position-map}
+use Rattle.csv_instance.proofs.IdLemmas.{all_none, map-map, position-map}
 
 pub list_any-map : {A B : Type 0} (p : B → Bool) (g : A → B) (xs : List A)
     → list_any p (map g xs) ≡ list_any (λ x. p (g x)) xs

@@ -3,6 +3,7 @@ use Rattle.std.proofs.Common.{◌≡◌, ◌≤◌, ◌+◌, ◌++◌, ◌∷◌
 use Rattle.std.proofs.lemmas.Bool.{cases_Bool}
 use Rattle.std.proofs.lemmas.List.Elements.{All-append, All-nil}
 use Rattle.std.specs.List.{All}
+use Rattle.dsa_terms.proofs.Lists.{same_some}
 use Rattle.csv.specs.Machine.{Read, field_after, fields_after, is_end, ends_at_end, next_record, step}
 use Rattle.csv.specs.Reading.{default_config, records_from, strip_bom, is_bom}
 use Rattle.csv.specs.declared.parser.Action.{Action}
@@ -11,7 +12,7 @@ use Rattle.csv.specs.declared.parser.Config.{Config}
 use Rattle.csv.specs.declared.parser.State.{State}
 use Rattle.csv.specs.declared.parser.State.TheVariants as st
 use Rattle.csv_instance.specs.Records.{IsShort, file_limit, table_of}
-use Rattle.csv_instance.proofs.Left.{from_none, from_some, option_cases, some_injective}
+use Rattle.csv_instance.proofs.Left.{from_none, from_some, option_cases}
 
 abbrev Within : ℕ → List (List ℕ) → Type 0
 Within n fields = All (λ field. length field ≤ n) fields
@@ -53,7 +54,7 @@ next_short : (n : ℕ) (cfg : Config) (s : State) (fields : List (List ℕ)) (fi
 unfolding next_record
 next_short n cfg s fields field [] p h short e = elim (cases_Bool (ends_at_end s)) [
   | inl ends ↦
-      let q = some_injective (rw ends at e) in
+      let q = same_some (rw ends at e) in
       let parts : p.0 ≡ fields ++ field ∷ [] = sym (ap (λ (r : Read). r.0) q) in
       let rest : length p.2 ≡ 0 = sym (ap (λ (r : Read). length r.2) q) in
       (rw parts (one_more n fields field h (omega arith)), omega arith)
@@ -61,7 +62,7 @@ next_short n cfg s fields field [] p h short e = elim (cases_Bool (ends_at_end s
 ]
 next_short n cfg s fields field (c ∷ xs) p h short e = elim (cases_Bool (is_end (step cfg s c).1)) [
   | inl ends ↦
-      let q = some_injective (rw ends at e) in
+      let q = same_some (rw ends at e) in
       let parts : p.0 ≡ fields_after (step cfg s c).1 fields field = sym (ap (λ (r : Read). r.0) q) in
       let rest : length p.2 ≡ length xs = sym (ap (λ (r : Read). length r.2) q) in
       (rw parts (after_short n (step cfg s c).1 fields field h (omega arith)), omega arith)

@@ -6,12 +6,13 @@ use Rattle.csv_instance.specs.Records.{Record}
 use Rattle.csv_instance.specs.Parse.{buffer_of, content_fault, header_fault, id_fault, row_fault, rows_fault, parse}
 use Rattle.std.specs.Prelude.{nat_lt, ◌==◌}
 use Rattle.std.proofs.lemmas.Bool.Decides.{nat_tests}
+use Rattle.dsa_model.proofs.Faults.{neither, not_so}
 use Rattle.csv_instance.specs.Columns.{field_of}
 use Rattle.csv_instance.specs.Parse.{id_faults}
 use Rattle.csv_instance.specs.declared.columns.Column.TheVariants.{Id}
 use Rattle.csv_instance.specs.declared.fault.InstanceFault.{InstanceFault}
 use Rattle.csv_instance.specs.declared.fault.InstanceFault.TheVariants as fault
-use Rattle.csv_instance.proofs.IdLemmas.{all_none, or_none, when_none}
+use Rattle.csv_instance.proofs.IdLemmas.{all_none}
 
 pub option_or-assoc : {A : Type 0} (a b c : Option A) → option_or a (option_or b c) ≡ option_or (option_or a b) c
 option_or-assoc None b c = refl
@@ -71,11 +72,11 @@ pub id-limits : (header : Record) (before rows : List Record) (b : ℕ) → rows
     → (1 ≤ length (field_of header (get_or rows b []) Id)) × (length (field_of header (get_or rows b []) Id) ≤ 255)
 id-limits header before [] b e h = absurd (omega arith)
 id-limits header before (row ∷ rows) zero e h =
-    let here = (or_none (row_fault header before row) (rows_fault header (before ++ row ∷ []) rows) e).0 in
+    let here = (neither (row_fault header before row) (rows_fault header (before ++ row ∷ []) rows) e).0 in
     let none = all_none (id_faults header before row)
-    (or_none (id_fault header before row) (content_fault header (length before) row) here).0 in (
-      some_byte _ (when_none _ (fault.EmptyId (length before)) none.1.1.0),
-      few_bytes _ (when_none _ (fault.IdTooLong (length before)) none.1.1.1.0),
+    (neither (id_fault header before row) (content_fault header (length before) row) here).0 in (
+      some_byte _ (not_so _ (fault.EmptyId (length before)) none.1.1.0),
+      few_bytes _ (not_so _ (fault.IdTooLong (length before)) none.1.1.1.0),
     )
   where
     some_byte : (n : ℕ) → (n == 0) ≡ false → 1 ≤ n
@@ -85,4 +86,4 @@ id-limits header before (row ∷ rows) zero e h =
     few_bytes n h = grind (arith, nat_tests)
 id-limits header before (row ∷ rows) (suc b) e h =
     id-limits header (before ++ row ∷ []) rows b
-    (or_none (row_fault header before row) (rows_fault header (before ++ row ∷ []) rows) e).1 (omega arith)
+    (neither (row_fault header before row) (rows_fault header (before ++ row ∷ []) rows) e).1 (omega arith)

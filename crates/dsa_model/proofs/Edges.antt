@@ -5,8 +5,9 @@ use Rattle.std.specs.List.{list_any, list_all}
 use Rattle.std.specs.Bool.{beq}
 use Rattle.dsa_terms.specs.Buffers.{Buffer, is_live, is_within, have_same_moments, HaveSameMoments}
 use Rattle.dsa_model.specs.Moments.{agree_at, agree_at_edges}
-use Rattle.dsa_terms.proofs.Moments.{and_true, same_moments}
+use Rattle.dsa_terms.proofs.Moments.{and_true, same_moments, or_false}
 use Rattle.dsa_terms.proofs.NumberTests.{equal}
+use Rattle.dsa_terms.proofs.Lists.{true_or_false}
 use Rattle.dsa_model.proofs.Live.{not_live_before, none_from}
 
 pub beq_true : (a b : Bool) → beq a b ≡ true → a ≡ b
@@ -27,10 +28,6 @@ is_gap_edge gaps t = list_any (λ (gap : ℕ × ℕ). (gap.0 == t) || (gap.1 == 
 
 is_edge : Buffer → ℕ → Bool
 is_edge b t = (b.lower == t) || ((b.upper == t) || is_gap_edge b.gaps t)
-
-or_false : (a b : Bool) → (a || b) ≡ false → (a ≡ false) × (b ≡ false)
-or_false true b h = absurd cc
-or_false false b h = (refl, h)
 
 within_stays : (a b t : ℕ) → ((a == suc t) || (b == suc t)) ≡ false →
     (nat_le a (suc t) && nat_lt (suc t) b) ≡ (nat_le a t && nat_lt t b)
@@ -66,10 +63,6 @@ live_stays b t h =
   where
     joined : {p q : Bool} → p ≡ false → q ≡ false → (p || q) ≡ false
     joined h k = cc
-
-true_or_false : (b : Bool) → (b ≡ true) ⊎ (b ≡ false)
-true_or_false true = inl refl
-true_or_false false = inr refl
 
 or_true : (a b : Bool) → (a || b) ≡ true → (a ≡ true) ⊎ (b ≡ true)
 or_true true b h = inl refl

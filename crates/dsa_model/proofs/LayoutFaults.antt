@@ -5,18 +5,18 @@ use Rattle.std.proofs.lemmas.Bool.Decides.{nat_tests}
 use Rattle.dsa_terms.specs.Buffers.{Buffer, Instance, buffer, IsLive}
 use Rattle.dsa_terms.specs.Firsts.{when, first_fault}
 use Rattle.dsa_terms.specs.Layouts.{IsApart, IsLayout}
-use Rattle.dsa_terms.specs.Claims.{IsIn}
 use Rattle.dsa_terms.specs.Parts.{numbers}
 use Rattle.dsa_terms.specs.Search.{first_some}
-use Rattle.dsa_terms.proofs.Lists.{all_none, some_answer, true_or_false}
+use Rattle.dsa_terms.proofs.Lists.{all_none, some_answer, true_or_false, none_found}
 use Rattle.dsa_terms.proofs.Moments.{and_true, both_true, live_before}
 use Rattle.dsa_terms.proofs.NumberTests.{not_below, not_less}
+use Rattle.dsa_terms.proofs.Ranges.{from_range, into_range, below, among}
 use Rattle.dsa_model.specs.Moments.{IsLeastFrom, are_live, first_common}
 use Rattle.dsa_model.specs.LayoutFaults.{IsOverlap, is_unaligned, is_above, are_apart, overlap, overlap_after, first_overlap, first_unaligned, first_above, layout_fault}
 use Rattle.dsa_model.specs.declared.layout.LayoutFault.{LayoutFault}
 use Rattle.dsa_model.specs.declared.layout.LayoutFault.TheVariants as fault
 use Rattle.dsa_model.proofs.Faults.{neither, not_so, map_none}
-use Rattle.dsa_model.proofs.Ranges.{least_is_found, found_is_least, find_none, none_found, some_none, from_range, into_range}
+use Rattle.dsa_model.proofs.Ranges.{least_is_found, found_is_least, find_none, some_none}
 
 -- a test of what was shown is one of the buffer that it is
 pub tested : (p : Buffer → Bool) (x y : Buffer) (r v : Bool) → r ≡ p x → x ≡ y → r ≡ v → p y ≡ v
@@ -63,12 +63,6 @@ no_overlap_of_none I offsets i j b c e f h =
     go false n = rw n refl
 
 -- ---- no fault
-among : (n b : ℕ) → b < n → IsIn b (numbers n)
-among n b lt = into_range n 0 b (omega arith) (omega arith)
-
-below : (n b : ℕ) → IsIn b (numbers n) → b < n
-below n b i = let k = (from_range n 0 b i).1 in omega arith
-
 equal : (m n : ℕ) → not (m == n) ≡ false → m ≡ n
 equal m n h = grind (arith, nat_tests)
 

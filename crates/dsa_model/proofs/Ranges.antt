@@ -68,17 +68,6 @@ pub find_none : {X : Type 0} (test : X → Bool) (xs : List X) → ((x : X) → 
 find_none test [] h = refl
 find_none test (y ∷ ys) h = rw (h y (inl refl)) (find_none test ys (λ x i. h x (inr i)))
 
-pub none_found : {X : Type 0} (test : X → Bool) (xs : List X) (x : X) → find test xs ≡ None → IsIn x xs → test x ≡ false
-none_found test [] x h i = absurd i
-none_found {X} test (y ∷ ys) x h i = go (none_found test ys x) (test y) refl h i
-  where
-    go : (find test ys ≡ None → IsIn x ys → test x ≡ false) → (b : Bool) → test y ≡ b →
-        cond b (Some y) (find test ys) ≡ None →
-        IsIn x (y ∷ ys) → test x ≡ false
-    go ih true e q j = absurd cc
-    go ih false e q (inl j) = ap test j ∙ e
-    go ih false e q (inr j) = ih q j
-
 -- ---- the first answer
 pub some_here : {Y : Type 0} (f : ℕ → Option Y) (a n : ℕ) (y : Y) → a < n → f a ≡ Some y →
     first_some f (range_with_len a (n - a)) ≡ Some y
@@ -99,20 +88,3 @@ pub greatest_step : (f : ℕ → ℕ) (a n : ℕ) → a < n →
 greatest_step f a n lt = rw (range_step a n lt) refl
 
 -- ---- membership
-pub from_range : (n a x : ℕ) → IsIn x (range_with_len a n) → (a ≤ x) × (x < a + n)
-from_range zero a x i = absurd i
-from_range (suc n) a x (inl q) = (omega arith, omega arith)
-from_range (suc n) a x (inr q) =
-    let r = from_range n (a + 1) x q in (let k = r.0 in omega arith, let k = r.1 in omega arith)
-
-pub into_range : (n a x : ℕ) → a ≤ x → x < a + n → IsIn x (range_with_len a n)
-into_range zero a x le lt = absurd (omega arith)
-into_range (suc n) a x le lt = go (into_range n (a + 1) x) (cases a x le)
-  where
-    cases : (a x : ℕ) → a ≤ x → (x ≡ a) ⊎ (a + 1 ≤ x)
-    cases a x h = grind arith
-
-    go : (a + 1 ≤ x → x < a + 1 + n → IsIn x (range_with_len (a + 1) n)) → (x ≡ a) ⊎ (a + 1 ≤ x) →
-        IsIn x (range_with_len a (suc n))
-    go ih (inl q) = inl q
-    go ih (inr q) = inr (ih q (omega arith))

@@ -10,7 +10,7 @@ use Rattle.dsa_terms.proofs.Moments.{and_true, not_true}
 use Rattle.dsa_terms.proofs.Lists.{all_at}
 use Rattle.dsa_terms.proofs.Examples.{evens, one_by_one, over_2, over_1, case_12, over_01, case_all, sample}
 use Rattle.dsa_terms.proofs.NumberTests.{equal, is_below}
-use Rattle.dsa_search_laws.proofs.Members.{into_range}
+use Rattle.dsa_terms.proofs.Ranges.{into_range}
 use Rattle.dsa_search_laws.proofs.LineTests.{does_cover, covers_exactly, do_rise, is_claim, is_over, has_reason, is_legal, legal, not_legal}
 
 -- ---- tests of a lean line

@@ -1,46 +1,16 @@
 -- The members of the parts, and their whole claims.
-use Rattle.std.proofs.Common.{◌≡◌, ℕ, zero, suc, ◌+◌, ◌<◌, ◌≤◌, ◌⊎◌, inl, inr, Bool, true, false, cond, not, ◌==◌, List, [], ◌∷◌, map, length, filter, sym, refl, ap, subst, arith}
-use Rattle.std.specs.List.{range_with_len}
+use Rattle.std.proofs.Common.{◌≡◌, ℕ, suc, ◌<◌, true, not, ◌==◌, List, [], ◌∷◌, map, length, sym, refl, ap, subst, arith}
 use Rattle.dsa_terms.specs.Buffers.{Buffer, Instance, buffer}
-use Rattle.dsa_terms.specs.Claims.{Entry, IsIn, Rises, buffers_of, IsClaim, IsWhole}
+use Rattle.dsa_terms.specs.Claims.{Entry, IsIn, buffers_of, IsClaim, IsWhole}
 use Rattle.dsa_terms.specs.Logs.{greatest}
 use Rattle.dsa_terms.specs.Parts.{part_of, numbers, members, is_empty, parts, whole}
 use Rattle.dsa_terms.proofs.Lists.{into_map, from_map, into_filter, from_filter}
 use Rattle.dsa_terms.proofs.NumberTests.{equal, same}
+use Rattle.dsa_terms.proofs.Ranges.{from_range, into_range, rises-range, rises-filter_numbers}
 use Rattle.dsa_search_laws.proofs.Logs.{in_greatest}
 use Rattle.dsa_search_laws.proofs.Cuts.{item, last_cut_le}
 
 -- ---- numbers
-pub from_range : (n a x : ℕ) → IsIn x (range_with_len a n) → (a ≤ x) × (x < a + n)
-from_range zero a x i = absurd i
-from_range (suc n) a x (inl q) = (omega arith, omega arith)
-from_range (suc n) a x (inr q) = let r = from_range n (a + 1) x q in
-    (let k = r.0 in omega arith, let k = r.1 in omega arith)
-
-pub into_range : (n a x : ℕ) → a ≤ x → x < a + n → IsIn x (range_with_len a n)
-into_range zero a x le lt = absurd (omega arith)
-into_range (suc n) a x le lt = go (into_range n (a + 1) x) (cases a x le)
-  where
-    cases : (a x : ℕ) → a ≤ x → (x ≡ a) ⊎ (a + 1 ≤ x)
-    cases a x h = grind arith
-
-    go : (a + 1 ≤ x → x < a + 1 + n → IsIn x (range_with_len (a + 1) n)) → (x ≡ a) ⊎ (a + 1 ≤ x) →
-        IsIn x (range_with_len a (suc n))
-    go ih (inl q) = inl q
-    go ih (inr q) = inr (ih q (omega arith))
-
-pub rises-range : (n a : ℕ) → Rises (range_with_len a n)
-rises-range zero a = tt
-rises-range (suc n) a = ((λ y i. (let k = (from_range n (a + 1) y i).0 in omega arith)), rises-range n (a + 1))
-
-pub rises-filter_numbers : (p : ℕ → Bool) (xs : List ℕ) → Rises xs → Rises (filter p xs)
-rises-filter_numbers p [] r = tt
-rises-filter_numbers p (x ∷ xs) r = go (rises-filter_numbers p xs r.1) (p x)
-  where
-    go : Rises (filter p xs) → (b : Bool) → Rises (cond b (x ∷ filter p xs) (filter p xs))
-    go ih true = ((λ y i. r.0 y (from_filter p xs y i).0), ih)
-    go ih false = ih
-
 -- ---- the members of parts
 pub in_members : (I : Instance) (t b : ℕ) → IsIn b (members I t) → (b < length I) × (part_of I b ≡ t)
 in_members I t b i =
@@ -93,3 +63,7 @@ claim_of_part I p i = let r = part_is_members I p i in rw r.1 (whole_claim I r.0
 
 pub whole_is_whole : (p : List ℕ) → IsWhole (whole p)
 whole_is_whole p e i = (in_whole p e i).1
+
+pub length-whole : (bs : List ℕ) → length (whole bs) ≡ length bs
+length-whole [] = refl
+length-whole (b ∷ bs) = ap suc (length-whole bs)

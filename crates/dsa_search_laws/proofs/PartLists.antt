@@ -5,8 +5,9 @@ use Rattle.dsa_terms.specs.Claims.{IsIn, Rises}
 use Rattle.dsa_terms.specs.Logs.{greatest}
 use Rattle.dsa_terms.specs.Parts.{part_of, numbers, members, is_empty, parts, IsUncut}
 use Rattle.dsa_terms.proofs.Lists.{from_map, from_filter}
+use Rattle.dsa_terms.proofs.Ranges.{rises-range, rises-filter_numbers}
 use Rattle.dsa_search_laws.proofs.Cuts.{cut_between}
-use Rattle.dsa_search_laws.proofs.Members.{in_members, member_of, part_is_in, part_is_members, rises-filter_numbers, rises-range}
+use Rattle.dsa_search_laws.proofs.Members.{in_members, member_of, part_is_in, part_is_members}
 use Rattle.dsa_search_laws.proofs.Parts.{same_part_uncut, uncut_same_part}
 
 -- ---- one part

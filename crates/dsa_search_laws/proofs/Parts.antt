@@ -10,11 +10,11 @@ use Rattle.dsa_terms.specs.Logs.{greatest}
 use Rattle.dsa_terms.specs.Search.{first}
 use Rattle.dsa_terms.specs.Parts.{part_of, numbers, members, is_empty, parts, whole, IsUncut, AreTogether, join, first_of_all, offsets_of, offsets_found, searched}
 use Rattle.dsa_terms.proofs.Lists.{into_map, from_map, from_filter, none_or_some}
+use Rattle.dsa_terms.proofs.Ranges.{rises-range}
 use Rattle.dsa_search_laws.proofs.Claims.{not_placed, places_like}
 use Rattle.dsa_search_laws.proofs.First.{first_exactly, first_places}
 use Rattle.dsa_search_laws.proofs.Logs.{layout_places}
 pub use Rattle.dsa_search_laws.proofs.Cuts.{cut_between, no_cut_between, sharing_is_one_part}
-pub use Rattle.dsa_search_laws.proofs.Members.{rises-range}
 pub use Rattle.dsa_search_laws.proofs.Members.{in_members, member_of, part_is_in, part_is_members}
 pub use Rattle.dsa_search_laws.proofs.Members.{buffers_of-whole, in_whole, claim_of_part, whole_is_whole}
 

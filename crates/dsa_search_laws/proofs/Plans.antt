@@ -9,10 +9,11 @@ use Rattle.dsa_terms.specs.Search.{first, not_excluded}
 use Rattle.dsa_terms.specs.Parts.{numbers, parts, whole, join, first_of_all, offsets_of, offsets_found, searched, whole_work}
 use Rattle.dsa_terms.specs.Plans.{layout_height, plan, after_plan, hunt_within, hunt}
 use Rattle.dsa_terms.proofs.NumberTests.{above, at_most, is_at_most, not_at_most}
+use Rattle.dsa_terms.proofs.Ranges.{from_range, into_range}
 use Rattle.dsa_search_laws.proofs.First.{first_places, first_is_complete}
 use Rattle.dsa_search_laws.proofs.Logs.{in_greatest}
 use Rattle.dsa_search_laws.proofs.Search.{EndsBy, lower_of}
-use Rattle.dsa_search_laws.proofs.Members.{in_whole, buffers_of-whole, claim_of_part, into_range, from_range}
+use Rattle.dsa_search_laws.proofs.Members.{in_whole, buffers_of-whole, claim_of_part}
 use Rattle.dsa_search_laws.proofs.Parts.{AllApart, join_some, number_of-left, number_of-right, found_some, offset_at, parts_apart, searched_is_layout}
 
 first_lower_by : (I : Instance) (C D : ℕ) (l : Claim) (seats : List Entry) → IsInstance I → IsClaim I l → D ≤ C →

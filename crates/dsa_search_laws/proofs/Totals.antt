@@ -10,8 +10,9 @@ use Rattle.dsa_terms.specs.Claims.{Entry, IsIn, Rises}
 use Rattle.dsa_terms.specs.Logs.{greatest}
 use Rattle.dsa_terms.specs.Search.{most_work, work}
 use Rattle.dsa_terms.specs.Parts.{part_of, numbers, members, is_empty, parts, whole, whole_work}
+use Rattle.dsa_terms.proofs.Ranges.{rises-range}
 use Rattle.dsa_search_laws.proofs.Search.{work_bounds, most_work_pos}
-use Rattle.dsa_search_laws.proofs.Members.{claim_of_part, rises-range}
+use Rattle.dsa_search_laws.proofs.Members.{claim_of_part}
 
 two_factors : (a b u v w : ℕ) → u + v ≤ w → 1 + u + suc b * v ≤ 1 + suc (a + b) * w
 two_factors a b u v w h =

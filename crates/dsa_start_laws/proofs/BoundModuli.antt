@@ -12,8 +12,8 @@ use Rattle.dsa_terms.specs.Bounds.{counted, rounded_size, stack, moduli, highest
 use Rattle.dsa_terms.proofs.Lists.{from_map, from_filter, into_filter}
 use Rattle.dsa_terms.proofs.Moments.{both_true, sound}
 use Rattle.dsa_terms.proofs.NumberTests.{equal, same}
+use Rattle.dsa_terms.proofs.Ranges.{into_range}
 use Rattle.dsa_search_laws.proofs.Logs.{in_greatest}
-use Rattle.dsa_search_laws.proofs.Members.{into_range}
 use Rattle.dsa_start_laws.proofs.Stacks.{greatest_is, stack_under_bound}
 
 -- ---- the least modulus that reaches the bound

@@ -9,12 +9,12 @@ use Rattle.dsa_terms.specs.Logs.{greatest}
 use Rattle.dsa_terms.specs.Parts.{numbers}
 use Rattle.dsa_terms.specs.Plans.{load}
 use Rattle.dsa_terms.specs.Bounds.{counted, rounded_size, stack, moduli, moments, highest_stack, lower_bound, bound_modulus, bound_moment, HasSections}
-use Rattle.dsa_terms.proofs.Lists.{from_map}
+use Rattle.dsa_terms.proofs.Lists.{from_map, none_found}
 use Rattle.dsa_terms.proofs.Moments.{and_true, both_true}
 use Rattle.dsa_terms.proofs.NumberTests.{equal, same}
+use Rattle.dsa_terms.proofs.Ranges.{from_range}
 use Rattle.dsa_search_laws.proofs.Logs.{in_greatest}
-use Rattle.dsa_search_laws.proofs.Members.{from_range}
-use Rattle.dsa_start_laws.proofs.Stacks.{found_in, found_passes, none_found, in_counted, greatest_is, no_stack_past, stack_under_highest, stack_under_bound}
+use Rattle.dsa_start_laws.proofs.Stacks.{found_in, found_passes, in_counted, greatest_is, no_stack_past, stack_under_highest, stack_under_bound}
 use Rattle.dsa_start_laws.proofs.BoundModuli.{bound_modulus_reaches, stack_by_one}
 
 -- ---- a stack never falls when a buffer is added

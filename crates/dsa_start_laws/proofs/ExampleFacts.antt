@@ -14,7 +14,7 @@ use Rattle.dsa_terms.proofs.Examples.{five, two_of_four, evens, filled, overrun,
 use Rattle.dsa_terms.proofs.ExamplePlanFacts.{five_plan_at_11, five_plan_at_12, two_of_four_plan_at_6, two_of_four_plan_at_7, evens_plan_at_4, evens_plan_at_5, filled_plan_at_3, filled_plan_at_4, overrun_plan_at_7, overrun_plan_at_8, two_parts_plan_at_4, two_parts_plan_at_5, small_below_plan_at_3, small_below_plan_at_4, made_plan_at_65, made_plan_at_66}
 use Rattle.dsa_terms.proofs.Places.{in_at}
 use Rattle.dsa_terms.proofs.NumberTests.{at_most, less}
-use Rattle.dsa_search_laws.proofs.Members.{into_range}
+use Rattle.dsa_terms.proofs.Ranges.{into_range}
 use Rattle.dsa_start_laws.proofs.Planned.{planned_is_layout, planned_none}
 use Rattle.dsa_start_laws.proofs.Peaks.{load_under}
 

@@ -13,7 +13,7 @@ use Rattle.dsa_terms.specs.Starts.{starts}
 use Rattle.dsa_terms.proofs.Lists.{from_append, from_map, into_filter, true_or_false}
 use Rattle.dsa_terms.proofs.Moments.{do_share-false}
 use Rattle.dsa_terms.proofs.NumberTests.{equal}
-use Rattle.dsa_search_laws.proofs.Members.{into_range}
+use Rattle.dsa_terms.proofs.Ranges.{into_range}
 use Rattle.dsa_search_laws.proofs.Parts.{offset_at}
 use Rattle.dsa_search_laws.proofs.Plans.{under_layout_height}
 use Rattle.dsa_search_laws.proofs.Search.{has_seat}

@@ -1,5 +1,5 @@
 -- The lower bound: its one line is legal at each smaller capacity, and so it is low.
-use Rattle.std.proofs.Common.{◌≡◌, ℕ, zero, suc, ◌-◌, ◌%◌, ◌<◌, ◌≤◌, ◌≢◌, ◌⊎◌, inl, inr, Bool, true, false, ◌&&◌, ◌==◌, cond, List, [], ◌∷◌, map, length, filter, sum_by, slice_get, take, find, nat_le, max, Some, None, sym, refl, ap, ◌∙◌, subst, arith}
+use Rattle.std.proofs.Common.{◌≡◌, ℕ, zero, suc, ◌-◌, ◌%◌, ◌<◌, ◌≤◌, ◌≢◌, ◌⊎◌, inl, inr, Bool, true, false, ◌&&◌, ◌==◌, cond, List, [], ◌∷◌, map, length, filter, sum_by, slice_get, take, find, nat_le, max, Some, sym, refl, ap, ◌∙◌, subst, arith}
 use Rattle.std.proofs.lemmas.Bool.Decides.{nat_tests}
 use Rattle.std.proofs.lemmas.List.Sums.{sum_by-cons}
 use Rattle.dsa_terms.specs.Buffers.{Buffer, Instance, buffer, is_live, IsInstance}
@@ -11,9 +11,10 @@ use Rattle.dsa_terms.specs.Bounds.{counted, rounded_size, stack, moduli, moments
 use Rattle.dsa_terms.proofs.Lists.{from_map, from_filter}
 use Rattle.dsa_terms.proofs.Moments.{and_true, both_true, live_before, sound}
 use Rattle.dsa_terms.proofs.NumberTests.{below_or_from}
+use Rattle.dsa_terms.proofs.Ranges.{from_range, into_range, rises-range, rises-filter_numbers}
 use Rattle.dsa_search_laws.proofs.Logs.{in_greatest, accepted_is_infeasible}
 use Rattle.dsa_search_laws.proofs.Cuts.{item}
-use Rattle.dsa_search_laws.proofs.Members.{in_whole, buffers_of-whole, rises-filter_numbers, rises-range, from_range, into_range, whole_is_whole}
+use Rattle.dsa_search_laws.proofs.Members.{in_whole, buffers_of-whole, whole_is_whole}
 
 pub found_in : {X : Type 0} (p : X → Bool) (xs : List X) (x : X) → find p xs ≡ Some x → IsIn x xs
 found_in p [] x h = absurd cc
@@ -30,16 +31,6 @@ found_passes {X} p (y ∷ ys) x h = go (found_passes p ys x) (p y) refl h
     go : (find p ys ≡ Some x → p x ≡ true) → (b : Bool) → p y ≡ b → cond b (Some y) (find p ys) ≡ Some x → p x ≡ true
     go ih true e q = let z : y ≡ x = cc in rw (← z) e
     go ih false e q = ih q
-
-pub none_found : {X : Type 0} (p : X → Bool) (xs : List X) (x : X) → find p xs ≡ None → IsIn x xs → p x ≡ false
-none_found p [] x h i = absurd i
-none_found {X} p (y ∷ ys) x h i = go (none_found p ys x) (p y) refl h i
-  where
-    go : (find p ys ≡ None → IsIn x ys → p x ≡ false) → (b : Bool) → p y ≡ b → cond b (Some y) (find p ys) ≡ None →
-        IsIn x (y ∷ ys) → p x ≡ false
-    go ih true e q j = absurd cc
-    go ih false e q (inl j) = ap p j ∙ e
-    go ih false e q (inr j) = ih q j
 
 -- ---- the counted buffers
 counts : Instance → ℕ → ℕ → ℕ → Bool

@@ -2,6 +2,7 @@ pub mod Numbers
 pub mod NumberTests
 pub mod Lists
 pub mod Places
+pub mod Ranges
 pub mod Moments
 pub mod Examples
 mod ExampleFacts

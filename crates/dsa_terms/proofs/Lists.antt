@@ -1,9 +1,10 @@
 -- Membership in a list, and the lists that are made of others.
-use Rattle.std.proofs.Common.{◌≡◌, ◌≤◌, ◌⊎◌, inl, inr, ℕ, Bool, true, false, cond, ◌==◌, ◌||◌, List, [], ◌∷◌, ◌++◌, map, length, filter, Option, Some, None, refl, ap, ◌∙◌, subst, arith}
+use Rattle.std.proofs.Common.{◌≡◌, ◌≤◌, ◌⊎◌, inl, inr, ℕ, Bool, true, false, cond, ◌==◌, ◌||◌, List, [], ◌∷◌, ◌++◌, map, length, filter, find, Option, Some, None, refl, ap, ◌∙◌, subst, arith}
 use Rattle.std.specs.List.{flat_map, list_any, list_all}
 use Rattle.std.specs.Option.{option_or}
 use Rattle.dsa_terms.specs.Claims.{IsIn, Entry}
 use Rattle.dsa_terms.specs.Buffers.{Instance}
+use Rattle.dsa_terms.specs.Logs.{greatest}
 use Rattle.dsa_terms.specs.Parts.{has}
 use Rattle.dsa_terms.specs.Search.{comes_before, put_in, in_order, first_some}
 use Rattle.dsa_terms.proofs.Moments.{and_true}
@@ -195,3 +196,22 @@ has_in k ks h = let r = any_gives (λ j. j == k) ks h in subst (λ (j : ℕ). Is
 pub in_has : (k : ℕ) (ks : List ℕ) → IsIn k ks → has k ks ≡ true
 unfolding has
 in_has k ks i = any_from (λ j. j == k) ks k i (same k k refl)
+
+pub none_found : {X : Type 0} (test : X → Bool) (xs : List X) (x : X) → find test xs ≡ None → IsIn x xs → test x ≡ false
+none_found test [] x h i = absurd i
+none_found {X} test (y ∷ ys) x h i = go (none_found test ys x) (test y) refl h i
+  where
+    go : (find test ys ≡ None → IsIn x ys → test x ≡ false) → (b : Bool) → test y ≡ b →
+        cond b (Some y) (find test ys) ≡ None →
+        IsIn x (y ∷ ys) → test x ≡ false
+    go ih true e q j = absurd cc
+    go ih false e q (inl j) = ap test j ∙ e
+    go ih false e q (inr j) = ih q j
+
+pub same_some : {X : Type 0} {x y : X} → Some x ≡ Some y → x ≡ y
+same_some e = cc
+
+-- the greatest is at most what all are at most
+pub greatest_under : (xs : List ℕ) (m : ℕ) → ((x : ℕ) → IsIn x xs → x ≤ m) → greatest xs ≤ m
+greatest_under [] m h = omega arith
+greatest_under (x ∷ xs) m h = let a = h x (inl refl) in let k = greatest_under xs m (λ y i. h y (inr i)) in omega arith

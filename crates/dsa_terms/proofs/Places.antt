@@ -1,8 +1,9 @@
 -- Items of lists by their place, and membership as std has it.
 use Rattle.std.proofs.Common.{◌≡◌, ℕ, zero, suc, ◌<◌, inl, inr, List, [], ◌∷◌, length, slice_index_or, refl, sym, subst, arith}
 use Rattle.std.specs.List.{All, AllPairs, Contains}
-use Rattle.std.specs.List.Sorted.{IsStrictlyIncreasing}
+use Rattle.std.specs.List.Sorted.{IsPermutation, IsStrictlyIncreasing}
 use Rattle.std.proofs.lemmas.List.Kept.{AllPairs-from_increasing}
+use Rattle.std.proofs.lemmas.List.Sorted.{Contains-permutation}
 use Rattle.dsa_terms.specs.Claims.{IsIn, Rises}
 
 -- the item does not hang on what is answered past the end
@@ -54,3 +55,6 @@ rises_from_pairs (x ∷ xs) h = (
 
 pub rises_from_increasing : (xs : List ℕ) → IsStrictlyIncreasing xs → Rises xs
 rises_from_increasing xs h = rises_from_pairs xs (AllPairs-from_increasing xs h)
+
+pub in_permutation : {X : Type 0} (xs ys : List X) (x : X) → IsPermutation xs ys → IsIn x xs → IsIn x ys
+in_permutation xs ys x p i = from_contains ys x (Contains-permutation xs ys x p (to_contains xs x i))

@@ -3,6 +3,7 @@ use Rattle.std.proofs.Common.{◌≡◌, ◌≢◌, Bool, true, false, ◌||◌,
 use Rattle.std.specs.Option.{option_map_or}
 use Rattle.std.proofs.lemmas.Slice.Eq.{bytes_eq-Decides}
 use Rattle.dsa_terms.specs.Firsts.{when, first_fault}
+use Rattle.dsa_terms.proofs.Moments.{or_false}
 use Rattle.command_words.specs.Options.{Word, verb_word, verbs}
 use Rattle.command_words.specs.Pairs.{has_equal, pairs_of}
 use Rattle.command_words.specs.Commands.{Command, Solve, Least, Verify, Refute, Trim, Bounds, Report, Trial, command_of, command_or_fault, command_fault, command_with, names_of}
@@ -34,14 +35,10 @@ legal (word ∷ words) c is = elim (find (λ v. bytes_eq (verb_word v) word) ver
           (not_last _ _ (has_equal (names_of (command_with verb (pairs_of words)))) fault.SameName parts.0)
     ] is
 
-neither : (a b : Bool) → (a || b) ≡ false → (a ≡ false) × (b ≡ false)
-neither true b is = absurd cc
-neither false b is = (refl, is)
-
 last_two : (input output log : Word) → has_equal (input ∷ output ∷ log ∷ []) ≡ false → output ≢ log
 last_two input output log is same =
-    let rest = (neither _ (has_equal (output ∷ log ∷ [])) is).1 in
-    let one = (neither (bytes_eq output log) false (neither _ (has_equal (log ∷ [])) rest).0).0 in
+    let rest = (or_false _ (has_equal (output ∷ log ∷ [])) is).1 in
+    let one = (or_false (bytes_eq output log) false (or_false _ (has_equal (log ∷ [])) rest).0).0 in
     let other = (bytes_eq-Decides output log).1 same in
     cc
 

@@ -5,29 +5,29 @@ use Rattle.std.specs.List.{All}
 use Rattle.std.proofs.lemmas.List.{drop_all, get_or-replicate, get_or-set_same, get_or-set_other, length-replicate, length-set, reverse-append}
 use Rattle.std.proofs.lemmas.List.Sorted.{IsPermutation-reverse, IsPermutation-sym}
 use Rattle.std.proofs.lemmas.List.FromFn.{fill_by_all, length-map-range_with_len}
-use Rattle.dsa_terms.specs.Buffers.{Instance, IsInstance, buffer, do_share, no_buffer}
+use Rattle.dsa_terms.specs.Buffers.{Instance, IsInstance, buffer, do_share}
 use Rattle.dsa_terms.specs.Claims.{Entry, IsIn, number_of}
 use Rattle.dsa_terms.specs.Fits.{FitRule, HasEach, IsFreeRange, Range, best_place, first_place, fitted, free_ranges, highest, holds, neighbours, start_in, tightest, top}
 use Rattle.dsa_terms.specs.Layouts.{IsLayout}
 use Rattle.dsa_terms.specs.Parts.{numbers, offsets_of}
 use Rattle.dsa_terms.specs.Plans.{layout_height}
-use Rattle.dsa_terms.proofs.Lists.{from_append, from_filter, from_map}
+use Rattle.dsa_terms.proofs.Lists.{from_append, from_filter, from_map, greatest_under}
 use Rattle.dsa_terms.proofs.Moments.{sound}
 use Rattle.dsa_terms.proofs.Numbers.{next_at_or_above, next_is_below, next_is_multiple}
 use Rattle.dsa_terms.proofs.NumberTests.{differ, equal}
-use Rattle.dsa_terms.proofs.Places.{all_from_in, in_from_all}
-use Rattle.dsa_search_laws.proofs.Members.{from_range}
+use Rattle.dsa_terms.proofs.Places.{all_from_in, in_from_all, in_permutation}
+use Rattle.dsa_terms.proofs.Ranges.{from_range}
 use Rattle.dsa_search_laws.proofs.Search.{has_seat}
 use Rattle.dsa_search_laws.proofs.Parts.{offset_at}
 use Rattle.dsa_start_laws.proofs.Fits.{fitted_has, fitted_is_stacked, stacked_is_layout}
 use Rattle.dsa_start_laws.proofs.Places.{IsClearRule, best_is_clear, first_is_clear, first_is_least, holds_is, tightest_is_in, under_highest}
 use Rattle.dsa_start_laws.proofs.Ranges.{free_ranges_exactly}
 use Rattle.dsa_model.specs.Buffer.{IsBuffer}
+use Rattle.dsa_model.proofs.Instances.{sound_buffer}
 use Rattle.first_fit.specs.Rules.{IsOrderOf, rule_of}
 use Rattle.first_fit.specs.Taken.{IsSeat}
 use Rattle.first_fit.specs.declared.fits.Rule.{Rule}
 use Rattle.first_fit.specs.declared.fits.Rule.TheVariants.{Best, First}
-use Rattle.first_fit.proofs.Lists.{greatest_under, in_permutation}
 
 -- how much one more buffer can add to the height
 abbrev pub rise : ℕ
@@ -88,11 +88,6 @@ highest_of_neighbours I b placed m h = greatest_under (map (top I) others) m (λ
     others : List Entry
     others = filter (λ (e : Entry). do_share (buffer I b) (buffer I e.0)) placed
 
--- a buffer of the instance is within the limits
-pub at_number : (I : Instance) (b : ℕ) → All IsBuffer I → b < length I → IsBuffer (buffer I b)
-unfolding buffer
-at_number I b h lt = h b no_buffer lt
-
 pub placed_top : (I : Instance) (rule : FitRule) (b k : ℕ) (placed : List Entry) → IsLowRule I rule →
     IsBuffer (buffer I b) →
     ((e : Entry) → IsIn e placed → top I e ≤ k * rise) →
@@ -126,7 +121,7 @@ fitted_height I rule order low all o = greatest_under (map (λ b. slice_index of
     (length order * rise) (λ x i.
     let r = from_map (λ b. slice_index offsets b + (buffer I b).size) (numbers (length I)) x i in
     let lt : r.0 < length I = let z = (from_range (length I) 0 r.0 r.1).1 in omega arith in
-    let z = fitted_tops I rule order 0 [] low (λ b j. at_number I b all
+    let z = fitted_tops I rule order 0 [] low (λ b j. sound_buffer I b all
     (in_from_all (λ b. b < length I) order o.in_range b j)) (λ e j. absurd j)
     (r.0, number_of placed r.0) (has_seat placed r.0 (fitted_has I rule order [] r.0 (o.each r.0 lt))) in
     let e = offset_at I placed r.0 lt in let q = r.2 in omega arith)
@@ -210,7 +205,7 @@ fitting_more I rule order k placed more offsets now b d x low all o lt is at gro
   tops = all_from_in (λ (e : Entry). top I e ≤ (k + 1) * rise) (placed ++ (b, x) ∷ [])
       (λ e i. elim (in_more placed (b, x) e i) [
         | inl j ↦ (let z = in_from_all (λ (e : Entry). top I e ≤ k * rise) placed h.tops e j in omega arith)
-        | inr q ↦ rw (q, at) (placed_top I rule b k (reverse placed) low (at_number I b all bn) (λ f j.
+        | inr q ↦ rw (q, at) (placed_top I rule b k (reverse placed) low (sound_buffer I b all bn) (λ f j.
             in_from_all (λ (e : Entry). top I e ≤ k * rise) placed h.tops f
             (in_permutation (reverse placed) placed f (IsPermutation-sym placed (reverse placed)
             (IsPermutation-reverse placed)) j)))

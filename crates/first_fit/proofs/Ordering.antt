@@ -15,15 +15,15 @@ use Rattle.dsa_terms.specs.Orders.{IsOrder, IsOrdered, area}
 use Rattle.dsa_terms.specs.Parts.{numbers}
 use Rattle.dsa_terms.proofs.Lists.{from_map}
 use Rattle.dsa_terms.proofs.NumberTests.{differ, equal, not_less}
-use Rattle.dsa_search_laws.proofs.Members.{from_range, rises-range}
+use Rattle.dsa_terms.proofs.Ranges.{from_range, rises-range}
+use Rattle.dsa_terms.proofs.Places.{in_permutation}
 use Rattle.dsa_start_laws.proofs.Orders.{measures_are_orders, numbers_are_ordered, one_order, ordered_members}
 use Rattle.dsa_model.specs.Buffer.{IsBuffer}
+use Rattle.dsa_model.proofs.Instances.{sound_buffer}
 use Rattle.first_fit.specs.Orders.{before_by, in_order, key_of, keyed}
 use Rattle.first_fit.specs.declared.orders.Order.{Order}
 use Rattle.first_fit.specs.declared.orders.Order.TheVariants.{AreaFalling, LowerRising, SizeFalling}
-use Rattle.first_fit.proofs.Fitting.{at_number}
 use Rattle.first_fit.proofs.Keys.{comes_first}
-use Rattle.first_fit.proofs.Lists.{in_permutation}
 
 -- how pairs are compared: by the first, and where these are equal by the second
 abbrev pub pair_cmp : (a b : ℕ × ℕ) → Ordering
@@ -161,7 +161,7 @@ sorted_is order I n xs ys all e m moved up = one_order (before_by order I) (map 
         let r = from_map (keyed order I) (numbers (length I)) f
         (rw is at (in_permutation ys xs f (IsPermutation-sym xs ys moved) i)) in
         let lt : r.0 < length I = let z = (from_range (length I) 0 r.0 r.1).1 in omega arith in
-        rw r.2 (refl, at_number I r.0 all lt)
+        rw r.2 (refl, sound_buffer I r.0 all lt)
 
     climbs : (i j : ℕ) (d : ℕ × ℕ) → j ≡ i + 1 → j < length ys → IsUpTo (slice_index_or ys i d) (slice_index_or ys j d)
     climbs i j d e lt = rw e (not_before (slice_index_or ys i d).0 (slice_index_or ys (i + 1) d).0

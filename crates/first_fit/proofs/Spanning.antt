@@ -9,10 +9,9 @@ use Rattle.dsa_terms.specs.Buffers.{Buffer, Instance, buffer, do_share}
 use Rattle.dsa_terms.specs.Claims.{Entry}
 use Rattle.dsa_terms.specs.Fits.{neighbours, top}
 use Rattle.dsa_terms.proofs.Lists.{from_filter, from_map, into_filter, into_map}
-use Rattle.dsa_terms.proofs.Places.{all_from_in, in_from_all}
+use Rattle.dsa_terms.proofs.Places.{all_from_in, in_from_all, in_permutation}
 use Rattle.first_fit.specs.Taken.{AreTaken, IsLow, IsSeat}
 use Rattle.first_fit.specs.declared.spans.Span.{Span}
-use Rattle.first_fit.proofs.Lists.{in_permutation}
 
 -- its addresses
 abbrev pub span_of : Instance → Entry → Span

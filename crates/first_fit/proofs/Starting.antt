@@ -17,7 +17,7 @@ use Rattle.dsa_terms.specs.Starts.{lowest_place, starts}
 use Rattle.dsa_terms.proofs.Lists.{all_at, all_from, from_append, true_or_false}
 use Rattle.dsa_terms.proofs.Places.{all_from_in, in_at, in_from_all, place_of}
 use Rattle.dsa_terms.proofs.NumberTests.{at_most, below_or_last, is_at_most, less, not_less}
-use Rattle.dsa_search_laws.proofs.Members.{from_range, into_range}
+use Rattle.dsa_terms.proofs.Ranges.{from_range, into_range}
 use Rattle.dsa_start_laws.proofs.Fits.{into_ordered_by}
 use Rattle.dsa_start_laws.proofs.Orders.{from_ordered_by}
 use Rattle.first_fit.specs.Orders.{before_by, in_order}

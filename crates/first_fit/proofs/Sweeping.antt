@@ -8,7 +8,7 @@ use Rattle.dsa_terms.specs.Buffers.{Instance, IsInstance, buffer}
 use Rattle.dsa_terms.specs.Claims.{Entry, IsIn}
 use Rattle.dsa_terms.specs.Fits.{Range, best_place, free_ranges, highest, holds, is_tighter, start_in, tighter_of, tightest, top}
 use Rattle.dsa_terms.specs.Logs.{greatest}
-use Rattle.dsa_terms.proofs.Lists.{from_filter, into_filter, from_map, none_or_some}
+use Rattle.dsa_terms.proofs.Lists.{from_filter, into_filter, from_map, none_or_some, greatest_under}
 use Rattle.dsa_terms.proofs.NumberTests.{is_below, not_below}
 use Rattle.dsa_search_laws.proofs.Logs.{in_greatest}
 use Rattle.dsa_start_laws.proofs.Places.{tightest_is_in}
@@ -19,7 +19,6 @@ use Rattle.first_fit.specs.Taken.{AreTaken, IsLow}
 use Rattle.first_fit.specs.declared.spans.Span.{Span}
 use Rattle.first_fit.proofs.Climbing.{no_span}
 use Rattle.first_fit.proofs.Gaps.{gaps, gaps_exactly}
-use Rattle.first_fit.proofs.Lists.{greatest_under}
 
 -- ---- the tighter of two ranges, by numbers
 -- the tighter of several, with the best so far

@@ -14,9 +14,10 @@ use Rattle.dsa_terms.specs.Parts.{numbers}
 use Rattle.dsa_terms.specs.Plans.{layout_height}
 use Rattle.dsa_terms.proofs.Lists.{from_filter, from_map, into_filter, into_map}
 use Rattle.dsa_terms.proofs.Moments.{sound}
-use Rattle.dsa_terms.proofs.Places.{all_from_in, from_contains, place_of, to_contains}
+use Rattle.dsa_terms.proofs.Places.{all_from_in, place_of, in_permutation}
 use Rattle.dsa_terms.proofs.NumberTests.{apart, differ}
-use Rattle.lifetime.proofs.Lists.{among, below, filter_more, rises-numbers}
+use Rattle.dsa_terms.proofs.Ranges.{below, among}
+use Rattle.lifetime.proofs.Lists.{filter_more, rises-numbers}
 use Rattle.layout_report.specs.Rows.{AreLiveRows, AreStacked, buffer_row}
 use Rattle.layout_report.specs.declared.row.Row.{Row}
 
@@ -175,9 +176,6 @@ stack I C offsets t x (q ∷ qs) s l h r k = (
                 q.place + q.size ≤ row.place
             low (inl k) = omega (arith, ep, es, fp)
             low (inr k) = absurd (omega (arith, ep, fp, lt))
-
-in_permutation : {X : Type 0} (xs ys : List X) (x : X) → IsPermutation xs ys → IsIn x xs → IsIn x ys
-in_permutation xs ys x p i = from_contains ys x (Contains-permutation xs ys x p (to_contains xs x i))
 
 pub are_live : (I : Instance) (C : ℕ) (offsets : List ℕ) (t n : ℕ) (rows now : List Row) → IsInstance I →
     IsLayout I C offsets → n ≡ length I → rows ≡ rows_before I offsets t n → IsPermutation rows now →

@@ -10,6 +10,7 @@ use Rattle.dsa_terms.specs.Parts.{numbers}
 use Rattle.dsa_terms.specs.Plans.{IsPeak, load}
 use Rattle.dsa_terms.proofs.Lists.{from_filter, into_filter, nil_or_not}
 use Rattle.dsa_terms.proofs.Places.{all_from_in, in_at}
+use Rattle.dsa_terms.proofs.Ranges.{below, among}
 use Rattle.dsa_model.specs.Buffer.{IsBuffer}
 use Rattle.dsa_model.specs.Lists.{items_of}
 use Rattle.lifetime.specs.Edges.{has_member, places_of}
@@ -19,7 +20,7 @@ use Rattle.lifetime.specs.SectionList.{AreSectionsOf, HasAllAt, IsKept, Section,
 use Rattle.lifetime.specs.Thin.{AreAmong, IsThinnedTo, StandForAll, StandsFor}
 use Rattle.lifetime.specs.Views.{list_of, section_of}
 use Rattle.lifetime.specs.declared.section_list.Section.{Section as Declared}
-use Rattle.lifetime.proofs.Lists.{among, below, filter_same, rises-numbers, rises_at}
+use Rattle.lifetime.proofs.Lists.{filter_same, rises-numbers, rises_at}
 use Rattle.lifetime.proofs.Live.{into_live, rises_live}
 use Rattle.lifetime.proofs.Loads.{load_is, load_positive}
 use Rattle.lifetime.proofs.Switching.{has_is}

@@ -4,10 +4,10 @@ use Rattle.std.proofs.lemmas.List.{get_or-append_right, get_or_append_left, leng
 use Rattle.dsa_terms.specs.Claims.{IsIn, Rises}
 use Rattle.dsa_terms.proofs.Lists.{from_append, from_map, into_map, left_append, right_append}
 use Rattle.dsa_terms.proofs.NumberTests.{below_or_last}
+use Rattle.dsa_terms.proofs.Ranges.{rises-push}
 use Rattle.lifetime.specs.Runs.{starts_of}
 use Rattle.lifetime.specs.SectionList.{Section, no_section}
 use Rattle.lifetime.specs.Thin.{AreAmong, IsThinnedTo, AreThin, IsBetween, StandsIn}
-use Rattle.lifetime.proofs.Lists.{rises-push}
 use Rattle.lifetime.proofs.Stretches.{AreApart, AreStretches, IsAbove, IsNotOver}
 
 rises_left : (xs ys : List ℕ) → Rises (xs ++ ys) → Rises xs

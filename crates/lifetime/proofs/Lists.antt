@@ -3,31 +3,13 @@ use Rattle.std.proofs.Common.{◌≡◌, ◌≢◌, ℕ, zero, suc, ◌+◌, ◌
 use Rattle.std.specs.List.{range_with_len}
 use Rattle.dsa_terms.specs.Claims.{IsIn, Rises}
 use Rattle.dsa_terms.specs.Parts.{numbers}
-use Rattle.dsa_terms.proofs.Lists.{from_append, from_filter, into_filter}
+use Rattle.dsa_terms.proofs.Lists.{from_filter, into_filter}
 use Rattle.dsa_terms.proofs.Places.{in_at}
-use Rattle.dsa_model.proofs.Ranges.{from_range, into_range}
+use Rattle.dsa_terms.proofs.Ranges.{rises-range, rises-filter_numbers}
 
 -- ---- numbers
-rises-range : (n a : ℕ) → Rises (range_with_len a n)
-rises-range zero a = tt
-rises-range (suc n) a = ((λ y i. (let k = (from_range n (a + 1) y i).0 in omega arith)), rises-range n (a + 1))
-
-pub below : (n x : ℕ) → IsIn x (numbers n) → x < n
-below n x i = let k = (from_range n 0 x i).1 in omega arith
-
-pub among : (n x : ℕ) → x < n → IsIn x (numbers n)
-among n x lt = into_range n 0 x (omega arith) (omega arith)
-
-pub rises-filter : (p : ℕ → Bool) (xs : List ℕ) → Rises xs → Rises (filter p xs)
-rises-filter p [] r = tt
-rises-filter p (x ∷ xs) r = go (rises-filter p xs r.1) (p x)
-  where
-    go : Rises (filter p xs) → (b : Bool) → Rises (cond b (x ∷ filter p xs) (filter p xs))
-    go ih true = ((λ y i. r.0 y (from_filter p xs y i).0), ih)
-    go ih false = ih
-
 pub rises-numbers : (p : ℕ → Bool) (n : ℕ) → Rises (filter p (numbers n))
-rises-numbers p n = rises-filter p (numbers n) (rises-range n 0)
+rises-numbers p n = rises-filter_numbers p (numbers n) (rises-range n 0)
 
 -- ---- filters
 filter_more_from : (p : ℕ → Bool) (n a j : ℕ) → a + n ≡ j →
@@ -83,16 +65,6 @@ filter_differs p q xs x i ne e = go (p x) (q x) refl refl
         let m = (from_filter p xs x k).1 in absurd cc
 
 -- ---- lists that rise
-pub rises-push : (xs : List ℕ) (y : ℕ) → Rises xs → ((x : ℕ) → IsIn x xs → x < y) → Rises (xs ++ y ∷ [])
-rises-push [] y r h = ((λ z i. absurd i), tt)
-rises-push (x ∷ xs) y r h = (first, rises-push xs y r.1 (λ z i. h z (inr i)))
-  where
-    first : (z : ℕ) → IsIn z (xs ++ y ∷ []) → x < z
-    first z i = elim (from_append xs (y ∷ []) z i) [
-      | inl j ↦ r.0 z j
-      | inr j ↦ elim j [ inl e ↦ (let k = h x (inl refl) in omega arith) | inr k ↦ absurd k ]
-    ]
-
 pub rises_at : (xs : List ℕ) (j k d : ℕ) → Rises xs → j < k → k < length xs →
     slice_index_or xs j d < slice_index_or xs k d
 rises_at [] j k d r lt kn = absurd (omega arith)

@@ -5,10 +5,11 @@ use Rattle.dsa_terms.specs.Buffers.{Instance, IsLive, buffer, is_live, no_buffer
 use Rattle.dsa_terms.specs.Claims.{IsIn, Rises}
 use Rattle.dsa_terms.specs.Parts.{numbers}
 use Rattle.dsa_terms.proofs.Lists.{from_filter, into_filter}
+use Rattle.dsa_terms.proofs.Ranges.{below, among}
 use Rattle.dsa_model.specs.Buffer.{IsBuffer}
 use Rattle.lifetime.specs.Runs.{live_before, was_live}
 use Rattle.lifetime.specs.SectionList.{live_at}
-use Rattle.lifetime.proofs.Lists.{among, below, rises-numbers}
+use Rattle.lifetime.proofs.Lists.{rises-numbers}
 
 pub into_live : (I : Instance) (t b : ℕ) → b < length I → IsLive (buffer I b) t → IsIn b (live_at I t)
 unfolding live_at

@@ -8,13 +8,14 @@ use Rattle.std.specs.List.{All}
 use Rattle.dsa_terms.specs.Claims.{IsIn, Rises}
 use Rattle.dsa_terms.specs.Parts.{has, numbers}
 use Rattle.dsa_terms.proofs.NumberTests.{same_or_not}
+use Rattle.dsa_terms.proofs.Ranges.{below}
 use Rattle.dsa_model.specs.Lists.{items_of}
 use Rattle.lifetime.specs.Edges.{has_member}
 use Rattle.lifetime.specs.Places.{HasMembersBelow, ends_with}
 use Rattle.lifetime.specs.SectionList.{Section, no_section}
 use Rattle.lifetime.specs.Views.{section_of}
 use Rattle.lifetime.specs.declared.section_list.Section.{Section as Declared}
-use Rattle.lifetime.proofs.Lists.{below, filter_more}
+use Rattle.lifetime.proofs.Lists.{filter_more}
 
 -- s put last in the list where b is one of the members
 abbrev pub with_last : List ℕ → ℕ → ℕ → List ℕ → List ℕ

@@ -7,11 +7,12 @@ use Rattle.dsa_model.specs.Lists.{pair_at}
 use Rattle.dsa_terms.proofs.Lists.{from_filter, has_in, in_has}
 use Rattle.dsa_terms.proofs.Places.{place_of}
 use Rattle.dsa_terms.proofs.NumberTests.{below_or_from, below_or_last, same_or_not}
+use Rattle.dsa_terms.proofs.Ranges.{below, among}
 use Rattle.lifetime.specs.Edges.{AreEdges, IsAfter, IsPassed, edge_moments}
 use Rattle.lifetime.specs.Runs.{live_before, was_live}
 use Rattle.lifetime.specs.SectionList.{live_at}
 use Rattle.lifetime.specs.Switching.{IsSwitched}
-use Rattle.lifetime.proofs.Lists.{among, below, filter_differs, filter_same, in_or_not, rises-numbers}
+use Rattle.lifetime.proofs.Lists.{filter_differs, filter_same, in_or_not, rises-numbers}
 use Rattle.lifetime.proofs.Stays.{quiet}
 use Rattle.lifetime.proofs.Switching.{filter_is, has_filter}
 

@@ -7,12 +7,13 @@ use Rattle.dsa_model.specs.Lists.{pair_at}
 use Rattle.dsa_terms.proofs.Lists.{from_append, nil_or_not, left_append, right_append}
 use Rattle.dsa_terms.proofs.Places.{place_of}
 use Rattle.dsa_terms.proofs.NumberTests.{below_or_from}
+use Rattle.dsa_terms.proofs.Ranges.{below, rises-push}
 use Rattle.dsa_model.proofs.Live.{not_live_before}
 use Rattle.std.proofs.lemmas.List.{map-append}
 use Rattle.lifetime.specs.Edges.{AreEdges, AreRunsBefore, IsPassed, edge_moments}
 use Rattle.lifetime.specs.Runs.{BeginsRun, live_before, starts_of, was_live}
 use Rattle.lifetime.specs.SectionList.{Section, live_at}
-use Rattle.lifetime.proofs.Lists.{below, filter_same, rises-push}
+use Rattle.lifetime.proofs.Lists.{filter_same}
 use Rattle.lifetime.proofs.Stays.{not_live_before_lower, quiet, was_live_after}
 
 -- what is known before the edges from the next on

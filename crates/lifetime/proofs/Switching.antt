@@ -11,9 +11,10 @@ use Rattle.dsa_terms.specs.Parts.{has, numbers}
 use Rattle.dsa_terms.proofs.Lists.{from_filter, has_in, in_has, into_filter, true_or_false}
 use Rattle.dsa_terms.proofs.Places.{in_at, place_of}
 use Rattle.dsa_terms.proofs.NumberTests.{below_or_from}
+use Rattle.dsa_terms.proofs.Ranges.{below, among}
 use Rattle.lifetime.specs.Switching.{IsSwitched}
 use Rattle.lifetime.proofs.Among.{same_members}
-use Rattle.lifetime.proofs.Lists.{among, below, rises-numbers, rises_at}
+use Rattle.lifetime.proofs.Lists.{rises-numbers, rises_at}
 
 -- ---- tests of membership
 pub has_is : (xs : List ℕ) (b : ℕ) (p : Bool) → (IsIn b xs → p ≡ true) → (p ≡ true → IsIn b xs) → has b xs ≡ p

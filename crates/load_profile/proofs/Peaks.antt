@@ -8,10 +8,10 @@ use Rattle.dsa_terms.specs.Parts.{numbers}
 use Rattle.dsa_terms.specs.Plans.{IsPeak, load}
 use Rattle.dsa_terms.proofs.Lists.{nil_or_not}
 use Rattle.dsa_terms.proofs.NumberTests.{below_or_from, same_or_not}
+use Rattle.dsa_terms.proofs.Ranges.{below}
 use Rattle.dsa_model.specs.Buffer.{IsBuffer}
 use Rattle.lifetime.specs.SectionList.{AreSectionsOf, Section, SectionList, count_of, live_at, members_of, no_section, start_of}
 use Rattle.lifetime.proofs.Belonging.{from_live}
-use Rattle.lifetime.proofs.Lists.{below}
 use Rattle.lifetime.proofs.Loads.{load_is}
 use Rattle.load_profile.specs.LoadProfile.{IsFirstGreatest, IsGreatestOf, IsPeakOf, load_of, loads_of}
 

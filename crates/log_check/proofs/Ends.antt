@@ -3,11 +3,11 @@ use Rattle.std.proofs.Common.{◌≡◌, ℕ, zero, suc, false, nat_lt, List, []
 use Rattle.std.proofs.lemmas.Bool.Decides.{nat_tests}
 use Rattle.dsa_terms.specs.Claims.{Claim, Entry, IsWhole}
 use Rattle.dsa_terms.specs.Logs.{Line, claim_of}
+use Rattle.dsa_terms.proofs.Lists.{none_found}
 use Rattle.log_text.specs.declared.raw.RawLine.{RawLine}
 use Rattle.log_check.specs.declared.fault.CheckFault.TheVariants as fault
 use Rattle.log_check.specs.Faults.{end_fault, line_of}
 use Rattle.dsa_model.proofs.Faults.{map_none}
-use Rattle.dsa_model.proofs.Ranges.{none_found}
 
 -- the least buffer whose bound is above 0
 abbrev raised : Claim → Option ℕ

@@ -13,10 +13,10 @@ use Rattle.dsa_terms.proofs.Lists.{from_map, length-filter_le, nil_or_not}
 use Rattle.dsa_terms.proofs.Moments.{live_before}
 use Rattle.dsa_terms.proofs.Numbers.{next_is_below}
 use Rattle.dsa_terms.proofs.NumberTests.{equal}
-use Rattle.canonical_order.proofs.Entries.{sound_buffer}
 use Rattle.dsa_search_laws.proofs.Members.{whole_is_whole}
 use Rattle.dsa_start_laws.proofs.Stacks.{in_counted}
 use Rattle.dsa_model.specs.Buffer.{IsBuffer}
+use Rattle.dsa_model.proofs.Instances.{sound_buffer}
 use Rattle.canonical_order.specs.Claims.{IsBoundedBy}
 use Rattle.refute_log.specs.Logs.{OpenLog, ended}
 use Rattle.refute_log.specs.Lines.{IsWithin}

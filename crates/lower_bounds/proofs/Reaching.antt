@@ -8,7 +8,7 @@ use Rattle.dsa_terms.specs.Bounds.{HasSections, bound_modulus, bound_moment, hig
 use Rattle.dsa_terms.specs.Buffers.{Instance, IsInstance, IsLive, IsSound, buffer}
 use Rattle.dsa_terms.specs.Claims.{IsIn}
 use Rattle.dsa_terms.specs.Logs.{greatest}
-use Rattle.dsa_terms.proofs.Lists.{from_map, into_map, nil_or_not}
+use Rattle.dsa_terms.proofs.Lists.{from_map, into_map, nil_or_not, greatest_under}
 use Rattle.dsa_terms.proofs.Places.{all_from_in, in_at, in_from_all, place_of}
 use Rattle.dsa_terms.proofs.NumberTests.{below_or_from}
 use Rattle.dsa_start_laws.proofs.Stacks.{greatest_is}
@@ -21,11 +21,6 @@ use Rattle.lower_bounds.specs.declared.value.Bound.{Bound}
 use Rattle.lower_bounds.proofs.Candidates.{is_modulus, one_is_modulus}
 
 -- ---- the best of all
-greatest_at_most : (xs : List ℕ) (m : ℕ) → ((x : ℕ) → IsIn x xs → x ≤ m) → greatest xs ≤ m
-greatest_at_most [] m h = omega arith
-greatest_at_most (x ∷ xs) m h = let k = h x (inl refl) in let z = greatest_at_most xs m (λ y i. h y (inr i)) in omega
-    arith
-
 find_at : (p : ℕ → Bool) (xs : List ℕ) (k : ℕ) → k < length xs → p (slice_index xs k) ≡ true →
     ((j : ℕ) → j < k → p (slice_index xs j) ≡ false) → find p xs ≡ Some (slice_index xs k)
 find_at p [] k lt t f = absurd (omega arith)
@@ -74,7 +69,7 @@ module _ (I : Instance) (S : SectionList) (candidates : List ℕ) (b : Bound) (l
 
   highest_at_most : (G : ℕ) → IsIn G (moduli I) → highest_stack I G ≤ b.capacity
   highest_at_most G i =
-      let k : greatest (map (λ s. stack I s G) (starts_of S.sections)) ≤ b.capacity = greatest_at_most
+      let k : greatest (map (λ s. stack I s G) (starts_of S.sections)) ≤ b.capacity = greatest_under
       (map (λ s. stack I s G) (starts_of S.sections)) b.capacity each in
       let e = highest_is G in omega arith
     where
@@ -91,7 +86,7 @@ module _ (I : Instance) (S : SectionList) (candidates : List ℕ) (b : Bound) (l
 
   bound_at_most : lower_bound I ≤ b.capacity
   unfolding lower_bound
-  bound_at_most = greatest_at_most (map (highest_stack I) (moduli I)) b.capacity (λ x i.
+  bound_at_most = greatest_under (map (highest_stack I) (moduli I)) b.capacity (λ x i.
       let r = from_map (highest_stack I) (moduli I) x i in let k = highest_at_most r.0 r.1 in let e = r.2 in omega
       arith)
 

@@ -5,11 +5,11 @@ use Rattle.dsa_terms.specs.Buffers.{Instance}
 use Rattle.dsa_terms.specs.Parts.{searched}
 use Rattle.dsa_terms.specs.Plans.{layout_height, plan}
 use Rattle.dsa_terms.specs.Starts.{best_start, lowest_place, planned, starts}
-use Rattle.dsa_terms.proofs.Lists.{none_or_some}
+use Rattle.dsa_terms.proofs.Lists.{none_or_some, none_found}
 use Rattle.dsa_terms.proofs.NumberTests.{above, is_at_most, not_at_most}
 use Rattle.dsa_search_laws.proofs.Plans.{found_under, is_under}
 use Rattle.dsa_start_laws.proofs.Planned.{best_place_within, best_start_is_lowest, best_start_is_start, earlier_is_higher}
-use Rattle.dsa_start_laws.proofs.Stacks.{found_in, none_found}
+use Rattle.dsa_start_laws.proofs.Stacks.{found_in}
 use Rattle.planner.specs.FirstStart.{start_within}
 
 -- the first item that passes, at a place before which none does

@@ -10,15 +10,14 @@ use Rattle.dsa_terms.specs.Parts.{numbers}
 use Rattle.dsa_terms.proofs.Lists.{from_filter, from_map, into_filter, into_map, some_answer}
 use Rattle.dsa_terms.proofs.Moments.{and_true}
 use Rattle.dsa_search_laws.proofs.Claims.{rises-filter}
-use Rattle.dsa_search_laws.proofs.Members.{rises-filter_numbers}
 use Rattle.dsa_search_laws.proofs.Placing.{in_buffers}
 use Rattle.lifetime.specs.SectionList.{AreSectionsOf, SectionList, count_of, members_of, start_of}
-use Rattle.lifetime.proofs.Lists.{below}
 use Rattle.lifetime.proofs.Live.{from_live, into_live, rises_live}
 use Rattle.canonical_order.specs.Claims.{HasBuffer, entry_of}
 use Rattle.canonical_order.specs.Stands.{Stands}
 use Rattle.canonical_order.proofs.Entries.{entry_in}
 use Rattle.dsa_terms.proofs.NumberTests.{is_at_most, less}
+use Rattle.dsa_terms.proofs.Ranges.{rises-filter_numbers, below}
 use Rattle.skyline.specs.Overloads.{free_load, is_left, least_of, least_up, over, over_at, overloaded}
 use Rattle.skyline.proofs.Loads.{gives_left, left_gives}
 use Rattle.skyline.proofs.Overloads.{least_is_least}

@@ -5,6 +5,7 @@ use Rattle.dsa_terms.specs.Claims.{Covers, Entry, IsIn, up}
 use Rattle.dsa_terms.specs.Lean.{IsLeanLine}
 use Rattle.dsa_terms.specs.Logs.{IsLegal, Line, Over, claim_of, is_stacked, rounded, rounding}
 use Rattle.dsa_terms.proofs.Examples.{small_below}
+use Rattle.dsa_terms.proofs.Lists.{same_some}
 use Rattle.refute_log.specs.Logs.{OpenLog}
 use Rattle.search_core.specs.Logs.{IsSearchLog}
 use Rattle.search_core.proofs.LevelFacts.{differ}
@@ -12,9 +13,6 @@ use Rattle.search_core.proofs.OverFacts.{over, over_is_legal}
 
 abbrev log_of : List Line → OpenLog
 log_of lines = record { count = 2; capacity = 4; lines = lines }
-
-same_line : {x y : Line} → Some x ≡ Some y → x ≡ y
-same_line q = cc
 
 -- one modulus lower it comes to the capacity
 not_lower : (earlier : List Line) → IsLegal small_below 4 earlier (Over ((1, 3) ∷ []) 0 3 1) → ⊥
@@ -43,12 +41,12 @@ one_line = record {
   where
     legal : (k : ℕ) (line : Line) → slice_get (over ∷ []) k ≡ Some line →
         IsLegal small_below 4 (take k (over ∷ [])) line
-    legal zero line at = subst (IsLegal small_below 4 []) (same_line at) (over_is_legal [])
+    legal zero line at = subst (IsLegal small_below 4 []) (same_some at) (over_is_legal [])
     legal (suc k) line at = absurd cc
 
     lean : (k : ℕ) (line : Line) → slice_get (over ∷ []) k ≡ Some line →
         IsLeanLine small_below 4 (take k (over ∷ [])) line
-    lean zero line at = subst (IsLeanLine small_below 4 []) (same_line at) over_is_lean
+    lean zero line at = subst (IsLeanLine small_below 4 []) (same_some at) over_is_lean
     lean (suc k) line at = absurd cc
 
     uncovered : (j k : ℕ) (earlier line : Line) → j < k → slice_get (over ∷ []) j ≡ Some earlier →

@@ -4,11 +4,11 @@ use Rattle.std.proofs.lemmas.List.{get_or_read, map-append}
 use Rattle.dsa_terms.specs.Buffers.{Instance}
 use Rattle.dsa_terms.specs.Claims.{Claim, Entry, IsIn, Rises, buffers_of, up}
 use Rattle.dsa_terms.proofs.Lists.{from_append, from_map}
+use Rattle.dsa_terms.proofs.Ranges.{rises-push}
 use Rattle.canonical_order.specs.Claims.{CoversEntry, HasBuffer, entry_of}
 use Rattle.canonical_order.specs.Levels.{AreLevels}
 use Rattle.canonical_order.proofs.CoverLemmas.{covers_entry, from_covered}
 use Rattle.canonical_order.proofs.LevelLemmas.{has_level, level_inside}
-use Rattle.lifetime.proofs.Lists.{rises-push}
 use Rattle.search_core.specs.Lifted.{lift}
 
 -- ---- the level of one buffer

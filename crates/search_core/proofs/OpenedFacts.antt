@@ -5,6 +5,7 @@ use Rattle.dsa_terms.specs.Claims.{Entry, child, step, up}
 use Rattle.dsa_terms.specs.Logs.{Line, claim_of, ends_below, is_twin}
 use Rattle.dsa_terms.specs.Search.{comes_before, first, is_tall, work}
 use Rattle.dsa_terms.proofs.Examples.{small_below}
+use Rattle.dsa_terms.proofs.Lists.{same_some}
 use Rattle.search_core.specs.declared.opening.Opened.TheVariants as opened
 use Rattle.search_core.specs.Descents.{through}
 use Rattle.search_core.specs.Meters.{Units}
@@ -42,9 +43,6 @@ none_of_no_buffers : (f : Tried) → AreChoices small_below 4 [] [] f → ⊥
 none_of_no_buffers f h = h.not_empty refl
 
 -- ---- lines that were asked, and are watched
-same_line : {x y : Line} → Some x ≡ Some y → x ≡ y
-same_line q = cc
-
 asked_and_watched : AreAllAsked (over ∷ []) ((1, 4) ∷ []) (both_left 1)
 asked_and_watched = record { asked = refl; watched = record { within = omega arith; each = each } }
   where
@@ -53,7 +51,7 @@ asked_and_watched = record { asked = refl; watched = record { within = omega ari
     each zero line lt at = (
       (1, 4),
       refl,
-      subst (λ (x : Line). RulesOut (1 ∷ 1 ∷ []) (claim_of x) (1, 4)) (same_line at)
+      subst (λ (x : Line). RulesOut (1 ∷ 1 ∷ []) (claim_of x) (1, 4)) (same_some at)
           (record { among = inl refl; unmet = λ has. omega arith }),
     )
     each (suc k) line lt at = absurd (omega arith)

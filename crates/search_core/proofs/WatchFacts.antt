@@ -2,6 +2,7 @@
 use Rattle.std.proofs.Common.{◌≡◌, ℕ, zero, suc, ◌<◌, ◌≤◌, List, [], ◌∷◌, Some, inl, inr, slice_get, slice_index, refl, sym, ap, subst, arith}
 use Rattle.dsa_terms.specs.Claims.{Claim, Entry, IsIn}
 use Rattle.dsa_terms.specs.Logs.{Line, Over, claim_of}
+use Rattle.dsa_terms.proofs.Lists.{same_some}
 use Rattle.search_core.specs.declared.look.Look.TheVariants.{Covers, Unmet, Lacks}
 use Rattle.search_core.specs.Looks.{IsLacked, IsLook, IsUnmet}
 use Rattle.search_core.specs.Tries.{untried}
@@ -27,12 +28,6 @@ lone = 3 ∷ 0 ∷ []
 -- levels that meet the bound of buffer 1, and not that of buffer 0
 abbrev pub other : List ℕ
 other = 1 ∷ 6 ∷ []
-
-same_line : {x y : Line} → Some x ≡ Some y → x ≡ y
-same_line q = cc
-
-same_entry : {x y : Entry} → Some x ≡ Some y → x ≡ y
-same_entry q = cc
 
 -- ---- levels
 low_has_both : HasLevels low claim
@@ -134,7 +129,7 @@ watched_at_low = record { within = omega arith; each = each }
     each zero line lt at = (
       (1, 5),
       refl,
-      subst (λ (x : Line). RulesOut low (claim_of x) (1, 5)) (same_line at)
+      subst (λ (x : Line). RulesOut low (claim_of x) (1, 5)) (same_some at)
           rules_out_low,
     )
     each (suc k) line lt at = absurd (omega arith)
@@ -148,7 +143,7 @@ without_watch w = let r = w.each 0 (Over claim 0 5 1) (omega arith) refl in cc
 met_by_high : AreWatched lines ((1, 5) ∷ []) high 1 → ⊥
 met_by_high w =
     let r = w.each 0 (Over claim 0 5 1) (omega arith) refl in
-    not_high (subst (RulesOut high claim) (sym (same_entry r.1)) r.2)
+    not_high (subst (RulesOut high claim) (sym (same_some r.1)) r.2)
 
 watched_at_one : AreWatchedAt lines ((1, 5) ∷ []) (untried (0 ∷ []) low 1 ∷ [])
 watched_at_one zero d lt = watched_at_low

@@ -5,7 +5,7 @@ use Rattle.std.proofs.lemmas.Option.{get_or_from_slice_get, slice_get-get_or, sl
 use Rattle.std.specs.List.{swap_remove}
 use Rattle.dsa_terms.specs.Claims.{Claim, Entry, IsIn}
 use Rattle.dsa_terms.specs.Logs.{Line, claim_of}
-use Rattle.dsa_terms.proofs.Lists.{from_append, left_append, right_append}
+use Rattle.dsa_terms.proofs.Lists.{from_append, left_append, right_append, same_some}
 use Rattle.dsa_terms.proofs.NumberTests.{below_or_from, same_or_not}
 use Rattle.dsa_terms.proofs.Places.{any_default, from_contains, place_of}
 use Rattle.search_core.specs.declared.watch_row.Mark.{Mark}
@@ -14,9 +14,6 @@ use Rattle.search_core.specs.Watches.{Fails}
 use Rattle.search_core.specs.Watching.{AreAppended, AreFiled, AreMoved, FailsAtMark, IsUnwatched, mark_of, row_of}
 use Rattle.refute_log.proofs.Legal.{get_before}
 use Rattle.search_core.proofs.WatchLemmas.{get_set_same, lacked_fails}
-
-pub same_some : {X : Type 0} {x y : X} → Some x ≡ Some y → x ≡ y
-same_some e = cc
 
 -- ---- one row
 taken_before : {X : Type 0} (xs : List X) (n j : ℕ) (x : X) → j < n → n ≤ length xs → slice_index_or xs j x ≡ x →

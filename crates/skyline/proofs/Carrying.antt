@@ -11,8 +11,8 @@ use Rattle.dsa_search_laws.proofs.Claims.{rises-child, length-child}
 use Rattle.dsa_terms.proofs.Numbers.{next_is_below}
 use Rattle.dsa_terms.proofs.Moments.{sound}
 use Rattle.dsa_terms.proofs.NumberTests.{same_or_not}
-use Rattle.dsa_model.proofs.Instances.{sound_instance}
-use Rattle.dsa_search_laws.proofs.Members.{buffers_of-whole, whole_is_whole}
+use Rattle.dsa_model.proofs.Instances.{sound_instance, sound_buffer}
+use Rattle.dsa_search_laws.proofs.Members.{buffers_of-whole, whole_is_whole, length-whole}
 use Rattle.dsa_model.specs.Buffer.{IsBuffer}
 use Rattle.lifetime.specs.SectionList.{sections_of, SectionList}
 use Rattle.skyline.specs.Standing.{claim_after, offset_after, IsStack, raised, floor}
@@ -24,7 +24,7 @@ use Rattle.skyline.proofs.Tops.{AllIn, heights_are_tops}
 use Rattle.canonical_order.specs.Claims.{entry_of, HasBuffer}
 use Rattle.skyline.specs.Skies.{last_claim}
 use Rattle.canonical_order.proofs.CoverLemmas.{from_child, in_child_by, step_limit}
-use Rattle.canonical_order.proofs.Entries.{sound_buffer, entry_in}
+use Rattle.canonical_order.proofs.Entries.{entry_in}
 
 -- ---- the list of claims
 pub last_of_append : (ls : List Claim) (l : Claim) → last_claim (ls ++ l ∷ []) ≡ l
@@ -95,10 +95,6 @@ stack_room I root (b ∷ bs) r s =
 not_empty : (l : Claim) (b : ℕ) → HasBuffer l b → 0 < length l
 not_empty [] b i = absurd i
 not_empty (e ∷ es) b i = omega arith
-
-length-whole : (members : List ℕ) → length (whole members) ≡ length members
-length-whole [] = refl
-length-whole (b ∷ bs) = ap suc (length-whole bs)
 
 -- a buffer that is left has a place on the stack
 pub has_place : (I : Instance) (members bs : List ℕ) (b : ℕ) → Rises members → IsStack I (whole members) bs →

@@ -8,10 +8,10 @@ use Rattle.dsa_terms.specs.Parts.{whole}
 use Rattle.dsa_search_laws.proofs.Members.{buffers_of-whole}
 use Rattle.dsa_terms.specs.Claims.{Claim, Entry, IsIn, Rises, child}
 use Rattle.dsa_search_laws.proofs.Placing.{in_buffers}
-use Rattle.canonical_order.proofs.Entries.{sound_buffer}
 use Rattle.dsa_terms.proofs.Lists.{any_gives, any_from, true_or_false, from_map}
 use Rattle.dsa_terms.proofs.NumberTests.{below_or_from, equal, same}
 use Rattle.dsa_model.specs.Buffer.{IsBuffer}
+use Rattle.dsa_model.proofs.Instances.{sound_buffer}
 use Rattle.lifetime.specs.SectionList.{count_of, members_of, sections_of, AreSectionsOf, SectionList}
 use Rattle.skyline.specs.Places.{set_each}
 use Rattle.skyline.specs.Loads.{HasLoads}

@@ -5,7 +5,7 @@ use Rattle.dsa_terms.specs.Logs.{greatest}
 use Rattle.std.proofs.lemmas.List.{length-set, get_or-set_other, get_or-set_same}
 use Rattle.std.proofs.lemmas.Grind.{same_number_lists}
 use Rattle.dsa_terms.specs.Claims.{IsIn, Rises}
-use Rattle.dsa_terms.proofs.Lists.{from_map}
+use Rattle.dsa_terms.proofs.Lists.{from_map, greatest_under}
 use Rattle.dsa_search_laws.proofs.Logs.{in_greatest}
 use Rattle.lifetime.proofs.Lists.{in_or_not}
 use Rattle.skyline.specs.Places.{set_each, at_places}
@@ -104,10 +104,6 @@ pub undone : (f : ℕ → ℕ) (xs ss : List ℕ) → set_each (slice_index xs) 
 undone f xs ss = set_each-back xs (set_each f ss xs) ss (length-set_each f ss xs) (λ s out. set_each-out f ss xs s out)
 
 -- ---- the greatest at some places after one number was written at others
-greatest_under : (xs : List ℕ) (C : ℕ) → ((x : ℕ) → IsIn x xs → x ≤ C) → greatest xs ≤ C
-greatest_under [] C h = omega arith
-greatest_under (x ∷ xs) C h = let a = h x (inl refl) in let b = greatest_under xs C (λ y i. h y (inr i)) in omega arith
-
 pub at_places-under : (xs ss : List ℕ) (C : ℕ) → ((s : ℕ) → IsIn s ss → slice_index xs s ≤ C) →
     greatest (at_places xs ss) ≤ C
 at_places-under xs ss C h = greatest_under (at_places xs ss) C (λ x i. let r = from_map (slice_index xs) ss x i in

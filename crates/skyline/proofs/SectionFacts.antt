@@ -7,10 +7,11 @@ use Rattle.dsa_terms.specs.Parts.{numbers}
 use Rattle.dsa_terms.proofs.Lists.{from_filter, into_filter, true_or_false}
 use Rattle.dsa_terms.proofs.Moments.{do_share-false, do_share-gives}
 use Rattle.dsa_terms.proofs.Places.{in_from_all}
+use Rattle.dsa_terms.proofs.Ranges.{below, among}
 use Rattle.lifetime.specs.SectionList.{count_of, start_of, members_of, sections_of, AreSectionsOf, SectionList}
 use Rattle.lifetime.proofs.Live.{from_live, into_live, rises_live}
 use Rattle.lifetime.proofs.Members.{live_few}
-use Rattle.lifetime.proofs.Lists.{among, below, rises-numbers}
+use Rattle.lifetime.proofs.Lists.{rises-numbers}
 
 -- ---- members that rise are few
 rising_few : (xs : List ℕ) (a n : ℕ) → Rises xs → ((x : ℕ) → IsIn x xs → a ≤ x) → ((x : ℕ) → IsIn x xs → x < n) →

@@ -7,8 +7,10 @@ use Rattle.dsa_terms.specs.Parts.{is_empty, members, numbers, part_of, parts}
 use Rattle.dsa_terms.proofs.Lists.{from_filter, from_map, into_filter, into_map}
 use Rattle.dsa_terms.proofs.NumberTests.{equal, same}
 use Rattle.dsa_terms.proofs.Places.{all_from_in}
+use Rattle.dsa_terms.proofs.Ranges.{into_range, from_range, rises-filter_numbers, rises-range}
 use Rattle.dsa_search_laws.proofs.Logs.{in_greatest}
-use Rattle.dsa_search_laws.proofs.Parts.{from_range, into_range, item, last_cut_le, part_is_members, rises-filter_numbers, rises-range}
+use Rattle.dsa_search_laws.proofs.Parts.{part_is_members}
+use Rattle.dsa_search_laws.proofs.Cuts.{item, last_cut_le}
 use Rattle.split_sections.specs.PartList.{ArePartsKept, IsPart}
 use Rattle.split_sections.proofs.Lists.{filter_of_map, rises_same}
 

@@ -1,13 +1,13 @@
 -- Cuts: which moments are cuts, and the last one at or below a moment.
 use Rattle.std.proofs.Common.{◌≡◌, ℕ, zero, suc, ◌+◌, ◌<◌, ◌≤◌, ◌⊎◌, inl, inr, Bool, true, false, cond, not, ◌&&◌, ◌||◌, List, [], ◌∷◌, length, nat_lt, refl, sym, ap, ◌∙◌, arith}
 use Rattle.std.specs.List.{list_any}
+use Rattle.dsa_search_laws.proofs.Cuts.{item}
 use Rattle.dsa_terms.specs.Buffers.{Buffer, Instance, buffer}
 use Rattle.dsa_terms.specs.Claims.{IsIn}
 use Rattle.dsa_terms.specs.Parts.{is_cut, last_cut}
 use Rattle.dsa_terms.proofs.Lists.{any_from}
 use Rattle.dsa_terms.proofs.Moments.{both_true}
 use Rattle.dsa_terms.proofs.NumberTests.{below_or_from, is_below, not_below}
-use Rattle.dsa_search_laws.proofs.Parts.{item}
 
 -- each item has a number
 pub number : (I : Instance) (x : Buffer) → IsIn x I → (b : ℕ) × (b < length I) × (buffer I b ≡ x)

@@ -9,12 +9,13 @@ use Rattle.dsa_terms.specs.Parts.{is_cut, last_cut, members, numbers, part_of, p
 use Rattle.dsa_terms.proofs.Lists.{from_append, from_filter, from_map, into_filter, into_map, left_append, right_append}
 use Rattle.dsa_terms.proofs.NumberTests.{below_or_from, equal, same}
 use Rattle.dsa_terms.proofs.Places.{in_at, in_from_all, place_of}
-use Rattle.dsa_search_laws.proofs.Parts.{into_range, item, last_cut_le, rises-filter_numbers, rises-range}
+use Rattle.dsa_terms.proofs.Ranges.{rises-push, into_range, rises-filter_numbers, rises-range}
+use Rattle.dsa_search_laws.proofs.Cuts.{item, last_cut_le}
 use Rattle.split_sections.specs.PartList.{ArePartsKept}
 use Rattle.dsa_model.specs.Buffer.{IsBuffer}
 use Rattle.dsa_model.specs.Lists.{pair_at}
 use Rattle.split_sections.specs.Sweep.{AreByLower, BeginsAt, IsRun, lower_entry}
-use Rattle.split_sections.proofs.Lists.{rises-push, rises_same}
+use Rattle.split_sections.proofs.Lists.{rises_same}
 use Rattle.split_sections.proofs.Sweeping.{cut_here}
 use Rattle.split_sections.proofs.Beginnings.{below, kept, part_starts, parts_are}
 

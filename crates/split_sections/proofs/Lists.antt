@@ -1,7 +1,6 @@
 -- Lists of numbers, filtered, and lists that rise.
 use Rattle.std.proofs.Common.{◌≡◌, ℕ, ◌<◌, ◌↔◌, inl, inr, Bool, true, false, cond, List, [], ◌∷◌, ◌++◌, map, filter, refl, sym, ap, arith}
 use Rattle.dsa_terms.specs.Claims.{IsIn, Rises}
-use Rattle.dsa_terms.proofs.Lists.{from_append}
 
 pub filter_of_map : {X Y : Type 0} (p : Y → Bool) (f : X → Y) (xs : List X) →
     filter p (map f xs) ≡ map f (filter (λ x. p (f x)) xs)
@@ -46,14 +45,3 @@ rises_same (x ∷ xs) (y ∷ ys) r s h = joined heads (rises_same xs ys r.1 s.1 
         go : IsIn z (x ∷ xs) → IsIn z xs
         go (inl e) = absurd (let k = s.0 z i in let f = heads in omega arith)
         go (inr j) = j
-
--- one more that is greater than all
-pub rises-push : (xs : List ℕ) (y : ℕ) → Rises xs → ((x : ℕ) → IsIn x xs → x < y) → Rises (xs ++ y ∷ [])
-rises-push [] y r h = ((λ z i. absurd i), tt)
-rises-push (x ∷ xs) y r h = (first, rises-push xs y r.1 (λ z i. h z (inr i)))
-  where
-    first : (z : ℕ) → IsIn z (xs ++ y ∷ []) → x < z
-    first z i = elim (from_append xs (y ∷ []) z i) [
-      | inl j ↦ r.0 z j
-      | inr j ↦ elim j [ inl e ↦ (let k = h x (inl refl) in omega arith) | inr k ↦ absurd k ]
-    ]

@@ -8,7 +8,7 @@ use Rattle.dsa_terms.specs.Claims.{IsIn}
 use Rattle.dsa_terms.specs.Parts.{numbers}
 use Rattle.dsa_terms.proofs.Lists.{from_map, into_map}
 use Rattle.dsa_terms.proofs.Places.{all_from_in, from_contains, to_contains}
-use Rattle.dsa_search_laws.proofs.Parts.{from_range, into_range}
+use Rattle.dsa_terms.proofs.Ranges.{into_range, from_range}
 use Rattle.split_sections.specs.Sweep.{AreByLower, IsLowerEntry, lower_entry}
 
 entry_is : (I : Instance) (e : ℕ × ℕ) → IsIn e (map (lower_entry I) (numbers (length I))) → IsLowerEntry I e

@@ -1,8 +1,8 @@
 use Rattle.std.proofs.Common.{◌∙◌, sym, arith}
+use Rattle.dsa_model.proofs.Instances.{sound_buffer}
 use Rattle.dsa_terms.specs.Buffers.{buffer}
 use Rattle.dsa_terms.specs.Logs.{claim_of}
 use Rattle.dsa_terms.proofs.Moments.{live_before}
-use Rattle.canonical_order.proofs.Entries.{sound_buffer}
 use Rattle.refute_log.specs.Lines.{line_value}
 use Rattle.skyline.specs.Skies.{last_claim}
 use Rattle.search_core.proofs.Descent.{is_instance}

@@ -1,11 +1,12 @@
 use Rattle.std.proofs.Common.{◌<◌, ◌∙◌, List, ap, arith, length, slice_get, slice_index, subst, sym}
 use Rattle.dsa_terms.specs.Claims.{Claim, Entry, IsIn}
 use Rattle.dsa_terms.specs.Logs.{claim_of}
+use Rattle.dsa_terms.proofs.Lists.{same_some}
 use Rattle.refute_log.specs.Lines.{line_value}
 use Rattle.search_core.specs.Looks.{IsLacked, IsUnmet}
 use Rattle.search_core.specs.Watching.{AreMoved, IsUnwatched}
 use Rattle.search_core.proofs.WatchLemmas.{covered_by_levels, moved_set}
-use Rattle.search_core.proofs.WatchRows.{appended_get, appended_take, lacked_at_mark, longer_row, moved_away, same_some}
+use Rattle.search_core.proofs.WatchRows.{appended_get, appended_take, lacked_at_mark, longer_row, moved_away}
 use Rattle.search_core.proofs.watches.try_mark.Goals as goal
 use Rattle.search_core.proofs.watches.try_mark.Goals.{In_ok-file-in-Unmet}
 

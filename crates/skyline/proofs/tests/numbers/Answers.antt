@@ -3,7 +3,7 @@ use Rattle.std.specs.List.{All}
 use Rattle.dsa_terms.specs.Claims.{Rises}
 use Rattle.dsa_terms.proofs.Lists.{from_append}
 use Rattle.dsa_terms.proofs.Places.{all_from_in, in_from_all}
-use Rattle.lifetime.proofs.Lists.{rises-push}
+use Rattle.dsa_terms.proofs.Ranges.{rises-push}
 use Rattle.skyline.proofs.tests.numbers.Goals as goal
 
 pub loop-b-preserved : goal.loop-b-preserved
