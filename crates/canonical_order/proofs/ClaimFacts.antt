@@ -4,7 +4,7 @@ use Rattle.dsa_terms.specs.Buffers.{Buffer, Instance, is_live, buffer, some_befo
 use Rattle.dsa_terms.specs.Claims.{Entry, Claim, IsIn, up}
 use Rattle.dsa_model.specs.Buffer.{IsBuffer, is_ever_live}
 use Rattle.dsa_model.proofs.Faults.{is_buffer}
-use Rattle.canonical_order.specs.Claims.{HasBuffer, IsAt, IsBoundedBy, Passes, IsLeastNumber, IsLeastOf, NonePassBelow, CoversEntry, CoversFirst, IsKept}
+use Rattle.canonical_order.specs.Claims.{HasBuffer, IsAt, IsBoundedBy, Passes, IsLeastNumber, IsLeastOf, NonePassBelow, CoversEntry, CoversFirst, IsKeptClaim}
 use Rattle.canonical_order.specs.Stands.{Stands}
 
 abbrev plain : ℕ → ℕ → ℕ → ℕ → Buffer
@@ -142,7 +142,7 @@ not_covers_both : CoversFirst three ((1, 4) ∷ (0, 0) ∷ []) one_and_two 2 →
 not_covers_both h = covers_zero (h (0, 0) (inr (inl refl)))
 
 -- ---- what a claim of the code keeps: it rises, and its bounds are at most 2 to the 61st
-both_kept : IsKept ((0, 2305843009213693952) ∷ (2, 7) ∷ [])
+both_kept : IsKeptClaim ((0, 2305843009213693952) ∷ (2, 7) ∷ [])
 both_kept = record { rises = (after_0, ((λ y i. absurd i), tt)); bounds = bounds; count = lit≤ {m = 3} {n = 2 ^ 32} tt }
   where
     after_0 : (y : ℕ) → IsIn y (2 ∷ []) → 0 < y
@@ -154,13 +154,13 @@ both_kept = record { rises = (after_0, ((λ y i. absurd i), tt)); bounds = bound
     bounds e (inr (inl q)) = rw q (omega arith)
     bounds e (inr (inr i)) = absurd i
 
-falls : IsKept ((2, 7) ∷ (0, 5) ∷ []) → ⊥
+falls : IsKeptClaim ((2, 7) ∷ (0, 5) ∷ []) → ⊥
 falls k = let h = k.rises.0 0 (inl refl) in omega arith
 
-twice : IsKept ((2, 7) ∷ (2, 8) ∷ []) → ⊥
+twice : IsKeptClaim ((2, 7) ∷ (2, 8) ∷ []) → ⊥
 twice k = let h = k.rises.0 2 (inl refl) in omega arith
 
-bound_too_high : IsKept ((0, 2305843009213693953) ∷ []) → ⊥
+bound_too_high : IsKeptClaim ((0, 2305843009213693953) ∷ []) → ⊥
 bound_too_high k = let h = k.bounds (0, 2305843009213693953) (inl refl) in omega arith
 
 -- ---- claims of an instance of two buffers

@@ -9,7 +9,7 @@ use Rattle.dsa_terms.specs.Claims.{Entry, Claim, IsIn, Rises, buffers_of, up, st
 use Rattle.dsa_search_laws.proofs.Placing.{in_buffers, in_child, of_child}
 use Rattle.dsa_search_laws.proofs.Claims.{rises-child, length-child}
 use Rattle.dsa_terms.proofs.Numbers.{next_at_or_above}
-use Rattle.canonical_order.specs.Claims.{HasBuffer, entry_of, IsBoundedBy, IsKept, NonePassBelow, CoversEntry, CoversFirst, entries_below, least_buffer, IsLeastOf, IsLeastNumber, Passes}
+use Rattle.canonical_order.specs.Claims.{HasBuffer, entry_of, IsBoundedBy, IsKeptClaim, NonePassBelow, CoversEntry, CoversFirst, entries_below, least_buffer, IsLeastOf, IsLeastNumber, Passes}
 use Rattle.canonical_order.specs.Stands.{Stands}
 use Rattle.dsa_terms.proofs.NumberTests.{same, apart, at_most, is_at_most, is_below, not_below, below_or_last}
 use Rattle.dsa_terms.proofs.Places.{in_at}
@@ -259,7 +259,7 @@ step_limit I b c h lt = go (do_share (buffer I b) (buffer I c)) (nat_lt c b) ((s
     go false false h = omega arith
 
 pub child_is_kept : (I : Instance) (l : Claim) (b : ℕ) → Stands I l → IsBoundedBy (2 ^ 60) l → HasBuffer l b →
-    IsKept (child I l (entry_of l b))
+    IsKeptClaim (child I l (entry_of l b))
 child_is_kept I l b s k h = record {
   rises = rises-child I l (entry_of l b) s.claim.rises;
   bounds = λ e i.

@@ -6,7 +6,7 @@ use Rattle.dsa_search_laws.proofs.Placing.{in_buffers, same_entry}
 use Rattle.dsa_search_laws.proofs.Members.{buffers_of-whole, length-whole}
 use Rattle.dsa_terms.proofs.Lists.{from_map}
 use Rattle.dsa_terms.proofs.Numbers.{next_is_below}
-use Rattle.canonical_order.specs.Claims.{HasBuffer, entry_of, bound_of, IsBoundedBy, IsKept}
+use Rattle.canonical_order.specs.Claims.{HasBuffer, entry_of, bound_of, IsBoundedBy, IsKeptClaim}
 use Rattle.canonical_order.specs.Stands.{Stands}
 use Rattle.dsa_terms.specs.Buffers.{Instance, buffer}
 use Rattle.std.specs.Int.{next_multiple_of}
@@ -52,7 +52,7 @@ bound_none (x ∷ xs) b h i = go (x.0 == b) refl h i (bound_none xs b)
     go false e h (inr i) ih = ih h i
 
 -- ---- claims of the code
-pub stands : (I : Instance) (l : Claim) → IsKept l → ((b : ℕ) → HasBuffer l b → b < length I) → All IsBuffer I →
+pub stands : (I : Instance) (l : Claim) → IsKeptClaim l → ((b : ℕ) → HasBuffer l b → b < length I) → All IsBuffer I →
     length I ≤ 512 → Stands I l
 stands I l k h bs n = record {
   claim = record { rises = k.rises; in_range = λ e i. h e.0 (in_buffers l e i) };
@@ -67,7 +67,7 @@ in_range I l b s h = s.claim.in_range (entry_of l b) (entry_in l b h)
 pub raise_limit : (l : Claim) → IsBoundedBy (2 ^ 60) l → IsBoundedBy (2 ^ 61) l
 raise_limit l h e i = let k : e.1 ≤ 2 ^ 60 = h e i in omega arith
 
-pub whole_is_kept : (bs : List ℕ) → Rises bs → length bs < 2 ^ 32 → IsKept (whole bs)
+pub whole_is_kept : (bs : List ℕ) → Rises bs → length bs < 2 ^ 32 → IsKeptClaim (whole bs)
 whole_is_kept bs r n = record {
   rises = rw (buffers_of-whole bs) r;
   bounds = λ e i. let q = from_map (λ (b : ℕ). let e : Entry = (b, 0) in e) bs e i in let k : e.1 ≡ 0 =

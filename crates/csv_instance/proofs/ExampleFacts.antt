@@ -11,7 +11,7 @@ use Rattle.dsa_model.specs.Numbers.{written_number}
 use Rattle.csv_instance.specs.Gaps.{gaps_of}
 use Rattle.csv_instance.specs.Layout.{layout_text}
 use Rattle.csv_instance.specs.Numbers.{time_limit}
-use Rattle.csv_instance.specs.Offsets.{ids_of, layout_header_fault, offsets_of}
+use Rattle.csv_instance.specs.Offsets.{ids_of, layout_header_fault, parsed_offsets}
 use Rattle.csv_instance.specs.Parse.{alignment_of, header_fault, parse}
 use Rattle.csv_instance.specs.Records.{Record, table_of}
 use Rattle.csv_instance.specs.declared.columns.Column.TheVariants.{Id, Lower, Upper, Offset}
@@ -155,7 +155,7 @@ unfolding two known
 ids = refl
 
 -- rows come in any order, and other columns may stand twice
-by_buffer : offsets_of known
+by_buffer : parsed_offsets known
     ((codes "x" ∷ codes "offset" ∷ codes "x" ∷ codes "id" ∷ []) ∷ ([] ∷ codes "07" ∷ [] ∷ codes "B" ∷ []) ∷
     ([] ∷ codes "2" ∷ [] ∷ codes "A" ∷ []) ∷ [])
     ≡ Ok (2 ∷ 7 ∷ [])
@@ -165,7 +165,7 @@ by_buffer = refl
 solution : Record
 solution = codes "id" ∷ codes "offset" ∷ []
 
-nothing : offsets_of [] [] ≡ Err offsets.NoHeader
+nothing : parsed_offsets [] [] ≡ Err offsets.NoHeader
 nothing = refl
 
 both_twice : layout_header_fault (codes "offset" ∷ codes "offset" ∷ codes "id" ∷ codes "id" ∷ [])
@@ -176,21 +176,23 @@ both_missing : layout_header_fault [] ≡ Some (offsets.MissingColumn Id)
 both_missing = refl
 
 -- an unknown id comes before its bad offset
-unknown : offsets_of known (solution ∷ (codes "C" ∷ codes "x" ∷ []) ∷ []) ≡ Err (offsets.UnknownId 0)
+unknown : parsed_offsets known (solution ∷ (codes "C" ∷ codes "x" ∷ []) ∷ []) ≡ Err (offsets.UnknownId 0)
 unfolding known solution
 unknown = refl
 
 -- the earlier row is one of the layout file
-again : offsets_of known (solution ∷ (codes "B" ∷ codes "0" ∷ []) ∷ (codes "B" ∷ codes "x" ∷ []) ∷ [])
+again : parsed_offsets known (solution ∷ (codes "B" ∷ codes "0" ∷ []) ∷ (codes "B" ∷ codes "x" ∷ []) ∷ [])
     ≡ Err (offsets.DuplicateId 1 0)
 unfolding known solution
 again = refl
 
-too_high : offsets_of known (solution ∷ (codes "B" ∷ codes "1152921504606846977" ∷ []) ∷ []) ≡ Err (offsets.BadNumber 0)
+too_high : parsed_offsets known (solution ∷ (codes "B" ∷ codes "1152921504606846977" ∷ []) ∷ [])
+    ≡ Err (offsets.BadNumber 0)
 unfolding known solution
 too_high = refl
 
 -- a missing id comes after all faults of rows, and is the least
-not_there : offsets_of (codes "C" ∷ known) (solution ∷ (codes "A" ∷ codes "0" ∷ []) ∷ []) ≡ Err (offsets.MissingId 0)
+not_there : parsed_offsets (codes "C" ∷ known) (solution ∷ (codes "A" ∷ codes "0" ∷ []) ∷ [])
+    ≡ Err (offsets.MissingId 0)
 unfolding known solution
 not_there = refl

@@ -2,7 +2,7 @@
 use Rattle.std.proofs.Common.{◌≡◌, ◌≤◌, ◌<◌, ◌⊎◌, ℕ, zero, suc, List, [], ◌∷◌, Option, Some, None, get_or, length, refl, inl, inr, arith}
 use Rattle.std.specs.Option.{option_map_or}
 use Rattle.csv.specs.Records.{field_at}
-use Rattle.csv_instance.specs.Records.{IsShort, Record, file_limit}
+use Rattle.csv_instance.specs.Records.{HasShortFields, Record, file_limit}
 
 pub field-absent : (fields : List (List ℕ)) (i : ℕ) → field_at fields i ≡ None → get_or fields i [] ≡ []
 unfolding field_at
@@ -19,7 +19,7 @@ none_past (f ∷ fs) (suc i) = elim (none_past fs i) [
 ]
 
 -- a field of a short row is short
-pub short-at : (row : Record) (place : Option ℕ) → IsShort row
+pub short-at : (row : Record) (place : Option ℕ) → HasShortFields row
     → length (option_map_or (λ i. get_or row i []) place []) ≤ file_limit
 short-at row None h = omega arith
 short-at row (Some i) h = elim (none_past row i) [

@@ -7,7 +7,7 @@ use Rattle.std.specs.Option.{option_or}
 use Rattle.std.specs.Str.{bytes_eq}
 use Rattle.csv_instance.specs.Columns.{field_of}
 use Rattle.csv_instance.specs.Found.{AreFound, AreOf, Entries, by_buffer, found_for}
-use Rattle.csv_instance.specs.Offsets.{is_of, layout_header_fault, layout_row_fault, layout_rows_fault, offset_in, offset_of, offsets_of}
+use Rattle.csv_instance.specs.Offsets.{is_of, layout_header_fault, layout_row_fault, layout_rows_fault, offset_in, offset_of, parsed_offsets}
 use Rattle.csv_instance.specs.Records.{Record}
 use Rattle.csv_instance.specs.declared.columns.Column.TheVariants.{Id}
 use Rattle.csv_instance.specs.declared.fault.OffsetsFault.{OffsetsFault}
@@ -47,14 +47,14 @@ layout_rows-more ids header rows row r e = layout_rows-append ids header [] rows
 
 -- a header with a fault
 pub offsets-header : (ids : List (List ℕ)) (header : Record) (rest : List Record) (f : OffsetsFault)
-    → layout_header_fault header ≡ Some f → offsets_of ids (header ∷ rest) ≡ Err f
+    → layout_header_fault header ≡ Some f → parsed_offsets ids (header ∷ rest) ≡ Err f
 offsets-header ids header rest f h = rw h refl
 
 -- the first row with a fault
 pub offsets-fault : (ids : List (List ℕ)) (header : Record) (rows : List Record) (row : Record) (rest : List Record)
     (f : OffsetsFault) → layout_header_fault header ≡ None
     → layout_rows_fault ids header [] rows ≡ None → layout_row_fault ids header rows row ≡ Some f
-    → offsets_of ids ((header ∷ rows) ++ row ∷ rest) ≡ Err f
+    → parsed_offsets ids ((header ∷ rows) ++ row ∷ rest) ≡ Err f
 offsets-fault ids header rows row rest f h r e =
     let whole : layout_rows_fault ids header [] (rows ++ row ∷ rest) ≡ Some f =
     layout_rows-append ids header [] rows (row ∷ rest) ∙ rw (r, e) refl in
@@ -87,9 +87,9 @@ module _ {ids : List (List ℕ)} {table : List Record} {columns : OffsetColumns}
   }
 
   pub reading-fault : (row : Record) (more : List Record) (f : OffsetsFault) → left ≡ row ∷ more
-      → layout_row_fault ids r.header r.before row ≡ Some f → offsets_of ids table ≡ Err f
+      → layout_row_fault ids r.header r.before row ≡ Some f → parsed_offsets ids table ≡ Err f
   reading-fault row more f first bad =
-      ap (offsets_of ids) (put-first table (r.header ∷ r.before) left more row r.records first)
+      ap (parsed_offsets ids) (put-first table (r.header ∷ r.before) left more row r.records first)
       ∙ offsets-fault ids r.header r.before row more f r.header_good r.rows_good bad
 
   pub reading-end : left ≡ [] → AreFound ids table old
@@ -184,12 +184,12 @@ module _ (keys : List (Vec ℕ Global)) (table : List Record) (entries : Entries
   -- an id without one
   pub offsets-missing : (g : OffsetsFault)
       → option_map fault.MissingId (position (λ o. not (is_some o)) (by_buffer keys entries)) ≡ Some g
-      → offsets_of (map (λ k. k.items) keys) table ≡ Err g
+      → parsed_offsets (map (λ k. k.items) keys) table ≡ Err g
   offsets-missing g h = rw (f.records, f.header_good, f.rows_good, missing_is, h) refl
 
   -- an offset for each
   pub offsets-all : (os : List ℕ) → map Some os ≡ by_buffer keys entries
-      → offsets_of (map (λ k. k.items) keys) table ≡ Ok os
+      → parsed_offsets (map (λ k. k.items) keys) table ≡ Ok os
   offsets-all os h =
       let none : position (λ o. not (is_some o)) (by_buffer keys entries) ≡ None =
       ap (position (λ o. not (is_some o))) (sym h) ∙ position_from-zero (λ o. not (is_some o)) (map Some os)
@@ -209,7 +209,7 @@ pub read-all : (keys : List (Vec ℕ Global)) (ids : List (List ℕ)) (table : L
     → (r : Result (Vec ℕ Global) (Fail OffsetsFault))
     → UnlessNoMemory r (λ v. map Some v.items ≡ by_buffer keys entries)
     (λ g. option_map fault.MissingId (position (λ o. not (is_some o)) (by_buffer keys entries)) ≡ Some g)
-    → UnlessNoMemory r (λ v. offsets_of ids table ≡ Ok v.items) (λ g. offsets_of ids table ≡ Err g)
+    → UnlessNoMemory r (λ v. parsed_offsets ids table ≡ Ok v.items) (λ g. parsed_offsets ids table ≡ Err g)
 read-all keys ids table entries same f r h =
     rw (← same) (UnlessNoMemory-map r (λ v all. offsets-all keys table entries f v.items all)
     (λ g missing. offsets-missing keys table entries f g missing) h)

@@ -14,11 +14,11 @@ use Rattle.dsa_terms.specs.Buffers.{Buffer, is_live, some_before}
 use Rattle.csv_instance.specs.Found.{AreColumns, AreFound, AreOf, by_buffer, found_for}
 use Rattle.csv_instance.specs.Gives.{Gives, records_left}
 use Rattle.csv_instance.specs.Offsets.{layout_row_fault}
-use Rattle.csv_instance.specs.Parse.{buffer_of, header_fault, id_fault}
-use Rattle.csv_instance.specs.Places.{places_of}
-use Rattle.csv_instance.specs.Records.{IsShort, Record, file_limit}
+use Rattle.csv_instance.specs.Parse.{row_buffer, header_fault, id_fault}
+use Rattle.csv_instance.specs.Places.{column_places}
+use Rattle.csv_instance.specs.Records.{HasShortFields, Record, file_limit}
 use Rattle.csv_instance.specs.Row.{AreNumbers, length_fault}
-use Rattle.csv_instance.specs.Table.{IsKept, records_of}
+use Rattle.csv_instance.specs.Table.{IsKeptTable, records_of}
 use Rattle.csv_instance.specs.Wrote.{Wrote}
 use Rattle.csv_instance.specs.declared.fault.InstanceFault.TheVariants as fault
 use Rattle.csv_instance.specs.declared.fault.OffsetsFault.TheVariants as offsets
@@ -59,11 +59,11 @@ row_of_a_long_id = refl
 row_past_the_last : id_fault plain (replicate 512 first_row) [] ≡ Some fault.TooManyBuffers
 row_past_the_last = refl
 
-short : IsShort (codes "A" ∷ [])
+short : HasShortFields (codes "A" ∷ [])
 short zero d lt = lit≤ tt
 short (suc k) d lt = absurd (omega arith)
 
-not_short : (field : List ℕ) → file_limit < length field → IsShort (field ∷ []) → ⊥
+not_short : (field : List ℕ) → file_limit < length field → HasShortFields (field ∷ []) → ⊥
 not_short field long h = let k : length field ≤ file_limit = h 0 field (lit< tt) in omega arith
 
 -- ---- tables
@@ -79,8 +79,8 @@ module _ (a : Inside) (header : fields_of a.header ≡ plain) where
   only_header rows = rw (header, rows) refl
 
   one_row : (r : Row) (k : Vec ℕ Global) → fields_of r ≡ first_row → k.items ≡ codes "A" →
-      a.rows.items ≡ r ∷ [] → a.ids.keys ≡ k ∷ [] → a.places ≡ places_of plain →
-      a.instance ≡ first_buffer ∷ [] → IsKept a
+      a.rows.items ≡ r ∷ [] → a.ids.keys ≡ k ∷ [] → a.places ≡ column_places plain →
+      a.instance ≡ first_buffer ∷ [] → IsKeptTable a
   unfolding is_live some_before is_ever_live
   one_row r k row id rows ids places buffers = record {
     places = rw header places;
@@ -91,11 +91,11 @@ module _ (a : Inside) (header : fields_of a.header ≡ plain) where
     ids = rw (header, rows, ids, row, id) refl;
   }
 
-  no_buffer : (r : Row) → a.rows.items ≡ r ∷ [] → a.instance ≡ [] → IsKept a → ⊥
+  no_buffer : (r : Row) → a.rows.items ≡ r ∷ [] → a.instance ≡ [] → IsKeptTable a → ⊥
   no_buffer r rows buffers k =
-      not_mapped (λ (row : Row). buffer_of (fields_of a.header) (fields_of row)) r _ _ k.buffers rows buffers
+      not_mapped (λ (row : Row). row_buffer (fields_of a.header) (fields_of row)) r _ _ k.buffers rows buffers
 
-no_columns : (a : Inside) → fields_of a.header ≡ [] → IsKept a → ⊥
+no_columns : (a : Inside) → fields_of a.header ≡ [] → IsKeptTable a → ⊥
 no_columns a header k = let e = subst (λ fields. header_fault fields ≡ None) header k.header_good in cc
 
 -- ---- layout files

@@ -7,10 +7,10 @@ use Rattle.std.specs.Fmt.{decimal}
 use Rattle.std.specs.List.{list_any, position_from}
 use Rattle.std.specs.Str.{bytes_eq}
 use Rattle.std.specs.Prelude.{⊤, nat_le, ◌==◌}
-use Rattle.csv_instance.specs.Columns.{field_of, name_of, place_of, stands_twice, has_column}
+use Rattle.csv_instance.specs.Columns.{field_of, name_of, column_place, stands_twice, has_column}
 use Rattle.csv_instance.specs.Layout.{layout_records, layout_text, rows_with}
-use Rattle.csv_instance.specs.Offsets.{AreOffsets, ids_of, is_of, layout_header_fault, layout_row_fault, layout_rows_fault, offset_in, offset_limit, offset_of, offsets_of}
-use Rattle.csv_instance.specs.Parse.{buffer_of, header_fault, header_faults, id_fault, id_faults, row_fault, rows_fault, parse}
+use Rattle.csv_instance.specs.Offsets.{AreOffsets, ids_of, is_of, layout_header_fault, layout_row_fault, layout_rows_fault, offset_in, offset_limit, offset_of, parsed_offsets}
+use Rattle.csv_instance.specs.Parse.{row_buffer, header_fault, header_faults, id_fault, id_faults, row_fault, rows_fault, parse}
 use Rattle.csv_instance.specs.Records.{Record, table_of}
 use Rattle.csv_instance.proofs.Basics.{any_after, counted_last, find_after, find_none, none_counted, none_if, not_false, some_if, text_same}
 use Rattle.csv_instance.proofs.ReadBack.{layout-read}
@@ -37,8 +37,8 @@ all_small (o ∷ os) h = (h 0 o (omega arith), all_small os (λ k d within. h (s
 pub record IsGood (header : Record) : Type 0 where
   pub once : stands_twice header Id ≡ false
   pub id_place : ℕ
-  pub id_there : place_of header Id ≡ Some id_place
-  pub no_offset : place_of header Offset ≡ None
+  pub id_there : column_place header Id ≡ Some id_place
+  pub no_offset : column_place header Offset ≡ None
 
 pub good : (header : Record) → header_fault header ≡ None → IsGood header
 good header e =
@@ -47,12 +47,12 @@ good header e =
     (map_none fault.DuplicateColumn _ n.1.0) in
     let missing = find_none (λ (c : Column). not (has_column header c)) Id (Lower ∷ Upper ∷ Size ∷ [])
     (map_none fault.MissingColumn _ n.1.1.1.0) in
-    let there = some_if (place_of header Id) (not_false _ missing.0) in
+    let there = some_if (column_place header Id) (not_false _ missing.0) in
     record {
       once = twice.0;
       id_place = there.0;
       id_there = there.1;
-      no_offset = none_if (place_of header Offset) (not_so _ fault.OffsetColumn n.1.1.0);
+      no_offset = none_if (column_place header Offset) (not_so _ fault.OffsetColumn n.1.1.0);
     }
 
 -- the header with the name `offset` put last
@@ -217,7 +217,7 @@ none_missing header rows2 (row ∷ rows) i h = rw h.0 (none_missing header rows2
 -- the offsets of the records of a layout are those that it was made of
 pub offsets-back : (header : Record) (rows : List Record) (os : List ℕ) → header_fault header ≡ None
     → rows_fault header [] rows ≡ None → AllSmall os → length os ≡ length rows
-    → offsets_of (ids_of (header ∷ rows)) (layout_records (header ∷ rows) os) ≡ Ok os
+    → parsed_offsets (ids_of (header ∷ rows)) (layout_records (header ∷ rows) os) ≡ Ok os
 offsets-back header rows os h r small even =
     let g = good header h in
     let ids = ids_of (header ∷ rows) in
@@ -237,17 +237,17 @@ parsed (Some f) x b e = cc e
 -- what is written of a table that parses gives the offsets back
 pub layout-back : (table : List Record) (b : List Buffer) (os : List ℕ) → parse table ≡ Ok b → AreOffsets os
     → length table ≡ length os + 1
-    → offsets_of (ids_of table) (table_of (layout_text table os)) ≡ Ok os
+    → parsed_offsets (ids_of table) (table_of (layout_text table os)) ≡ Ok os
 layout-back [] b os e small even = cc e
 layout-back ([] ∷ rows) b os e small even =
     let (h, r) = neither (header_fault []) (rows_fault [] [] rows)
-    (parsed (option_or (header_fault []) (rows_fault [] [] rows)) (map (buffer_of []) rows) b e) in
+    (parsed (option_or (header_fault []) (rows_fault [] [] rows)) (map (row_buffer []) rows) b e) in
     let g = good [] h in
     cc g.id_there
 layout-back ((f ∷ fs) ∷ rows) b os e small even =
     let (h, r) = neither (header_fault (f ∷ fs)) (rows_fault (f ∷ fs) [] rows)
     (parsed (option_or (header_fault (f ∷ fs)) (rows_fault (f ∷ fs) [] rows))
-    (map (buffer_of (f ∷ fs)) rows) b e) in
+    (map (row_buffer (f ∷ fs)) rows) b e) in
     let n = all_none (header_faults (f ∷ fs)) h in
-    ap (offsets_of (ids_of ((f ∷ fs) ∷ rows))) (layout-read f fs rows os (not_so _ fault.MarkedHeader n.0))
+    ap (parsed_offsets (ids_of ((f ∷ fs) ∷ rows))) (layout-read f fs rows os (not_so _ fault.MarkedHeader n.0))
     ∙ offsets-back (f ∷ fs) rows os h r (all_small os small) (omega arith)

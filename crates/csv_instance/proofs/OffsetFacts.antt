@@ -14,7 +14,7 @@ use Rattle.csv_instance.specs.Columns.{field_of}
 use Rattle.csv_instance.specs.Parse.{parse}
 use Rattle.csv_instance.specs.declared.columns.Column.TheVariants.{Id, Offset}
 use Rattle.csv_instance.proofs.FailLemmas.{UnlessNoMemory-map}
-use Rattle.csv_instance.specs.Offsets.{AreOffsets, ids_of, is_of, offset_in, offset_limit, offset_of, offsets_of}
+use Rattle.csv_instance.specs.Offsets.{AreOffsets, ids_of, is_of, offset_in, offset_limit, offset_of, parsed_offsets}
 use Rattle.csv_instance.specs.Records.{Record}
 
 answered : {F A : Type 0} (o : Option F) (x y : A) → option_map_or Err o (Ok x) ≡ Ok y → x ≡ y
@@ -39,7 +39,7 @@ reads-back x os r e h = UnlessNoMemory-map r (λ v same. same_ok v.items os (sym
     (λ g bad. no_fault g os (sym bad ∙ e)) h
 
 -- one for each id
-pub offsets-count : (ids : List (List ℕ)) (table : List Record) (os : List ℕ) → offsets_of ids table ≡ Ok os
+pub offsets-count : (ids : List (List ℕ)) (table : List Record) (os : List ℕ) → parsed_offsets ids table ≡ Ok os
     → length os ≡ length ids
 offsets-count ids [] os e = cc e
 offsets-count ids (header ∷ rows) os e = sym (ap length (answered _ (map (offset_of header rows) ids) os e))
@@ -67,7 +67,7 @@ all_mapped f (id ∷ ids) h zero d within = h id
 all_mapped f (id ∷ ids) h (suc k) d within = all_mapped f ids h k d (omega arith)
 
 -- each at most the greatest offset
-pub offsets-limit : (ids : List (List ℕ)) (table : List Record) (os : List ℕ) → offsets_of ids table ≡ Ok os
+pub offsets-limit : (ids : List (List ℕ)) (table : List Record) (os : List ℕ) → parsed_offsets ids table ≡ Ok os
     → AreOffsets os
 offsets-limit ids [] os e = cc e
 offsets-limit ids (header ∷ rows) os e = subst AreOffsets (answered _ (map (offset_of header rows) ids) os e)

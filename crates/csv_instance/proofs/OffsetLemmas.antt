@@ -11,7 +11,7 @@ use Rattle.std.specs.Str.{all_ascii_digits, bytes_eq}
 use Rattle.std.specs.Str.Parse.{digits_value}
 use Rattle.dsa_model.specs.Numbers.{written_number}
 use Rattle.dsa_model.proofs.NumberLemmas.{own}
-use Rattle.csv_instance.specs.Columns.{field_of, name_of, place_of}
+use Rattle.csv_instance.specs.Columns.{field_of, name_of, column_place}
 use Rattle.csv_instance.specs.Records.{Record}
 use Rattle.csv_instance.specs.declared.columns.Column.TheVariants.{Id, Offset}
 
@@ -75,7 +75,7 @@ get-last [] y d = refl
 get-last (x ∷ xs) y d = get-last xs y d
 
 -- the id of a row with one more field
-pub id-with : (header row : Record) (name field : List ℕ) (k : ℕ) → place_of header Id ≡ Some k
+pub id-with : (header row : Record) (name field : List ℕ) (k : ℕ) → column_place header Id ≡ Some k
     → length row ≡ length header
     → field_of (header ++ name ∷ []) (row ++ field ∷ []) Id ≡ field_of header row Id
 id-with header row name field k e same =
@@ -85,7 +85,7 @@ id-with header row name field k e same =
     rw (there, e) (get-append row (field ∷ []) k [] (omega arith))
 
 -- and its last field
-pub last-with : (header row : Record) (field : List ℕ) → place_of header Offset ≡ None → length row ≡ length header
+pub last-with : (header row : Record) (field : List ℕ) → column_place header Offset ≡ None → length row ≡ length header
     → field_of (header ++ name_of Offset ∷ []) (row ++ field ∷ []) Offset ≡ field
 last-with header row field e same =
     let there = position-last (bytes_eq (name_of Offset)) header (name_of Offset) e refl in

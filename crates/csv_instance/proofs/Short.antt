@@ -11,7 +11,7 @@ use Rattle.csv.specs.declared.parser.Action.TheVariants as act
 use Rattle.csv.specs.declared.parser.Config.{Config}
 use Rattle.csv.specs.declared.parser.State.{State}
 use Rattle.csv.specs.declared.parser.State.TheVariants as st
-use Rattle.csv_instance.specs.Records.{IsShort, file_limit, table_of}
+use Rattle.csv_instance.specs.Records.{HasShortFields, file_limit, table_of}
 use Rattle.csv_instance.proofs.Left.{from_none, from_some, option_cases}
 
 abbrev Within : ℕ → List (List ℕ) → Type 0
@@ -109,7 +109,7 @@ strip_shorter (a ∷ b ∷ c ∷ xs) = elim (cases_Bool (is_bom a b c)) [
 ]
 
 -- no field of a file is longer than a file may be
-pub table_short : (bytes : List ℕ) → length bytes ≤ file_limit → All IsShort (table_of bytes)
+pub table_short : (bytes : List ℕ) → length bytes ≤ file_limit → All HasShortFields (table_of bytes)
 table_short bytes short = let less = strip_shorter bytes in
     records_short file_limit default_config (length (strip_bom bytes) + 1) st.StartRecord (strip_bom bytes)
     (omega arith)

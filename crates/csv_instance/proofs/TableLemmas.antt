@@ -3,7 +3,7 @@ use Rattle.std.proofs.Common.{zero, suc, get_or, ◌≡◌, ◌≢◌, ◌≤◌
 use Rattle.std.proofs.lemmas.List.{append-nil}
 use Rattle.std.specs.Option.{option_or}
 use Rattle.csv_instance.specs.Records.{Record}
-use Rattle.csv_instance.specs.Parse.{buffer_of, content_fault, header_fault, id_fault, row_fault, rows_fault, parse}
+use Rattle.csv_instance.specs.Parse.{row_buffer, content_fault, header_fault, id_fault, row_fault, rows_fault, parse}
 use Rattle.std.specs.Prelude.{nat_lt, ◌==◌}
 use Rattle.std.proofs.lemmas.Bool.Decides.{nat_tests}
 use Rattle.dsa_model.proofs.Faults.{neither, not_so}
@@ -33,7 +33,7 @@ rows-append header before (x ∷ xs) ys =
 
 -- a table without a fault
 pub parse-good : (header : Record) (rows : List Record) → header_fault header ≡ None → rows_fault header [] rows ≡ None
-    → parse (header ∷ rows) ≡ Ok (map (buffer_of header) rows)
+    → parse (header ∷ rows) ≡ Ok (map (row_buffer header) rows)
 parse-good header rows h r = rw (h, r) refl
 
 -- one more row without a fault

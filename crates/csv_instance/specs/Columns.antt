@@ -25,12 +25,12 @@ abbrev pub needed_columns : List Column
 needed_columns = Id ∷ Lower ∷ Upper ∷ Size ∷ []
 
 -- where a column stands in a header, if it does
-abbrev pub place_of : Record → Column → Option ℕ
-place_of header c = position (bytes_eq (name_of c)) header
+abbrev pub column_place : Record → Column → Option ℕ
+column_place header c = position (bytes_eq (name_of c)) header
 
 -- whether it does
 abbrev pub has_column : Record → Column → Bool
-has_column header c = is_some (place_of header c)
+has_column header c = is_some (column_place header c)
 
 -- whether a column stands twice in a header
 abbrev pub stands_twice : Record → Column → Bool
@@ -38,4 +38,4 @@ stands_twice header c = nat_le 2 (count_by (bytes_eq (name_of c)) header)
 
 -- the field of a row under a column, and nothing where the header has no such column
 abbrev pub field_of : Record → Record → Column → List ℕ
-field_of header row c = option_map_or (λ i. slice_index_or row i []) (place_of header c) []
+field_of header row c = option_map_or (λ i. slice_index_or row i []) (column_place header c) []

@@ -4,7 +4,7 @@ use Rattle.std.specs.Map.{lookup}
 use Rattle.std.specs.Str.{bytes_eq}
 use Rattle.std.specs.declared.alloc.Global.{Global}
 use Rattle.std.specs.declared.vec.Vec.{Vec}
-use Rattle.csv_instance.specs.Columns.{field_of, place_of}
+use Rattle.csv_instance.specs.Columns.{field_of, column_place}
 use Rattle.csv_instance.specs.Offsets.{layout_header_fault, layout_rows_fault, offset_in}
 use Rattle.csv_instance.specs.Records.{Record}
 use Rattle.csv_instance.specs.declared.columns.Column.TheVariants.{Id, Offset}
@@ -13,8 +13,8 @@ use Rattle.csv_instance.specs.declared.offset_row.OffsetColumns.{OffsetColumns}
 -- the columns of a layout file with this header
 pub record AreColumns (header : Record) (columns : OffsetColumns) : Type 0 where
   pub count : columns.count ≡ length header
-  pub id : place_of header Id ≡ Some columns.id
-  pub offset : place_of header Offset ≡ Some columns.offset
+  pub id : column_place header Id ≡ Some columns.id
+  pub offset : column_place header Offset ≡ Some columns.offset
 
 -- ids, each with an offset
 abbrev pub Entries : Type 0

@@ -70,9 +70,9 @@ abbrev pub offset_of : Record → List Record → List ℕ → ℕ
 offset_of header rows id = unwrap_or (option_and_then (offset_in header) (find (is_of header id) rows)) 0
 
 -- the offsets that the records of a layout file give the buffers of these ids, or their first fault
-abbrev pub offsets_of : List (List ℕ) → List Record → Result (List ℕ) OffsetsFault
-offsets_of ids [] = Err fault.NoHeader
-offsets_of ids (header ∷ rows) = option_map_or Err (first_fault (
+abbrev pub parsed_offsets : List (List ℕ) → List Record → Result (List ℕ) OffsetsFault
+parsed_offsets ids [] = Err fault.NoHeader
+parsed_offsets ids (header ∷ rows) = option_map_or Err (first_fault (
     layout_header_fault header
     ∷ layout_rows_fault ids header [] rows
     ∷ option_map fault.MissingId (position (λ id. not (list_any (is_of header id) rows)) ids)

@@ -50,8 +50,8 @@ abbrev pub bad_column : Record → Record → Option Column
 bad_column header row = find (λ c. not (is_some (number_under header row c))) number_columns
 
 -- the buffer of a row whose fields are right
-abbrev pub buffer_of : Record → Record → Buffer
-buffer_of header row = record {
+abbrev pub row_buffer : Record → Record → Buffer
+row_buffer header row = record {
   lower = unwrap_or (number_under header row Lower) 0;
   upper = unwrap_or (number_under header row Upper) 0;
   size = unwrap_or (number_under header row Size) 0;
@@ -88,7 +88,7 @@ abbrev pub content_fault : Record → ℕ → Record → Option InstanceFault
 content_fault header number row = first_fault (
     option_map (fault.BadNumber number) (bad_column header row)
     ∷ when (not (is_some (gaps_of (field_of header row Gaps)))) (fault.BadGap number)
-    ∷ option_map (fault.BadBuffer number) (buffer_fault (buffer_of header row))
+    ∷ option_map (fault.BadBuffer number) (buffer_fault (row_buffer header row))
     ∷ [])
 
 -- the first fault of a row, given the rows before it
@@ -105,4 +105,4 @@ rows_fault header before (row ∷ rows) =
 abbrev pub parse : List Record → Result (List Buffer) InstanceFault
 parse [] = Err fault.NoHeader
 parse (header ∷ rows) = option_map_or Err (option_or (header_fault header) (rows_fault header [] rows))
-    (Ok (map (buffer_of header) rows))
+    (Ok (map (row_buffer header) rows))

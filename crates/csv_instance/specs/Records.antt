@@ -17,5 +17,5 @@ abbrev pub file_limit : ℕ
 file_limit = 67108864
 
 -- no field is longer than a file may be
-abbrev pub IsShort : Record → Type 0
-IsShort fields = All (λ field. length field ≤ file_limit) fields
+abbrev pub HasShortFields : Record → Type 0
+HasShortFields fields = All (λ field. length field ≤ file_limit) fields

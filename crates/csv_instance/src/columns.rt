@@ -4,8 +4,8 @@ ghost use Rattle.std.specs.Prelude.{◌≡◌, ◌<◌, [], List, ℕ, slice_ind
 ghost use Rattle.std.specs.Option.{option_map_or};
 ghost use Rattle.std.specs.Str.{bytes_eq};
 ghost use Rattle.csv.specs.Records.{fields_of};
-ghost use Rattle.csv_instance.specs.Columns.{name_of, place_of};
-ghost use Rattle.csv_instance.specs.Places.{places_of};
+ghost use Rattle.csv_instance.specs.Columns.{name_of, column_place};
+ghost use Rattle.csv_instance.specs.Places.{column_places};
 
 use csv::ByteRecord;
 
@@ -46,7 +46,7 @@ pub(crate) fn column_name(column: Column) -> &'static [u8]
 
 /// Where the columns of an instance file's header stand.
 #[derive(Clone, Copy)]
-pub(crate) struct Places {
+pub(crate) struct ColumnPlaces {
     pub(crate) id: Option<usize>,
     pub(crate) lower: Option<usize>,
     pub(crate) upper: Option<usize>,
@@ -77,7 +77,7 @@ pub(crate) fn field_under(row: &ByteRecord, place: Option<usize>) -> &[u8]
 
 /// Where a column stands in a header.
 pub(crate) fn find_column(header: &ByteRecord, column: Column) -> Option<usize>
-    ensures { result ≡ place_of (fields_of header.now) column }
+    ensures { result ≡ column_place (fields_of header.now) column }
 {
     let name = column_name(column);
     for place in 0..header.len() {
@@ -89,10 +89,10 @@ pub(crate) fn find_column(header: &ByteRecord, column: Column) -> Option<usize>
 }
 
 /// Where the columns of an instance file's header stand.
-pub(crate) fn find_columns(header: &ByteRecord) -> Places
-    ensures { result ≡ places_of (fields_of header.now) }
+pub(crate) fn find_columns(header: &ByteRecord) -> ColumnPlaces
+    ensures { result ≡ column_places (fields_of header.now) }
 {
-    Places {
+    ColumnPlaces {
         id: find_column(header, Column::Id),
         lower: find_column(header, Column::Lower),
         upper: find_column(header, Column::Upper),

@@ -5,7 +5,7 @@ ghost use Rattle.csv.specs.Records.{fields_of};
 ghost use Rattle.csv.specs.Writing.{default_writer, row_text};
 ghost use Rattle.csv_instance.specs.Layout.{layout_text};
 ghost use Rattle.csv_instance.specs.Wrote.{Wrote};
-ghost use Rattle.csv_instance.specs.Offsets.{AreOffsets, ids_of, offsets_of};
+ghost use Rattle.csv_instance.specs.Offsets.{AreOffsets, ids_of, parsed_offsets};
 ghost use Rattle.csv_instance.specs.Records.{table_of};
 
 use crate::columns::{Column, column_name, field_at};
@@ -58,7 +58,7 @@ pub fn write_layout(alloc: Global, table: &Table, offsets: &[u64]) -> Result<Vec
     requires { length table.now ≡ length offsets.now + 1 }
     ensures text { IfOk result (λ text. text.items ≡ layout_text table.now offsets.now) }
     ensures back { IfOk result (λ text. AreOffsets offsets.now
-        → offsets_of (ids_of table.now) (table_of text.items) ≡ Ok offsets.now) }
+        → parsed_offsets (ids_of table.now) (table_of text.items) ≡ Ok offsets.now) }
 {
     let (header, rows) = table.records();
     let mut writer = WriterBuilder::new().from_writer(Vec::new(alloc));

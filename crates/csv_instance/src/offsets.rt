@@ -4,7 +4,7 @@ ghost use Rattle.std.specs.Prelude.{◌≡◌, ◌≤◌, ◌+◌, List, ℕ, If
 ghost use Rattle.dsa_model.specs.Fails.{UnlessNoMemory};
 ghost use Rattle.csv_instance.specs.Found.{AreFound, by_buffer};
 ghost use Rattle.csv_instance.specs.Layout.{layout_text};
-ghost use Rattle.csv_instance.specs.Offsets.{AreOffsets, ids_of, offsets_of};
+ghost use Rattle.csv_instance.specs.Offsets.{AreOffsets, ids_of, parsed_offsets};
 ghost use Rattle.csv_instance.specs.Records.{table_of};
 ghost use Rattle.csv_instance.specs.declared.fault.OffsetsFault.TheVariants as fault;
 
@@ -25,7 +25,7 @@ fn read_rows(
     requires { length bytes.now ≤ 67108864 }
     ensures { let known = map (λ k. k.items) ids.now.keys in UnlessNoMemory result
         (λ found. AreFound known (table_of bytes.now) found.entries)
-        (λ fault. offsets_of known (table_of bytes.now) ≡ Err fault) }
+        (λ fault. parsed_offsets known (table_of bytes.now) ≡ Err fault) }
 {
     let mut records = records(alloc, bytes);
     let header = match records.next() {
@@ -86,7 +86,7 @@ pub fn read_offsets(
     bytes: &[u8],
 ) -> Result<Vec<u64>, Fail<OffsetsFault>>
     requires { length bytes.now ≤ 67108864 }
-    ensures read { let read = offsets_of (ids_of table.now) (table_of bytes.now) in
+    ensures read { let read = parsed_offsets (ids_of table.now) (table_of bytes.now) in
         UnlessNoMemory result (λ offsets. read ≡ Ok offsets.items) (λ fault. read ≡ Err fault) }
     ensures count { IfOk result (λ offsets. length table.now ≡ length offsets.items + 1) }
     ensures limit { IfOk result (λ offsets. AreOffsets offsets.items) }

@@ -4,15 +4,15 @@ ghost use Rattle.std.specs.Prelude.{◌≡◌, ◌∷◌, ◌++◌, ◌≤◌, [
 ghost use Rattle.csv.specs.Records.{fields_of};
 ghost use Rattle.dsa_model.specs.Fails.{UnlessNoMemory};
 ghost use Rattle.csv_instance.specs.Columns.{field_of};
-ghost use Rattle.csv_instance.specs.Places.{places_of};
-ghost use Rattle.csv_instance.specs.Records.{IsShort, Record};
+ghost use Rattle.csv_instance.specs.Places.{column_places};
+ghost use Rattle.csv_instance.specs.Records.{HasShortFields, Record};
 ghost use Rattle.csv_instance.specs.Numbers.{time_limit};
-ghost use Rattle.csv_instance.specs.Parse.{alignment_of, bad_column, buffer_of, content_fault, id_fault};
+ghost use Rattle.csv_instance.specs.Parse.{alignment_of, bad_column, row_buffer, content_fault, id_fault};
 ghost use Rattle.csv_instance.specs.Row.{AreNumbers, length_fault};
 ghost use Rattle.std.specs.Option.{option_map_or};
 ghost use Rattle.csv_instance.specs.declared.columns.Column.TheVariants.{Id};
 
-use crate::columns::{Column, Places, field_under};
+use crate::columns::{Column, ColumnPlaces, field_under};
 use crate::fault::InstanceFault;
 use crate::gaps::read_gaps;
 use crate::numbers::TIME_LIMIT;
@@ -45,12 +45,12 @@ fn check_lengths(number: u32, columns: usize, fields: usize, id: usize) -> Optio
 /// The first fault of a row's length and id.
 pub(crate) fn check_id(
     header: &ByteRecord,
-    places: &Places,
+    places: &ColumnPlaces,
     ids: &IndexSet<Vec<u8>>,
     rows: &Vec<ByteRecord>,
     row: &ByteRecord,
 ) -> Option<InstanceFault>
-    requires places { places.now ≡ places_of (fields_of header.now) }
+    requires places { places.now ≡ column_places (fields_of header.now) }
     requires ids { map (λ k. k.items) ids.now.keys
         ≡ map (λ e. field_of (fields_of header.now) (fields_of e) Id) rows.now.items }
     requires few { length rows.now.items ≤ 512 }
@@ -96,10 +96,10 @@ struct Numbers {
 }
 
 /// The numbers of a row, or the first column without one.
-fn read_numbers(places: &Places, row: &ByteRecord) -> Result<Numbers, Column>
+fn read_numbers(places: &ColumnPlaces, row: &ByteRecord) -> Result<Numbers, Column>
     ensures limits { IfOk result (λ n. (n.lower ≤ time_limit) × (n.upper ≤ time_limit)) }
     ensures numbers { let fields = fields_of row.now in
-        (header : Record) → places.now ≡ places_of header
+        (header : Record) → places.now ≡ column_places header
         → MatchResult result
         (λ n. (bad_column header fields ≡ None) × AreNumbers header fields n)
         (λ column. bad_column header fields ≡ Some column) }
@@ -127,14 +127,14 @@ fn read_numbers(places: &Places, row: &ByteRecord) -> Result<Numbers, Column>
 /// The buffer that a row tells of, or the first fault of what it says.
 pub(crate) fn read_buffer(
     alloc: Global,
-    places: &Places,
+    places: &ColumnPlaces,
     number: u32,
     row: &ByteRecord,
 ) -> Result<Buffer, Fail<InstanceFault>>
-    requires { IsShort (fields_of row.now) }
-    ensures { let fields = fields_of row.now in (header : Record) → places.now ≡ places_of header
-        → UnlessNoMemory result
-        (λ b. (content_fault header number fields ≡ None) × (b ≡ buffer_of header fields))
+    requires { HasShortFields (fields_of row.now) }
+    ensures { let fields = fields_of row.now in (header : Record) →
+        places.now ≡ column_places header → UnlessNoMemory result
+        (λ b. (content_fault header number fields ≡ None) × (b ≡ row_buffer header fields))
         (λ f. content_fault header number fields ≡ Some f) }
 {
     let Numbers {

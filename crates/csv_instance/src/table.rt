@@ -4,11 +4,11 @@ ghost use Rattle.std.specs.Prelude.{◌≡◌, ◌∷◌, ◌++◌, ◌+◌, ◌
 ghost use Rattle.csv.specs.Records.{fields_of};
 ghost use Rattle.dsa_terms.specs.Buffers.{Buffer as BufferTerm};
 ghost use Rattle.dsa_model.specs.Fails.{UnlessNoMemory};
-ghost use Rattle.csv_instance.specs.Records.{IsShort, Record};
+ghost use Rattle.csv_instance.specs.Records.{HasShortFields, Record};
 ghost use Rattle.csv_instance.specs.Offsets.{ids_of};
 ghost use Rattle.csv_instance.specs.Parse.{parse};
 
-use crate::columns::{Places, field_under, find_columns};
+use crate::columns::{ColumnPlaces, field_under, find_columns};
 use crate::fault::InstanceFault;
 use crate::header::check_header;
 use crate::row::{check_id, read_buffer};
@@ -23,7 +23,7 @@ use std::marker::Model;
 #[derive(Drop)]
 pub struct Table {
     header: ByteRecord,
-    places: Places,
+    places: ColumnPlaces,
     rows: Vec<ByteRecord>,
     ids: IndexSet<Vec<u8>>,
     instance: Instance,
@@ -35,11 +35,11 @@ impl Model for Table {
 
     ghost Value = { List Record };
 
-    ghost use Rattle.csv_instance.specs.Table.{records_of, IsKept};
+    ghost use Rattle.csv_instance.specs.Table.{records_of, IsKeptTable};
 
     ghost view = { records_of };
 
-    ghost invariant = { IsKept };
+    ghost invariant = { IsKeptTable };
 }
 
 impl Table {
@@ -67,7 +67,7 @@ impl Table {
         alloc: Global,
         row: ByteRecord,
     ) -> Result<Table, Fail<InstanceFault>>
-        requires { IsShort (fields_of row) }
+        requires { HasShortFields (fields_of row) }
         ensures { UnlessNoMemory result (λ t. t ≡ self ++ fields_of row ∷ [])
             (λ f. (rest : List Record) → parse (self ++ fields_of row ∷ rest) ≡ Err f) }
     {

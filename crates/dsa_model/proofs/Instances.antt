@@ -1,6 +1,6 @@
 -- What the limits of an instance give to laws about instances.
-use Rattle.std.specs.Prelude.{All}
-use Rattle.dsa_terms.specs.Buffers.{Instance, IsInstance}
+use Rattle.std.specs.Prelude.{All, ℕ, length, ◌<◌}
+use Rattle.dsa_terms.specs.Buffers.{Instance, IsInstance, buffer, no_buffer}
 use Rattle.dsa_model.specs.Buffer.{IsBuffer}
 
 -- each buffer of an instance has a size, an alignment and a lifetime

@@ -11,15 +11,15 @@ use Rattle.csv_instance.specs.Records.{Record}
 use Rattle.csv_instance.specs.Layout.{layout_text}
 use Rattle.log_text.specs.Faults.{IsTextOf}
 use Rattle.log_text.specs.Text.{log_text, raw_log_of}
-use Rattle.planner.specs.Decides.{IsBoundLog, IsRefutation}
+use Rattle.planner.specs.Decides.{IsBoundLog, LeavesNoLayout}
 use Rattle.planner.specs.LeastCapacity.{AreWithinSteps}
-use Rattle.planner.specs.Openings.{IsOpen}
+use Rattle.planner.specs.Openings.{StaysOpen}
 use Rattle.command_words.specs.Options.{Word}
 use Rattle.command_words.specs.Commands.{Command, Least, command_of}
 use Rattle.dsaplan_core.specs.Seen.{FilesSeen}
 use Rattle.dsaplan_core.specs.Steps.{IsInput}
 use Rattle.dsaplan_core.specs.Asked.{capacity_of, input_of, log_of, output_of, steps_of}
-use Rattle.dsaplan_core.specs.Decided.{FindsLeast, MayStayOpen}
+use Rattle.dsaplan_core.specs.Decided.{WritesLeast, MayStayOpen}
 use Rattle.dsaplan_core.specs.Answers.{Cause}
 use Rattle.dsaplan_core.specs.Lost.{WritesOutput, WritesLog}
 use Rattle.dsaplan_core.specs.Prepares.{Tells, Puts, PutsBoth, Prepares, IsWriting, AreWritings}
@@ -121,7 +121,7 @@ prepares_both words old new command output log layout refutation s both (WriteBo
 pub writes_open : (old new : FilesSeen) (command : Command) (input output log : Word) (table : List Record)
     (I : Instance) (L H : ℕ) (offsets : List ℕ) (refutation : Log) (p : Prepared) →
     input_of command ≡ Some input → output_of command ≡ Some output → log_of command ≡ Some log →
-    IsInput old input table I → MayStayOpen command I L H → IsOpen I L H offsets refutation →
+    IsInput old input table I → MayStayOpen command I L H → StaysOpen I L H offsets refutation →
     (IsSome (capacity_of command) → offsets ≡ best_start I) →
     (IsSome (capacity_of command) → IsBoundLog I (L - 1) refutation) →
     AreWithinSteps I (steps_of command) L offsets (Some refutation) →
@@ -163,7 +163,7 @@ writes_open old new command input output log table I L H offsets refutation p it
 pub writes_least : (old new : FilesSeen) (input output log : Word) (steps : Option ℕ) (table : List Record)
     (I : Instance) (C : ℕ) (offsets : List ℕ) (refutation : Log) (p : Prepared) →
     IsInput old input table I → IsLeast I C → planned I C ≡ Some offsets → IsLayout I C offsets →
-    (I ≡ []) ↔ (C ≡ 0) → 1 ≤ C → IsRefutation I (C - 1) refutation →
+    (I ≡ []) ↔ (C ≡ 0) → 1 ≤ C → LeavesNoLayout I (C - 1) refutation →
     AreWithinSteps I steps C offsets (Some refutation) → IsTextOf (log_text refutation) (raw_log_of refutation) →
     PutsBoth output (layout_text table offsets) log (log_text refutation) (status.Least C) p →
     (words : List Word) → command_of words ≡ Ok (Least input output log steps) → Prepares words old new p
@@ -227,7 +227,7 @@ writes_layout_alone old input output log steps table I C offsets file said given
         ∙ ap (with_file old.held output) puts.its_bytes
 
     finds : (new : FilesSeen) → new.held ≡ with_file old.held output (layout_text table offsets) →
-        FindsLeast words old new C
+        WritesLeast words old new C
     finds new held = record {
       input = input;
       output = output;

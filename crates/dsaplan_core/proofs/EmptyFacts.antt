@@ -24,7 +24,7 @@ use Rattle.command_words.specs.Options.{Word}
 use Rattle.dsaplan_core.specs.Answers.{Answers, Says}
 use Rattle.dsaplan_core.specs.Asked.{IsAsked, input_of}
 use Rattle.dsaplan_core.specs.Checked.{MissesLog, ReadsLog, RefusesLog, RefusesText}
-use Rattle.dsaplan_core.specs.Decided.{FindsLeast, LaysOut}
+use Rattle.dsaplan_core.specs.Decided.{WritesLeast, LaysOut}
 use Rattle.dsaplan_core.specs.Judged.{MissesLayout}
 use Rattle.dsaplan_core.specs.Seen.{FilesSeen}
 use Rattle.dsaplan_core.specs.Shown.{ShowsFacts}
@@ -224,7 +224,7 @@ least_asked : IsAsked least_words (told alone) (Least (codes "i") (codes "o") (c
 least_asked =
     asks least_words (told alone) (Least (codes "i") (codes "o") (codes "l") None) refl refl reads_alone
 
-least_is_0 : FindsLeast least_words (told alone) laid 0
+least_is_0 : WritesLeast least_words (told alone) laid 0
 least_is_0 = record {
   input = codes "i";
   output = codes "o";

@@ -10,7 +10,7 @@ use Rattle.log_text.specs.Text.{log_text, raw_log_of}
 use Rattle.min_capacity.specs.declared.brackets.Bracket.{Bracket}
 use Rattle.min_capacity.specs.declared.brackets.Least.TheVariants.{Open}
 use Rattle.planner.specs.LeastCapacity.{AreWithinSteps, HasHalved, IsExactly, IsOpenAfter, IsWithinSteps, RefutesBelow}
-use Rattle.planner.specs.Openings.{IsOpen}
+use Rattle.planner.specs.Openings.{StaysOpen}
 use Rattle.command_words.specs.Options.{Word}
 use Rattle.command_words.specs.Commands.{Least, command_of}
 use Rattle.dsaplan_core.specs.Seen.{FilesSeen}
@@ -63,7 +63,7 @@ module _ (old new : FilesSeen) (input output log : Word) (steps : Option ℕ) (t
         to_best = found.to_best;
         one_more = subst (λ k. HasHalved I k (Open b)) found.too_few.given one_more;
       }))
-      (subst (IsOpen I b.low b.high b.layout.items) (same_log b.log found.below_log refutation found.its_log its_log)
+      (subst (StaysOpen I b.low b.high b.layout.items) (same_log b.log found.below_log refutation found.its_log its_log)
       found.stays_open)
       (λ some. absurd cc) (λ some. absurd cc)
       (subst (AreWithinSteps I steps b.low b.layout.items) its_log within) readable puts

@@ -3,7 +3,7 @@ use Rattle.std.proofs.Common.{◌≡◌, ◌∙◌, ◌<◌, ℕ, List, [], ◌�
 use Rattle.dsa_model.specs.LayoutFaults.{layout_fault}
 use Rattle.dsa_model.specs.declared.layout.LayoutFault.{LayoutFault}
 use Rattle.dsa_model.specs.declared.layout.LayoutFault.TheVariants as layout
-use Rattle.csv_instance.specs.Offsets.{ids_of, offsets_of}
+use Rattle.csv_instance.specs.Offsets.{ids_of, parsed_offsets}
 use Rattle.csv_instance.specs.Records.{file_limit, table_of}
 use Rattle.csv_instance.specs.declared.columns.Column.TheVariants as column
 use Rattle.csv_instance.specs.declared.fault.OffsetsFault.{OffsetsFault}
@@ -29,8 +29,8 @@ its_bytes given bytes whole =
     only_bytes (with_layout given) (codes "a") given bytes file_limit (reads_layout given) whole
 
 its_offsets : (given bytes : List ℕ) → given ≡ bytes →
-    offsets_of (ids_of rows) (table_of given) ≡ offsets_of (ids_of rows) (table_of bytes)
-its_offsets given bytes same = ap (λ (b : List ℕ). offsets_of (ids_of rows) (table_of b)) same
+    parsed_offsets (ids_of rows) (table_of given) ≡ parsed_offsets (ids_of rows) (table_of bytes)
+its_offsets given bytes same = ap (λ (b : List ℕ). parsed_offsets (ids_of rows) (table_of b)) same
 
 -- ---- a layout
 gives_0 : GivesLayout (beside low_file) (codes "a") rows one 1 (0 ∷ [])

@@ -12,7 +12,7 @@ use Rattle.command_words.specs.Commands.{Command, Solve, Least, command_of}
 use Rattle.command_words.specs.declared.fault.UsageFault.{UsageFault}
 use Rattle.dsaplan_core.specs.Seen.{FilesSeen, SinkSeen}
 use Rattle.dsaplan_core.specs.Asked.{steps_of}
-use Rattle.dsaplan_core.specs.Decided.{LaysOut, RefutesCapacity, WritesRefutationBelow, FindsLeast, LeavesOpen, with_log}
+use Rattle.dsaplan_core.specs.Decided.{LaysOut, RefutesCapacity, WritesRefutationBelow, WritesLeast, LeavesOpen, with_log}
 use Rattle.dsaplan_core.specs.Shown.{ShowsFacts, ShowsLayout, ShowsTrial}
 use Rattle.dsaplan_core.specs.Answers.{Cause, Answers}
 use Rattle.dsaplan_core.specs.Theorem.{HoldsLayout, HoldsRefutation, NamesCapacity, NamesLeast, RunsOut, Headline, IsMisuse}
@@ -70,7 +70,7 @@ module _ (words : List Word) (old new : FilesSeen) where
         ∙ file_at-with_file old.held row.log (log_text row.refutation) told;
   }
 
-  module _ (C : ℕ) (row : FindsLeast words old new C) where
+  module _ (C : ℕ) (row : WritesLeast words old new C) where
     abbrev least_command : Command
     least_command = Least row.input row.output row.log row.steps
 
@@ -174,7 +174,7 @@ module _ (words : List Word) (old new : FilesSeen) where
     allowed = row.allowed;
   }
 
-  names_least : (C : ℕ) → FindsLeast words old new C → NamesLeast words old C
+  names_least : (C : ℕ) → WritesLeast words old new C → NamesLeast words old C
   names_least C row = record {
     command = Least row.input row.output row.log row.steps;
     table = row.table;

@@ -6,7 +6,7 @@ use Rattle.command_words.specs.declared.option.OptionName.TheVariants as option
 use Rattle.csv_instance.specs.declared.columns.Column.TheVariants as column
 use Rattle.csv_instance.specs.declared.fault.InstanceFault.TheVariants as instance
 use Rattle.dsa_model.specs.declared.buffer_fault.BufferFault.TheVariants as buffer
-use Rattle.dsaplan_core.specs.FaultTexts.{buffer_text, instance_text, row_text, usage_text}
+use Rattle.dsaplan_core.specs.FaultTexts.{buffer_text, instance_text, row_fault_text, usage_text}
 
 -- ---- words
 no_command : usage_text usage.NoCommand ≡ codes "no command"
@@ -79,7 +79,7 @@ unfolding digits
 never_live = refl
 
 -- ---- instance files
-a_row : row_text 12 (codes "zero size") ≡ codes "row 12 zero size"
+a_row : row_fault_text 12 (codes "zero size") ≡ codes "row 12 zero size"
 unfolding digits
 a_row = refl
 

@@ -7,7 +7,7 @@ use Rattle.dsa_model.specs.LayoutFaults as faults
 use Rattle.dsa_model.specs.declared.layout.LayoutFault.{LayoutFault}
 use Rattle.dsa_model.specs.declared.layout.LayoutFault.TheVariants as layout
 use Rattle.dsa_outside.specs.Held.{file_at}
-use Rattle.csv_instance.specs.Offsets.{ids_of, offsets_of}
+use Rattle.csv_instance.specs.Offsets.{ids_of, parsed_offsets}
 use Rattle.csv_instance.specs.Records.{Record, file_limit, table_of}
 use Rattle.csv_instance.specs.declared.columns.Column.TheVariants as column
 use Rattle.csv_instance.specs.declared.fault.OffsetsFault.{OffsetsFault}
@@ -70,8 +70,9 @@ its_bytes given command table I bytes r = only_bytes (with_layout given) r.layou
 
 its_offsets : (given : List ℕ) (command : Command) (table : List Record) (I : Instance) (bytes : List ℕ) →
     ReadsLayout verify_words (beside given) command table I bytes →
-    offsets_of (ids_of rows) (table_of given) ≡ offsets_of (ids_of table) (table_of bytes)
-its_offsets given command table I bytes r = ap₂ (λ (t : List Record) (b : List ℕ). offsets_of (ids_of t) (table_of b))
+    parsed_offsets (ids_of rows) (table_of given) ≡ parsed_offsets (ids_of table) (table_of bytes)
+its_offsets given command table I bytes r =
+    ap₂ (λ (t : List Record) (b : List ℕ). parsed_offsets (ids_of t) (table_of b))
     (its_table given command table I r.asked) (its_bytes given command table I bytes r)
 
 not_no_bytes : ReadsLayout verify_words (beside low_file) verify rows one [] → ⊥

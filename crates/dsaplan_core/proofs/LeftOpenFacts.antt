@@ -18,12 +18,12 @@ use Rattle.csv_instance.specs.Parse.{parse}
 use Rattle.csv_instance.specs.Records.{Record, table_of}
 use Rattle.log_text.specs.Faults.{HasCite, IsTextOf}
 use Rattle.log_text.specs.Numerals.{numeral}
-use Rattle.log_text.specs.RawLogs.{IsLineKept, IsPairWithin}
+use Rattle.log_text.specs.RawLogs.{IsRawLineKept, IsPairWithin}
 use Rattle.log_text.specs.Text.{log_text, raw_log_of}
 use Rattle.log_text.specs.declared.raw.RawLine.{RawLine}
 use Rattle.log_text.specs.declared.raw.RawLine.TheVariants as raw_line
-use Rattle.planner.specs.Decides.{IsBoundLog, IsRefutation}
-use Rattle.planner.specs.Openings.{IsOpen}
+use Rattle.planner.specs.Decides.{IsBoundLog, LeavesNoLayout}
+use Rattle.planner.specs.Openings.{StaysOpen}
 use Rattle.planner.proofs.ExampleLeastFacts.{below_best, below_bound, below_log, four_is_open, four_steps}
 use Rattle.planner.proofs.StepFacts.{best_at_5, refuted_at_3}
 use Rattle.command_words.specs.Commands.{Command, Solve}
@@ -110,7 +110,7 @@ three_reads = record {
     count_limit = lit≤ tt;
     capacity_limit = lit≤ tt;
     end_limit = lit≤ tt;
-    lines = All-cons IsLineKept three_line []
+    lines = All-cons IsRawLineKept three_line []
         (record {
           not_empty = λ e. cc;
           rising = (above, ((λ y i. absurd i), tt));
@@ -122,7 +122,7 @@ three_reads = record {
                 (All-cons IsPairWithin (1, 0) [] (lit≤ tt, lit≤ tt) (All-nil IsPairWithin)),
           );
         })
-        (All-nil IsLineKept);
+        (All-nil IsRawLineKept);
   };
   cited = All-cons HasCite three_line [] tt (All-nil HasCite);
   text = refl;
@@ -132,8 +132,8 @@ three_reads = record {
     above y (inl e) = omega (arith, e)
     above y (inr i) = absurd i
 
-three_refutes : IsRefutation small_below 3 three_log
-three_refutes = subst (IsRefutation small_below 3) is_three_log refuted_at_3
+three_refutes : LeavesNoLayout small_below 3 three_log
+three_refutes = subst (LeavesNoLayout small_below 3) is_three_log refuted_at_3
 
 three_by_bound : IsBoundLog small_below 3 three_log
 three_by_bound = subst (IsBoundLog small_below 3) is_three_log below_log
@@ -167,7 +167,7 @@ left_open = record {
   its_output = refl;
   its_log = refl;
   allowed = short_of_four_steps;
-  opened = subst (IsOpen small_below 4 5 (0 ∷ 4 ∷ [])) is_three_log four_is_open;
+  opened = subst (StaysOpen small_below 4 5 (0 ∷ 4 ∷ [])) is_three_log four_is_open;
   best = λ named. sym below_best;
   by_bound = λ named. three_by_bound;
   within_steps = record {

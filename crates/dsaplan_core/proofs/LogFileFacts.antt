@@ -11,7 +11,7 @@ use Rattle.dsa_outside.specs.Held.{FileMap, file_at, with_file}
 use Rattle.dsa_outside.proofs.Lookups.{file_at-with_file}
 use Rattle.log_text.specs.Faults.{HasCite, IsTextOf}
 use Rattle.log_text.specs.Numerals.{numeral}
-use Rattle.log_text.specs.RawLogs.{IsLineKept}
+use Rattle.log_text.specs.RawLogs.{IsRawLineKept}
 use Rattle.log_text.specs.Text.{log_text, raw_log_of}
 use Rattle.log_text.specs.declared.raw.RawLine.{RawLine}
 use Rattle.log_text.specs.declared.raw.RawLine.TheVariants as raw_line
@@ -120,7 +120,7 @@ double_reads = record {
     count_limit = lit≤ tt;
     capacity_limit = lit≤ tt;
     end_limit = lit≤ tt;
-    lines = All-cons IsLineKept raw_zero (raw_zero ∷ []) (zero_reads.kept.lines 0 raw_zero (lit< tt))
+    lines = All-cons IsRawLineKept raw_zero (raw_zero ∷ []) (zero_reads.kept.lines 0 raw_zero (lit< tt))
         zero_reads.kept.lines;
   };
   cited = All-cons HasCite raw_zero (raw_zero ∷ []) tt zero_reads.cited;

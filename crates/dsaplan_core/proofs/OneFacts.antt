@@ -18,11 +18,11 @@ use Rattle.csv_instance.specs.Parse.{parse}
 use Rattle.csv_instance.specs.Records.{Record}
 use Rattle.log_text.specs.Faults.{HasCite, IsTextOf}
 use Rattle.log_text.specs.Numerals.{numeral}
-use Rattle.log_text.specs.RawLogs.{IsLineKept, IsPairWithin}
+use Rattle.log_text.specs.RawLogs.{IsRawLineKept, IsPairWithin}
 use Rattle.log_text.specs.Text.{log_text, raw_log_of}
 use Rattle.log_text.specs.declared.raw.RawLine.{RawLine}
 use Rattle.log_text.specs.declared.raw.RawLine.TheVariants as raw_line
-use Rattle.planner.specs.Decides.{IsBoundLog, IsRefutation}
+use Rattle.planner.specs.Decides.{IsBoundLog, LeavesNoLayout}
 
 -- ---- the instance
 abbrev pub byte : Buffer
@@ -157,7 +157,7 @@ zero_lean = record { uncovered = uncovered; lean = lean; one_part = one_part }
     one_part j k other line e f a b i h =
         ap (λ (g : Entry). part_of one g.0) (first j other e a i ∙ sym (first k line f b h))
 
-pub zero_refuted : IsRefutation one 0 zero_log
+pub zero_refuted : LeavesNoLayout one 0 zero_log
 zero_refuted =
     record { accepted = zero_accepted; its_capacity = refl; infeasible = nothing_at_0; lean = zero_lean }
 
@@ -188,7 +188,7 @@ zero_reads = record {
     count_limit = lit≤ tt;
     capacity_limit = lit≤ tt;
     end_limit = lit≤ tt;
-    lines = All-cons IsLineKept zero_line []
+    lines = All-cons IsRawLineKept zero_line []
         (record {
           not_empty = λ e. cc;
           rising = ((λ y i. absurd i), tt);
@@ -199,7 +199,7 @@ zero_reads = record {
             All-cons IsPairWithin (0, 0) [] (lit≤ tt, lit≤ tt) (All-nil IsPairWithin),
           );
         })
-        (All-nil IsLineKept);
+        (All-nil IsRawLineKept);
   };
   cited = All-cons HasCite zero_line [] tt (All-nil HasCite);
   text = refl;

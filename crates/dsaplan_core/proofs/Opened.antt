@@ -9,7 +9,7 @@ use Rattle.log_text.specs.Faults.{IsTextOf}
 use Rattle.log_text.specs.Text.{log_text, raw_log_of}
 use Rattle.min_capacity.specs.declared.brackets.Bracket.{Bracket}
 use Rattle.planner.specs.Decides.{IsBoundLog}
-use Rattle.planner.specs.Openings.{IsOpen, IsSpentAt}
+use Rattle.planner.specs.Openings.{StaysOpen, IsSpentAt}
 use Rattle.planner.proofs.Stepping.{spent_took}
 use Rattle.command_words.specs.Options.{Word}
 use Rattle.command_words.specs.Commands.{Solve, command_of}
@@ -38,9 +38,9 @@ module _ (old new : FilesSeen) (C : ℕ) (input output log : Word) (steps : Opti
         below = spent.below_high;
       })
 
-  stays_open : IsOpen I b.low b.high b.layout.items refutation
+  stays_open : StaysOpen I b.low b.high b.layout.items refutation
   stays_open =
-      subst (IsOpen I b.low b.high b.layout.items)
+      subst (StaysOpen I b.low b.high b.layout.items)
       (same_log b.log spent.bound_log refutation spent.its_log its_log) spent.stays_open
 
   bounds : IsBoundLog I (b.low - 1) refutation

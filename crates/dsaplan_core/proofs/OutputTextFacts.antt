@@ -7,7 +7,7 @@ use Rattle.dsa_model.specs.declared.layout.LayoutFault.TheVariants as layout
 use Rattle.log_check.specs.declared.fault.CheckFault.TheVariants as check
 use Rattle.log_text.specs.declared.fault.TextFault.TheVariants as text
 use Rattle.refute_log.specs.declared.reason.Reason.TheVariants as reason
-use Rattle.dsaplan_core.specs.FaultTexts.{check_text, count_text, end_text, illegal_text, layout_fault_text, offsets_text, overlap_text, reason_text, text_fault_text}
+use Rattle.dsaplan_core.specs.FaultTexts.{check_text, count_text, end_fault_text, illegal_text, layout_fault_text, offsets_text, overlap_text, reason_text, text_fault_text}
 use Rattle.dsaplan_core.specs.Lines.{refused_text, role_text, wrong_text}
 use Rattle.dsaplan_core.specs.declared.status.LogCause.TheVariants as refused
 use Rattle.dsaplan_core.specs.declared.status.Role.TheVariants as role
@@ -150,7 +150,7 @@ illegal : illegal_text 6 (codes "not over") ≡ codes "line 6 not over"
 unfolding digits
 illegal = refl
 
-a_bound : end_text 6 2 ≡ codes "end 6 bound 2"
+a_bound : end_fault_text 6 2 ≡ codes "end 6 bound 2"
 unfolding digits
 a_bound = refl
 

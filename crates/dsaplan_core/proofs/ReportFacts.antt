@@ -8,7 +8,7 @@ use Rattle.dsa_terms.specs.Layouts.{IsLayout}
 use Rattle.dsa_terms.specs.Plans.{IsPeak, layout_height, load}
 use Rattle.dsa_model.proofs.Live.{not_live_after}
 use Rattle.dsa_outside.specs.Held.{file_at}
-use Rattle.csv_instance.specs.Offsets.{ids_of, offsets_of}
+use Rattle.csv_instance.specs.Offsets.{ids_of, parsed_offsets}
 use Rattle.csv_instance.specs.Records.{Record, file_limit, table_of}
 use Rattle.csv_instance.specs.declared.columns.Column.TheVariants as column
 use Rattle.csv_instance.specs.declared.fault.OffsetsFault.TheVariants as offsets
@@ -140,5 +140,5 @@ no_report text h =
     let name : codes "a" ≡ h.read.layout = (let e = ap layout_of command ∙ h.read.its_layout in cc) in
     let reads = subst (λ n. file_at (Some files) n ≡ Some bare_file) name (reads_layout bare_file) in
     let bytes = only_bytes files h.read.layout bare_file h.bytes file_limit reads h.read.whole in
-    let found = ap₂ (λ (t : List Record) (b : List ℕ). offsets_of (ids_of t) (table_of b)) table bytes in
+    let found = ap₂ (λ (t : List Record) (b : List ℕ). parsed_offsets (ids_of t) (table_of b)) table bytes in
     no_fault h.offsets (offsets.MissingColumn column.Offset) (sym (sym bare_offsets ∙ found ∙ h.parsed))

@@ -17,7 +17,7 @@ use Rattle.planner.proofs.StepFacts.{best_at_5, four_high, four_is_least, laid_a
 use Rattle.command_words.specs.Commands.{Solve, Trial, Verify}
 use Rattle.command_words.specs.Options.{Word}
 use Rattle.dsaplan_core.specs.Asked.{capacity_of, steps_of}
-use Rattle.dsaplan_core.specs.Decided.{FindsLeast, LaysOut, LeavesOpen, RefutesCapacity}
+use Rattle.dsaplan_core.specs.Decided.{WritesLeast, LaysOut, LeavesOpen, RefutesCapacity}
 use Rattle.dsaplan_core.specs.Seen.{FilesSeen}
 use Rattle.dsaplan_core.specs.Shown.{IsFoundWithin, IsLeftOpen}
 use Rattle.dsaplan_core.specs.Theorem.{HoldsLayout, HoldsRefutation}
@@ -121,7 +121,7 @@ module _ (words : List Word) (old new : FilesSeen) where
       let given : AreGiven (Some 0) 1 = subst (λ s. AreGiven s 1) few (h.searched none) in
       omega (arith, given)
 
-  not_least_without_steps : (h : FindsLeast words old new 4) → h.instance ≡ small_below → h.steps ≡ Some 0 →
+  not_least_without_steps : (h : WritesLeast words old new 4) → h.instance ≡ small_below → h.steps ≡ Some 0 →
       h.offsets ≡ 1 ∷ 0 ∷ [] → ⊥
   not_least_without_steps h is few lower =
       other_without_steps 4 h.refutation

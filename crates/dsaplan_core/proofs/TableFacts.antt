@@ -5,7 +5,7 @@ use Rattle.csv.specs.Machine.{next_record}
 use Rattle.csv.specs.Reading.{records_from, strip_bom}
 use Rattle.csv.specs.Writing.{escaped, fields_text, is_blank}
 use Rattle.csv_instance.specs.Layout.{layout_text}
-use Rattle.csv_instance.specs.Offsets.{ids_of, offsets_of}
+use Rattle.csv_instance.specs.Offsets.{ids_of, parsed_offsets}
 use Rattle.csv_instance.specs.Parse.{parse}
 use Rattle.csv_instance.specs.Records.{table_of}
 use Rattle.csv_instance.specs.declared.columns.Column.TheVariants as column
@@ -37,15 +37,15 @@ high_file = codes "id,offset\nA,1\n"
 abbrev pub bare_file : List ℕ
 bare_file = codes "id\nA\n"
 
-pub low_offsets : offsets_of (ids_of rows) (table_of low_file) ≡ Ok (0 ∷ [])
+pub low_offsets : parsed_offsets (ids_of rows) (table_of low_file) ≡ Ok (0 ∷ [])
 unfolding strip_bom records_from next_record
 low_offsets = refl
 
-pub high_offsets : offsets_of (ids_of rows) (table_of high_file) ≡ Ok (1 ∷ [])
+pub high_offsets : parsed_offsets (ids_of rows) (table_of high_file) ≡ Ok (1 ∷ [])
 unfolding strip_bom records_from next_record
 high_offsets = refl
 
-pub bare_offsets : offsets_of (ids_of rows) (table_of bare_file) ≡ Err (offsets.MissingColumn column.Offset)
+pub bare_offsets : parsed_offsets (ids_of rows) (table_of bare_file) ≡ Err (offsets.MissingColumn column.Offset)
 unfolding strip_bom records_from next_record
 bare_offsets = refl
 
@@ -54,6 +54,6 @@ pub out_text : layout_text rows (0 ∷ []) ≡ out_file
 unfolding digits escaped fields_text is_blank
 out_text = refl
 
-out_offsets : offsets_of (ids_of rows) (table_of out_file) ≡ Ok (0 ∷ [])
+out_offsets : parsed_offsets (ids_of rows) (table_of out_file) ≡ Ok (0 ∷ [])
 unfolding strip_bom records_from next_record
 out_offsets = refl

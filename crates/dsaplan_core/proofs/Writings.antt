@@ -10,7 +10,7 @@ use Rattle.csv_instance.specs.Records.{Record}
 use Rattle.csv_instance.specs.Layout.{layout_text}
 use Rattle.log_text.specs.Faults.{IsTextOf}
 use Rattle.log_text.specs.Text.{log_text, raw_log_of}
-use Rattle.planner.specs.Decides.{IsAnswered, IsRefutation, IsBoundLog}
+use Rattle.planner.specs.Decides.{IsAnswered, LeavesNoLayout, IsBoundLog}
 use Rattle.planner.specs.FirstStart.{start_within}
 use Rattle.planner.specs.Openings.{AreGiven}
 use Rattle.command_words.specs.Options.{Word}
@@ -74,7 +74,7 @@ module _ (old : FilesSeen) (C : ℕ) (input output log : Word) (steps : Option �
       }
 
   -- the log, which is written to its file
-  pub writes_log : (refutation : Log) → IsRefutation I C refutation →
+  pub writes_log : (refutation : Log) → LeavesNoLayout I C refutation →
       (C < lower_bound I → IsBoundLog I C refutation) →
       (lower_bound I ≤ C → AreGiven steps (length refutation.lines)) →
       IsTextOf (log_text refutation) (raw_log_of refutation) →

@@ -2,7 +2,7 @@
 use Rattle.std.proofs.Common.{ℕ, List, [], ◌∷◌, Some, None, codes, inl, refl, sym, ap, ap₂, lit≤, arith}
 use Rattle.std.specs.FinMap.{insert}
 use Rattle.command_words.specs.Commands.{Least, Solve}
-use Rattle.dsaplan_core.specs.Decided.{FindsLeast, LaysOut, RefutesCapacity}
+use Rattle.dsaplan_core.specs.Decided.{WritesLeast, LaysOut, RefutesCapacity}
 use Rattle.dsaplan_core.proofs.DecidedFacts.{both_files, laid_files, refuted_files, zero_refutes_below_1}
 use Rattle.dsaplan_core.proofs.InputFacts.{asks_one}
 use Rattle.dsaplan_core.proofs.OneFacts.{one, one_best, one_bound, one_laid, one_least, one_planned, rows, zero_accepted, zero_by_bound, zero_log, zero_reads, zero_refuted, zero_text}
@@ -47,7 +47,7 @@ refuted = record {
   files = ap (λ (text : List ℕ). Some (insert input_alone (codes "l") text)) (sym zero_text);
 }
 
-pub found : FindsLeast least_words (told input_alone) both_files 1
+pub found : WritesLeast least_words (told input_alone) both_files 1
 found = record {
   input = codes "i";
   output = codes "o";

@@ -5,7 +5,7 @@ use Rattle.dsa_model.specs.Counts.{Rose}
 use Rattle.command_words.specs.Options.{Word}
 use Rattle.dsaplan_core.specs.Seen.{FilesSeen, SinkSeen}
 use Rattle.dsaplan_core.specs.Lines.{line}
-use Rattle.dsaplan_core.specs.Decided.{LaysOut, RefutesCapacity, FindsLeast, LeavesOpen, TrimsLog}
+use Rattle.dsaplan_core.specs.Decided.{LaysOut, RefutesCapacity, WritesLeast, LeavesOpen, TrimsLog}
 use Rattle.dsaplan_core.specs.Judged.{JudgesRight, JudgesNoOffsets, JudgesNoLayout, MissesLayout, HasLongLayout}
 use Rattle.dsaplan_core.specs.Checked.{AcceptsLog, RefusesText, RefusesLog, MissesLog, HasLongLog}
 use Rattle.dsaplan_core.specs.Shown.{Shows}
@@ -21,7 +21,7 @@ use Rattle.dsaplan_core.specs.declared.status.LogCause.TheVariants as refused
 abbrev pub Cause : List Word → FilesSeen → FilesSeen → Status → Type 0
 Cause words old new (Feasible capacity) = LaysOut words old new capacity
 Cause words old new (Infeasible capacity) = RefutesCapacity words old new capacity
-Cause words old new (Least capacity) = FindsLeast words old new capacity
+Cause words old new (Least capacity) = WritesLeast words old new capacity
 Cause words old new (Open low high) = LeavesOpen words old new low high
 Cause words old new Right = JudgesRight words old new
 Cause words old new (Wrong (wrong.Offsets fault)) = JudgesNoOffsets words old new fault

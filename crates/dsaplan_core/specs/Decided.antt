@@ -14,10 +14,10 @@ use Rattle.csv_instance.specs.Records.{Record}
 use Rattle.csv_instance.specs.Layout.{layout_text}
 use Rattle.log_text.specs.Text.{log_text, raw_log_of}
 use Rattle.log_text.specs.Faults.{IsTextOf}
-use Rattle.planner.specs.Decides.{IsBoundLog, IsRefutation}
+use Rattle.planner.specs.Decides.{IsBoundLog, LeavesNoLayout}
 use Rattle.planner.specs.FirstStart.{start_within}
 use Rattle.planner.specs.LeastCapacity.{AreWithinSteps, TakesMoreThan}
-use Rattle.planner.specs.Openings.{AreGiven, IsOpen}
+use Rattle.planner.specs.Openings.{AreGiven, StaysOpen}
 use Rattle.command_words.specs.Options.{Word}
 use Rattle.command_words.specs.Commands.{Command, Solve, Least, Trim}
 use Rattle.dsaplan_core.specs.Seen.{FilesSeen}
@@ -64,7 +64,7 @@ pub record RefutesCapacity (words : List Word) (old new : FilesSeen) (C : ℕ) :
 -- a log without waste by which no layout fits within one byte less than C; the text reads back
 pub record WritesRefutationBelow (I : Instance) (C : ℕ) (refutation : Log) : Type 0 where
   pub positive : 1 ≤ C
-  pub refuted : IsRefutation I (C - 1) refutation
+  pub refuted : LeavesNoLayout I (C - 1) refutation
   pub readable : IsTextOf (log_text refutation) (raw_log_of refutation)
 
 -- what is held once a log, where there is one, is written
@@ -75,7 +75,7 @@ with_log held name (Some refutation) = with_file held name (log_text refutation)
 -- C is the least capacity that has a layout; the plan at it is written to the output, and a log that refutes one byte
 -- less to the log's file, unless C is 0; where the command gives a number of steps, they are enough for what the starts
 -- and the bound do not give
-pub record FindsLeast (words : List Word) (old new : FilesSeen) (C : ℕ) : Type 0 where
+pub record WritesLeast (words : List Word) (old new : FilesSeen) (C : ℕ) : Type 0 where
   pub input : Word
   pub output : Word
   pub log : Word
@@ -130,7 +130,7 @@ pub record LeavesOpen (words : List Word) (old new : FilesSeen) (L H : ℕ) : Ty
   pub its_output : output_of command ≡ Some output
   pub its_log : log_of command ≡ Some log
   pub allowed : MayStayOpen command instance L H
-  pub opened : IsOpen instance L H offsets refutation
+  pub opened : StaysOpen instance L H offsets refutation
   pub best : IsSome (capacity_of command) → offsets ≡ best_start instance
   pub by_bound : IsSome (capacity_of command) → IsBoundLog instance (L - 1) refutation
   pub within_steps : AreWithinSteps instance (steps_of command) L offsets (Some refutation)

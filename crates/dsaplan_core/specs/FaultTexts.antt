@@ -43,8 +43,8 @@ buffer_text buffer.TooManyGaps = codes "too many gaps"
 buffer_text buffer.NeverLive = codes "never live"
 
 -- a row and what is wrong with it
-abbrev pub row_text : ℕ → List ℕ → List ℕ
-row_text row text = codes "row " ++ decimal row ++ codes " " ++ text
+abbrev pub row_fault_text : ℕ → List ℕ → List ℕ
+row_fault_text row text = codes "row " ++ decimal row ++ codes " " ++ text
 
 -- what is wrong with an instance file
 abbrev pub instance_text : InstanceFault → List ℕ
@@ -54,23 +54,23 @@ instance_text (instance.DuplicateColumn column) = codes "duplicate column " ++ n
 instance_text instance.OffsetColumn = codes "offset column"
 instance_text (instance.MissingColumn column) = codes "missing column " ++ name_of column
 instance_text instance.TooManyBuffers = codes "too many buffers"
-instance_text (instance.FieldCount row) = row_text row (codes "field count")
-instance_text (instance.EmptyId row) = row_text row (codes "empty id")
-instance_text (instance.IdTooLong row) = row_text row (codes "id too long")
-instance_text (instance.DuplicateId row earlier) = row_text row (codes "duplicate id " ++ decimal earlier)
-instance_text (instance.BadNumber row column) = row_text row (codes "bad number " ++ name_of column)
-instance_text (instance.BadGap row) = row_text row (codes "bad gap")
-instance_text (instance.BadBuffer row fault) = row_text row (buffer_text fault)
+instance_text (instance.FieldCount row) = row_fault_text row (codes "field count")
+instance_text (instance.EmptyId row) = row_fault_text row (codes "empty id")
+instance_text (instance.IdTooLong row) = row_fault_text row (codes "id too long")
+instance_text (instance.DuplicateId row earlier) = row_fault_text row (codes "duplicate id " ++ decimal earlier)
+instance_text (instance.BadNumber row column) = row_fault_text row (codes "bad number " ++ name_of column)
+instance_text (instance.BadGap row) = row_fault_text row (codes "bad gap")
+instance_text (instance.BadBuffer row fault) = row_fault_text row (buffer_text fault)
 
 -- what is wrong with a layout file
 abbrev pub offsets_text : OffsetsFault → List ℕ
 offsets_text offsets.NoHeader = codes "no header"
 offsets_text (offsets.DuplicateColumn column) = codes "duplicate column " ++ name_of column
 offsets_text (offsets.MissingColumn column) = codes "missing column " ++ name_of column
-offsets_text (offsets.FieldCount row) = row_text row (codes "field count")
-offsets_text (offsets.UnknownId row) = row_text row (codes "unknown id")
-offsets_text (offsets.DuplicateId row earlier) = row_text row (codes "duplicate id " ++ decimal earlier)
-offsets_text (offsets.BadNumber row) = row_text row (codes "bad number offset")
+offsets_text (offsets.FieldCount row) = row_fault_text row (codes "field count")
+offsets_text (offsets.UnknownId row) = row_fault_text row (codes "unknown id")
+offsets_text (offsets.DuplicateId row earlier) = row_fault_text row (codes "duplicate id " ++ decimal earlier)
+offsets_text (offsets.BadNumber row) = row_fault_text row (codes "bad number offset")
 offsets_text (offsets.MissingId buffer) = codes "missing id " ++ decimal buffer
 
 -- two buffers that overlap, and the moment
@@ -118,12 +118,12 @@ abbrev pub illegal_text : ℕ → List ℕ → List ℕ
 illegal_text line text = codes "line " ++ decimal line ++ codes " " ++ text
 
 -- an end, and a buffer whose bound is above 0
-abbrev pub end_text : ℕ → ℕ → List ℕ
-end_text end buffer = codes "end " ++ decimal end ++ codes " bound " ++ decimal buffer
+abbrev pub end_fault_text : ℕ → ℕ → List ℕ
+end_fault_text end buffer = codes "end " ++ decimal end ++ codes " bound " ++ decimal buffer
 
 -- why a log is not accepted
 abbrev pub check_text : CheckFault → List ℕ
 check_text (check.WrongCount said actual) = count_text said actual
 check_text (check.Illegal line reason) = illegal_text line (reason_text reason)
 check_text (check.EndRange end) = codes "end " ++ decimal end
-check_text (check.EndNotWhole end buffer) = end_text end buffer
+check_text (check.EndNotWhole end buffer) = end_fault_text end buffer

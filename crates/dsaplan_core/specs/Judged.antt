@@ -5,7 +5,7 @@ use Rattle.dsa_terms.specs.Layouts.{IsLayout}
 use Rattle.dsa_model.specs.LayoutFaults.{layout_fault}
 use Rattle.dsa_model.specs.declared.layout.LayoutFault.{LayoutFault}
 use Rattle.csv_instance.specs.Records.{Record, file_limit, table_of}
-use Rattle.csv_instance.specs.Offsets.{ids_of, offsets_of}
+use Rattle.csv_instance.specs.Offsets.{ids_of, parsed_offsets}
 use Rattle.csv_instance.specs.declared.fault.OffsetsFault.{OffsetsFault}
 use Rattle.command_words.specs.Options.{Word}
 use Rattle.command_words.specs.Commands.{Command, Verify}
@@ -31,7 +31,7 @@ pub record JudgesRight (words : List Word) (old new : FilesSeen) : Type 0 where
   pub bytes : List ℕ
   pub offsets : List ℕ
   pub read : ReadsLayout words old (Verify capacity input file) table instance bytes
-  pub parsed : offsets_of (ids_of table) (table_of bytes) ≡ Ok offsets
+  pub parsed : parsed_offsets (ids_of table) (table_of bytes) ≡ Ok offsets
   pub layout : IsLayout instance capacity offsets
   pub files : new.held ≡ old.held
 
@@ -42,7 +42,7 @@ pub record JudgesNoOffsets (words : List Word) (old new : FilesSeen) (fault : Of
   pub instance : Instance
   pub bytes : List ℕ
   pub read : ReadsLayout words old command table instance bytes
-  pub refused : offsets_of (ids_of table) (table_of bytes) ≡ Err fault
+  pub refused : parsed_offsets (ids_of table) (table_of bytes) ≡ Err fault
   pub files : new.held ≡ old.held
 
 -- the layout file gives offsets that are no layout at the capacity at which the command judges, for the first fault of
@@ -54,7 +54,7 @@ pub record JudgesNoLayout (words : List Word) (old new : FilesSeen) (fault : Lay
   pub bytes : List ℕ
   pub offsets : List ℕ
   pub read : ReadsLayout words old command table instance bytes
-  pub parsed : offsets_of (ids_of table) (table_of bytes) ≡ Ok offsets
+  pub parsed : parsed_offsets (ids_of table) (table_of bytes) ≡ Ok offsets
   pub refused : layout_fault instance (judged_at command) offsets ≡ Some fault
   pub files : new.held ≡ old.held
 

@@ -6,14 +6,14 @@ use Rattle.command_words.specs.Options.{Word}
 use Rattle.command_words.specs.Commands.{Command, command_of}
 use Rattle.dsaplan_core.specs.Seen.{FilesSeen}
 use Rattle.dsaplan_core.specs.Asked.{log_of, output_of}
-use Rattle.dsaplan_core.specs.Decided.{LaysOut, RefutesCapacity, FindsLeast, LeavesOpen, TrimsLog}
+use Rattle.dsaplan_core.specs.Decided.{LaysOut, RefutesCapacity, WritesLeast, LeavesOpen, TrimsLog}
 use Rattle.dsaplan_core.specs.declared.status.Status.{Status}
 use Rattle.dsaplan_core.specs.declared.status.Status.TheVariants.{Feasible, Infeasible, Least, Open, Trimmed}
 
 -- with this status the output is written, and these files are what it leaves
 abbrev pub WritesOutput : List Word → FilesSeen → FilesSeen → Status → Type 0
 WritesOutput words old new (Feasible C) = LaysOut words old new C
-WritesOutput words old new (Least C) = FindsLeast words old new C
+WritesOutput words old new (Least C) = WritesLeast words old new C
 WritesOutput words old new (Open L H) = LeavesOpen words old new L H
 WritesOutput words old new (Trimmed before after) = TrimsLog words old new before after
 WritesOutput words old new status = ⊥
@@ -21,7 +21,7 @@ WritesOutput words old new status = ⊥
 -- with this status the log's file is written, last, and these files are what it leaves
 abbrev pub WritesLog : List Word → FilesSeen → FilesSeen → Status → Type 0
 WritesLog words old new (Infeasible C) = RefutesCapacity words old new C
-WritesLog words old new (Least C) = (1 ≤ C) × FindsLeast words old new C
+WritesLog words old new (Least C) = (1 ≤ C) × WritesLeast words old new C
 WritesLog words old new (Open L H) = LeavesOpen words old new L H
 WritesLog words old new status = ⊥
 

@@ -7,7 +7,7 @@ use Rattle.dsa_model.specs.LayoutFaults.{layout_fault}
 use Rattle.dsa_model.specs.declared.layout.LayoutFault.{LayoutFault}
 use Rattle.csv_instance.specs.Records.{Record, file_limit, table_of}
 use Rattle.csv_instance.specs.Parse.{parse}
-use Rattle.csv_instance.specs.Offsets.{ids_of, offsets_of}
+use Rattle.csv_instance.specs.Offsets.{ids_of, parsed_offsets}
 use Rattle.csv_instance.specs.declared.fault.OffsetsFault.{OffsetsFault}
 use Rattle.log_text.specs.Text.{log_text, raw_log_of}
 use Rattle.log_text.specs.Faults.{IsFirstFault, IsTextOf}
@@ -71,7 +71,7 @@ pub record GivesLayout (files : FilesSeen) (name : Word) (table : List Record) (
     (offsets : List ℕ) : Type 0 where
   pub bytes : List ℕ
   pub whole : IsWholeFile files name file_limit bytes
-  pub parsed : offsets_of (ids_of table) (table_of bytes) ≡ Ok offsets
+  pub parsed : parsed_offsets (ids_of table) (table_of bytes) ≡ Ok offsets
   pub layout : IsLayout I C offsets
 
 -- the file gives no offsets, for its first fault
@@ -79,7 +79,7 @@ pub record GivesNoOffsets (files : FilesSeen) (name : Word) (table : List Record
     Type 0 where
   pub bytes : List ℕ
   pub whole : IsWholeFile files name file_limit bytes
-  pub refused : offsets_of (ids_of table) (table_of bytes) ≡ Err fault
+  pub refused : parsed_offsets (ids_of table) (table_of bytes) ≡ Err fault
 
 -- the file gives offsets, which are no layout at the capacity, for their first fault
 pub record GivesWrongOffsets (files : FilesSeen) (name : Word) (table : List Record) (I : Instance) (C : ℕ)
@@ -87,7 +87,7 @@ pub record GivesWrongOffsets (files : FilesSeen) (name : Word) (table : List Rec
   pub bytes : List ℕ
   pub offsets : List ℕ
   pub whole : IsWholeFile files name file_limit bytes
-  pub parsed : offsets_of (ids_of table) (table_of bytes) ≡ Ok offsets
+  pub parsed : parsed_offsets (ids_of table) (table_of bytes) ≡ Ok offsets
   pub refused : layout_fault I C offsets ≡ Some fault
 
 -- the file gives no layout, as the status says

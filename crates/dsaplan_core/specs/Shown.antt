@@ -8,12 +8,12 @@ use Rattle.dsa_terms.specs.Plans.{layout_height}
 use Rattle.dsa_terms.specs.Starts.{best_start, hunted, planned}
 use Rattle.csv_instance.specs.Records.{Record, table_of}
 use Rattle.csv_instance.specs.Parse.{parse, buffer_limit}
-use Rattle.csv_instance.specs.Offsets.{ids_of, offsets_of}
+use Rattle.csv_instance.specs.Offsets.{ids_of, parsed_offsets}
 use Rattle.layout_report.specs.Facts.{bounds_text}
 use Rattle.layout_report.specs.Report.{IsReportOf}
 use Rattle.layout_report.specs.declared.facts.Facts.{Facts}
 use Rattle.make_instance.specs.Made.{made_text}
-use Rattle.planner.specs.Decides.{IsRefutation}
+use Rattle.planner.specs.Decides.{LeavesNoLayout}
 use Rattle.planner.specs.InstanceFacts.{AreFactsOf}
 use Rattle.planner.specs.LeastCapacity.{AreWithinSteps, RefutesBelow, TakesMoreThan}
 use Rattle.command_words.specs.Options.{Word}
@@ -45,7 +45,7 @@ pub record ShowsLayout (words : List Word) (old new : FilesSeen) (text : List �
   pub bytes : List ℕ
   pub offsets : List ℕ
   pub read : ReadsLayout words old (Report input file) table instance bytes
-  pub parsed : offsets_of (ids_of table) (table_of bytes) ≡ Ok offsets
+  pub parsed : parsed_offsets (ids_of table) (table_of bytes) ≡ Ok offsets
   pub layout : IsLayout instance (2 ^ 60) offsets
   pub its_text : IsReportOf table instance offsets text
   pub files : new.held ≡ old.held
@@ -77,7 +77,7 @@ pub record IsLeftOpen (I : Instance) (k L H : ℕ) : Type 0 where
   pub planned : planned I H ≡ Some offsets
   pub layout : IsLayout I H offsets
   pub height : layout_height I offsets ≡ H
-  pub refuted : IsRefutation I (L - 1) refutation
+  pub refuted : LeavesNoLayout I (L - 1) refutation
   pub within_steps : AreWithinSteps I (Some k) L offsets (Some refutation)
 
 -- the verdict on the least capacity of the instance with k units

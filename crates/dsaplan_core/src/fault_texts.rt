@@ -3,11 +3,11 @@
 ghost use Rattle.std.specs.Prelude.{◌≡◌, IfOk, string_bytes};
 ghost use Rattle.dsaplan_core.specs.FaultTexts.{
   usage_text,
-  row_text,
+  row_fault_text,
   overlap_text,
   count_text,
   illegal_text,
-  end_text,
+  end_fault_text,
   buffer_text,
   instance_text,
   offsets_text,
@@ -43,7 +43,7 @@ fn column_word(column: Column) -> &'static str
 
 /// A row and what is wrong with it.
 fn row_line(alloc: Global, row: u32, text: &str) -> Result<String, NoMemory>
-    ensures { IfOk result (λ made. string_bytes made ≡ row_text row text.now) }
+    ensures { IfOk result (λ made. string_bytes made ≡ row_fault_text row text.now) }
 {
     Ok(format!(in alloc; "row {row} {text}")?)
 }
@@ -71,7 +71,7 @@ fn illegal_line(alloc: Global, line: u64, text: &str) -> Result<String, NoMemory
 
 /// An end, and a buffer whose bound is above 0.
 fn end_line(alloc: Global, end: u64, buffer: u32) -> Result<String, NoMemory>
-    ensures { IfOk result (λ made. string_bytes made ≡ end_text end buffer) }
+    ensures { IfOk result (λ made. string_bytes made ≡ end_fault_text end buffer) }
 {
     Ok(format!(in alloc; "end {end} bound {buffer}")?)
 }

@@ -8,11 +8,11 @@ use Rattle.dsa_terms.specs.Orders.{falls_by, rises_by}
 use Rattle.dsa_terms.proofs.Examples.{evens, five, two_of_four, unlike}
 use Rattle.dsa_terms.proofs.Places.{all_from_in}
 use Rattle.first_fit.specs.Free.{narrowed, narrower, range_of}
-use Rattle.first_fit.specs.Orders.{before_by, in_order, key_of, keyed}
+use Rattle.first_fit.specs.Orders.{before_by, numbers_in_order, order_key, keyed}
 use Rattle.first_fit.specs.Rules.{IsOrderOf, rule_of}
 use Rattle.first_fit.specs.Starts.{offsets_by}
 use Rattle.first_fit.specs.Taken.{AreTaken, IsSpanOf}
-use Rattle.first_fit.specs.declared.fits.Rule.TheVariants.{Best, First}
+use Rattle.first_fit.specs.declared.fits.Fit.TheVariants.{Best, First}
 use Rattle.first_fit.specs.declared.orders.Order.TheVariants.{AreaFalling, LowerRising, SizeFalling}
 use Rattle.first_fit.specs.declared.spans.Span.{Span}
 use Rattle.first_fit.proofs.Gaps.{between}
@@ -46,7 +46,7 @@ lower_key : keyed LowerRising unlike 1 ≡ (4, 1)
 unfolding buffer
 lower_key = refl
 
-area_key : key_of AreaFalling (buffer five 3) ≡ 2 ^ 128 - 49
+area_key : order_key AreaFalling (buffer five 3) ≡ 2 ^ 128 - 49
 unfolding buffer
 area_key = refl
 
@@ -59,15 +59,15 @@ not_the_higher : before_by SizeFalling evens 1 0 ≡ false
 unfolding falls_by buffer
 not_the_higher = refl
 
-by_size : in_order SizeFalling evens ≡ 2 ∷ 0 ∷ 1 ∷ []
+by_size : numbers_in_order SizeFalling evens ≡ 2 ∷ 0 ∷ 1 ∷ []
 unfolding falls_by buffer
 by_size = refl
 
-by_lower : in_order LowerRising five ≡ 0 ∷ 2 ∷ 4 ∷ 1 ∷ 3 ∷ []
+by_lower : numbers_in_order LowerRising five ≡ 0 ∷ 2 ∷ 4 ∷ 1 ∷ 3 ∷ []
 unfolding rises_by buffer
 by_lower = refl
 
-by_area : in_order AreaFalling five ≡ 4 ∷ 3 ∷ 2 ∷ 1 ∷ 0 ∷ []
+by_area : numbers_in_order AreaFalling five ≡ 4 ∷ 3 ∷ 2 ∷ 1 ∷ 0 ∷ []
 unfolding falls_by buffer
 by_area = refl
 

@@ -26,8 +26,8 @@ use Rattle.dsa_model.specs.Buffer.{IsBuffer}
 use Rattle.dsa_model.proofs.Instances.{sound_buffer}
 use Rattle.first_fit.specs.Rules.{IsOrderOf, rule_of}
 use Rattle.first_fit.specs.Taken.{IsSeat}
-use Rattle.first_fit.specs.declared.fits.Rule.{Rule}
-use Rattle.first_fit.specs.declared.fits.Rule.TheVariants.{Best, First}
+use Rattle.first_fit.specs.declared.fits.Fit.{Fit}
+use Rattle.first_fit.specs.declared.fits.Fit.TheVariants.{Best, First}
 
 -- how much one more buffer can add to the height
 abbrev pub rise : ℕ
@@ -68,11 +68,11 @@ best_is_low I s b placed = go (tightest (filter (holds I b) (free_ranges I place
         let p = (sound I b s).1 in
         omega arith
 
-pub rule_is_clear : (I : Instance) (rule : Rule) → IsInstance I → IsClearRule I (rule_of rule)
+pub rule_is_clear : (I : Instance) (rule : Fit) → IsInstance I → IsClearRule I (rule_of rule)
 rule_is_clear I First s = first_is_clear I s
 rule_is_clear I Best s = best_is_clear I s
 
-pub rule_is_low : (I : Instance) (rule : Rule) → IsInstance I → IsLowRule I (rule_of rule)
+pub rule_is_low : (I : Instance) (rule : Fit) → IsInstance I → IsLowRule I (rule_of rule)
 rule_is_low I First s = first_is_low I s
 rule_is_low I Best s = best_is_low I s
 

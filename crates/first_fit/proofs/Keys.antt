@@ -5,7 +5,7 @@ use Rattle.std.proofs.lemmas.Bool.Decides.{nat_tests}
 use Rattle.dsa_terms.specs.Buffers.{Buffer, Instance, buffer}
 use Rattle.dsa_terms.specs.Orders.{area, falls_by, rises_by}
 use Rattle.dsa_model.specs.Buffer.{IsBuffer}
-use Rattle.first_fit.specs.Orders.{before_by, key_of}
+use Rattle.first_fit.specs.Orders.{before_by, order_key}
 use Rattle.first_fit.specs.declared.orders.Order.{Order}
 use Rattle.first_fit.specs.declared.orders.Order.TheVariants.{AreaFalling, LowerRising, SizeFalling}
 
@@ -28,8 +28,8 @@ falls M m n b c p q (inr h) = inr (omega arith, h.1)
 
 -- the buffer of the lesser key comes first, and of equal keys that of the smaller number
 pub comes_first : (order : Order) (I : Instance) (b c : ℕ) → IsBuffer (buffer I b) → IsBuffer (buffer I c) →
-    (key_of order (buffer I b) < key_of order (buffer I c))
-    ⊎ ((key_of order (buffer I b) ≡ key_of order (buffer I c)) × (b < c)) → before_by order I b c ≡ true
+    (order_key order (buffer I b) < order_key order (buffer I c))
+    ⊎ ((order_key order (buffer I b) ≡ order_key order (buffer I c)) × (b < c)) → before_by order I b c ≡ true
 unfolding falls_by rises_by
 comes_first SizeFalling I b c x y h = before_is (buffer I b).size (buffer I c).size b c
     (falls (2 ^ 128 - 1) (buffer I b).size (buffer I c).size b c (under (buffer I b).size x.within_size)

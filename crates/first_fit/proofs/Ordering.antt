@@ -20,7 +20,7 @@ use Rattle.dsa_terms.proofs.Places.{in_permutation}
 use Rattle.dsa_start_laws.proofs.Orders.{measures_are_orders, numbers_are_ordered, one_order, ordered_members}
 use Rattle.dsa_model.specs.Buffer.{IsBuffer}
 use Rattle.dsa_model.proofs.Instances.{sound_buffer}
-use Rattle.first_fit.specs.Orders.{before_by, in_order, key_of, keyed}
+use Rattle.first_fit.specs.Orders.{before_by, numbers_in_order, order_key, keyed}
 use Rattle.first_fit.specs.declared.orders.Order.{Order}
 use Rattle.first_fit.specs.declared.orders.Order.TheVariants.{AreaFalling, LowerRising, SizeFalling}
 use Rattle.first_fit.proofs.Keys.{comes_first}
@@ -64,7 +64,7 @@ later x (z ∷ zs) h y (inr i) = along x z y (h 0 1 z (omega arith) (omega arith
 
 -- what holds of the entries of an instance
 pub record AreEntries (order : Order) (I : Instance) (es : List (ℕ × ℕ)) : Type 0 where
-  pub each : (e : ℕ × ℕ) → IsIn e es → (e.0 ≡ key_of order (buffer I e.1)) × IsBuffer (buffer I e.1)
+  pub each : (e : ℕ × ℕ) → IsIn e es → (e.0 ≡ order_key order (buffer I e.1)) × IsBuffer (buffer I e.1)
   pub climbs : (i j : ℕ) (d : ℕ × ℕ) → j ≡ i + 1 → j < length es →
       IsUpTo (slice_index_or es i d) (slice_index_or es j d)
   pub distinct : IsDistinct (λ (m n : ℕ). m == n) (map (λ (e : ℕ × ℕ). e.1) es)
@@ -124,16 +124,16 @@ numbers_of_keyed order I [] = refl
 numbers_of_keyed order I (b ∷ bs) = ap (λ (xs : List ℕ). b ∷ xs) (numbers_of_keyed order I bs)
 
 pub keyed_more : (order : Order) (I : Instance) (b : ℕ) (xs ys : List (ℕ × ℕ)) (k : ℕ) (x : Buffer) →
-    xs ≡ map (keyed order I) (numbers b) → x ≡ buffer I b → k ≡ key_of order x → ys ≡ xs ++ (k, b) ∷ [] →
+    xs ≡ map (keyed order I) (numbers b) → x ≡ buffer I b → k ≡ order_key order x → ys ≡ xs ++ (k, b) ∷ [] →
     ys ≡ map (keyed order I) (numbers (b + 1))
 keyed_more order I b xs ys k x e f g h = let m = map-range_with_len_more (keyed order I) 0 b b (omega arith) in
-    let z : k ≡ key_of order (buffer I b) = g ∙ ap (key_of order) f in h ∙ rw (e, z) (sym m)
+    let z : k ≡ order_key order (buffer I b) = g ∙ ap (order_key order) f in h ∙ rw (e, z) (sym m)
 
 pub sorted_is : (order : Order) (I : Instance) (n : ℕ) (xs ys : List (ℕ × ℕ)) → All IsBuffer I →
     xs ≡ map (keyed order I) (numbers n) → n ≡ length I → IsPermutation xs ys → IsSorted pair_cmp ys →
-    map (λ (e : ℕ × ℕ). e.1) ys ≡ in_order order I
+    map (λ (e : ℕ × ℕ). e.1) ys ≡ numbers_in_order order I
 sorted_is order I n xs ys all e m moved up = one_order (before_by order I) (map (λ (e : ℕ × ℕ). e.1) ys)
-    (in_order order I)
+    (numbers_in_order order I)
     (before_is_order order I)
     (ordered_from order I ys (record { each = each; climbs = climbs; distinct = distinct }))
     (numbers_are_ordered (before_by order I) (length I) (before_is_order order I))
@@ -156,7 +156,7 @@ sorted_is order I n xs ys all e m moved up = one_order (before_by order I) (map 
     back b i = in_permutation (map (λ (e : ℕ × ℕ). e.1) ys) (numbers (length I)) b
         (IsPermutation-sym (numbers (length I)) (map (λ (e : ℕ × ℕ). e.1) ys) renumbered) i
 
-    each : (f : ℕ × ℕ) → IsIn f ys → (f.0 ≡ key_of order (buffer I f.1)) × IsBuffer (buffer I f.1)
+    each : (f : ℕ × ℕ) → IsIn f ys → (f.0 ≡ order_key order (buffer I f.1)) × IsBuffer (buffer I f.1)
     each f i =
         let r = from_map (keyed order I) (numbers (length I)) f
         (rw is at (in_permutation ys xs f (IsPermutation-sym xs ys moved) i)) in

@@ -20,11 +20,11 @@ use Rattle.dsa_terms.proofs.NumberTests.{at_most, below_or_last, is_at_most, les
 use Rattle.dsa_terms.proofs.Ranges.{from_range, into_range}
 use Rattle.dsa_start_laws.proofs.Fits.{into_ordered_by}
 use Rattle.dsa_start_laws.proofs.Orders.{from_ordered_by}
-use Rattle.first_fit.specs.Orders.{before_by, in_order}
+use Rattle.first_fit.specs.Orders.{before_by, numbers_in_order}
 use Rattle.first_fit.specs.Rules.{IsOrderOf}
 use Rattle.first_fit.specs.Starts.{IsStart, height_in, offsets_at, offsets_by, offsets_in}
-use Rattle.first_fit.specs.declared.fits.Rule.{Rule}
-use Rattle.first_fit.specs.declared.fits.Rule.TheVariants.{Best, First}
+use Rattle.first_fit.specs.declared.fits.Fit.{Fit}
+use Rattle.first_fit.specs.declared.fits.Fit.TheVariants.{Best, First}
 use Rattle.first_fit.specs.declared.orders.Order.{Order}
 use Rattle.first_fit.specs.declared.orders.Order.TheVariants.{AreaFalling, LowerRising, SizeFalling}
 use Rattle.first_fit.specs.declared.start_list.Start.{Start}
@@ -43,10 +43,10 @@ length-ordered_by : (before : ℕ → ℕ → Bool) (bs : List ℕ) → length (
 length-ordered_by before [] = refl
 length-ordered_by before (b ∷ bs) = length-put_by before b (ordered_by before bs) ∙ ap suc (length-ordered_by before bs)
 
-pub has_each_once : (I : Instance) (order : Order) (bs : List ℕ) → bs ≡ in_order order I → IsOrderOf I bs
+pub has_each_once : (I : Instance) (order : Order) (bs : List ℕ) → bs ≡ numbers_in_order order I → IsOrderOf I bs
 has_each_once I order bs e = rw e (record {
   count = length-ordered_by (before_by order I) (numbers (length I)) ∙ length-range_with_len 0 (length I);
-  in_range = all_from_in (λ b. b < length I) (in_order order I) (λ b i.
+  in_range = all_from_in (λ b. b < length I) (numbers_in_order order I) (λ b i.
       let z = (from_range (length I) 0 b (from_ordered_by (before_by order I) (numbers (length I)) b i)).1 in
       omega arith);
   each = λ b lt. into_ordered_by (before_by order I) (numbers (length I)) b
@@ -76,7 +76,7 @@ pub is_start : (I : Instance) (s : Start) → s.height ≡ layout_height I (offs
 is_start I s e layout limit = record { height = e; limit = (omega arith); layout = rw e layout }
 
 -- ---- all six
-abbrev pub ways : List (Rule × Order)
+abbrev pub ways : List (Fit × Order)
 ways = (First, SizeFalling) ∷ (First, LowerRising) ∷ (First, AreaFalling) ∷ (Best, SizeFalling) ∷ (Best, LowerRising)
     ∷ (Best, AreaFalling) ∷ []
 
@@ -84,14 +84,14 @@ pub starts_by_ways : (I : Instance) → map (offsets_by I) ways ≡ starts I
 unfolding starts orders first_fit best_fit
 starts_by_ways I = refl
 
-pub record AreMade (I : Instance) (done : List (Rule × Order)) (made : List Start) : Type 0 where
+pub record AreMade (I : Instance) (done : List (Fit × Order)) (made : List Start) : Type 0 where
   pub value : map offsets_in made ≡ map (offsets_by I) done
   pub each : (s : Start) → IsIn s made → IsStart I s
 
-pub made_none : (I : Instance) (done : List (Rule × Order)) → AreMade I (take 0 done) []
+pub made_none : (I : Instance) (done : List (Fit × Order)) → AreMade I (take 0 done) []
 made_none I done = record { value = refl; each = λ s i. absurd i }
 
-pub made_more : (I : Instance) (all : List (Rule × Order)) (k : ℕ) (d : Rule × Order) (made more : List Start)
+pub made_more : (I : Instance) (all : List (Fit × Order)) (k : ℕ) (d : Fit × Order) (made more : List Start)
     (s : Start) →
     k < length all → offsets_in s ≡ offsets_by I (slice_index_or all k d) → IsStart I s → more ≡ made ++ s ∷ [] →
     AreMade I (take k all) made → AreMade I (take (k + 1) all) more
@@ -108,11 +108,11 @@ made_more I all k d made more s lt e start grown h = rw grown (record {
     last r (inl q) = rw q start
     last r (inr j) = absurd j
 
-pub made_value : (I : Instance) (all : List (Rule × Order)) (k : ℕ) (made : List Start) → all ≡ ways → length all ≤ k →
+pub made_value : (I : Instance) (all : List (Fit × Order)) (k : ℕ) (made : List Start) → all ≡ ways → length all ≤ k →
     AreMade I (take k all) made → map offsets_in made ≡ starts I
 made_value I all k made e le h = h.value ∙ (ap (map (offsets_by I)) (take_all k all le ∙ e) ∙ starts_by_ways I)
 
-pub made_each : (I : Instance) (done : List (Rule × Order)) (made : List Start) → AreMade I done made →
+pub made_each : (I : Instance) (done : List (Fit × Order)) (made : List Start) → AreMade I done made →
     All (IsStart I) made
 made_each I done made h = all_from_in (IsStart I) made h.each
 
@@ -122,7 +122,7 @@ heights_of I [] h = refl
 heights_of I (s ∷ ss) h = ap₂ (λ (x : ℕ) (xs : List ℕ). x ∷ xs) (h s (inl refl)).height
     (heights_of I ss (λ r i. h r (inr i)))
 
-pub made_heights : (I : Instance) (done : List (Rule × Order)) (made : List Start) → AreMade I done made →
+pub made_heights : (I : Instance) (done : List (Fit × Order)) (made : List Start) → AreMade I done made →
     map offsets_in made ≡ starts I → map height_in made ≡ map (layout_height I) (starts I)
 made_heights I done made h e = heights_of I made h.each ∙ ap (map (layout_height I)) e
 

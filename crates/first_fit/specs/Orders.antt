@@ -13,15 +13,15 @@ before_by LowerRising I = rises_by (λ (b : Buffer). b.lower) I
 before_by AreaFalling I = falls_by area I
 
 -- all buffers in that order
-abbrev pub in_order : Order → Instance → List ℕ
-in_order order I = ordered_by (before_by order I) (numbers (length I))
+abbrev pub numbers_in_order : Order → Instance → List ℕ
+numbers_in_order order I = ordered_by (before_by order I) (numbers (length I))
 
 -- a number that rises along the order
-abbrev pub key_of : Order → Buffer → ℕ
-key_of SizeFalling b = 2 ^ 128 - 1 - b.size
-key_of LowerRising b = b.lower
-key_of AreaFalling b = 2 ^ 128 - 1 - area b
+abbrev pub order_key : Order → Buffer → ℕ
+order_key SizeFalling b = 2 ^ 128 - 1 - b.size
+order_key LowerRising b = b.lower
+order_key AreaFalling b = 2 ^ 128 - 1 - area b
 
 -- a buffer's key before its number
 abbrev pub keyed : Order → Instance → ℕ → ℕ × ℕ
-keyed order I b = (key_of order (buffer I b), b)
+keyed order I b = (order_key order (buffer I b), b)

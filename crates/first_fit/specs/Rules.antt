@@ -3,11 +3,11 @@ use Rattle.std.specs.Prelude.{◌≡◌, ◌<◌, ℕ, List, length}
 use Rattle.std.specs.List.{All}
 use Rattle.dsa_terms.specs.Buffers.{Instance}
 use Rattle.dsa_terms.specs.Fits.{FitRule, HasEach, best_place, first_place}
-use Rattle.first_fit.specs.declared.fits.Rule.{Rule}
-use Rattle.first_fit.specs.declared.fits.Rule.TheVariants.{Best, First}
+use Rattle.first_fit.specs.declared.fits.Fit.{Fit}
+use Rattle.first_fit.specs.declared.fits.Fit.TheVariants.{Best, First}
 
 -- where a rule puts a buffer
-abbrev pub rule_of : Rule → FitRule
+abbrev pub rule_of : Fit → FitRule
 rule_of First = first_place
 rule_of Best = best_place
 

@@ -5,9 +5,9 @@ use Rattle.dsa_terms.specs.Fits.{fitted}
 use Rattle.dsa_terms.specs.Layouts.{IsLayout}
 use Rattle.dsa_terms.specs.Parts.{offsets_of}
 use Rattle.dsa_terms.specs.Plans.{layout_height}
-use Rattle.first_fit.specs.Orders.{in_order}
+use Rattle.first_fit.specs.Orders.{numbers_in_order}
 use Rattle.first_fit.specs.Rules.{rule_of}
-use Rattle.first_fit.specs.declared.fits.Rule.{Rule}
+use Rattle.first_fit.specs.declared.fits.Fit.{Fit}
 use Rattle.first_fit.specs.declared.orders.Order.{Order}
 use Rattle.first_fit.specs.declared.start_list.Start.{Start}
 
@@ -30,5 +30,5 @@ abbrev pub height_in : Start → ℕ
 height_in s = s.height
 
 -- the offsets of the rule over the order
-abbrev pub offsets_by : Instance → Rule × Order → List ℕ
-offsets_by I way = offsets_of I (fitted (rule_of way.0) I (in_order way.1 I) [])
+abbrev pub offsets_by : Instance → Fit × Order → List ℕ
+offsets_by I way = offsets_of I (fitted (rule_of way.0) I (numbers_in_order way.1 I) [])

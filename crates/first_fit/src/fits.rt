@@ -17,7 +17,7 @@ use std::alloc::{AllocError, Global};
 
 /// How a buffer gets its offset.
 #[derive(Clone, Copy)]
-pub(crate) enum Rule {
+pub(crate) enum Fit {
     /// The least at which it fits.
     First,
     /// In the shortest free range that holds it.
@@ -29,7 +29,7 @@ pub(crate) enum Rule {
 fn place(
     alloc: Global,
     instance: &Instance,
-    rule: Rule,
+    rule: Fit,
     b: u32,
     placed: &[(u32, u64)],
 ) -> Result<u64, AllocError>
@@ -41,8 +41,8 @@ fn place(
 {
     let spans = taken(alloc, instance, b, placed)?;
     Ok(match rule {
-        Rule::First => first_place(instance, b, &spans),
-        Rule::Best => best_place(instance, b, &spans),
+        Fit::First => first_place(instance, b, &spans),
+        Fit::Best => best_place(instance, b, &spans),
     })
 }
 
@@ -50,7 +50,7 @@ fn place(
 pub(crate) fn fitted(
     alloc: Global,
     instance: &Instance,
-    rule: Rule,
+    rule: Fit,
     order: &[u32],
 ) -> Result<Vec<u64>, AllocError>
     requires { IsOrderOf instance.now order.now }
@@ -84,7 +84,7 @@ pub fn first_fit(alloc: Global, instance: &Instance, order: &[u32]) -> Result<Ve
         IsLayout instance.now (layout_height instance.now offsets.items) offsets.items) }
     ensures limit { IfOk result (λ offsets. layout_height instance.now offsets.items < 2 ^ 54) }
 {
-    Ok(fitted(alloc, instance, Rule::First, order)?)
+    Ok(fitted(alloc, instance, Fit::First, order)?)
 }
 
 /// Best-fit: the buffers are placed in the order. A free range is a greatest range of addresses
@@ -102,5 +102,5 @@ pub fn best_fit(alloc: Global, instance: &Instance, order: &[u32]) -> Result<Vec
         IsLayout instance.now (layout_height instance.now offsets.items) offsets.items) }
     ensures limit { IfOk result (λ offsets. layout_height instance.now offsets.items < 2 ^ 54) }
 {
-    Ok(fitted(alloc, instance, Rule::Best, order)?)
+    Ok(fitted(alloc, instance, Fit::Best, order)?)
 }

@@ -1,7 +1,7 @@
 //! The orders in which the starts take the buffers.
 
 ghost use Rattle.std.specs.Prelude.{◌≡◌, IfOk};
-ghost use Rattle.first_fit.specs.Orders.{in_order, key_of};
+ghost use Rattle.first_fit.specs.Orders.{numbers_in_order, order_key};
 
 use dsa_model::{Buffer, Instance};
 use std::alloc::{AllocError, Global};
@@ -17,7 +17,7 @@ pub(crate) enum Order {
 
 /// A number that rises along the order.
 fn key(order: Order, buffer: &Buffer) -> u128
-    ensures { result ≡ key_of order buffer.now }
+    ensures { result ≡ order_key order buffer.now }
 {
     match order {
         Order::SizeFalling => u128::MAX - buffer.size() as u128,
@@ -35,7 +35,7 @@ pub(crate) fn in_order(
     instance: &Instance,
     order: Order,
 ) -> Result<Vec<u32>, AllocError>
-    ensures { IfOk result (λ numbers. numbers.items ≡ in_order order instance.now) }
+    ensures { IfOk result (λ numbers. numbers.items ≡ numbers_in_order order instance.now) }
 {
     let mut keys = Vec::new(alloc);
     for b in 0..instance.len() {

@@ -7,7 +7,7 @@ ghost use Rattle.dsa_terms.specs.Plans.{layout_height};
 ghost use Rattle.dsa_terms.specs.Starts.{lowest_place, starts};
 ghost use Rattle.first_fit.specs.Starts.{IsStart, height_in, offsets_at, offsets_by, offsets_in};
 
-use crate::fits::{Rule, fitted};
+use crate::fits::{Fit, fitted};
 use crate::orders::{Order, in_order};
 use dsa_model::{Instance, NoMemory, height};
 use std::alloc::{AllocError, Global};
@@ -22,20 +22,20 @@ pub struct Start {
 }
 
 /// The rule and the order of each of the six.
-const WAYS: [(Rule, Order); 6] = [
-    (Rule::First, Order::SizeFalling),
-    (Rule::First, Order::LowerRising),
-    (Rule::First, Order::AreaFalling),
-    (Rule::Best, Order::SizeFalling),
-    (Rule::Best, Order::LowerRising),
-    (Rule::Best, Order::AreaFalling),
+const WAYS: [(Fit, Order); 6] = [
+    (Fit::First, Order::SizeFalling),
+    (Fit::First, Order::LowerRising),
+    (Fit::First, Order::AreaFalling),
+    (Fit::Best, Order::SizeFalling),
+    (Fit::Best, Order::LowerRising),
+    (Fit::Best, Order::AreaFalling),
 ];
 
 /// The start that places the buffers by the rule in the order.
 fn make_start(
     alloc: Global,
     instance: &Instance,
-    rule: Rule,
+    rule: Fit,
     order: Order,
 ) -> Result<Start, AllocError>
     ensures value { IfOk result (λ start.

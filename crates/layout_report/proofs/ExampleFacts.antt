@@ -2,9 +2,9 @@
 use Rattle.std.proofs.Common.{◌≡◌, Some, None, codes, refl}
 use Rattle.std.specs.Fmt.{digits}
 use Rattle.layout_report.specs.declared.facts.Facts.{Facts}
-use Rattle.layout_report.specs.Facts.{bounds_text, bound_lines, pair_text, peak_lines, peak_text}
+use Rattle.layout_report.specs.Facts.{bounds_text, bound_lines, two_numbers_text, peak_lines, peak_text}
 
-two_numbers : pair_text 4 10 ≡ codes "4 10"
+two_numbers : two_numbers_text 4 10 ≡ codes "4 10"
 unfolding digits
 two_numbers = refl
 

@@ -3,13 +3,13 @@ use Rattle.std.specs.Prelude.{ℕ, List, ◌++◌, codes, decimal, Option, Some,
 use Rattle.layout_report.specs.declared.facts.Facts.{Facts}
 
 -- two numbers
-abbrev pub pair_text : ℕ → ℕ → List ℕ
-pair_text first second = decimal first ++ codes " " ++ decimal second
+abbrev pub two_numbers_text : ℕ → ℕ → List ℕ
+two_numbers_text first second = decimal first ++ codes " " ++ decimal second
 
 -- a peak's moment and load, or that there is none
 abbrev pub peak_text : Option (ℕ × ℕ) → List ℕ
 peak_text None = codes "none"
-peak_text (Some peak) = pair_text peak.0 peak.1
+peak_text (Some peak) = two_numbers_text peak.0 peak.1
 
 -- the lines of the buffers and the peak
 abbrev pub peak_lines : ℕ → List ℕ → List ℕ
@@ -24,4 +24,4 @@ bound_lines parts bound best =
 abbrev pub bounds_text : Facts → List ℕ
 bounds_text facts =
     peak_lines facts.buffers (peak_text facts.peak)
-    ++ bound_lines facts.parts (pair_text facts.bound facts.modulus) facts.best
+    ++ bound_lines facts.parts (two_numbers_text facts.bound facts.modulus) facts.best

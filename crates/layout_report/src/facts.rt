@@ -1,7 +1,7 @@
 //! The facts of an instance.
 
 ghost use Rattle.std.specs.Prelude.{◌≡◌, IfOk, string_bytes};
-ghost use Rattle.layout_report.specs.Facts.{bound_lines, bounds_text, pair_text, peak_lines, peak_text};
+ghost use Rattle.layout_report.specs.Facts.{bound_lines, bounds_text, two_numbers_text, peak_lines, peak_text};
 
 use dsa_model::NoMemory;
 use std::alloc::Global;
@@ -25,7 +25,7 @@ pub struct Facts {
 
 /// Two numbers with a space between them.
 fn pair_line(alloc: Global, first: u64, second: u64) -> Result<String, NoMemory>
-    ensures { IfOk result (λ text. string_bytes text ≡ pair_text first second) }
+    ensures { IfOk result (λ text. string_bytes text ≡ two_numbers_text first second) }
 {
     Ok(format!(in alloc; "{first} {second}")?)
 }

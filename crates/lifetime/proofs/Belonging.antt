@@ -16,7 +16,7 @@ use Rattle.dsa_model.specs.Lists.{items_of}
 use Rattle.lifetime.specs.Edges.{has_member, places_of}
 use Rattle.lifetime.specs.Places.{AreMembersBelow, HasMembersBelow}
 use Rattle.lifetime.specs.Runs.{ArePlainRuns, AreRuns, BeginsRun, starts_of}
-use Rattle.lifetime.specs.SectionList.{AreSectionsOf, HasAllAt, IsKept, Section, SectionList, ShareSection, count_of, live_at, members_of, no_section, sections_of, start_of}
+use Rattle.lifetime.specs.SectionList.{AreSectionsOf, HasAllAt, AreKeptSections, Section, SectionList, ShareSection, count_of, live_at, members_of, no_section, sections_of, start_of}
 use Rattle.lifetime.specs.Thin.{AreAmong, IsThinnedTo, StandForAll, StandsFor}
 use Rattle.lifetime.specs.Views.{list_of, section_of}
 use Rattle.lifetime.specs.declared.section_list.Section.{Section as Declared}
@@ -150,7 +150,7 @@ made_of I runs sections lent of_buffers n sound e r k p same = made I runs (map 
     (p ∙ ap (λ xs. map (places_of (map section_of xs)) (numbers n)) same)
 
 -- what belongs is kept, if it is not too long
-pub kept_of : (I : Instance) (S : SectionList) → AreSectionsOf I S → count_of S < 2 ^ 32 → IsKept S
+pub kept_of : (I : Instance) (S : SectionList) → AreSectionsOf I S → count_of S < 2 ^ 32 → AreKeptSections S
 kept_of I S a few = record {
   limit = few;
   rise = a.rise;

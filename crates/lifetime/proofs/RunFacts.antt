@@ -4,7 +4,7 @@ use Rattle.std.specs.List.{All}
 use Rattle.dsa_terms.specs.Buffers.{Instance, buffer, is_live}
 use Rattle.dsa_terms.specs.Claims.{IsIn, Rises}
 use Rattle.lifetime.specs.Runs.{AreRuns, BeginsRun, live_before, was_live}
-use Rattle.lifetime.specs.SectionList.{IsKept, Section, SectionList, live_at, members_of, section_with, sections_of, start_of}
+use Rattle.lifetime.specs.SectionList.{AreKeptSections, Section, SectionList, live_at, members_of, section_with, sections_of, start_of}
 use Rattle.lifetime.specs.Thin.{StandForAll, StandsFor}
 
 -- the first buffer has a gap from 4 to 6, which the second one fills and outlasts by one moment
@@ -113,7 +113,7 @@ both_below x (inl e) = omega arith
 both_below x (inr (inl e)) = omega arith
 both_below x (inr (inr i)) = absurd i
 
-are_kept : IsKept kept
+are_kept : AreKeptSections kept
 are_kept = record {
   limit = lit< tt;
   rise = rise;
@@ -169,23 +169,23 @@ are_kept = record {
     each_other (suc zero) (suc (suc s)) lb ls = absurd (omega arith)
 
 -- the lists of the two buffers are exchanged
-exchanged : IsKept (placed both ((1 ∷ []) ∷ (0 ∷ 1 ∷ []) ∷ [])) → ⊥
+exchanged : AreKeptSections (placed both ((1 ∷ []) ∷ (0 ∷ 1 ∷ []) ∷ [])) → ⊥
 exchanged k = elim ((k.each_other 0 0 (omega arith) (omega arith)).1 (inl refl)) [
   | inl e ↦ omega arith
   | inr i ↦ i
 ]
 
 -- two sections of one moment
-same_start : IsKept (placed (section_with 6 (0 ∷ []) ∷ section_with 6 (0 ∷ []) ∷ []) ((0 ∷ 1 ∷ []) ∷ [])) → ⊥
+same_start : AreKeptSections (placed (section_with 6 (0 ∷ []) ∷ section_with 6 (0 ∷ []) ∷ []) ((0 ∷ 1 ∷ []) ∷ [])) → ⊥
 same_start k = let r = k.rise 0 1 (omega arith) (omega arith) in omega arith
 
-without_members : IsKept (placed (section_with 0 [] ∷ []) []) → ⊥
+without_members : AreKeptSections (placed (section_with 0 [] ∷ []) []) → ⊥
 without_members k = k.members_not_empty 0 (omega arith) refl
 
 -- there is no list of places for buffer 1
-without_places : IsKept (placed (section_with 0 (1 ∷ []) ∷ []) ((0 ∷ []) ∷ [])) → ⊥
+without_places : AreKeptSections (placed (section_with 0 (1 ∷ []) ∷ []) ((0 ∷ []) ∷ [])) → ⊥
 without_places k = let r = k.members_in_range 0 (omega arith) 0 0 (omega arith) in omega arith
 
 -- there is no section 1
-without_section : IsKept (placed (section_with 0 (0 ∷ []) ∷ []) ((0 ∷ 1 ∷ []) ∷ [])) → ⊥
+without_section : AreKeptSections (placed (section_with 0 (0 ∷ []) ∷ []) ((0 ∷ 1 ∷ []) ∷ [])) → ⊥
 without_section k = let r = k.places_in_range 0 (omega arith) 1 0 (omega arith) in omega arith

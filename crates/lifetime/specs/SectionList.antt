@@ -41,7 +41,7 @@ abbrev pub sections_of : SectionList → ℕ → List ℕ
 sections_of S b = slice_index_or S.of_buffers b []
 
 -- what every section list keeps
-pub record IsKept (S : SectionList) : Type 0 where
+pub record AreKeptSections (S : SectionList) : Type 0 where
   -- there are fewer than 2^32 sections
   pub limit : count_of S < 2 ^ 32
   -- starts rise

@@ -1,7 +1,7 @@
 //! A list of sections.
 
 ghost use Rattle.std.specs.Prelude.{◌≡◌, ◌<◌, ◌^◌, length};
-ghost use Rattle.lifetime.specs.SectionList.{IsKept, count_of, members_of, sections_of, start_of};
+ghost use Rattle.lifetime.specs.SectionList.{AreKeptSections, count_of, members_of, sections_of, start_of};
 ghost use Rattle.lifetime.specs.Views.{list_of};
 
 use std::marker::Model;
@@ -22,20 +22,20 @@ pub struct Sections {
 }
 
 impl Model for Sections {
-    ghost use Rattle.lifetime.specs.SectionList.{IsKept, SectionList};
+    ghost use Rattle.lifetime.specs.SectionList.{AreKeptSections, SectionList};
     ghost use Rattle.lifetime.specs.Views.{list_of};
 
     ghost Value = { SectionList };
 
     ghost view = { λ s. list_of s.sections.items s.of_buffers.items };
 
-    ghost invariant = { λ s. IsKept (list_of s.sections.items s.of_buffers.items) };
+    ghost invariant = { λ s. AreKeptSections (list_of s.sections.items s.of_buffers.items) };
 }
 
 impl Sections {
     /// These sections, and these places of each buffer's.
     pub(crate) fn of_lists(sections: Vec<Section>, of_buffers: Vec<Vec<u32>>) -> Sections
-        requires { IsKept (list_of sections.items of_buffers.items) }
+        requires { AreKeptSections (list_of sections.items of_buffers.items) }
         ensures { result ≡ list_of sections.items of_buffers.items }
     {
         Sections {
@@ -48,7 +48,7 @@ impl Sections {
     pub fn count(&self) -> u32
         ensures value { result ≡ count_of self.now }
         ensures limit { count_of self.now < 2 ^ 32 }
-        ensures kept { IsKept self.now }
+        ensures kept { AreKeptSections self.now }
     {
         self.sections.len() as u32
     }
@@ -57,7 +57,7 @@ impl Sections {
     pub fn start(&self, s: u32) -> u64
         requires { s < count_of self.now }
         ensures value { result ≡ start_of self.now s }
-        ensures kept { IsKept self.now }
+        ensures kept { AreKeptSections self.now }
     {
         self.sections[s as usize].start
     }
@@ -67,7 +67,7 @@ impl Sections {
     pub fn members(&self, s: u32) -> &[u32]
         requires { s < count_of self.now }
         ensures value { result.now ≡ members_of self.now s }
-        ensures kept { IsKept self.now }
+        ensures kept { AreKeptSections self.now }
     {
         self.sections[s as usize].members.as_slice()
     }
@@ -77,7 +77,7 @@ impl Sections {
     pub fn sections_of(&self, b: u32) -> &[u32]
         requires { b < length self.now.of_buffers }
         ensures value { result.now ≡ sections_of self.now b }
-        ensures kept { IsKept self.now }
+        ensures kept { AreKeptSections self.now }
     {
         self.of_buffers[b as usize].as_slice()
     }

@@ -18,7 +18,7 @@ use Rattle.refute_log.specs.Lines.{cite_value}
 use Rattle.refute_log.specs.Reasons.{claim_reason, rule_reason, cite_reason, cites_reason, first_reason}
 use Rattle.refute_log.specs.declared.reason.Reason.TheVariants as reason
 use Rattle.refute_log.proofs.Legal.{all_within}
-use Rattle.log_text.specs.RawLogs.{IsLineKept, IsPairWithin, IsCiteWithin, IsWithin, raw_claim_of}
+use Rattle.log_text.specs.RawLogs.{IsRawLineKept, IsPairWithin, IsRawCiteWithin, IsRawLineWithin, raw_claim_of}
 use Rattle.log_text.specs.declared.raw.RawLine.{RawLine}
 use Rattle.log_text.specs.declared.raw.RawLine.TheVariants as raw
 use Rattle.log_text.specs.declared.raw.RawCite.{RawCite}
@@ -188,11 +188,11 @@ in_all P [] x h i = absurd i
 in_all P (y ∷ ys) x h (inl e) = subst P (sym e) (h 0 y (omega arith))
 in_all P (y ∷ ys) x h (inr i) = in_all P ys x (λ k d lt. h (suc k) d (omega arith)) i
 
-pub bounded : (line : RawLine) → IsWithin line → IsBoundedBy (2 ^ 60) (raw_claim_of line)
+pub bounded : (line : RawLine) → IsRawLineWithin line → IsBoundedBy (2 ^ 60) (raw_claim_of line)
 bounded (raw.Over T H G l) h e i = (in_all IsPairWithin l e h.3 i).1
 bounded (raw.Cases l cites) h e i = (in_all IsPairWithin l e h.0 i).1
 
-cite_within : (p : ℕ × RawCite) → IsCiteWithin p → lines.IsCiteWithin (cite_value (narrow_cite p.1))
+cite_within : (p : ℕ × RawCite) → IsRawCiteWithin p → lines.IsCiteWithin (cite_value (narrow_cite p.1))
 cite_within (b, raw_cite.Line k) h = h.1
 cite_within (b, raw_cite.Below c) h = omega arith
 cite_within (b, raw_cite.Twin c) h = omega arith
@@ -208,16 +208,16 @@ map_twice : {X Y Z : Type 0} (f : X → Y) (g : Y → Z) (xs : List X) → map (
 map_twice f g [] = refl
 map_twice f g (x ∷ xs) = ap (λ zs. g (f x) ∷ zs) (map_twice f g xs)
 
-pub narrow_is_within : (line : RawLine) → IsWithin line → lines.IsWithin (narrow_line line)
+pub narrow_is_within : (line : RawLine) → IsRawLineWithin line → lines.IsWithin (narrow_line line)
 narrow_is_within (raw.Over T H G l) h = (bounded (raw.Over T H G l) h, h.0, h.1, h.2)
 narrow_is_within (raw.Cases l cites) h = (
   bounded (raw.Cases l cites) h,
   subst (All lines.IsCiteWithin) (map_twice (λ (p : ℕ × RawCite). narrow_cite p.1) cite_value cites)
-      (all_mapped IsCiteWithin lines.IsCiteWithin (λ (p : ℕ × RawCite). cite_value (narrow_cite p.1)) cites
+      (all_mapped IsRawCiteWithin lines.IsCiteWithin (λ (p : ℕ × RawCite). cite_value (narrow_cite p.1)) cites
       cite_within h.1),
 )
 
-pub made_is_within : (I : Instance) (line : RawLine) (made : Line) → IsLineKept line → IsNarrowed I line made →
+pub made_is_within : (I : Instance) (line : RawLine) (made : Line) → IsRawLineKept line → IsNarrowed I line made →
     lines.IsWithin made
 made_is_within I line made k h = subst lines.IsWithin (sym h.is_made) (narrow_is_within line k.within)
 

@@ -3,7 +3,7 @@
 ghost use Rattle.std.specs.Prelude.{◌≡◌, ◌++◌, ◌∷◌, [], map, length, Some, None, OnOk, IfOk, All, option_map, ◌≤◌, ◌^◌};
 ghost use Rattle.dsa_model.specs.Fails.{UnlessNoMemory};
 ghost use Rattle.refute_log.specs.Logs.{Belongs};
-ghost use Rattle.log_text.specs.RawLogs.{IsLineKept};
+ghost use Rattle.log_text.specs.RawLogs.{IsRawLineKept};
 ghost use Rattle.log_text.specs.Text.{raw_line_of};
 ghost use Rattle.log_check.specs.Faults.{illegal_fault, line_of, raw_reason};
 
@@ -23,7 +23,7 @@ fn push_line(
     line: RawLine,
 ) -> Result<(), Fail<Reason>>
     requires belongs { Belongs instance.now log.old }
-    requires kept { IsLineKept line }
+    requires kept { IsRawLineKept line }
     ensures reason { let reason = raw_reason instance.now log.old.capacity log.old.lines line in
         UnlessNoMemory result (λ _. reason ≡ None) (λ r. reason ≡ Some r) }
     ensures appended { let lines = log.old.lines ++ line_of line ∷ [] in
@@ -47,7 +47,7 @@ pub(crate) fn log_of(
     lines: Vec<RawLine>,
 ) -> Result<Log, Fail<CheckFault>>
     requires capacity_limit { capacity ≤ 2 ^ 60 }
-    requires kept { All IsLineKept lines.items }
+    requires kept { All IsRawLineKept lines.items }
     ensures fault { let fault = illegal_fault instance.now capacity lines.items in
         UnlessNoMemory result (λ _. fault ≡ None) (λ f. fault ≡ Some f) }
     ensures value { let count = length instance.now in let lines = map line_of lines.items in

@@ -5,7 +5,7 @@ ghost use Rattle.dsa_terms.specs.Claims.{Entry, IsIn, Rises, buffers_of};
 ghost use Rattle.canonical_order.specs.Claims.{IsBoundedBy};
 ghost use Rattle.refute_log.specs.Lines.{line_value};
 ghost use Rattle.dsa_model.specs.Fails.{UnlessNoMemory};
-ghost use Rattle.log_text.specs.RawLogs.{IsLineKept, raw_claim_of};
+ghost use Rattle.log_text.specs.RawLogs.{IsRawLineKept, raw_claim_of};
 ghost use Rattle.log_check.specs.Narrowing.{IsNarrowed, narrow_cite, shape_reason};
 
 use canonical_order::Claim;
@@ -103,7 +103,7 @@ pub(crate) fn line_of(
     instance: &Instance,
     line: &RawLine,
 ) -> Result<Line, Fail<Reason>>
-    requires kept { IsLineKept line.now }
+    requires kept { IsRawLineKept line.now }
     ensures { UnlessNoMemory result
         (λ made. IsNarrowed instance.now line.now (line_value made))
         (λ reason. shape_reason instance.now line.now ≡ Some reason) }

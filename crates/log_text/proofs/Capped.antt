@@ -3,7 +3,7 @@ use Rattle.std.proofs.Common.{◌≡◌, ◌^◌, ◌-◌, ℕ, ◌<◌, ◌≤�
 use Rattle.std.proofs.lemmas.List.Elements.{All-cons, All-head, All-nil, All-tail}
 use Rattle.dsa_terms.specs.Claims.{Claim, Entry}
 use Rattle.log_text.specs.Faults.{EndRow, IsRowWithin, LineRow, Row}
-use Rattle.log_text.specs.RawLogs.{IsCiteWithin, IsPairWithin}
+use Rattle.log_text.specs.RawLogs.{IsRawCiteWithin, IsPairWithin}
 use Rattle.log_text.specs.Reading.{capped, capped_cite, capped_pair}
 use Rattle.log_text.specs.Rows.{capped_row}
 use Rattle.log_text.specs.declared.raw.RawCite.{RawCite}
@@ -37,18 +37,18 @@ pairs_same (e ∷ es) a =
     longer : {x y : Entry} {xs ys : Claim} → x ≡ y → xs ≡ ys → x ∷ xs ≡ y ∷ ys
     longer p q = cc
 
-cite_back : (x : ℕ × RawCite) → IsCiteWithin (capped_cite x) → IsCiteWithin x
+cite_back : (x : ℕ × RawCite) → IsRawCiteWithin (capped_cite x) → IsRawCiteWithin x
 cite_back x h = go x.0 x.1 h
   where
-    go : (b : ℕ) (x : RawCite) → IsCiteWithin (capped_cite (b, x)) → IsCiteWithin (b, x)
+    go : (b : ℕ) (x : RawCite) → IsRawCiteWithin (capped_cite (b, x)) → IsRawCiteWithin (b, x)
     go b (raw_cite.Line k) h = (below_cap b (2 ^ 60) (omega arith) h.0, below_cap k (2 ^ 60) (omega arith) h.1)
     go b (raw_cite.Below k) h = (below_cap b (2 ^ 60) (omega arith) h.0, below_cap k (2 ^ 60) (omega arith) h.1)
     go b (raw_cite.Twin k) h = (below_cap b (2 ^ 60) (omega arith) h.0, below_cap k (2 ^ 60) (omega arith) h.1)
 
-cite_same : (x : ℕ × RawCite) → IsCiteWithin x → capped_cite x ≡ x
+cite_same : (x : ℕ × RawCite) → IsRawCiteWithin x → capped_cite x ≡ x
 cite_same x h = go x.0 x.1 h
   where
-    go : (b : ℕ) (x : RawCite) → IsCiteWithin (b, x) → capped_cite (b, x) ≡ (b, x)
+    go : (b : ℕ) (x : RawCite) → IsRawCiteWithin (b, x) → capped_cite (b, x) ≡ (b, x)
     go b (raw_cite.Line k) h = same_pair (capped b) b _ _ (cap_small b (omega arith))
         (ap raw_cite.Line (cap_small k (omega arith)))
     go b (raw_cite.Below k) h = same_pair (capped b) b _ _ (cap_small b (omega arith))
@@ -56,16 +56,16 @@ cite_same x h = go x.0 x.1 h
     go b (raw_cite.Twin k) h = same_pair (capped b) b _ _ (cap_small b (omega arith))
         (ap raw_cite.Twin (cap_small k (omega arith)))
 
-cites_back : (l : List (ℕ × RawCite)) → All IsCiteWithin (map capped_cite l) → All IsCiteWithin l
-cites_back [] a = All-nil IsCiteWithin
+cites_back : (l : List (ℕ × RawCite)) → All IsRawCiteWithin (map capped_cite l) → All IsRawCiteWithin l
+cites_back [] a = All-nil IsRawCiteWithin
 cites_back (e ∷ es) a =
-    All-cons IsCiteWithin e es (cite_back e (All-head IsCiteWithin (capped_cite e) (map capped_cite es) a))
-    (cites_back es (All-tail IsCiteWithin (capped_cite e) (map capped_cite es) a))
+    All-cons IsRawCiteWithin e es (cite_back e (All-head IsRawCiteWithin (capped_cite e) (map capped_cite es) a))
+    (cites_back es (All-tail IsRawCiteWithin (capped_cite e) (map capped_cite es) a))
 
-cites_same : (l : List (ℕ × RawCite)) → All IsCiteWithin l → map capped_cite l ≡ l
+cites_same : (l : List (ℕ × RawCite)) → All IsRawCiteWithin l → map capped_cite l ≡ l
 cites_same [] a = refl
-cites_same (e ∷ es) a = longer (cite_same e (All-head IsCiteWithin e es a))
-    (cites_same es (All-tail IsCiteWithin e es a))
+cites_same (e ∷ es) a = longer (cite_same e (All-head IsRawCiteWithin e es a))
+    (cites_same es (All-tail IsRawCiteWithin e es a))
   where
     longer : {x y : ℕ × RawCite} {xs ys : List (ℕ × RawCite)} → x ≡ y → xs ≡ ys → x ∷ xs ≡ y ∷ ys
     longer p q = cc

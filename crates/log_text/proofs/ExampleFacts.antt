@@ -7,7 +7,7 @@ use Rattle.dsa_terms.specs.Logs.{Over, Cases, ByLine, Twin, Log}
 use Rattle.log_text.specs.Digits.{Ends, is_digit}
 use Rattle.log_text.specs.Faults.{EndRow, GoesOn, HasNoRow, IsFirstFault, IsGood, LineRow}
 use Rattle.log_text.specs.Numerals.{numeral}
-use Rattle.log_text.specs.RawLogs.{IsPairWithin, IsRising, IsWithin}
+use Rattle.log_text.specs.RawLogs.{IsPairWithin, IsRising, IsRawLineWithin}
 use Rattle.log_text.specs.RawTexts.{line_text}
 use Rattle.log_text.specs.Reading.{capped, fitting}
 use Rattle.log_text.specs.Text.{log_text}
@@ -123,7 +123,7 @@ twice_the_same_buffer = (
   ),
 )
   where
-    within : IsWithin (raw_line.Over 0 3 1 twice)
+    within : IsRawLineWithin (raw_line.Over 0 3 1 twice)
     within = (
       omega arith,
       omega arith,

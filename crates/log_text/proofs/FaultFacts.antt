@@ -4,7 +4,7 @@ use Rattle.std.proofs.lemmas.List.Elements.{All-cons, All-nil}
 use Rattle.dsa_terms.specs.Claims.{Claim}
 use Rattle.log_text.specs.Faults.{EndRow, HasCite, IsFaultAt, IsRowFault, IsTextOf, LineRow}
 use Rattle.log_text.specs.Numerals.{numeral}
-use Rattle.log_text.specs.RawLogs.{IsCiteWithin, IsLineKept, IsPairWithin, IsRawKept, IsWithin, number_of_cite}
+use Rattle.log_text.specs.RawLogs.{IsRawCiteWithin, IsRawLineKept, IsPairWithin, IsRawKept, IsRawLineWithin, number_of_cite}
 use Rattle.log_text.specs.declared.fault.TextFault.TheVariants.{AfterEnd, BadLine, NoEnd, NotRising, NumberTooLarge}
 use Rattle.log_text.specs.declared.raw.RawCite.TheVariants as raw_cite
 use Rattle.log_text.specs.declared.raw.RawLine.{RawLine}
@@ -16,7 +16,7 @@ use Rattle.log_text.proofs.ExampleFacts.{no_row}
 abbrev pub line : RawLine
 line = raw_line.Over 0 3 1 ((2, 3) ∷ [])
 
-pub line_within : IsWithin line
+pub line_within : IsRawLineWithin line
 line_within = (
   lit< tt,
   lit≤ tt,
@@ -24,27 +24,27 @@ line_within = (
   All-cons IsPairWithin (2, 3) [] (lit≤ tt, lit≤ tt) (All-nil IsPairWithin),
 )
 
-pub line_kept : IsLineKept line
+pub line_kept : IsRawLineKept line
 line_kept = record { not_empty = λ e. cc; rising = ((λ y i. absurd i), tt); within = line_within }
 
-not_without_claim : IsLineKept (raw_line.Over 0 3 1 []) → ⊥
+not_without_claim : IsRawLineKept (raw_line.Over 0 3 1 []) → ⊥
 not_without_claim k = k.not_empty refl
 
 -- a claim with one buffer twice
 abbrev pub twice : Claim
 twice = (2, 3) ∷ (2, 4) ∷ []
 
-not_twice : IsLineKept (raw_line.Over 0 3 1 twice) → ⊥
+not_twice : IsRawLineKept (raw_line.Over 0 3 1 twice) → ⊥
 not_twice k = let r : 2 < 2 = k.rising.0 2 (inl refl) in omega arith
 
-not_too_late : IsLineKept (raw_line.Over 4611686018427387904 3 1 ((2, 3) ∷ [])) → ⊥
+not_too_late : IsRawLineKept (raw_line.Over 4611686018427387904 3 1 ((2, 3) ∷ [])) → ⊥
 not_too_late k = let w : 4611686018427387904 < 2 ^ 62 = k.within.0 in omega arith
 
 -- the numbers of a buffer and of its cite
-greatest_cite : IsCiteWithin (1152921504606846976, raw_cite.Line 1152921504606846976)
+greatest_cite : IsRawCiteWithin (1152921504606846976, raw_cite.Line 1152921504606846976)
 greatest_cite = (lit≤ tt, lit≤ tt)
 
-cite_past_the_limit : IsCiteWithin (1, raw_cite.Twin 1152921504606846977) → ⊥
+cite_past_the_limit : IsRawCiteWithin (1, raw_cite.Twin 1152921504606846977) → ⊥
 cite_past_the_limit w = let k = w.1 in omega arith
 
 below_names : number_of_cite (raw_cite.Below 5) ≡ 5
@@ -59,7 +59,7 @@ log_kept = record {
   count_limit = lit≤ tt;
   capacity_limit = lit≤ tt;
   end_limit = lit≤ tt;
-  lines = All-cons IsLineKept line [] line_kept (All-nil IsLineKept);
+  lines = All-cons IsRawLineKept line [] line_kept (All-nil IsRawLineKept);
 }
 
 not_above_the_limit : IsRawKept (log_with 1152921504606846977 line) → ⊥
@@ -102,7 +102,7 @@ not_rising_but_too_late f = let k : 4611686018427387904 < 2 ^ 62 = f.1.0 in omeg
 not_rising : IsRowFault (LineRow (raw_line.Over 0 3 1 twice)) [] 5 (NotRising 5)
 not_rising = (refl, within, λ r. let k : 2 < 2 = r.0 2 (inl refl) in omega arith)
   where
-    within : IsWithin (raw_line.Over 0 3 1 twice)
+    within : IsRawLineWithin (raw_line.Over 0 3 1 twice)
     within = (
       lit< tt,
       lit≤ tt,

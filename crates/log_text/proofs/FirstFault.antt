@@ -3,7 +3,7 @@ use Rattle.std.proofs.Common.{◌≡◌, ℕ, ◌^◌, ◌≤◌, ◌≢◌, ◌
 use Rattle.std.proofs.lemmas.List.Elements.{All-head, All-tail}
 use Rattle.std.specs.List.{flat_map}
 use Rattle.log_text.specs.Faults.{EndRow, GoesOn, HasCite, HasHeader, HasNoRow, HasRow, IsFaultAt, IsFirstFault, IsGood, IsRowFault, IsRowRising, IsRowWithin, IsTextOf, LineRow, Row, row_text}
-use Rattle.log_text.specs.RawLogs.{IsLineKept}
+use Rattle.log_text.specs.RawLogs.{IsRawLineKept}
 use Rattle.log_text.specs.RawTexts.{end_text, header_text, line_text, raw_text}
 use Rattle.log_text.specs.declared.fault.TextFault.{TextFault}
 use Rattle.log_text.specs.declared.fault.TextFault.TheVariants.{NotLog, BadVersion, BadLine, NumberTooLarge, NotRising, NoEnd, AfterEnd}
@@ -281,5 +281,5 @@ text_has_no_fault bytes f raw a t = none bytes f raw (kinds bytes f a) t
         lines_no_fault a.0 raw.lines a.1 (length a.0) raw.end f a.2.good (good_lines raw.lines t.kept.lines t.cited)
         a.3 t.kept.end_limit h.3
       where
-        good_lines : (lines : List RawLine) → All IsLineKept lines → All HasCite lines → All IsGood lines
+        good_lines : (lines : List RawLine) → All IsRawLineKept lines → All HasCite lines → All IsGood lines
         good_lines lines a b = λ k d l. (((a k d l).not_empty, b k d l), (a k d l).within, (a k d l).rising)

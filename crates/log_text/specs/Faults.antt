@@ -1,6 +1,6 @@
 -- What bytes have the form of a line, and the first fault of bytes that are no log's text.
 use Rattle.std.specs.Prelude.{◌≡◌, ℕ, ◌^◌, ◌<◌, ◌≤◌, ◌≢◌, List, [], ◌++◌, length, flat_map, All}
-use Rattle.log_text.specs.RawLogs.{IsRawKept, IsRising, IsWithin, raw_claim_of}
+use Rattle.log_text.specs.RawLogs.{IsRawKept, IsRising, IsRawLineWithin, raw_claim_of}
 use Rattle.log_text.specs.RawTexts.{end_text, header_text, line_text, raw_text}
 use Rattle.log_text.specs.declared.fault.TextFault.{TextFault}
 use Rattle.log_text.specs.declared.fault.TextFault.TheVariants.{NotLog, BadVersion, BadLine, NumberTooLarge, NotRising, NoEnd, AfterEnd}
@@ -30,7 +30,7 @@ IsFormed (EndRow k) = Unit {0}
 
 -- each number is within its limit
 abbrev pub IsRowWithin : Row → Type 0
-IsRowWithin (LineRow line) = IsWithin line
+IsRowWithin (LineRow line) = IsRawLineWithin line
 IsRowWithin (EndRow k) = k ≤ 2 ^ 60
 
 -- each list rises
@@ -40,7 +40,7 @@ IsRowRising (EndRow k) = Unit {0}
 
 -- a line as a log's text has it
 abbrev pub IsGood : RawLine → Type 0
-IsGood line = IsFormed (LineRow line) × IsWithin line × IsRising line
+IsGood line = IsFormed (LineRow line) × IsRawLineWithin line × IsRising line
 
 -- the bytes are the text of the log, within all limits, with rising lists and none that is empty
 pub record IsTextOf (bytes : List ℕ) (raw : RawLog) : Type 0 where

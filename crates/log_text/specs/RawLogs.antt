@@ -18,13 +18,13 @@ number_of_cite (raw_cite.Below c) = c
 number_of_cite (raw_cite.Twin c) = c
 
 -- a buffer with its cite: both numbers are at most 2^60
-abbrev pub IsCiteWithin : ℕ × RawCite → Type 0
-IsCiteWithin p = (p.0 ≤ 2 ^ 60) × (number_of_cite p.1 ≤ 2 ^ 60)
+abbrev pub IsRawCiteWithin : ℕ × RawCite → Type 0
+IsRawCiteWithin p = (p.0 ≤ 2 ^ 60) × (number_of_cite p.1 ≤ 2 ^ 60)
 
 -- each number of the line is within its limit: a moment is below 2^62, each other number at most 2^60
-abbrev pub IsWithin : RawLine → Type 0
-IsWithin (raw_line.Over T H G l) = (T < 2 ^ 62) × (H ≤ 2 ^ 60) × (G ≤ 2 ^ 60) × All IsPairWithin l
-IsWithin (raw_line.Cases l cites) = All IsPairWithin l × All IsCiteWithin cites
+abbrev pub IsRawLineWithin : RawLine → Type 0
+IsRawLineWithin (raw_line.Over T H G l) = (T < 2 ^ 62) × (H ≤ 2 ^ 60) × (G ≤ 2 ^ 60) × All IsPairWithin l
+IsRawLineWithin (raw_line.Cases l cites) = All IsPairWithin l × All IsRawCiteWithin cites
 
 -- the buffers of the claim rise, and those of the cites
 abbrev pub IsRising : RawLine → Type 0
@@ -37,14 +37,14 @@ raw_claim_of (raw_line.Over T H G l) = l
 raw_claim_of (raw_line.Cases l cites) = l
 
 -- a line whose claim is not empty, whose lists rise and whose numbers are within their limits
-pub record IsLineKept (line : RawLine) : Type 0 where
+pub record IsRawLineKept (line : RawLine) : Type 0 where
   pub not_empty : raw_claim_of line ≢ []
   pub rising : IsRising line
-  pub within : IsWithin line
+  pub within : IsRawLineWithin line
 
 -- what holds of each log that is read from a text
 pub record IsRawKept (raw : RawLog) : Type 0 where
   pub count_limit : raw.count ≤ 2 ^ 60
   pub capacity_limit : raw.capacity ≤ 2 ^ 60
   pub end_limit : raw.end ≤ 2 ^ 60
-  pub lines : All IsLineKept raw.lines
+  pub lines : All IsRawLineKept raw.lines

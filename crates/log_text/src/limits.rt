@@ -3,7 +3,7 @@
 ghost use Rattle.std.specs.Prelude.{◌≡◌, ◌↔◌, ◌^◌, ◌≤◌, ◌<◌, All, IsTrue, map};
 ghost use Rattle.dsa_terms.specs.Claims.{Rises, buffers_of};
 ghost use Rattle.log_text.specs.Faults.{IsRowRising, IsRowWithin};
-ghost use Rattle.log_text.specs.RawLogs.{IsCiteWithin, IsPairWithin, number_of_cite};
+ghost use Rattle.log_text.specs.RawLogs.{IsRawCiteWithin, IsPairWithin, number_of_cite};
 ghost use Rattle.log_text.specs.Rows.{row_value};
 
 use crate::rows::Read;
@@ -37,7 +37,7 @@ fn pairs_within(pairs: &[(u64, u64)]) -> bool
 
 /// Whether each buffer and each number that is cited is within its limit.
 fn cites_within(cites: &[(u64, RawCite)]) -> bool
-    ensures { IsTrue result ↔ All IsCiteWithin cites.now }
+    ensures { IsTrue result ↔ All IsRawCiteWithin cites.now }
 {
     cites.iter().all(|cite| cite.0 <= NUMBER_LIMIT && number_of(cite.1) <= NUMBER_LIMIT)
 }

@@ -9,7 +9,7 @@ use Rattle.std.specs.List.{list_any, position_from, slice_split}
 use Rattle.csv_instance.specs.Gaps.{gap_of, gaps_of, pieces_of}
 use Rattle.csv_instance.specs.Numbers.{time_limit}
 use Rattle.csv_instance.proofs.OffsetLemmas.{number-decimal}
-use Rattle.make_instance.specs.Made.{pair_text}
+use Rattle.make_instance.specs.Made.{gap_pair_text}
 use Rattle.make_instance.proofs.LineLemmas.{digit_other, digits_are, none_in_pair, none_of_digits}
 
 -- a list in which nothing passes is one part
@@ -43,31 +43,31 @@ after_byte xs y ys =
     rw (sym long) (drop-append_seam (xs ++ y ∷ []) ys)
 
 -- the two moments
-gap_read : (a b : ℕ) → a < 2 ^ 62 → b < 2 ^ 62 → gap_of (pair_text a b) ≡ Some (a, b)
+gap_read : (a b : ℕ) → a < 2 ^ 62 → b < 2 ^ 62 → gap_of (gap_pair_text a b) ≡ Some (a, b)
 gap_read a b la lb =
     let wa : a < 2 ^ 64 = omega arith in
     let wb : b < 2 ^ 64 = omega arith in
     let hyphen = λ (c : ℕ). c == 45 in
-    let split : pair_text a b ≡ decimal a ++ (45 ∷ decimal b) = append_assoc (decimal a) (45 ∷ []) (decimal b) in
-    let place : position hyphen (pair_text a b) ≡ Some (length (decimal a)) =
+    let split : gap_pair_text a b ≡ decimal a ++ (45 ∷ decimal b) = append_assoc (decimal a) (45 ∷ []) (decimal b) in
+    let place : position hyphen (gap_pair_text a b) ≡ Some (length (decimal a)) =
     ap (position hyphen) split
     ∙ first_is hyphen (decimal a) 45 (decimal b)
     (none_of_digits hyphen (λ c h. digit_other c 45 h refl) (decimal a) (digits_are a wa)) refl in
-    let left : take (length (decimal a)) (pair_text a b) ≡ decimal a =
+    let left : take (length (decimal a)) (gap_pair_text a b) ≡ decimal a =
     ap (take (length (decimal a))) split ∙ take-append_seam (decimal a) (45 ∷ decimal b) in
-    let right : drop (length (decimal a) + 1) (pair_text a b) ≡ decimal b = after_byte (decimal a) 45 (decimal b) in
+    let right : drop (length (decimal a) + 1) (gap_pair_text a b) ≡ decimal b = after_byte (decimal a) 45 (decimal b) in
     rw (place, left, right, number-decimal time_limit a (omega arith) wa, number-decimal time_limit b (omega arith) wb)
     refl
 
 -- the one gap
-pub gaps-read : (a b : ℕ) → a < 2 ^ 62 → b < 2 ^ 62 → gaps_of (pair_text a b) ≡ Some ((a, b) ∷ [])
+pub gaps-read : (a b : ℕ) → a < 2 ^ 62 → b < 2 ^ 62 → gaps_of (gap_pair_text a b) ≡ Some ((a, b) ∷ [])
 gaps-read a b la lb =
-    let some : (length (pair_text a b) == 0) ≡ false = long _ (omega (
+    let some : (length (gap_pair_text a b) == 0) ≡ false = long _ (omega (
       arith,
       length-append (decimal a ++ 45 ∷ []) (decimal b),
       length-append (decimal a) (45 ∷ []),
     )) in
-    let parts : pieces_of (pair_text a b) ≡ pair_text a b ∷ [] = one_part (λ c. c == 32) (pair_text a b)
+    let parts : pieces_of (gap_pair_text a b) ≡ gap_pair_text a b ∷ [] = one_part (λ c. c == 32) (gap_pair_text a b)
     (none_in_pair (λ c. c == 32) a b (λ c h. digit_other c 32 h refl) refl (omega arith) (omega arith)) in
     rw (some, parts, gap_read a b la lb) refl
   where

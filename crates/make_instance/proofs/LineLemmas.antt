@@ -11,7 +11,7 @@ use Rattle.std.specs.Str.{all_ascii_digits}
 use Rattle.dsa_model.proofs.NumberLemmas.{own}
 use Rattle.csv.specs.Writing.{default_writer, field_text, fields_text, is_blank, needs_byte, row_text}
 use Rattle.csv_instance.specs.Records.{Record}
-use Rattle.make_instance.specs.Made.{line_text, pair_text}
+use Rattle.make_instance.specs.Made.{record_line, gap_pair_text}
 
 -- the digits of a number
 pub digits_are : (n : ℕ) → n < 2 ^ 64 → all_ascii_digits (decimal n) ≡ true
@@ -39,7 +39,7 @@ none_after p xs ys h k = rw (list_any-append p xs ys, h) k
 
 -- nor do two numbers with a hyphen between them
 pub none_in_pair : (p : ℕ → Bool) (a b : ℕ) → ((c : ℕ) → is_ascii_digit c ≡ true → p c ≡ false) → p 45 ≡ false
-    → a < 2 ^ 64 → b < 2 ^ 64 → list_any p (pair_text a b) ≡ false
+    → a < 2 ^ 64 → b < 2 ^ 64 → list_any p (gap_pair_text a b) ≡ false
 none_in_pair p a b h e wa wb =
     none_after p (decimal a ++ (45 ∷ [])) (decimal b)
     (none_after p (decimal a) (45 ∷ []) (none_of_digits p h (decimal a) (digits_are a wa)) (rw e refl))
@@ -57,7 +57,7 @@ IsPlain field = list_any (needs_byte default_writer) field ≡ false
 pub plain_number : (n : ℕ) → n < 2 ^ 64 → IsPlain (decimal n)
 plain_number n word = none_of_digits (needs_byte default_writer) digit_plain (decimal n) (digits_are n word)
 
-pub plain_pair : (a b : ℕ) → a < 2 ^ 64 → b < 2 ^ 64 → IsPlain (pair_text a b)
+pub plain_pair : (a b : ℕ) → a < 2 ^ 64 → b < 2 ^ 64 → IsPlain (gap_pair_text a b)
 plain_pair a b wa wb = none_in_pair (needs_byte default_writer) a b digit_plain refl wa wb
 
 -- no field needs quotes
@@ -82,7 +82,7 @@ joined f (g ∷ gs) h = ap (λ (t : List ℕ). 44 ∷ (f ++ t)) (joined g gs h.1
 
 -- two or more such fields
 pub line-row : (f g : List ℕ) (fs : Record) → ArePlain (f ∷ g ∷ fs)
-    → line_text (f ∷ g ∷ fs) ≡ row_text default_writer (f ∷ g ∷ fs)
+    → record_line (f ∷ g ∷ fs) ≡ row_text default_writer (f ∷ g ∷ fs)
 unfolding is_blank
 line-row f g fs h = ap (λ (t : List ℕ). (f ++ t) ++ (10 ∷ [])) (joined g fs h.1)
     ∙ ap (λ (t : List ℕ). (t ++ fields_text default_writer (g ∷ fs)) ++ (10 ∷ [])) (sym (plain_text f h.0))

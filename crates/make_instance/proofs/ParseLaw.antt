@@ -14,7 +14,7 @@ use Rattle.dsa_terms.specs.Buffers.{Buffer}
 use Rattle.dsa_terms.specs.Parts.{numbers}
 use Rattle.dsa_model.proofs.NumberLemmas.{own}
 use Rattle.csv_instance.specs.Columns.{field_of}
-use Rattle.csv_instance.specs.Parse.{buffer_of, id_fault, id_faults, parse, row_fault, rows_fault}
+use Rattle.csv_instance.specs.Parse.{row_buffer, id_fault, id_faults, parse, row_fault, rows_fault}
 use Rattle.csv_instance.specs.Records.{Record, table_of}
 use Rattle.csv_instance.specs.declared.columns.Column.TheVariants.{Id}
 use Rattle.csv_instance.specs.declared.fault.InstanceFault.TheVariants as fault
@@ -113,8 +113,8 @@ pub parsed : (seed count : ℕ) → count ≤ 512
 parsed seed count few =
     let rows = map (made_record seed count) (numbers count) in
     let good = rows_good seed count 0 count (omega arith) few in
-    let parsed_as : parse (made_table seed count) ≡ Ok (map (buffer_of header) rows) = rw good refl in (
-      map (buffer_of header) rows,
+    let parsed_as : parse (made_table seed count) ≡ Ok (map (row_buffer header) rows) = rw good refl in (
+      map (row_buffer header) rows,
       ap parse (table-read seed count few) ∙ parsed_as,
-      length-map rows (buffer_of header) ∙ length-map-range_with_len (made_record seed count) 0 count,
+      length-map rows (row_buffer header) ∙ length-map-range_with_len (made_record seed count) 0 count,
     )

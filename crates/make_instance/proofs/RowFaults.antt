@@ -11,7 +11,7 @@ use Rattle.dsa_model.specs.Numbers.{written_number}
 use Rattle.dsa_model.proofs.Live.{is_ever, live_from}
 use Rattle.csv_instance.specs.Gaps.{gaps_of}
 use Rattle.csv_instance.specs.Numbers.{time_limit}
-use Rattle.csv_instance.specs.Parse.{alignment_of, bad_column, buffer_of as buffer_in, content_fault}
+use Rattle.csv_instance.specs.Parse.{alignment_of, bad_column, row_buffer, content_fault}
 use Rattle.csv_instance.specs.declared.fault.InstanceFault.TheVariants as fault
 use Rattle.csv_instance.proofs.IdLemmas.{AllNone}
 use Rattle.csv_instance.proofs.OffsetLemmas.{number-decimal}
@@ -94,7 +94,7 @@ alignment n small =
     long : (n : ℕ) → 0 < n → (n == 0) ≡ false
     long n h = grind (arith, nat_tests)
 
-buffer_is : (i : ℕ) (row : Row) → IsMade row → buffer_in header (record_of i row) ≡ buffer_by row
+buffer_is : (i : ℕ) (row : Row) → IsMade row → row_buffer header (record_of i row) ≡ buffer_by row
 buffer_is i row h = rw (
   number row.lower (omega (arith, h.lasts, h.soon)),
   number row.upper h.soon,
@@ -111,7 +111,7 @@ content_good i k row h =
       number row.size (omega (arith, h.small)),
       alignment row.alignment (omega (arith, h.narrow)),
     ) refl in
-    let fine : buffer_fault (buffer_in header (record_of i row)) ≡ None =
+    let fine : buffer_fault (row_buffer header (record_of i row)) ≡ None =
     ap buffer_fault (buffer_is i row h) ∙ no_fault row h in
     none_first (_ ∷ _ ∷ _ ∷ []) (
       none_mapped (fault.BadNumber k) _ bad,

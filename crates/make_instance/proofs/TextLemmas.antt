@@ -9,7 +9,7 @@ use Rattle.csv_instance.specs.Layout.{text_of}
 use Rattle.csv_instance.specs.Records.{table_of}
 use Rattle.csv_instance.proofs.Mark.{no_mark}
 use Rattle.csv_instance.proofs.ReadBack.{AllReadBack, text-read}
-use Rattle.make_instance.specs.Made.{gap_text, header, line_text, made_record, made_table, made_text, record_of}
+use Rattle.make_instance.specs.Made.{gap_text, header, record_line, made_record, made_table, made_text, record_of}
 use Rattle.make_instance.specs.Rows.{made_row}
 use Rattle.make_instance.specs.declared.row.Row.{Row}
 use Rattle.make_instance.proofs.LineLemmas.{ArePlain, IsPlain, line-row, plain_number, plain_pair}
@@ -40,23 +40,23 @@ row_plain i row few h = (
 
 -- the line of a row
 row_line : (i : ℕ) (row : Row) → i < 512 → IsMade row
-    → line_text (record_of i row) ≡ row_text default_writer (record_of i row)
+    → record_line (record_of i row) ≡ row_text default_writer (record_of i row)
 row_line i row few h = line-row (codes "b" ++ decimal i) (decimal row.lower)
     (decimal row.upper ∷ decimal row.size ∷ decimal row.alignment ∷ gap_text row.gap ∷ []) (row_plain i row few h)
 
 -- the lines from buffer a on, n of them
 lines_same : (seed count a n : ℕ) → a + n ≤ count → count ≤ 512
-    → flat_map line_text (map (made_record seed count) (range_with_len a n))
+    → flat_map record_line (map (made_record seed count) (range_with_len a n))
     ≡ text_of (map (made_record seed count) (range_with_len a n))
 lines_same seed count a zero within few = refl
 lines_same seed count a (suc n) within few =
     let row = made seed count a (omega arith) few in
     let here = row_line a (made_row seed count a) (omega arith) row in
     let rest = lines_same seed count (a + 1) n (omega arith) few in
-    ap (λ (t : List ℕ). t ++ flat_map line_text (map (made_record seed count) (range_with_len (a + 1) n))) here
+    ap (λ (t : List ℕ). t ++ flat_map record_line (map (made_record seed count) (range_with_len (a + 1) n))) here
     ∙ ap (λ (t : List ℕ). row_text default_writer (made_record seed count a) ++ t) rest
 
-header_same : line_text header ≡ row_text default_writer header
+header_same : record_line header ≡ row_text default_writer header
 header_same = line-row (codes "id") (codes "lower")
     (codes "upper" ∷ codes "size" ∷ codes "alignment" ∷ codes "gaps" ∷ [])
     (refl, (refl, (refl, (refl, (refl, (refl, tt))))))
@@ -64,7 +64,7 @@ header_same = line-row (codes "id") (codes "lower")
 text_same : (seed count : ℕ) → count ≤ 512 → made_text seed count ≡ text_of (made_table seed count)
 unfolding made_text
 text_same seed count few =
-    ap (λ (t : List ℕ). t ++ flat_map line_text (map (made_record seed count) (range_with_len 0 count))) header_same
+    ap (λ (t : List ℕ). t ++ flat_map record_line (map (made_record seed count) (range_with_len 0 count))) header_same
     ∙ ap (λ (t : List ℕ). row_text default_writer header ++ t)
     (lines_same seed count 0 count (omega arith) few)
 
@@ -96,7 +96,7 @@ gap_short lower upper (Some (a, b)) soon inside =
 
 -- a line of six fields
 line_length : (a b c d e f : List ℕ)
-    → length (line_text (a ∷ b ∷ c ∷ d ∷ e ∷ f ∷ []))
+    → length (record_line (a ∷ b ∷ c ∷ d ∷ e ∷ f ∷ []))
     ≡ length a + length b + length c + length d + length e + length f + 6
 line_length a b c d e f = omega (
   arith,
@@ -108,7 +108,7 @@ line_length a b c d e f = omega (
   length-append e (44 ∷ f),
 )
 
-line_short : (i : ℕ) (row : Row) → i < 512 → IsMade row → length (line_text (record_of i row)) ≤ 60
+line_short : (i : ℕ) (row : Row) → i < 512 → IsMade row → length (record_line (record_of i row)) ≤ 60
 line_short i row few h = omega (
   arith,
   line_length (98 ∷ decimal i) (decimal row.lower) (decimal row.upper) (decimal row.size) (decimal row.alignment)
@@ -122,15 +122,15 @@ line_short i row few h = omega (
 )
 
 lines_short : (seed count a n : ℕ) → a + n ≤ count → count ≤ 512
-    → length (flat_map line_text (map (made_record seed count) (range_with_len a n))) ≤ 60 * n
+    → length (flat_map record_line (map (made_record seed count) (range_with_len a n))) ≤ 60 * n
 lines_short seed count a zero within few = omega arith
 lines_short seed count a (suc n) within few =
     let here = line_short a (made_row seed count a) (omega arith) (made seed count a (omega arith) few) in
     let rest = lines_short seed count (a + 1) n (omega arith) few in
     omega (
       arith,
-      length-append (line_text (made_record seed count a))
-          (flat_map line_text (map (made_record seed count) (range_with_len (a + 1) n))),
+      length-append (record_line (made_record seed count a))
+          (flat_map record_line (map (made_record seed count) (range_with_len (a + 1) n))),
       here,
       rest,
     )
@@ -141,6 +141,6 @@ unfolding made_text
 text_short seed count few =
     omega (
       arith,
-      length-append (line_text header) (flat_map line_text (map (made_record seed count) (range_with_len 0 count))),
+      length-append (record_line header) (flat_map record_line (map (made_record seed count) (range_with_len 0 count))),
       lines_short seed count 0 count (omega arith) few,
     )

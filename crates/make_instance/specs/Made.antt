@@ -7,13 +7,13 @@ use Rattle.make_instance.specs.Rows.{made_row}
 use Rattle.make_instance.specs.declared.row.Row.{Row}
 
 -- a gap's two moments
-abbrev pub pair_text : ℕ → ℕ → List ℕ
-pair_text from to = decimal from ++ codes "-" ++ decimal to
+abbrev pub gap_pair_text : ℕ → ℕ → List ℕ
+gap_pair_text from to = decimal from ++ codes "-" ++ decimal to
 
 -- what stands in the field of gaps
 abbrev pub gap_text : Option (ℕ × ℕ) → List ℕ
 gap_text None = []
-gap_text (Some gap) = pair_text gap.0 gap.1
+gap_text (Some gap) = gap_pair_text gap.0 gap.1
 
 -- the fields of a row
 abbrev pub record_of : ℕ → Row → Record
@@ -35,8 +35,8 @@ abbrev pub made_record : (seed count i : ℕ) → Record
 made_record seed count i = record_of i (made_row seed count i)
 
 -- a line: fields with commas between them, and a newline
-abbrev pub line_text : Record → List ℕ
-line_text fields = join_with_byte 44 fields ++ codes "\n"
+abbrev pub record_line : Record → List ℕ
+record_line fields = join_with_byte 44 fields ++ codes "\n"
 
 -- the header, and a record for each buffer
 abbrev pub made_table : (seed count : ℕ) → List Record
@@ -44,4 +44,4 @@ made_table seed count = header ∷ map (made_record seed count) (numbers count)
 
 -- the text of these, each on a line
 unfoldable pub made_text : (seed count : ℕ) → List ℕ
-made_text seed count = flat_map line_text (made_table seed count)
+made_text seed count = flat_map record_line (made_table seed count)

@@ -3,7 +3,7 @@
 ghost use Rattle.std.specs.Prelude.{◌≡◌, ◌+◌, ◌*◌, ◌^◌, ◌<◌, ◌≤◌, ℕ, IfOk, string_bytes};
 ghost use Rattle.make_instance.specs.Draws.{state_at};
 ghost use Rattle.make_instance.specs.Rows.{gap_in, made_row};
-ghost use Rattle.make_instance.specs.Made.{gap_text, line_text, pair_text, record_of};
+ghost use Rattle.make_instance.specs.Made.{gap_text, record_line, gap_pair_text, record_of};
 
 use crate::draws::Draws;
 use dsa_model::NoMemory;
@@ -57,7 +57,7 @@ pub(crate) fn next_row(draws: &mut Draws, count: u64) -> Row
 
 /// A gap's two moments.
 fn pair_text(alloc: Global, from: u64, to: u64) -> Result<String, NoMemory>
-    ensures { IfOk result (λ text. string_bytes text ≡ pair_text from to) }
+    ensures { IfOk result (λ text. string_bytes text ≡ gap_pair_text from to) }
 {
     Ok(format!(in alloc; "{from}-{to}")?)
 }
@@ -74,7 +74,7 @@ fn gap_text(alloc: Global, gap: Option<(u64, u64)>) -> Result<String, NoMemory>
 
 /// The line of a row.
 pub(crate) fn line(alloc: Global, number: u64, row: &Row) -> Result<String, NoMemory>
-    ensures { IfOk result (λ text. string_bytes text ≡ line_text (record_of number row.now)) }
+    ensures { IfOk result (λ text. string_bytes text ≡ record_line (record_of number row.now)) }
 {
     let Row {
         lower,

@@ -6,7 +6,7 @@ use Rattle.dsa_terms.specs.Logs.{IsAccepted, Log}
 use Rattle.dsa_terms.specs.Plans.{layout_height}
 use Rattle.dsa_search_laws.proofs.Plans.{layout_under, middle}
 use Rattle.refute_log.specs.Answers.{Answer, Offsets, Refutation}
-use Rattle.refute_log.specs.Hunts.{hunt}
+use Rattle.refute_log.specs.Hunts.{halving}
 use Rattle.min_capacity.specs.Brackets.{ArePaid, IsBracket, IsShort, LayoutIsPaid, LogIsPaid, Narrows}
 use Rattle.min_capacity.specs.declared.brackets.Bracket.{Bracket}
 use Rattle.min_capacity.proofs.Hunts.{hunt_at_call, hunt_at_layout, hunt_at_log}
@@ -19,7 +19,7 @@ pub record Halves (I : Instance) (gives : ℕ → Answer → Type 0) (most : ℕ
   pub narrowed : Narrows I gives start b
   pub spends : s ≤ s'
   pub units : u ≤ u'
-  pub used : u' + hunt most turn b.low b.high ≤ u + hunt most turn start.low start.high
+  pub used : u' + halving most turn b.low b.high ≤ u + halving most turn start.low start.high
   pub paid : ArePaid charge u u' start b
 
 pub at_start : (I : Instance) (gives : ℕ → Answer → Type 0) (most : ℕ → ℕ) (turn : ℕ → Option ℕ)
@@ -37,7 +37,7 @@ module _ {I : Instance} {gives : ℕ → Answer → Type 0} {most : ℕ → ℕ}
     {start b : Bracket} {s s' u u' C : ℕ} (h : Halves I gives most turn charge start b s s' u u') (lt : b.low < b.high)
     (mid : C ≡ (b.low + b.high) / 2) where
   -- the units of one call are within the hunt
-  pub call_within : u' + most C ≤ u + hunt most turn start.low start.high
+  pub call_within : u' + most C ≤ u + halving most turn start.low start.high
   call_within =
       let k = hunt_at_call most turn b.low b.high lt in let e = ap most mid in let l = h.used in omega arith
 
@@ -74,10 +74,10 @@ module _ {I : Instance} {gives : ℕ → Answer → Type 0} {most : ℕ → ℕ}
         under : n.high ≤ (b.low + b.high) / 2
         under = let k = layout_under I C n.layout.items laid in omega arith
 
-        left : hunt most turn b.low b.high ≡ most C + hunt most turn n.low n.high
+        left : halving most turn b.low b.high ≡ most C + halving most turn n.low n.high
         left =
             hunt_at_layout most turn b.low b.high lt n.high under at_middle
-            ∙ (let e = ap most mid in let f = ap (λ x. hunt most turn x n.high) low in omega arith)
+            ∙ (let e = ap most mid in let f = ap (λ x. halving most turn x n.high) low in omega arith)
 
     pub after_log : (n : Bracket) (log : Log) → IsAccepted I log → log.capacity ≡ C → gives C (Refutation log) →
         turn C ≡ None → u' + charge (Refutation log) ≤ u'' → n.low ≡ C + 1 → n.log ≡ Some log → n.high ≡ b.high →
@@ -103,11 +103,11 @@ module _ {I : Instance} {gives : ℕ → Answer → Type 0} {most : ℕ → ℕ}
         above : start.low < n.low
         above = let k = h.narrowed.low in let m = (middle b.low b.high lt).0 in omega (arith, low)
 
-        left : hunt most turn b.low b.high ≡ most C + hunt most turn n.low n.high
+        left : halving most turn b.low b.high ≡ most C + halving most turn n.low n.high
         left =
             hunt_at_log most turn b.low b.high lt (ap turn (sym mid) ∙ turned)
             ∙ (
             let e = ap most mid in
-            let f = ap (λ x. hunt most turn x n.high) (low ∙ ap (λ x. x + 1) mid) in
-            let g = ap (λ x. hunt most turn ((b.low + b.high) / 2 + 1) x) high in
+            let f = ap (λ x. halving most turn x n.high) (low ∙ ap (λ x. x + 1) mid) in
+            let g = ap (λ x. halving most turn ((b.low + b.high) / 2 + 1) x) high in
             omega arith)

@@ -9,7 +9,7 @@ use Rattle.dsa_terms.specs.Plans.{layout_height}
 use Rattle.dsa_terms.specs.Search.{comes_before, first, is_tall}
 use Rattle.dsa_terms.proofs.Examples.{two_of_four}
 use Rattle.dsa_search_laws.proofs.Parts.{searched_is_layout}
-use Rattle.refute_log.specs.Hunts.{hunt}
+use Rattle.refute_log.specs.Hunts.{halving}
 use Rattle.min_capacity.specs.Brackets.{ArePaid, IsBracket, IsShort, LayoutComes, LayoutIsPaid, LogIsPaid, Refutes}
 use Rattle.min_capacity.specs.declared.brackets.Bracket.{Bracket}
 
@@ -111,12 +111,12 @@ one_unit C = 1
 abbrev no_layout : ℕ → Option ℕ
 no_layout C = None
 
-two_from_0_to_4 : hunt one_unit no_layout 0 4 ≡ 2
-unfolding hunt
+two_from_0_to_4 : halving one_unit no_layout 0 4 ≡ 2
+unfolding halving
 two_from_0_to_4 = refl
 
-one_from_3_to_4 : hunt one_unit no_layout 3 4 ≡ 1
-unfolding hunt
+one_from_3_to_4 : halving one_unit no_layout 3 4 ≡ 1
+unfolding halving
 one_from_3_to_4 = refl
 
 -- a unit has raised the lower end of 0, 4 to 3

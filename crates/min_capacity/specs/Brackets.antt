@@ -6,7 +6,7 @@ use Rattle.dsa_terms.specs.Layouts.{IsLayout}
 use Rattle.dsa_terms.specs.Logs.{IsAccepted, Log}
 use Rattle.dsa_terms.specs.Plans.{layout_height}
 use Rattle.refute_log.specs.Answers.{Answer, Offsets, Refutation}
-use Rattle.refute_log.specs.Hunts.{hunt}
+use Rattle.refute_log.specs.Hunts.{halving}
 use Rattle.min_capacity.specs.declared.brackets.Bracket.{Bracket}
 use Rattle.min_capacity.specs.declared.brackets.Least.{Least}
 use Rattle.min_capacity.specs.declared.brackets.Least.TheVariants.{Exact, Open}
@@ -65,8 +65,8 @@ pub record ArePaid (charge : Answer → ℕ) (before after : ℕ) (start b : Bra
 -- what halving can still take is short of what it could take from the start by the units used, but for one call
 abbrev pub IsShort : (ℕ → ℕ) → (ℕ → Option ℕ) → ℕ → ℕ → Bracket → Bracket → Type 0
 IsShort most turn before after start b =
-    after + hunt most turn b.low b.high
-    < before + hunt most turn start.low start.high + most ((b.low + b.high) / 2)
+    after + halving most turn b.low b.high
+    < before + halving most turn start.low start.high + most ((b.low + b.high) / 2)
 
 -- the bracket that is found
 abbrev pub bracket_of : Least → Bracket

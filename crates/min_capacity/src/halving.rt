@@ -3,7 +3,7 @@
 ghost use Rattle.std.specs.Prelude.{◌≡◌, ℕ, ◌+◌, ◌<◌, ◌≤◌, IfOk};
 ghost use Rattle.dsa_terms.specs.Layouts.{IsLeast};
 ghost use Rattle.dsa_model.specs.Counts.{Rose};
-ghost use Rattle.refute_log.specs.Hunts.{hunt};
+ghost use Rattle.refute_log.specs.Hunts.{halving};
 ghost use Rattle.min_capacity.specs.Brackets.{ArePaid, IsBracket, IsShort, Narrows, bracket_of};
 ghost use Rattle.min_capacity.specs.Brackets.{IfExact, IfOpen};
 
@@ -31,7 +31,7 @@ pub fn least<D: Decider>(
     ensures spends { D.spends decider.old ≤ D.spends decider.new }
     ensures units { D.units decider.old ≤ D.units decider.new }
     ensures used { D.units decider.new ≤ D.units decider.old
-        + hunt (D.most instance.now) (D.turn instance.now) start.low start.high }
+        + halving (D.most instance.now) (D.turn instance.now) start.low start.high }
     ensures idle { start.low ≡ start.high → D.units decider.new ≡ D.units decider.old }
     ensures narrowed { IfOk result (λ found.
         Narrows instance.now (D.gives instance.now) start (bracket_of found)) }
@@ -44,7 +44,7 @@ pub fn least<D: Decider>(
     ensures spent { IfOk result (λ found.
         IfOpen found (Rose (D.spends decider.old) (D.spends decider.new))) }
     ensures fewer { IfOk result (λ found. IfOpen found (D.units decider.new < D.units decider.old
-        + hunt (D.most instance.now) (D.turn instance.now) start.low start.high)) }
+        + halving (D.most instance.now) (D.turn instance.now) start.low start.high)) }
     ensures exhausted { IfOk result (λ found.
         IfOpen found (D.allowance decider.old ≤ D.units decider.new)) }
     ensures left { let most = D.most instance.now in let turn = D.turn instance.now in

@@ -19,10 +19,10 @@ use Rattle.dsa_start_laws.proofs.Peaks.{stack_is_lean}
 use Rattle.dsa_start_laws.proofs.Planned.{planned_exactly, planned_is_layout}
 use Rattle.dsa_start_laws.proofs.Stacks.{stack_is_accepted}
 use Rattle.min_capacity.specs.declared.brackets.Bracket.{Bracket}
-use Rattle.planner.specs.Decides.{IsBoundLog, IsRefutation}
+use Rattle.planner.specs.Decides.{IsBoundLog, LeavesNoLayout}
 use Rattle.min_capacity.specs.declared.brackets.Least.TheVariants.{Open}
 use Rattle.planner.specs.LeastCapacity.{AreWithinSteps, HasHalved, IsByBoundAtLow, IsExactly, IsLayoutWithin, IsLogWithin, IsWithinSteps, RefutesBelow, work_of_least}
-use Rattle.planner.specs.Openings.{AreTooFew, IsOpen, IsSpentAt}
+use Rattle.planner.specs.Openings.{AreTooFew, StaysOpen, IsSpentAt}
 
 -- ---- steps
 -- five steps are too few for three buffers, six are enough, and without a number there are never too few
@@ -67,7 +67,7 @@ ends_after_six b low high h =
 
 -- ---- logs of one line
 pub line_refutes : (I : Instance) (t G C : ℕ) → IsInstance I → 1 ≤ G → C < stack I t G →
-    IsRefutation I C (stack_log I t G C)
+    LeavesNoLayout I C (stack_log I t G C)
 unfolding stack_log
 line_refutes I t G C s pos lt = record {
   accepted = stack_is_accepted I t G C pos lt;
@@ -153,7 +153,7 @@ no_log_at_5 : RefutesBelow evens 5 None → ⊥
 no_log_at_5 e = omega arith
 
 -- ---- the capacity 4 of a small buffer that belongs below is open without steps
-pub four_is_open : IsOpen small_below 4 5 (0 ∷ 4 ∷ []) (stack_log small_below 0 1 3)
+pub four_is_open : StaysOpen small_below 4 5 (0 ∷ 4 ∷ []) (stack_log small_below 0 1 3)
 unfolding layout_height buffer
 four_is_open = record {
   ends_apart = lit< tt;

@@ -11,14 +11,14 @@ use Rattle.dsa_terms.specs.Starts.{best_start, planned, starts}
 use Rattle.dsa_search_laws.proofs.Plans.{plan_lower}
 use Rattle.dsa_model.specs.Buffer.{IsBuffer}
 use Rattle.dsa_model.proofs.Instances.{sound_instance}
-use Rattle.refute_log.specs.Hunts.{hunt}
+use Rattle.refute_log.specs.Hunts.{halving}
 use Rattle.search_core.specs.Courses.{at_start, Course}
 use Rattle.search_core.specs.Decisions.{allowance_of, IsGiven, turn_of}
 use Rattle.min_capacity.specs.Brackets.{bracket_of, IfExact, IfOpen, LayoutComes, LogComes, Narrows, Refutes}
 use Rattle.min_capacity.specs.declared.brackets.Bracket.{Bracket}
 use Rattle.min_capacity.specs.declared.brackets.Least.{Least}
 use Rattle.min_capacity.specs.declared.brackets.Least.TheVariants.{Exact, Open}
-use Rattle.planner.specs.Decides.{IsRefutation}
+use Rattle.planner.specs.Decides.{LeavesNoLayout}
 use Rattle.planner.specs.FirstBracket.{IsFirstBracket, IsLogBelow}
 use Rattle.planner.specs.LeastCapacity.{FindsLeast, IsExactly, IsOpenAfter, RefutesBelow, work_of_least}
 use Rattle.planner.specs.Openings.{AreTooFew}
@@ -56,7 +56,7 @@ bound_log_below I low (Some log) h r =
     let c = h.1.refutation.its_capacity in
     let e = r.1 in
     let same : lower_bound I - 1 ≡ low - 1 = omega arith in
-    let P : ℕ → Type 0 = λ n. IsRefutation I n log in
+    let P : ℕ → Type 0 = λ n. LeavesNoLayout I n log in
     (omega arith, subst P same h.1.refutation)
 
 refuted_below : (I : Instance) (start b : Bracket) → All IsBuffer I → IsFirstBracket I start →
@@ -126,7 +126,7 @@ open_after I steps start b buffers h n apart few = go b.log (refuted_below I sta
     }
 
 pub first_work : (I : Instance) (start : Bracket) → IsInstance I → IsFirstBracket I start →
-    hunt (whole_work I) (turn_of I) start.low start.high ≡ work_of_least I
+    halving (whole_work I) (turn_of I) start.low start.high ≡ work_of_least I
 first_work I start s h =
     let l = h.low in let t = h.high in
     rw (l, t) (same_hunt I (lower_bound I) (layout_height I (best_start I)) s (omega arith))
@@ -138,7 +138,7 @@ pub finds : (I : Instance) (steps budget : Option ℕ) (start : Bracket) (before
     IfExact found (IsLeast I (bracket_of found).high) →
     IfOpen found ((bracket_of found).low < (bracket_of found).high) →
     IfOpen found (allowance_of before.units.most ≤ used) →
-    IfOpen found (used < before.units.used + hunt (whole_work I) (turn_of I) start.low start.high) →
+    IfOpen found (used < before.units.used + halving (whole_work I) (turn_of I) start.low start.high) →
     used < 2 ^ 64 → FindsLeast I steps found
 finds I steps budget start before used (Exact b) buffers h e q n met least apart all fewer range =
     exactly I start b buffers h n met least

@@ -12,7 +12,7 @@ use Rattle.dsa_model.specs.Buffer.{IsBuffer}
 use Rattle.dsa_model.proofs.Instances.{sound_instance}
 use Rattle.search_core.specs.Courses.{at_start, Course}
 use Rattle.search_core.specs.Decisions.{allowance_of, charge_of, IsGiven, turn_of, where_numbered}
-use Rattle.search_core.specs.Meters.{AreWithin, counted}
+use Rattle.search_core.specs.Meters.{AreWithin, units_counted}
 use Rattle.min_capacity.specs.Brackets.{ArePaid, bracket_of, IfOpen, IsShort, LayoutComes, LayoutIsPaid, LogIsPaid, Narrows}
 use Rattle.min_capacity.specs.declared.brackets.Bracket.{Bracket}
 use Rattle.min_capacity.specs.declared.brackets.Least.{Least}
@@ -51,7 +51,7 @@ has_halved I steps budget start before used (Open b) buffers h e q n all short =
 -- ---- what the steps have paid for
 -- so many units are counted as are charged
 counted_is_numbered : (most : Option ℕ) (n : ℕ) → IfSome most (λ k. k < 2 ^ 64) →
-    counted most n ≤ where_numbered (allowance_of most) n
+    units_counted most n ≤ where_numbered (allowance_of most) n
 counted_is_numbered None n range = omega arith
 counted_is_numbered (Some k) n range =
     let e = not_at_most (2 ^ 64) k range in let f : cond (nat_le (2 ^ 64) k) 0 n ≡ n = rw e refl in omega (arith, f)

@@ -15,7 +15,7 @@ use Rattle.planner.proofs.BestStart.{planned_below}
 
 -- the work by the search, and the work by the plan
 abbrev by_search : Instance → ℕ → ℕ → ℕ
-by_search I a b = decider.hunt (whole_work I) (turn_of I) a b
+by_search I a b = decider.halving (whole_work I) (turn_of I) a b
 
 abbrev by_plan : Instance → ℕ → ℕ → ℕ
 by_plan I a b = hunt (starts I) I a b
@@ -53,6 +53,6 @@ same_within (suc n) I a b s le few = elim (below_or_from a b) [
 ]
 
 pub same_hunt : (I : Instance) (a b : ℕ) → IsInstance I → b ≤ layout_height I (best_start I) →
-    decider.hunt (whole_work I) (turn_of I) a b ≡ hunted I a b
+    decider.halving (whole_work I) (turn_of I) a b ≡ hunted I a b
 unfolding hunted
 same_hunt I a b s le = same_within (b - a) I a b s le (omega arith)

@@ -6,7 +6,7 @@ use Rattle.refute_log.specs.declared.decided.Decided.{Decided}
 use Rattle.refute_log.specs.declared.decided.Decided.TheVariants.{Layout, Refuted, Spent}
 use Rattle.search_core.specs.Courses.{at_start, Course}
 use Rattle.search_core.specs.Decisions.{allowance_of}
-use Rattle.search_core.specs.Meters.{AreMore, AreMoreBy, AreWithin, Units, counted}
+use Rattle.search_core.specs.Meters.{AreMore, AreMoreBy, AreWithin, Units, units_counted}
 use Rattle.search_core.specs.Outcomes.{LinesAreCounted, UnlessSpent}
 use Rattle.planner.specs.FirstStart.{start_within}
 use Rattle.planner.specs.Openings.{AreGiven}
@@ -20,7 +20,7 @@ given_of n None before after m same within more = tt
 given_of n (Some k) before after m same within more = go after.most refl
   where
     taken : before.used + n ≤ after.used
-    taken = let a = ap (λ o. counted o n) m in omega (arith, a, more)
+    taken = let a = ap (λ o. units_counted o n) m in omega (arith, a, more)
 
     go : (o : Option ℕ) → after.most ≡ o → n ≤ k
     go None e = let w = rw e at within in omega (arith, w, taken)

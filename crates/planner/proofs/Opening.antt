@@ -11,7 +11,7 @@ use Rattle.dsa_start_laws.proofs.BoundModuli.{bound_is_positive}
 use Rattle.dsa_model.specs.Buffer.{IsBuffer}
 use Rattle.dsa_model.proofs.Instances.{sound_instance}
 use Rattle.min_capacity.specs.declared.brackets.Bracket.{Bracket}
-use Rattle.planner.specs.Decides.{IsBoundLog, IsRefutation}
+use Rattle.planner.specs.Decides.{IsBoundLog, LeavesNoLayout}
 use Rattle.planner.specs.FirstBracket.{IsFirstBracket, IsLogBelow}
 use Rattle.planner.specs.FirstStart.{start_within}
 use Rattle.planner.specs.Openings.{AreTooFew, IsSpentAt}
@@ -49,7 +49,7 @@ opens_at I C steps b buffers h none le few = go b.log h.log refl
     go None z e = let k = none_high I (best_start I) (none_bounded I buffers z) in absurd (omega (arith, under))
     go (Some log) below e =
         let one_less : lower_bound I - 1 ≡ b.low - 1 = ap (λ n. n - 1) (sym h.low) in
-        let P : ℕ → Type 0 = λ n. IsRefutation I n log in
+        let P : ℕ → Type 0 = λ n. LeavesNoLayout I n log in
         let Q : ℕ → Type 0 = λ n. IsBoundLog I n log in
         record {
           bound_log = log;

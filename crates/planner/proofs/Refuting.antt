@@ -12,16 +12,16 @@ use Rattle.dsa_model.specs.Buffer.{IsBuffer}
 use Rattle.dsa_model.proofs.Instances.{sound_instance}
 use Rattle.lower_bounds.specs.Best.{IsBoundOf}
 use Rattle.lower_bounds.specs.declared.value.Bound.{Bound}
-use Rattle.search_core.specs.Decisions.{IsRefutation as IsSearchRefutation}
-use Rattle.planner.specs.Decides.{IsRefutation, IsStackRefutation}
+use Rattle.search_core.specs.Decisions.{IsRefutation}
+use Rattle.planner.specs.Decides.{LeavesNoLayout, IsStackRefutation}
 
 infeasible_at : (I : Instance) (C : ℕ) (log : Log) → IsInstance I → IsAccepted I log → log.capacity ≡ C →
     IsInfeasible I C
 infeasible_at I C log s a e = let P : ℕ → Type 0 = IsInfeasible I in subst P e (accepted_is_infeasible I log s a)
 
 -- ---- the log of the search
-pub search_refutes : (I : Instance) (C : ℕ) (log : Log) → All IsBuffer I → IsSearchRefutation I C log →
-    IsRefutation I C log
+pub search_refutes : (I : Instance) (C : ℕ) (log : Log) → All IsBuffer I → IsRefutation I C log →
+    LeavesNoLayout I C log
 search_refutes I C log s h = record {
   accepted = h.accepted;
   its_capacity = h.capacity;
@@ -35,7 +35,7 @@ unfolding stack_log
 stack_capacity I t G C = refl
 
 stack_refutes : (I : Instance) (t G C : ℕ) (log : Log) → All IsBuffer I → log ≡ stack_log I t G C →
-    IsAccepted I log → IsRefutation I C log
+    IsAccepted I log → LeavesNoLayout I C log
 stack_refutes I t G C log s q a =
     let e : log.capacity ≡ C = ap (λ (l : Log). l.capacity) q ∙ stack_capacity I t G C in
     let P : Log → Type 0 = IsLean I in

@@ -9,7 +9,7 @@ use Rattle.dsa_terms.specs.Starts.{starts}
 use Rattle.dsa_terms.proofs.Examples.{small_below}
 use Rattle.first_fit.specs.declared.start_list.Start.{Start}
 use Rattle.planner.specs.FirstStart.{IsBestStart, IsTried, start_within}
-use Rattle.planner.specs.declared.starting.Tried.TheVariants.{Past, Within}
+use Rattle.planner.specs.declared.starting.Fitting.TheVariants.{Past, Within}
 use Rattle.planner.proofs.ExampleLeastFacts.{below_best, four_is_open}
 
 within_5 : start_within small_below 5 ≡ Some (0 ∷ 4 ∷ [])

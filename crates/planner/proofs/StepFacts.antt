@@ -10,7 +10,7 @@ use Rattle.dsa_terms.specs.Starts.{best_start, starts}
 use Rattle.dsa_terms.proofs.ExamplePlanFacts.{small_below_plan_at_3, small_below_plan_at_4}
 use Rattle.dsa_terms.proofs.Examples.{small_below}
 use Rattle.dsa_start_laws.proofs.Planned.{planned_exactly, planned_is_layout}
-use Rattle.planner.specs.Decides.{IsRefutation}
+use Rattle.planner.specs.Decides.{LeavesNoLayout}
 use Rattle.planner.specs.FirstStart.{start_within}
 use Rattle.planner.proofs.ExampleLeastFacts.{below_best, below_sound, four_is_open, four_stacked, line_refutes}
 
@@ -33,7 +33,7 @@ pub four_is_least : IsLeast small_below 4
 four_is_least =
     ((1 ∷ 0 ∷ [], laid_at_4), inr ((planned_exactly small_below 3 below_sound).0 small_below_plan_at_3))
 
-pub refuted_at_3 : IsRefutation small_below 3 (stack_log small_below 0 1 3)
+pub refuted_at_3 : LeavesNoLayout small_below 3 (stack_log small_below 0 1 3)
 refuted_at_3 = line_refutes small_below 0 1 3 below_sound (lit≤ tt) (let e = four_stacked in omega arith)
 
 -- the best start itself is within 5

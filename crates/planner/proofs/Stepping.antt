@@ -9,10 +9,10 @@ use Rattle.dsa_terms.proofs.Lists.{none_or_some}
 use Rattle.dsa_search_laws.proofs.Plans.{layout_under}
 use Rattle.dsa_start_laws.proofs.Planned.{planned_is_layout}
 use Rattle.min_capacity.specs.declared.brackets.Bracket.{Bracket}
-use Rattle.planner.specs.Decides.{IsBoundLog, IsRefutation}
+use Rattle.planner.specs.Decides.{IsBoundLog, LeavesNoLayout}
 use Rattle.planner.specs.FirstStart.{start_within}
 use Rattle.planner.specs.LeastCapacity.{AreWithinSteps, IsLayoutWithin, IsLogWithin}
-use Rattle.planner.specs.Openings.{AreGiven, IsOpen, IsSpentAt}
+use Rattle.planner.specs.Openings.{AreGiven, StaysOpen, IsSpentAt}
 use Rattle.planner.proofs.BestStart.{past_starts}
 use Rattle.planner.proofs.Choosing.{planned_start}
 use Rattle.planner.proofs.Keeping.{none_given}
@@ -74,7 +74,7 @@ log_took I steps low offsets log h positive its_capacity le = go h.log h.given
 
 -- the best start and the bound's log take no steps
 pub spent_took : (I : Instance) (C : ℕ) (steps : Option ℕ) (b : Bracket) (log : Log) → IsSpentAt I C steps b →
-    IsOpen I b.low b.high b.layout.items log → IsBoundLog I (b.low - 1) log →
+    StaysOpen I b.low b.high b.layout.items log → IsBoundLog I (b.low - 1) log →
     AreWithinSteps I steps b.low b.layout.items (Some log)
 spent_took I C steps b log spent opened by_bound =
     let low = spent.low_is_bound in
@@ -86,7 +86,7 @@ spent_took I C steps b log spent opened by_bound =
       log = inl (
         (let k = opened.positive in omega (arith, k, low)),
         record {
-          refutation = subst (λ n. IsRefutation I n log) at_bound opened.refuted_below;
+          refutation = subst (λ n. LeavesNoLayout I n log) at_bound opened.refuted_below;
           by_bound = subst (λ n. IsBoundLog I n log) at_bound by_bound;
         },
       );

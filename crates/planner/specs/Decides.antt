@@ -12,7 +12,7 @@ pub record IsAnswered (answer : Option (List ℕ)) (I : Instance) (C : ℕ) (off
   pub layout : IsLayout I C offsets
 
 -- a log without waste by which no layout fits within the capacity
-pub record IsRefutation (I : Instance) (C : ℕ) (log : Log) : Type 0 where
+pub record LeavesNoLayout (I : Instance) (C : ℕ) (log : Log) : Type 0 where
   pub accepted : IsAccepted I log
   pub its_capacity : log.capacity ≡ C
   pub infeasible : IsInfeasible I C
@@ -26,5 +26,5 @@ pub record IsBoundLog (I : Instance) (C : ℕ) (log : Log) : Type 0 where
 
 -- a log that refutes the capacity by the one line of the lower bound's stack
 pub record IsStackRefutation (I : Instance) (C : ℕ) (log : Log) : Type 0 where
-  pub refutation : IsRefutation I C log
+  pub refutation : LeavesNoLayout I C log
   pub by_bound : IsBoundLog I C log

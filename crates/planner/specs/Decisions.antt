@@ -2,7 +2,7 @@
 use Rattle.std.specs.Prelude.{ℕ, length, Option}
 use Rattle.dsa_terms.specs.Buffers.{Instance}
 use Rattle.dsa_terms.specs.Starts.{planned}
-use Rattle.planner.specs.Decides.{IsAnswered, IsBoundLog, IsRefutation}
+use Rattle.planner.specs.Decides.{IsAnswered, IsBoundLog, LeavesNoLayout}
 use Rattle.planner.specs.Openings.{IsSpentAt}
 use Rattle.planner.specs.declared.decision.Decision.{Decision}
 use Rattle.planner.specs.declared.decision.Decision.TheVariants.{Layout, Refuted, Open}
@@ -10,7 +10,7 @@ use Rattle.planner.specs.declared.decision.Decision.TheVariants.{Layout, Refuted
 -- the plan, the first start within the capacity or else the search's layout; or a log by which there is none; or open
 abbrev pub Decides : Instance → ℕ → Option ℕ → Decision → Type 0
 Decides I C steps (Layout offsets) = IsAnswered (planned I C) I C offsets.items
-Decides I C steps (Refuted log) = IsRefutation I C log
+Decides I C steps (Refuted log) = LeavesNoLayout I C log
 Decides I C steps (Open b) = IsSpentAt I C steps b
 
 -- the decision is a layout

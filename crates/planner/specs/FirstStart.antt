@@ -5,8 +5,8 @@ use Rattle.dsa_terms.specs.Plans.{layout_height}
 use Rattle.dsa_terms.specs.Starts.{best_start, starts}
 use Rattle.first_fit.specs.Starts.{IsStart, offsets_in}
 use Rattle.first_fit.specs.declared.start_list.Start.{Start}
-use Rattle.planner.specs.declared.starting.Tried.{Tried}
-use Rattle.planner.specs.declared.starting.Tried.TheVariants.{Within, Past}
+use Rattle.planner.specs.declared.starting.Fitting.{Fitting}
+use Rattle.planner.specs.declared.starting.Fitting.TheVariants.{Within, Past}
 
 -- the first of the six starts whose height is at most C, if there is one
 abbrev pub start_within : Instance → ℕ → Option (List ℕ)
@@ -18,6 +18,6 @@ pub record IsBestStart (I : Instance) (s : Start) : Type 0 where
   pub best : offsets_in s ≡ best_start I
 
 -- these offsets are the first start within the capacity, or there is none and this is the best start
-abbrev pub IsTried : Instance → ℕ → Tried → Type 0
+abbrev pub IsTried : Instance → ℕ → Fitting → Type 0
 IsTried I C (Within offsets) = start_within I C ≡ Some offsets.items
 IsTried I C (Past best) = (start_within I C ≡ None) × IsBestStart I best

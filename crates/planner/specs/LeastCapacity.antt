@@ -11,14 +11,14 @@ use Rattle.dsa_terms.specs.Starts.{best_start, hunted, planned}
 use Rattle.min_capacity.specs.declared.brackets.Bracket.{Bracket}
 use Rattle.min_capacity.specs.declared.brackets.Least.{Least}
 use Rattle.min_capacity.specs.declared.brackets.Least.TheVariants.{Exact, Open}
-use Rattle.planner.specs.Decides.{IsRefutation}
+use Rattle.planner.specs.Decides.{LeavesNoLayout}
 use Rattle.planner.specs.FirstBracket.{IsLogBelow}
-use Rattle.planner.specs.Openings.{AreGiven, AreTooFew, IsOpen}
+use Rattle.planner.specs.Openings.{AreGiven, AreTooFew, StaysOpen}
 
 -- there is no log for the capacity 0, and else it is one by which no layout fits within one less
 abbrev pub RefutesBelow : Instance → ℕ → Option Log → Type 0
 RefutesBelow I C None = C ≡ 0
-RefutesBelow I C (Some log) = (1 ≤ C) × IsRefutation I (C - 1) log
+RefutesBelow I C (Some log) = (1 ≤ C) × LeavesNoLayout I (C - 1) log
 
 -- both ends are the least capacity, with the plan at it and the log below it; it is 0 for no buffers alone
 pub record IsExactly (I : Instance) (b : Bracket) : Type 0 where
@@ -38,7 +38,7 @@ work_of_least I = hunted I (lower_bound I) (layout_height I (best_start I))
 pub record IsOpenAfter (I : Instance) (steps : Option ℕ) (b : Bracket) : Type 0 where
   pub below_log : Log
   pub its_log : b.log ≡ Some below_log
-  pub stays_open : IsOpen I b.low b.high b.layout.items below_log
+  pub stays_open : StaysOpen I b.low b.high b.layout.items below_log
   pub from_bound : lower_bound I ≤ b.low
   pub to_best : b.high ≤ layout_height I (best_start I)
   pub too_few : AreTooFew steps (work_of_least I)

@@ -8,16 +8,16 @@ use Rattle.dsa_terms.specs.Parts.{whole_work}
 use Rattle.dsa_terms.specs.Plans.{layout_height}
 use Rattle.dsa_terms.specs.Starts.{best_start, planned}
 use Rattle.min_capacity.specs.declared.brackets.Bracket.{Bracket}
-use Rattle.planner.specs.Decides.{IsBoundLog, IsRefutation}
+use Rattle.planner.specs.Decides.{IsBoundLog, LeavesNoLayout}
 
 -- the least capacity is open between the ends: the plan at the upper one is so high, and below the lower one none fits
-pub record IsOpen (I : Instance) (low high : ℕ) (offsets : List ℕ) (log : Log) : Type 0 where
+pub record StaysOpen (I : Instance) (low high : ℕ) (offsets : List ℕ) (log : Log) : Type 0 where
   pub ends_apart : low < high
   pub positive : 1 ≤ low
   pub chosen : planned I high ≡ Some offsets
   pub layout : IsLayout I high offsets
   pub its_height : layout_height I offsets ≡ high
-  pub refuted_below : IsRefutation I (low - 1) log
+  pub refuted_below : LeavesNoLayout I (low - 1) log
 
 -- so many steps are no more than were given, if a number was
 abbrev pub AreGiven : Option ℕ → ℕ → Type 0
@@ -33,7 +33,7 @@ pub record AreTooFew (steps : Option ℕ) (work : ℕ) : Type 0 where
 pub record IsSpentAt (I : Instance) (C : ℕ) (steps : Option ℕ) (b : Bracket) : Type 0 where
   pub bound_log : Log
   pub its_log : b.log ≡ Some bound_log
-  pub stays_open : IsOpen I b.low b.high b.layout.items bound_log
+  pub stays_open : StaysOpen I b.low b.high b.layout.items bound_log
   pub low_is_bound : b.low ≡ lower_bound I
   pub high_is_best : b.high ≡ layout_height I (best_start I)
   pub layout_is_best : b.layout.items ≡ best_start I

@@ -11,7 +11,7 @@ use crate::Decision;
 use crate::bracketing::first_bracket;
 use crate::one_stack::{bound_of, stack_refutation};
 use crate::searching::search;
-use crate::starting::{Tried, try_starts};
+use crate::starting::{Fitting, try_starts};
 use dsa_model::{Instance, NoMemory};
 use first_fit::Start;
 use lifetime::Sections;
@@ -87,7 +87,7 @@ pub fn plan(
 {
     let _count = instance.len();
     match try_starts(alloc, instance, capacity)? {
-        Tried::Within(offsets) => Ok(Decision::Layout(offsets)),
-        Tried::Past(best) => decide_past_starts(alloc, instance, best, capacity, steps),
+        Fitting::Within(offsets) => Ok(Decision::Layout(offsets)),
+        Fitting::Past(best) => decide_past_starts(alloc, instance, best, capacity, steps),
     }
 }

@@ -11,7 +11,7 @@ use std::alloc::Global;
 
 /// What the starts come to at a capacity.
 #[derive(Drop)]
-pub(crate) enum Tried {
+pub(crate) enum Fitting {
     /// The offsets of the first start that is within the capacity.
     Within(Vec<u64>),
     /// No start is; this is the best one.
@@ -43,12 +43,12 @@ pub(crate) fn try_starts(
     alloc: Global,
     instance: &Instance,
     capacity: u64,
-) -> Result<Tried, NoMemory>
+) -> Result<Fitting, NoMemory>
     ensures { IfOk result (IsTried instance.now capacity) }
 {
     let mut starts = starts(alloc, instance)?;
     match first_within(&starts, capacity) {
-        Some(place) => Ok(Tried::Within(starts.swap_remove(place).offsets)),
-        None => Ok(Tried::Past(best_of(starts))),
+        Some(place) => Ok(Fitting::Within(starts.swap_remove(place).offsets)),
+        None => Ok(Fitting::Past(best_of(starts))),
     }
 }

@@ -11,7 +11,7 @@ use Rattle.dsa_model.proofs.LayoutFaults.{layout_exactly}
 use Rattle.refute_log.specs.Answers.{Offsets, Refutation, NoAnswer}
 use Rattle.refute_log.specs.Decided.{answer_of, IsRight, TurnsOut, IfSpent}
 use Rattle.refute_log.specs.Logs.{ended}
-use Rattle.refute_log.specs.Hunts.{after_turn, hunt_within}
+use Rattle.refute_log.specs.Hunts.{after_turn, halving_within}
 use Rattle.refute_log.specs.declared.decided.Decided.{Decided}
 use Rattle.refute_log.specs.declared.decided.Decided.TheVariants.{Layout, Refuted, Spent}
 
@@ -127,12 +127,12 @@ turn_of_8 : after_turn (λ a b. 10 * a + b) 4 9 6 (Some 8) ≡ 46
 turn_of_8 = refl
 
 -- where a capacity takes its own number of units: 6, and then 8 and 7, as 7 is the least
-up_to_seven : hunt_within 5 (λ C. C) (λ C. cond (nat_le 7 C) (Some C) None) 4 9 ≡ 21
+up_to_seven : halving_within 5 (λ C. C) (λ C. cond (nat_le 7 C) (Some C) None) 4 9 ≡ 21
 up_to_seven = refl
 
 -- a bracket that has met, and a hunt of length 0
-has_met : hunt_within 5 (λ C. C) (λ C. None) 9 9 ≡ 0
+has_met : halving_within 5 (λ C. C) (λ C. None) 9 9 ≡ 0
 has_met = refl
 
-of_length_0 : hunt_within 0 (λ C. C) (λ C. None) 4 9 ≡ 0
+of_length_0 : halving_within 0 (λ C. C) (λ C. None) 4 9 ≡ 0
 of_length_0 = refl

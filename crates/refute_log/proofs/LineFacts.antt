@@ -7,7 +7,7 @@ use Rattle.dsa_terms.specs.Logs.{is_stacked, rounded, rounding, IsLegal}
 use Rattle.dsa_terms.proofs.Examples.{evens, over_2, case_12}
 use Rattle.canonical_order.specs.Claims.{IsBoundedBy}
 use Rattle.refute_log.specs.Lines.{cite_value, line_value, IsCiteWithin, IsWithin, IsLineKept}
-use Rattle.refute_log.specs.Logs.{OpenLog, Belongs, IsKept}
+use Rattle.refute_log.specs.Logs.{OpenLog, Belongs, IsKeptLog}
 use Rattle.refute_log.specs.declared.line.Cite.TheVariants as cite
 use Rattle.refute_log.specs.declared.line.Line.TheVariants as line
 
@@ -104,7 +104,7 @@ buffer_above_limit : IsLineKept (terms.Over ((1152921504606846977, 3) ∷ []) 0 
 buffer_above_limit k = let h = k.buffers (1152921504606846977, 3) (inl refl) in omega arith
 
 -- ---- what a log keeps: a capacity of at most 2 to the 60th, and lines that each keep that
-log_kept : IsKept 1152921504606846976 (over_2 ∷ case_12 ∷ [])
+log_kept : IsKeptLog 1152921504606846976 (over_2 ∷ case_12 ∷ [])
 log_kept = record { capacity_limit = omega arith; each = each }
   where
     each : All IsLineKept (over_2 ∷ case_12 ∷ [])
@@ -112,10 +112,10 @@ log_kept = record { capacity_limit = omega arith; each = each }
     each (suc zero) d lt = cases_kept
     each (suc (suc k)) d lt = absurd (omega arith)
 
-capacity_above_limit : IsKept 1152921504606846977 [] → ⊥
+capacity_above_limit : IsKeptLog 1152921504606846977 [] → ⊥
 capacity_above_limit k = let h = k.capacity_limit in omega arith
 
-second_not_kept : IsKept 4 (over_2 ∷ terms.Over [] 0 3 1 ∷ []) → ⊥
+second_not_kept : IsKeptLog 4 (over_2 ∷ terms.Over [] 0 3 1 ∷ []) → ⊥
 second_not_kept k = empty_claim (k.each 1 over_2 (omega arith))
 
 -- ---- a log that belongs to three buffers: size 2 at 3 or above ends above the capacity 4

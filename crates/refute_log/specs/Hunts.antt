@@ -9,12 +9,12 @@ after_turn hunt_on a b m None = hunt_on (m + 1) b
 after_turn hunt_on a b m (Some t) = hunt_on a (min t m)
 
 -- the most units for a bracket a, b of that length at most
-abbrev pub hunt_within : ℕ → (ℕ → ℕ) → (ℕ → Option ℕ) → ℕ → ℕ → ℕ
-hunt_within zero most turn a b = 0
-hunt_within (suc k) most turn a b =
+abbrev pub halving_within : ℕ → (ℕ → ℕ) → (ℕ → Option ℕ) → ℕ → ℕ → ℕ
+halving_within zero most turn a b = 0
+halving_within (suc k) most turn a b =
     cond (nat_le b a) 0
-    (most ((a + b) / 2) + after_turn (hunt_within k most turn) a b ((a + b) / 2) (turn ((a + b) / 2)))
+    (most ((a + b) / 2) + after_turn (halving_within k most turn) a b ((a + b) / 2) (turn ((a + b) / 2)))
 
 -- the most units that halving the bracket a, b can take, where one capacity takes `most` and turns out as `turn` says
-unfoldable pub hunt : (ℕ → ℕ) → (ℕ → Option ℕ) → ℕ → ℕ → ℕ
-hunt most turn a b = hunt_within (b - a) most turn a b
+unfoldable pub halving : (ℕ → ℕ) → (ℕ → Option ℕ) → ℕ → ℕ → ℕ
+halving most turn a b = halving_within (b - a) most turn a b

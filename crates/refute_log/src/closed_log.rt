@@ -2,7 +2,7 @@
 
 ghost use Rattle.std.specs.Prelude.{◌≡◌, ◌^◌, ◌≤◌, ◌<◌, length, slice_get, Some};
 ghost use Rattle.refute_log.specs.Lines.{IsLineKept, line_value};
-ghost use Rattle.refute_log.specs.Logs.{IsKept, ended};
+ghost use Rattle.refute_log.specs.Logs.{IsKeptLog, ended};
 
 use crate::{Line, Log};
 use std::marker::Model;
@@ -40,7 +40,7 @@ impl ClosedLog {
     /// How many buffers its instance has.
     pub fn count(&self) -> u32
         ensures value { result ≡ self.now.count }
-        ensures kept { IsKept self.now.capacity self.now.lines }
+        ensures kept { IsKeptLog self.now.capacity self.now.lines }
     {
         self.log.count()
     }
@@ -48,7 +48,7 @@ impl ClosedLog {
     /// The capacity, in bytes, at which its claims are refuted. It is at most 2^60.
     pub fn capacity(&self) -> u64
         ensures value { result ≡ self.now.capacity }
-        ensures kept { IsKept self.now.capacity self.now.lines }
+        ensures kept { IsKeptLog self.now.capacity self.now.lines }
     {
         self.log.capacity()
     }
@@ -57,7 +57,7 @@ impl ClosedLog {
     pub fn len(&self) -> u64
         ensures value { result ≡ length self.now.lines }
         ensures limit { result ≤ 2 ^ 60 }
-        ensures kept { IsKept self.now.capacity self.now.lines }
+        ensures kept { IsKeptLog self.now.capacity self.now.lines }
     {
         self.log.len()
     }
@@ -75,7 +75,7 @@ impl ClosedLog {
     pub fn end(&self) -> u64
         ensures value { result ≡ self.now.final }
         ensures in_log { result < length self.now.lines }
-        ensures kept { IsKept self.now.capacity self.now.lines }
+        ensures kept { IsKeptLog self.now.capacity self.now.lines }
     {
         let _capacity = self.log.capacity();
         self.end

@@ -7,7 +7,7 @@ ghost use Rattle.dsa_terms.specs.Layouts.{IsInfeasible};
 ghost use Rattle.dsa_terms.specs.Logs.{Log as LogTerm};
 ghost use Rattle.dsa_model.specs.Fails.{UnlessNoMemory};
 ghost use Rattle.refute_log.specs.Lines.{IsLineKept, IsWithin, line_value};
-ghost use Rattle.refute_log.specs.Logs.{Belongs, IsKept, ended};
+ghost use Rattle.refute_log.specs.Logs.{Belongs, IsKeptLog, ended};
 ghost use Rattle.refute_log.specs.Reasons.{first_reason};
 
 use crate::judging::first_reason;
@@ -30,14 +30,14 @@ pub struct Log {
 impl Model for Log {
     ghost use Rattle.std.specs.Prelude.{map};
     ghost use Rattle.refute_log.specs.Lines.{line_value};
-    ghost use Rattle.refute_log.specs.Logs.{IsKept, OpenLog};
+    ghost use Rattle.refute_log.specs.Logs.{IsKeptLog, OpenLog};
 
     ghost Value = { OpenLog };
 
     ghost view = { λ g. let lines = map line_value g.lines.items in
         record { count = g.count; capacity = g.capacity; lines = lines } };
 
-    ghost invariant = { λ g. IsKept g.capacity (map line_value g.lines.items) };
+    ghost invariant = { λ g. IsKeptLog g.capacity (map line_value g.lines.items) };
 }
 
 impl Log {
@@ -110,7 +110,7 @@ impl Log {
     /// How many buffers its instance has.
     pub(crate) fn count(&self) -> u32
         ensures value { result ≡ self.now.count }
-        ensures kept { IsKept self.now.capacity self.now.lines }
+        ensures kept { IsKeptLog self.now.capacity self.now.lines }
     {
         self.count
     }
@@ -118,7 +118,7 @@ impl Log {
     /// The capacity, in bytes, at which its claims are refuted. It is at most 2^60.
     pub fn capacity(&self) -> u64
         ensures value { result ≡ self.now.capacity }
-        ensures kept { IsKept self.now.capacity self.now.lines }
+        ensures kept { IsKeptLog self.now.capacity self.now.lines }
     {
         self.capacity
     }
@@ -127,7 +127,7 @@ impl Log {
     pub fn len(&self) -> u64
         ensures value { result ≡ length self.now.lines }
         ensures limit { result ≤ 2 ^ 60 }
-        ensures kept { IsKept self.now.capacity self.now.lines }
+        ensures kept { IsKeptLog self.now.capacity self.now.lines }
     {
         self.lines.as_slice().len() as u64
     }

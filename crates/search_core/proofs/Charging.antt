@@ -8,7 +8,7 @@ use Rattle.refute_log.specs.Decided.{answer_of}
 use Rattle.refute_log.specs.declared.decided.Decided.{Decided}
 use Rattle.refute_log.specs.declared.decided.Decided.TheVariants.{Layout, Refuted, Spent}
 use Rattle.search_core.specs.Decisions.{allowance_of, charge_of, where_numbered}
-use Rattle.search_core.specs.Meters.{AreMore, Units, counted}
+use Rattle.search_core.specs.Meters.{AreMore, Units, units_counted}
 use Rattle.search_core.specs.Outcomes.{LinesAreCounted, UnlessSpent}
 
 none_counted : (allowance n : ℕ) → cond (nat_le allowance allowance) 0 n ≡ 0
@@ -19,11 +19,11 @@ at_most true n = omega arith
 at_most false n = omega arith
 
 -- where there is a number of units, so many are counted
-numbered_is_counted : (most : Option ℕ) (n : ℕ) → where_numbered (allowance_of most) n ≤ counted most n
+numbered_is_counted : (most : Option ℕ) (n : ℕ) → where_numbered (allowance_of most) n ≤ units_counted most n
 numbered_is_counted None n = let e = none_counted (2 ^ 64) n in omega (arith, e)
 numbered_is_counted (Some k) n = at_most (nat_le (2 ^ 64) k) n
 
-counted_within : (most : Option ℕ) (n : ℕ) → counted most n ≤ n
+counted_within : (most : Option ℕ) (n : ℕ) → units_counted most n ≤ n
 counted_within None n = omega arith
 counted_within (Some k) n = omega arith
 
@@ -32,7 +32,7 @@ pub is_charged : (I : Instance) (before after : Units) (d : Decided) → before.
     before.used + charge_of I (allowance_of before.most) (answer_of d) ≤ after.used
 is_charged I before after (Layout offsets) le taken lines = go (length I) refl
   where
-    m : where_numbered (allowance_of before.most) (min 1 (length I)) ≤ counted before.most (min 1 (length I))
+    m : where_numbered (allowance_of before.most) (min 1 (length I)) ≤ units_counted before.most (min 1 (length I))
     m = numbered_is_counted before.most (min 1 (length I))
 
     go : (k : ℕ) → length I ≡ k →
@@ -40,7 +40,7 @@ is_charged I before after (Layout offsets) le taken lines = go (length I) refl
     go zero e = let c = counted_within before.most (min 1 (length I)) in omega (arith, e, m, c, le)
     go (suc k) e =
         let one : min 1 (length I) ≡ 1 = omega (arith, e) in
-        let q = ap (counted before.most) one in
+        let q = ap (units_counted before.most) one in
         let t = taken (omega (arith, e)) in
         omega (arith, m, q, t)
 is_charged I before after (Refuted log) le taken lines =

@@ -1,16 +1,16 @@
 -- A search makes no more lines than it takes units.
 use Rattle.std.proofs.Common.{◌≡◌, ℕ, ◌+◌, ◌≤◌, Option, Some, None, ap, arith}
-use Rattle.search_core.specs.Meters.{AreCounted, AreMoreBy, Units, counted}
+use Rattle.search_core.specs.Meters.{AreCounted, AreMoreBy, Units, units_counted}
 
-counted_fewer : (most : Option ℕ) (m n : ℕ) → n ≤ m → counted most n ≤ counted most m
+counted_fewer : (most : Option ℕ) (m n : ℕ) → n ≤ m → units_counted most n ≤ units_counted most m
 counted_fewer None m n le = omega arith
 counted_fewer (Some k) m n le = le
 
-counted_beside : (most : Option ℕ) (m x : ℕ) → counted most (m + x) ≡ counted most m + counted most x
+counted_beside : (most : Option ℕ) (m x : ℕ) → units_counted most (m + x) ≡ units_counted most m + units_counted most x
 counted_beside None m x = omega arith
 counted_beside (Some k) m x = omega arith
 
-counted_nothing : (most : Option ℕ) → counted most 0 ≡ 0
+counted_nothing : (most : Option ℕ) → units_counted most 0 ≡ 0
 counted_nothing None = omega arith
 counted_nothing (Some k) = omega arith
 
@@ -18,8 +18,8 @@ counted_nothing (Some k) = omega arith
 pub counted_along : (before between after : Units) (m n q : ℕ) → between.most ≡ before.most →
     AreCounted before between m n → AreCounted between after n q → AreCounted before after m q
 counted_along before between after m n q e h k =
-    let a = ap (λ o. counted o n) e in
-    let b = ap (λ o. counted o q) e in
+    let a = ap (λ o. units_counted o n) e in
+    let b = ap (λ o. units_counted o q) e in
     omega (arith, a, b, h, k)
 
 pub counted_less : (before after : Units) (m n q : ℕ) → AreCounted before after m n → q ≤ n →
@@ -36,10 +36,10 @@ counted_with before after m n x q h le =
     omega (arith, c, d, h, k)
 
 -- one thing more, for one unit more
-pub counted_one_more : (before after : Units) (m n : ℕ) → after.used ≡ before.used + counted before.most 1 →
+pub counted_one_more : (before after : Units) (m n : ℕ) → after.used ≡ before.used + units_counted before.most 1 →
     n ≡ m + 1 → AreCounted before after m n
 counted_one_more before after m n u e =
-    let a = ap (counted before.most) e in
+    let a = ap (units_counted before.most) e in
     let b = counted_beside before.most m 1 in
     omega (arith, a, b, u)
 
@@ -47,7 +47,7 @@ counted_one_more before after m n u e =
 pub counted_from_nothing : (before after : Units) (m n : ℕ) → AreCounted before after m n → m ≡ 0 →
     AreMoreBy n before after
 counted_from_nothing before after m n h z =
-    let a = ap (counted before.most) z in
+    let a = ap (units_counted before.most) z in
     let b = counted_nothing before.most in
     omega (arith, a, b, h)
 
@@ -55,5 +55,5 @@ counted_from_nothing before after m n h z =
 pub more_by_after : (before between after : Units) (n : ℕ) → between.most ≡ before.most → before.used ≤ between.used →
     AreMoreBy n between after → AreMoreBy n before after
 more_by_after before between after n e le h =
-    let a = ap (λ o. counted o n) e in
+    let a = ap (λ o. units_counted o n) e in
     omega (arith, a, le, h)

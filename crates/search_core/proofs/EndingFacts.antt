@@ -4,7 +4,7 @@ use Rattle.dsa_terms.specs.Buffers.{buffer}
 use Rattle.dsa_terms.specs.Claims.{Claim, Entry, IsIn, up}
 use Rattle.dsa_terms.proofs.Examples.{small_below}
 use Rattle.conflicts.specs.Ends.{end_of}
-use Rattle.search_core.specs.Endings.{IsLeastEnd}
+use Rattle.search_core.specs.Endings.{IsLeastEnding}
 use Rattle.search_core.proofs.LevelFacts.{differ}
 
 -- the bound 2 is met at 4
@@ -16,7 +16,7 @@ abbrev claim : Claim
 claim = (0, 1) ∷ (1, 0) ∷ []
 
 -- buffer 0 ends at 4, and buffer 1 at 1
-one_is_least : IsLeastEnd small_below claim 2 (record { buffer = 1; end = 1 })
+one_is_least : IsLeastEnding small_below claim 2 (record { buffer = 1; end = 1 })
 unfolding end_of up buffer
 one_is_least = record { least = least; is_end = λ lt. (inr (inl refl), refl) }
   where
@@ -25,12 +25,12 @@ one_is_least = record { least = least; is_end = λ lt. (inr (inl refl), refl) }
     least e (inr (inl q)) lt = rw q (omega arith)
     least e (inr (inr z)) lt = absurd z
 
-four_is_not : IsLeastEnd small_below claim 2 (record { buffer = 0; end = 4 }) → ⊥
+four_is_not : IsLeastEnding small_below claim 2 (record { buffer = 0; end = 4 }) → ⊥
 unfolding end_of up buffer
 four_is_not h = let k : 4 ≤ 1 = h.least (1, 0) (inr (inl refl)) (omega arith) in omega arith
 
 -- of the buffers below 1 it is
-four_of_the_first : IsLeastEnd small_below claim 1 (record { buffer = 0; end = 4 })
+four_of_the_first : IsLeastEnding small_below claim 1 (record { buffer = 0; end = 4 })
 unfolding end_of up buffer
 four_of_the_first = record { least = least; is_end = λ lt. (inl refl, refl) }
   where
@@ -40,9 +40,9 @@ four_of_the_first = record { least = least; is_end = λ lt. (inl refl, refl) }
     least e (inr (inr z)) lt = absurd z
 
 -- none ends at 0
-zero_is_no_end : IsLeastEnd small_below claim 2 (record { buffer = 1; end = 0 }) → ⊥
+zero_is_no_end : IsLeastEnding small_below claim 2 (record { buffer = 1; end = 0 }) → ⊥
 unfolding end_of up buffer
 zero_is_no_end h = differ 0 1 (omega arith) (h.is_end (omega arith)).1
 
-above_all_of_none : IsLeastEnd small_below [] 2 (record { buffer = 0; end = 2 ^ 63 })
+above_all_of_none : IsLeastEnding small_below [] 2 (record { buffer = 0; end = 2 ^ 63 })
 above_all_of_none = record { least = λ e i lt. absurd i; is_end = λ lt. absurd (omega arith) }

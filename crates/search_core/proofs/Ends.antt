@@ -13,13 +13,13 @@ use Rattle.canonical_order.proofs.Entries.{entry_in, is_entry}
 use Rattle.dsa_terms.proofs.NumberTests.{apart, below_or_last, is_at_most, not_at_most}
 use Rattle.conflicts.specs.Ends.{end_of}
 use Rattle.search_core.specs.declared.ending.Ending.{Ending}
-use Rattle.search_core.specs.Endings.{IsLeastEnd}
+use Rattle.search_core.specs.Endings.{IsLeastEnding}
 use Rattle.search_core.proofs.Descent.{is_instance}
 
 -- ---- the loop over the buffers
 
-pub least_skip : (I : Instance) (l : Claim) (n : ℕ) (x : Ending) → (HasBuffer l n → ⊥) → IsLeastEnd I l n x →
-    IsLeastEnd I l (n + 1) x
+pub least_skip : (I : Instance) (l : Claim) (n : ℕ) (x : Ending) → (HasBuffer l n → ⊥) → IsLeastEnding I l n x →
+    IsLeastEnding I l (n + 1) x
 least_skip I l n x out h = record {
   least = λ e i lt. elim (below_or_last e.0 n lt) [
     | inl below ↦ h.least e i below
@@ -32,7 +32,7 @@ entry_at : (l : Claim) (e : Entry) (n : ℕ) → Rises (buffers_of l) → IsIn e
 entry_at l e n r i q = subst (λ n. e ≡ entry_of l n) q (is_entry l e r i)
 
 pub least_keep : (I : Instance) (l : Claim) (n : ℕ) (x : Ending) → Rises (buffers_of l) →
-    x.end ≤ end_of I (entry_of l n) → IsLeastEnd I l n x → IsLeastEnd I l (n + 1) x
+    x.end ≤ end_of I (entry_of l n) → IsLeastEnding I l n x → IsLeastEnding I l (n + 1) x
 least_keep I l n x r le h = record {
   least = λ e i lt. elim (below_or_last e.0 n lt) [
     | inl below ↦ h.least e i below
@@ -42,8 +42,8 @@ least_keep I l n x r le h = record {
 }
 
 pub least_take : (I : Instance) (l : Claim) (n : ℕ) (x : Ending) (end : ℕ) → Rises (buffers_of l) → HasBuffer l n →
-    end ≡ end_of I (entry_of l n) → end < x.end → IsLeastEnd I l n x →
-    IsLeastEnd I l (n + 1) (record { buffer = n; end = end })
+    end ≡ end_of I (entry_of l n) → end < x.end → IsLeastEnding I l n x →
+    IsLeastEnding I l (n + 1) (record { buffer = n; end = end })
 least_take I l n x end r has q less h = record {
   least = λ e i lt. elim (below_or_last e.0 n lt) [
     | inl below ↦ let k = h.least e i below in omega arith
@@ -64,7 +64,7 @@ and_false true = refl
 and_false false = refl
 
 module _ (I : Instance) (l : Claim) (x : Ending) (b : ℕ) (s : Stands I l) (i : HasBuffer l b)
-    (h : IsLeastEnd I l (length I) x) where
+    (h : IsLeastEnding I l (length I) x) where
   pub least_is_below : x.end ≤ up I (entry_of l b) → up I (entry_of l b) < 2 ^ 62 →
       (f : Entry) × IsIn f l × (f.0 ≡ x.buffer) × (ends_below I f (entry_of l b) ≡ true)
   unfolding ends_below end_of

@@ -19,7 +19,7 @@ use Rattle.search_core.specs.Lifted.{lifted}
 use Rattle.search_core.specs.Tries.{Tried, chosen_of, later_of, noted_by, rest_of, untried}
 use Rattle.search_core.specs.Keys.{key_of}
 use Rattle.search_core.specs.Logs.{AreUncovered, Extends, NoneCovers}
-use Rattle.search_core.specs.Meters.{AreCounted, AreMore, AreMoreBy, AreSpent, AreWithin, HasUnit, Units, counted}
+use Rattle.search_core.specs.Meters.{AreCounted, AreMore, AreMoreBy, AreSpent, AreWithin, HasUnit, Units, units_counted}
 use Rattle.search_core.specs.Outcomes.{LinesAreCounted, spends_after}
 
 abbrev plain : ℕ → ℕ → ℕ → ℕ → Buffer
@@ -35,10 +35,10 @@ unfolding up buffer
 key_of_aligned = refl
 
 -- ---- units
-nothing_counted : counted None 3 ≡ 0
+nothing_counted : units_counted None 3 ≡ 0
 nothing_counted = refl
 
-all_counted : counted (Some 5) 3 ≡ 3
+all_counted : units_counted (Some 5) 3 ≡ 3
 all_counted = refl
 
 one_is_left : HasUnit (record { most = Some 2; used = 1 })

@@ -10,7 +10,7 @@ use Rattle.dsa_terms.proofs.Examples.{small_below}
 use Rattle.search_core.specs.declared.found.Found.TheVariants as found
 use Rattle.search_core.specs.Cites.{IsCoveredBy}
 use Rattle.search_core.specs.Descents.{IsKnown}
-use Rattle.search_core.specs.Found.{IfSpent, IsFound, UnlessSpent}
+use Rattle.search_core.specs.Found.{IfFoundSpent, IsFound, UnlessFoundSpent}
 use Rattle.search_core.proofs.LevelFacts.{differ, rest, root}
 use Rattle.search_core.proofs.OverFacts.{over, over_covers}
 
@@ -56,10 +56,10 @@ module _ (lines : List Line) (seats : Vec (ℕ × ℕ)) where
   no_seats_for_rest h = let q = sym rest_has_none ∙ h in absurd cc
 
   -- ---- facts that hold in some cases alone
-  seats_are_not_spent : IfSpent ⊥ (found.Seats seats)
+  seats_are_not_spent : IfFoundSpent ⊥ (found.Seats seats)
   seats_are_not_spent = tt
 
-  holds_with_seats : UnlessSpent ⊥ (found.Seats seats) → ⊥
+  holds_with_seats : UnlessFoundSpent ⊥ (found.Seats seats) → ⊥
   holds_with_seats h = h
 
 line_found : IsFound small_below 4 rest (over ∷ []) (found.Line 0)
@@ -71,14 +71,14 @@ no_line_for_root lines k h = let e = sym root_layout ∙ h.0 in absurd cc
 nothing_found : IsFound small_below 4 root [] found.Spent
 nothing_found = tt
 
-a_line_is_not_spent : IfSpent ⊥ (found.Line 0)
+a_line_is_not_spent : IfFoundSpent ⊥ (found.Line 0)
 a_line_is_not_spent = tt
 
-holds_when_spent : IfSpent ⊥ found.Spent → ⊥
+holds_when_spent : IfFoundSpent ⊥ found.Spent → ⊥
 holds_when_spent h = h
 
-holds_with_line : UnlessSpent ⊥ (found.Line 0) → ⊥
+holds_with_line : UnlessFoundSpent ⊥ (found.Line 0) → ⊥
 holds_with_line h = h
 
-nothing_once_spent : UnlessSpent ⊥ found.Spent
+nothing_once_spent : UnlessFoundSpent ⊥ found.Spent
 nothing_once_spent = tt

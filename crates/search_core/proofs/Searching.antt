@@ -18,7 +18,7 @@ use Rattle.dsa_terms.specs.Logs.{Line}
 use Rattle.search_core.specs.declared.found.Refuted.{Refuted}
 use Rattle.search_core.specs.Cites.{IsChildCovered}
 use Rattle.search_core.specs.Logs.{Extends, NoneCovers}
-use Rattle.search_core.specs.Descents.{IsKnown, IsTrying, buffer_of}
+use Rattle.search_core.specs.Descents.{IsKnown, IsTrying, refuted_buffer}
 use Rattle.search_core.specs.Tries.{IsLeft, Tried, asked_to, chosen_of, later_of, noted_by, rest_of, untried}
 use Rattle.search_core.proofs.Growing.{covered_still}
 use Rattle.search_core.specs.Opened.{AreChoices}
@@ -99,7 +99,7 @@ module _ (I : Instance) (C : ℕ) (l : Claim) where
       HasBuffer l r.buffer
   refuted_in lines f t r i =
       let j : IsIn r.buffer f.order = subst (IsIn r.buffer) (sym t.noted)
-      (left_append (map buffer_of f.refuted) (rest_of f) r.buffer (into_map buffer_of f.refuted r i)) in
+      (left_append (map refuted_buffer f.refuted) (rest_of f) r.buffer (into_map refuted_buffer f.refuted r i)) in
       let k : IsIn (entry_of l r.buffer) (choices I (not_excluded I) l) = subst (IsIn (entry_of l r.buffer)) t.order
       (into_map (entry_of l) f.order r.buffer j) in
       in_buffers l (entry_of l r.buffer) (from_choices I (not_excluded I) l (entry_of l r.buffer) k)
@@ -117,8 +117,8 @@ module _ (I : Instance) (C : ℕ) (l : Claim) where
     noted = t.noted ∙ (rw (
       next_choice f lt,
       rest_of_noted f k,
-      map-append buffer_of f.refuted (record { buffer = chosen_of f; line = k } ∷ []),
-    ) (sym (append_assoc (map buffer_of f.refuted) (chosen_of f ∷ []) (later_of f))));
+      map-append refuted_buffer f.refuted (record { buffer = chosen_of f; line = k } ∷ []),
+    ) (sym (append_assoc (map refuted_buffer f.refuted) (chosen_of f ∷ []) (later_of f))));
     covered = λ r i. elim (from_append f.refuted (record { buffer = chosen_of f; line = k } ∷ []) r i) [
       | inl j ↦ t.covered r j
       | inr j ↦ elim j [
@@ -158,10 +158,10 @@ module _ (I : Instance) (C : ℕ) (l : Claim) where
   all_refuted lines f t e = t.left ∙ (rw (none_is_left f e) refl)
 
   pub each_noted : (lines : List Line) (f : Tried) → IsTrying I C lines l f → length f.refuted ≡ length f.order →
-      (e : Entry) → IsIn e l → not_excluded I l e ≡ true → IsIn e.0 (map buffer_of f.refuted)
+      (e : Entry) → IsIn e l → not_excluded I l e ≡ true → IsIn e.0 (map refuted_buffer f.refuted)
   each_noted lines f t q e j x =
-      let all : f.order ≡ map buffer_of f.refuted =
-      t.noted ∙ (rw (none_is_left f q) (append-nil (map buffer_of f.refuted))) in
+      let all : f.order ≡ map refuted_buffer f.refuted =
+      t.noted ∙ (rw (none_is_left f q) (append-nil (map refuted_buffer f.refuted))) in
       let m = from_map (entry_of l) f.order e (subst (IsIn e) (sym t.order) (into_choices I (not_excluded I) l e j x))
       in
       subst (IsIn e.0) all (rw (ap (λ (e : Entry). e.0) m.2) m.1)
@@ -170,9 +170,9 @@ module _ (I : Instance) (C : ℕ) (l : Claim) where
   pub one_is_left : (lines : List Line) (f : Tried) → IsTrying I C lines l f →
       (length f.refuted == length f.order) ≡ false → IsLeft f
   one_is_left lines f t h =
-      let n : length f.order ≡ length (map buffer_of f.refuted) + length (rest_of f) =
-      ap length t.noted ∙ length-append (map buffer_of f.refuted) (rest_of f) in
-      let m : length (map buffer_of f.refuted) ≡ length f.refuted = length-map f.refuted buffer_of in
+      let n : length f.order ≡ length (map refuted_buffer f.refuted) + length (rest_of f) =
+      ap length t.noted ∙ length-append (map refuted_buffer f.refuted) (rest_of f) in
+      let m : length (map refuted_buffer f.refuted) ≡ length f.refuted = length-map f.refuted refuted_buffer in
       less (length f.refuted) (length f.order) (omega arith) h
     where
       less : (m n : ℕ) → m ≤ n → (m == n) ≡ false → m < n

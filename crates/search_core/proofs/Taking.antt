@@ -8,8 +8,8 @@ use Rattle.dsa_search_laws.proofs.Parts.{part_is_in}
 use Rattle.search_core.specs.Cites.{IsCoveredBy}
 use Rattle.search_core.specs.declared.found.Found.{Found}
 use Rattle.search_core.specs.declared.found.Found.TheVariants as found
-use Rattle.search_core.specs.Found.{UnlessSpent}
-use Rattle.search_core.specs.Meters.{AreMore, Units, counted}
+use Rattle.search_core.specs.Found.{UnlessFoundSpent}
+use Rattle.search_core.specs.Meters.{AreMore, Units, units_counted}
 
 -- no line of no lines covers a claim
 pub none_covers : (I : Instance) (l : Claim) (lines : List Line) (k : ℕ) → lines ≡ [] → IsCoveredBy I lines l k → ⊥
@@ -22,7 +22,7 @@ none_covers I l lines k e h = none k h.line (rw e at h.stands)
 pub more_after : (before between after : Units) → between.most ≡ before.most → before.used ≤ between.used →
     AreMore between after → AreMore before after
 more_after before between after e le h =
-    let n = ap (λ m. counted m 1) e in
+    let n = ap (λ m. units_counted m 1) e in
     omega (arith, n, le, h)
 
 pub more_still : (before between after : Units) → AreMore before between → between.used ≤ after.used →
@@ -30,12 +30,12 @@ pub more_still : (before between after : Units) → AreMore before between → b
 more_still before between after h le = omega (arith, h, le)
 
 -- what follows from the fact holds unless the budget is spent
-pub unless_along : {P Q : Type 0} (f : Found) → (P → Q) → UnlessSpent P f → UnlessSpent Q f
+pub unless_along : {P Q : Type 0} (f : Found) → (P → Q) → UnlessFoundSpent P f → UnlessFoundSpent Q f
 unless_along (found.Seats seats) g h = g h
 unless_along (found.Line k) g h = g h
 unless_along found.Spent g h = tt
 
-pub unless_always : {P : Type 0} (f : Found) → P → UnlessSpent P f
+pub unless_always : {P : Type 0} (f : Found) → P → UnlessFoundSpent P f
 unless_always (found.Seats seats) h = h
 unless_always (found.Line k) h = h
 unless_always found.Spent h = tt

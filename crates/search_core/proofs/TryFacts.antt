@@ -8,7 +8,7 @@ use Rattle.dsa_terms.specs.Search.{comes_before, first, is_tall}
 use Rattle.dsa_terms.proofs.Examples.{small_below}
 use Rattle.search_core.specs.declared.found.Refuted.{Refuted}
 use Rattle.search_core.specs.Cites.{IsChildCovered}
-use Rattle.search_core.specs.Descents.{HasAskedAll, IsTrying, buffer_of, try_of}
+use Rattle.search_core.specs.Descents.{HasAskedAll, IsTrying, refuted_buffer, try_of}
 use Rattle.search_core.specs.Tries.{IsLeft, Tried, asked_to, untried}
 use Rattle.search_core.proofs.CiteFacts.{by_line, first_covered}
 use Rattle.search_core.proofs.LevelFacts.{root, root_levels}
@@ -37,8 +37,8 @@ none_is_left lt = omega (arith, lt)
 three_asked : asked_to (both_left 1) 3 ≡ both_left 3
 three_asked = refl
 
-refuted_buffer : buffer_of (by_line 2 7) ≡ 2
-refuted_buffer = refl
+choice_by_line : refuted_buffer (by_line 2 7) ≡ 2
+choice_by_line = refl
 
 -- ---- what a choice comes to
 in_vain : try_of small_below 4 root (0, 0) ≡ None

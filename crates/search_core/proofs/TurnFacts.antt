@@ -11,7 +11,7 @@ use Rattle.search_core.specs.declared.found.Found.TheVariants as found
 use Rattle.search_core.specs.declared.turns.Turn.TheVariants as turn
 use Rattle.search_core.specs.Descents.{Place, owed, through}
 use Rattle.search_core.specs.Tries.{Tried}
-use Rattle.search_core.specs.Turns.{IfOn, IsAhead, IsOn, IsOpen, IsReady, IsTurned, Stage, UnlessTurnSpent, debt_of}
+use Rattle.search_core.specs.Turns.{IfOn, IsAhead, IsOn, IsAtChoices, IsUncovered, IsTurned, Stage, UnlessTurnSpent, debt_of}
 use Rattle.search_core.proofs.DescentFacts.{after_line, before_line, below_root, seven_turns, six_turns, sky_of}
 use Rattle.search_core.proofs.FoundFacts.{root_layout}
 use Rattle.search_core.proofs.LevelFacts.{rest, root}
@@ -56,7 +56,7 @@ two_below = refl
 
 -- ---- an open claim
 -- the root and its two choices
-root_open : IsOpen small_below 4 [] at_root (both_left 0)
+root_open : IsAtChoices small_below 4 [] at_root (both_left 0)
 root_open = record {
   path = record { subject = refl; some = omega arith; descends = tt };
   not_empty = λ e. absurd cc;
@@ -64,15 +64,15 @@ root_open = record {
 }
 
 not_without_buffers : (f : Tried) →
-    IsOpen small_below 4 [] (record { sky = sky_of ([] ∷ []); frames = []; line = None }) f → ⊥
+    IsAtChoices small_below 4 [] (record { sky = sky_of ([] ∷ []); frames = []; line = None }) f → ⊥
 not_without_buffers f o = o.not_empty refl
 
 -- there are no lines
-root_ready : IsReady small_below 4 [] at_root (both_left 0)
+root_ready : IsUncovered small_below 4 [] at_root (both_left 0)
 root_ready = record { opened = root_open; fresh = λ k line e covers. absurd cc; asked = refl }
 
 -- one line was not asked
-not_ready : IsReady small_below 4 (over ∷ []) at_root (both_left 0) → ⊥
+not_ready : IsUncovered small_below 4 (over ∷ []) at_root (both_left 0) → ⊥
 not_ready r = let k = r.asked in omega arith
 
 -- ---- where the search is once it went down

@@ -11,7 +11,7 @@ use Rattle.dsa_terms.proofs.Places.{any_default, from_contains, place_of}
 use Rattle.search_core.specs.declared.watch_row.Mark.{Mark}
 use Rattle.search_core.specs.Looks.{IsLacked, IsUnmet}
 use Rattle.search_core.specs.Watches.{Fails}
-use Rattle.search_core.specs.Watching.{AreAppended, AreFiled, AreMoved, FailsAtMark, IsUnwatched, mark_of, row_of}
+use Rattle.search_core.specs.Watching.{AreAppended, AreFiled, AreMoved, FailsAtMark, IsUnwatched, mark_of, row_at}
 use Rattle.refute_log.proofs.Legal.{get_before}
 use Rattle.search_core.proofs.WatchLemmas.{get_set_same, lacked_fails}
 
@@ -73,18 +73,18 @@ filed_none rows q = record { count = q; filed = λ k e at. absurd (none k e at) 
 pub appended_row : (rows : List (List Mark)) (b : ℕ) (old row : List Mark) (m : Mark) → b < length rows →
     old ≡ slice_index_or rows b old → row ≡ old ++ m ∷ [] → AreAppended rows (slice_set rows b row)
 appended_row rows b old row m lt e q c = elim (same_or_not c b) [
-  | inr other ↦ ([], get_or-set_other rows b c row [] other ∙ sym (append-nil (row_of rows c)))
+  | inr other ↦ ([], get_or-set_other rows b c row [] other ∙ sym (append-nil (row_at rows c)))
   | inl same ↦ (
     m ∷ [],
-    ap (row_of (slice_set rows b row)) same ∙ get_or-set_same rows b row [] lt ∙ q
-        ∙ ap (λ (xs : List Mark). xs ++ m ∷ []) (get_or_read rows b old lt e [] ∙ ap (row_of rows) (sym same)),
+    ap (row_at (slice_set rows b row)) same ∙ get_or-set_same rows b row [] lt ∙ q
+        ∙ ap (λ (xs : List Mark). xs ++ m ∷ []) (get_or_read rows b old lt e [] ∙ ap (row_at rows) (sym same)),
   )
 ]
 
-pub in_appended : (rows after : List (List Mark)) (b : ℕ) (m : Mark) → AreAppended rows after → IsIn m (row_of rows b) →
-    IsIn m (row_of after b)
+pub in_appended : (rows after : List (List Mark)) (b : ℕ) (m : Mark) → AreAppended rows after → IsIn m (row_at rows b) →
+    IsIn m (row_at after b)
 in_appended rows after b m h i = let r = h b in
-    subst (IsIn m) (sym r.1) (left_append (row_of rows b) r.0 m i)
+    subst (IsIn m) (sym r.1) (left_append (row_at rows b) r.0 m i)
 
 pub filed_appended : (watches : List Entry) (rows after : List (List Mark)) → length after ≡ length rows →
     AreAppended rows after → AreFiled watches rows → AreFiled watches after
@@ -94,7 +94,7 @@ filed_appended watches rows after q a h = record {
 }
 
 pub in_new_row : (rows : List (List Mark)) (b : ℕ) (old row : List Mark) (m : Mark) → b < length rows →
-    row ≡ old ++ m ∷ [] → IsIn m (row_of (slice_set rows b row) b)
+    row ≡ old ++ m ∷ [] → IsIn m (row_at (slice_set rows b row) b)
 in_new_row rows b old row m lt q = subst (IsIn m) (sym (get_or-set_same rows b row [] lt ∙ q))
     (right_append old (m ∷ []) m (inl refl))
 
@@ -109,8 +109,8 @@ filed_taken watches rows b i old row lt e inside q unwatched h = record {
     | inr other ↦ subst (IsIn (mark_of k f.1)) (sym (get_or-set_other rows b f.0 row [] other)) (h.filed k f at below)
     | inl same ↦
         let there : IsIn (mark_of k f.1) old = subst (IsIn (mark_of k f.1))
-        (ap (row_of rows) same ∙ sym (get_or_read rows b old lt e [])) (h.filed k f at below) in
-        subst (IsIn (mark_of k f.1)) (sym (ap (row_of (slice_set rows b row)) same ∙ get_or-set_same rows b row [] lt
+        (ap (row_at rows) same ∙ sym (get_or_read rows b old lt e [])) (h.filed k f at below) in
+        subst (IsIn (mark_of k f.1)) (sym (ap (row_at (slice_set rows b row)) same ∙ get_or-set_same rows b row [] lt
         ∙ q (mark_of k f.1)))
         (elim (in_swap_remove old i (mark_of k f.1) (mark_of k f.1) inside there) [
           | inl in_row ↦ in_row
@@ -123,7 +123,7 @@ filed_taken watches rows b i old row lt e inside q unwatched h = record {
 
 pub before_taken : (rows : List (List Mark)) (b i : ℕ) (old row : List Mark) → b < length rows →
     old ≡ slice_index_or rows b old → i < length old → ((m : Mark) → row ≡ swap_remove old i m) →
-    take i (row_of (slice_set rows b row) b) ≡ take i (row_of rows b)
+    take i (row_at (slice_set rows b row) b) ≡ take i (row_at rows b)
 before_taken rows b i old row lt e inside q =
     let m = slice_index_or old i (mark_of 0 0) in
     ap (take i) (get_or-set_same rows b row [] lt ∙ q m) ∙ take_swap_remove old i m inside
@@ -134,12 +134,12 @@ before_taken rows b i old row lt e inside q =
 abbrev pub FailOrBefore : List Line → List Entry → List (List Mark) → List ℕ → ℕ → ℕ → ℕ → Type 0
 FailOrBefore lines watches rows levels b low n = (k : ℕ) (line : Line) (e : Entry) → slice_get lines k ≡ Some line →
     slice_get watches k ≡ Some e → e.0 ≡ b → low ≤ e.1 → e.1 < slice_index levels b →
-    Fails levels (claim_of line) e ⊎ IsIn (mark_of k e.1) (take n (row_of rows b))
+    Fails levels (claim_of line) e ⊎ IsIn (mark_of k e.1) (take n (row_at rows b))
 
 -- the mark at the last of these places was looked at
 pub fail_or_before : (lines : List Line) (watches after : List Entry) (rows more : List (List Mark)) (levels : List ℕ)
-    (b low n i : ℕ) (m : Mark) → n ≡ i + 1 → slice_get (row_of rows b) i ≡ Some m →
-    AreMoved lines levels watches after → take i (row_of more b) ≡ take i (row_of rows b) →
+    (b low n i : ℕ) (m : Mark) → n ≡ i + 1 → slice_get (row_at rows b) i ≡ Some m →
+    AreMoved lines levels watches after → take i (row_at more b) ≡ take i (row_at rows b) →
     (low ≤ m.bound → m.bound < slice_index levels b → FailsAtMark lines after levels b m) →
     FailOrBefore lines watches rows levels b low n → FailOrBefore lines after more levels b low i
 fail_or_before lines watches after rows more levels b low n i m next is moved kept seen h k line e at stands q from
@@ -148,10 +148,10 @@ fail_or_before lines watches after rows more levels b low n i m next is moved ke
       | inr u ↦ inl (subst (Fails levels (claim_of line)) (same_some (sym u.1 ∙ stands)) (λ has. u.2.unmet))
       | inl same ↦ elim (h k line e at (sym same ∙ stands) q from below) [
         | inl fails ↦ inl fails
-        | inr there ↦ elim (from_append (take i (row_of rows b)) (m ∷ []) (mark_of k e.1)
-            (subst (IsIn (mark_of k e.1)) (ap (λ (n : ℕ). take n (row_of rows b)) next
-            ∙ take_more (row_of rows b) i m (slice_get_within (row_of rows b) i m is)
-            ∙ ap (λ (m : Mark). take i (row_of rows b) ++ m ∷ []) (get_or_from_slice_get (row_of rows b) i m m is))
+        | inr there ↦ elim (from_append (take i (row_at rows b)) (m ∷ []) (mark_of k e.1)
+            (subst (IsIn (mark_of k e.1)) (ap (λ (n : ℕ). take n (row_at rows b)) next
+            ∙ take_more (row_at rows b) i m (slice_get_within (row_at rows b) i m is)
+            ∙ ap (λ (m : Mark). take i (row_at rows b) ++ m ∷ []) (get_or_from_slice_get (row_at rows b) i m m is))
             there)) [
               | inl before ↦ inr (subst (IsIn (mark_of k e.1)) (sym kept) before)
               | inr last ↦ elim last [
@@ -181,39 +181,39 @@ length_of_taken xs ys i lt q =
     omega arith
 
 -- ---- what is needed to take out or look at a mark
-pub row_within : (rows : List (List Mark)) (b i : ℕ) → i < length (row_of rows b) → b < length rows
+pub row_within : (rows : List (List Mark)) (b i : ℕ) → i < length (row_at rows b) → b < length rows
 row_within rows b i lt = elim (below_or_from b (length rows)) [
   | inl below ↦ below
-  | inr past ↦ absurd (let z : length (row_of rows b) ≡ 0 = ap length (get_or_past rows b [] past) in omega arith)
+  | inr past ↦ absurd (let z : length (row_at rows b) ≡ 0 = ap length (get_or_past rows b [] past) in omega arith)
 ]
 
 pub within_old : (rows : List (List Mark)) (b i : ℕ) (old : List Mark) → old ≡ slice_index_or rows b old →
-    i < length (row_of rows b) → i < length old
+    i < length (row_at rows b) → i < length old
 within_old rows b i old e lt =
-    let q : length old ≡ length (row_of rows b) = ap length (get_or_read rows b old (row_within rows b i lt) e []) in
+    let q : length old ≡ length (row_at rows b) = ap length (get_or_read rows b old (row_within rows b i lt) e []) in
     omega arith
 
-pub longer_row : (rows after : List (List Mark)) (b i : ℕ) → AreAppended rows after → i < length (row_of rows b) →
-    i < length (row_of after b)
+pub longer_row : (rows after : List (List Mark)) (b i : ℕ) → AreAppended rows after → i < length (row_at rows b) →
+    i < length (row_at after b)
 longer_row rows after b i h lt =
     let r = h b in
     let q = ap length r.1 in
-    let n = length-append (row_of rows b) r.0 in
+    let n = length-append (row_at rows b) r.0 in
     omega arith
 
-pub appended_get : (rows after : List (List Mark)) (b i : ℕ) → AreAppended rows after → i < length (row_of rows b) →
-    slice_get (row_of after b) i ≡ slice_get (row_of rows b) i
+pub appended_get : (rows after : List (List Mark)) (b i : ℕ) → AreAppended rows after → i < length (row_at rows b) →
+    slice_get (row_at after b) i ≡ slice_get (row_at rows b) i
 appended_get rows after b i h lt = let r = h b in
-    ap (λ (xs : List Mark). slice_get xs i) r.1 ∙ get_before (row_of rows b) r.0 i lt
+    ap (λ (xs : List Mark). slice_get xs i) r.1 ∙ get_before (row_at rows b) r.0 i lt
 
-pub appended_take : (rows after : List (List Mark)) (b i : ℕ) → AreAppended rows after → i < length (row_of rows b) →
-    take i (row_of after b) ≡ take i (row_of rows b)
+pub appended_take : (rows after : List (List Mark)) (b i : ℕ) → AreAppended rows after → i < length (row_at rows b) →
+    take i (row_at after b) ≡ take i (row_at rows b)
 appended_take rows after b i h lt = let r = h b in
-    ap (take i) r.1 ∙ take-append-le i (row_of rows b) r.0 (omega arith)
+    ap (take i) r.1 ∙ take-append-le i (row_at rows b) r.0 (omega arith)
 
 -- the line of a mark whose bound is met has another watch by now, whose bound is not met
 pub moved_away : (watches after : List Entry) (rows more : List (List Mark)) (levels : List ℕ) (k : Claim) (b i : ℕ)
-    (mark : Mark) (e : Entry) → slice_get (row_of rows b) i ≡ Some mark → i < length (row_of rows b) →
+    (mark : Mark) (e : Entry) → slice_get (row_at rows b) i ≡ Some mark → i < length (row_at rows b) →
     AreAppended rows more → after ≡ slice_set watches mark.line e → mark.line < length watches → IsUnmet k levels e →
     mark.bound < slice_index levels b → IsUnwatched (record { watches = after; rows = more }) b i
 moved_away watches after rows more levels k b i mark e is inside a q lt u met m at stands =

@@ -6,7 +6,7 @@ use Rattle.dsa_terms.proofs.Lists.{same_some}
 use Rattle.search_core.specs.declared.watch_row.Mark.{Mark}
 use Rattle.search_core.specs.Looks.{IsUnmet}
 use Rattle.search_core.specs.Watches.{Fails, RulesOut}
-use Rattle.search_core.specs.Watching.{AreAppended, AreExtended, AreFiled, AreMoved, AreOwnMoved, FailAt, FailsAtMark, IsUnwatched, IsWatched, Table, mark_of, row_of}
+use Rattle.search_core.specs.Watching.{AreAppended, AreExtended, AreFiled, AreMoved, AreOwnMoved, FailAt, FailsAtMark, IsUnwatched, IsWatched, Watched, mark_of, row_at}
 use Rattle.search_core.proofs.WatchFacts.{met_at_other, other}
 
 abbrev first_line : Line
@@ -19,17 +19,17 @@ lines = first_line ∷ []
 abbrev watches : List Entry
 watches = (1, 5) ∷ []
 
-abbrev table : Table
+abbrev table : Watched
 table = record { watches = watches; rows = (mark_of 0 2 ∷ []) ∷ (mark_of 0 5 ∷ []) ∷ [] }
 
 same_mark : {x y : Mark} → Some x ≡ Some y → x ≡ y
 same_mark q = cc
 
 -- ---- rows
-row_of_the_second : row_of table.rows 1 ≡ mark_of 0 5 ∷ []
+row_of_the_second : row_at table.rows 1 ≡ mark_of 0 5 ∷ []
 row_of_the_second = refl
 
-row_of_none : row_of table.rows 2 ≡ []
+row_of_none : row_at table.rows 2 ≡ []
 row_of_none = refl
 
 bound_of_mark : (mark_of 3 7).bound ≡ 7
@@ -46,8 +46,8 @@ filed : (rows : List (List Mark)) → length rows ≡ 510 → AreFiled watches (
 filed rows q = record { count = omega (arith, q); filed = in_row }
   where
     in_row : (k : ℕ) (e : Entry) → slice_get watches k ≡ Some e → e.0 < 512 →
-        IsIn (mark_of k e.1) (row_of ([] ∷ (mark_of 0 5 ∷ []) ∷ rows) e.0)
-    in_row zero e at lt = subst (λ (e : Entry). IsIn (mark_of 0 e.1) (row_of ([] ∷ (mark_of 0 5 ∷ []) ∷ rows) e.0))
+        IsIn (mark_of k e.1) (row_at ([] ∷ (mark_of 0 5 ∷ []) ∷ rows) e.0)
+    in_row zero e at lt = subst (λ (e : Entry). IsIn (mark_of 0 e.1) (row_at ([] ∷ (mark_of 0 5 ∷ []) ∷ rows) e.0))
         (same_some at) (inl refl)
     in_row (suc k) e at lt = absurd cc
 

@@ -20,14 +20,14 @@ unfoldable pub through : Instance → ℕ → Claim → List Entry → ℕ
 through I C l es = work_through (λ e. work I C (child I l e)) (λ e. is_some (first I C (child I l e))) es
 
 -- the buffer of a refuted choice
-abbrev pub buffer_of : Refuted → ℕ
-buffer_of r = r.buffer
+abbrev pub refuted_buffer : Refuted → ℕ
+refuted_buffer r = r.buffer
 
 -- the choices are those of the claim, in order; the first of them are refuted, each by a line, and the claim's first
 -- layout is the one that the others give; the levels are the claim's
 pub record IsTrying (I : Instance) (C : ℕ) (lines : List Line) (l : Claim) (f : Tried) : Type 0 where
   pub order : map (entry_of l) f.order ≡ choices I (not_excluded I) l
-  pub noted : f.order ≡ map buffer_of f.refuted ++ rest_of f
+  pub noted : f.order ≡ map refuted_buffer f.refuted ++ rest_of f
   pub covered : (r : Refuted) → IsIn r f.refuted → IsChildCovered I lines l r
   pub left : first I C l ≡ first_some (try_of I C l) (map (entry_of l) (rest_of f))
   pub levels : AreLevels I l f.levels

@@ -8,6 +8,6 @@ use Rattle.search_core.specs.declared.ending.Ending.{Ending}
 
 -- no buffer of the claim below n ends below the end of x; where that is below 2^63, it is the end of the buffer of x,
 -- which is one of the claim
-pub record IsLeastEnd (I : Instance) (l : Claim) (n : ℕ) (x : Ending) : Type 0 where
+pub record IsLeastEnding (I : Instance) (l : Claim) (n : ℕ) (x : Ending) : Type 0 where
   pub least : (e : Entry) → IsIn e l → e.0 < n → x.end ≤ end_of I e
   pub is_end : x.end < 2 ^ 63 → HasBuffer l x.buffer × (x.end ≡ end_of I (entry_of l x.buffer))

@@ -15,13 +15,13 @@ IsFound I C l lines (found.Line k) = (first I C l ≡ None) × IsCoveredBy I lin
 IsFound I C l lines found.Spent = ⊤
 
 -- the fact holds where the budget is spent
-abbrev pub IfSpent : Type 0 → Found → Type 0
-IfSpent P (found.Seats seats) = ⊤
-IfSpent P (found.Line k) = ⊤
-IfSpent P found.Spent = P
+abbrev pub IfFoundSpent : Type 0 → Found → Type 0
+IfFoundSpent P (found.Seats seats) = ⊤
+IfFoundSpent P (found.Line k) = ⊤
+IfFoundSpent P found.Spent = P
 
 -- the fact holds unless the budget is spent
-abbrev pub UnlessSpent : Type 0 → Found → Type 0
-UnlessSpent P (found.Seats seats) = P
-UnlessSpent P (found.Line k) = P
-UnlessSpent P found.Spent = ⊤
+abbrev pub UnlessFoundSpent : Type 0 → Found → Type 0
+UnlessFoundSpent P (found.Seats seats) = P
+UnlessFoundSpent P (found.Line k) = P
+UnlessFoundSpent P found.Spent = ⊤

@@ -19,17 +19,17 @@ abbrev pub AreSpent : Units → Type 0
 AreSpent u = MatchOption u.most ⊥ (λ k. u.used ≡ k)
 
 -- how many units are counted for so many that are taken
-abbrev pub counted : Option ℕ → ℕ → ℕ
-counted most n = cond (is_some most) n 0
+abbrev pub units_counted : Option ℕ → ℕ → ℕ
+units_counted most n = cond (is_some most) n 0
 
 -- at least one more is used, where there is a number
 abbrev pub AreMore : Units → Units → Type 0
-AreMore before after = before.used + counted before.most 1 ≤ after.used
+AreMore before after = before.used + units_counted before.most 1 ≤ after.used
 
 -- at least n more are used, where there is a number
 abbrev pub AreMoreBy : ℕ → Units → Units → Type 0
-AreMoreBy n before after = before.used + counted before.most n ≤ after.used
+AreMoreBy n before after = before.used + units_counted before.most n ≤ after.used
 
 -- a count goes from m to n at most by the units that are used, where there is a number
 abbrev pub AreCounted : Units → Units → ℕ → ℕ → Type 0
-AreCounted before after m n = before.used + counted before.most n ≤ after.used + counted before.most m
+AreCounted before after m n = before.used + units_counted before.most n ≤ after.used + units_counted before.most m

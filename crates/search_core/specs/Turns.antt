@@ -7,7 +7,7 @@ use Rattle.search_core.specs.declared.found.Found.{Found}
 use Rattle.search_core.specs.declared.turns.Turn.{Turn}
 use Rattle.search_core.specs.declared.turns.Turn.TheVariants as turn
 use Rattle.search_core.specs.Descents.{IsPath, IsPlace, IsTrying, Place, above_of, claim_at, left_of, owed, sky_root, through, turns_left}
-use Rattle.search_core.specs.Found.{IfSpent, IsFound, UnlessSpent}
+use Rattle.search_core.specs.Found.{IfFoundSpent, IsFound, UnlessFoundSpent}
 use Rattle.search_core.specs.Logs.{NoneCovers}
 use Rattle.search_core.specs.Meters.{AreSpent, Units}
 use Rattle.search_core.specs.Tries.{Tried, rest_of}
@@ -19,15 +19,15 @@ debt_of I C here f =
     + left_of I C (claim_at here) (above_of here.sky.claims) (reverse here.frames)
 
 -- the claim that the search is at has some buffers, and these choices of it are tried
-pub record IsOpen (I : Instance) (C : ℕ) (lines : List Line) (here : Place) (f : Tried) : Type 0 where
+pub record IsAtChoices (I : Instance) (C : ℕ) (lines : List Line) (here : Place) (f : Tried) : Type 0 where
   pub path : IsPath I C lines here
   pub not_empty : claim_at here ≢ []
   pub trying : IsTrying I C lines (claim_at here) f
 
 -- the claim that the search is at is open with these choices, no line covers it, and all lines were asked whether they
 -- do
-pub record IsReady (I : Instance) (C : ℕ) (lines : List Line) (here : Place) (f : Tried) : Type 0 where
-  pub opened : IsOpen I C lines here f
+pub record IsUncovered (I : Instance) (C : ℕ) (lines : List Line) (here : Place) (f : Tried) : Type 0 where
+  pub opened : IsAtChoices I C lines here f
   pub fresh : NoneCovers I lines (claim_at here)
   pub asked : f.asked ≡ length lines
 
@@ -55,7 +55,7 @@ pub record IsOn (I : Instance) (C : ℕ) (lines : List Line) (before after : Sta
 pub record IsDone (I : Instance) (C : ℕ) (lines : List Line) (before : Stage) (after : Units) (what : Found) : Type 0
   where
     pub found : IsFound I C (sky_root before.place.sky) lines what
-    pub spent : IfSpent (AreSpent after × (after.used < before.units.used + owed I C before.place)) what
+    pub spent : IfFoundSpent (AreSpent after × (after.used < before.units.used + owed I C before.place)) what
 
 -- the search goes on, or it is done
 abbrev pub IsTurned : Instance → ℕ → List Line → Stage → Stage → Turn → Type 0
@@ -70,4 +70,4 @@ IfOn P (turn.Done found) = ⊤
 -- the fact holds unless the budget is spent
 abbrev pub UnlessTurnSpent : Type 0 → Turn → Type 0
 UnlessTurnSpent P turn.On = P
-UnlessTurnSpent P (turn.Done found) = UnlessSpent P found
+UnlessTurnSpent P (turn.Done found) = UnlessFoundSpent P found

@@ -7,13 +7,13 @@ use Rattle.search_core.specs.Looks.{IsUnmet}
 use Rattle.search_core.specs.Watches.{Fails, RulesOut}
 
 -- the watches by line, and the marks of lines by buffer
-pub record Table : Type 0 where
+pub record Watched : Type 0 where
   pub watches : List Entry
   pub rows : List (List Mark)
 
 -- the row of buffer b
-abbrev pub row_of : List (List Mark) → ℕ → List Mark
-row_of rows b = slice_index_or rows b []
+abbrev pub row_at : List (List Mark) → ℕ → List Mark
+row_at rows b = slice_index_or rows b []
 
 -- the mark of line k at that bound
 abbrev pub mark_of : ℕ → ℕ → Mark
@@ -22,15 +22,15 @@ mark_of k bound = record { bound = bound; line = k }
 -- there are 512 rows, and each watch of a buffer below that is in its row
 pub record AreFiled (watches : List Entry) (rows : List (List Mark)) : Type 0 where
   pub count : length rows ≡ 512
-  pub filed : (k : ℕ) (e : Entry) → slice_get watches k ≡ Some e → e.0 < 512 → IsIn (mark_of k e.1) (row_of rows e.0)
+  pub filed : (k : ℕ) (e : Entry) → slice_get watches k ≡ Some e → e.0 < 512 → IsIn (mark_of k e.1) (row_at rows e.0)
 
 -- each row is as it was, with some marks behind it
 abbrev pub AreAppended : List (List Mark) → List (List Mark) → Type 0
-AreAppended before after = (b : ℕ) → (more : List Mark) × (row_of after b ≡ row_of before b ++ more)
+AreAppended before after = (b : ℕ) → (more : List Mark) × (row_at after b ≡ row_at before b ++ more)
 
 -- no line has the mark at that place of the row of b for its watch
-abbrev pub IsUnwatched : Table → ℕ → ℕ → Type 0
-IsUnwatched table b i = (m : Mark) → slice_get (row_of table.rows b) i ≡ Some m →
+abbrev pub IsUnwatched : Watched → ℕ → ℕ → Type 0
+IsUnwatched table b i = (m : Mark) → slice_get (row_at table.rows b) i ≡ Some m →
     slice_get table.watches m.line ≡ Some (b, m.bound) → ⊥
 
 -- lines that had watches have these still, and at least n have one

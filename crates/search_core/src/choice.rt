@@ -6,7 +6,7 @@ ghost use Rattle.dsa_terms.specs.Logs.{IsLegalCite};
 ghost use Rattle.dsa_terms.specs.Search.{choices, not_excluded};
 ghost use Rattle.canonical_order.specs.Claims.{HasBuffer, entry_of};
 ghost use Rattle.refute_log.specs.Lines.{cite_value};
-ghost use Rattle.search_core.specs.Endings.{IsLeastEnd};
+ghost use Rattle.search_core.specs.Endings.{IsLeastEnding};
 ghost use Rattle.search_core.specs.Keys.{key_of};
 ghost use Rattle.search_core.specs.TwinMarks.{AreTwinMarks};
 
@@ -25,7 +25,7 @@ pub(crate) fn own_cite<L: Lows>(lows: &L, twins: &TwinMarks, least: Ending, b: u
     requires twins { AreTwinMarks (L.subject lows.now) twins.now }
     requires b_in { HasBuffer (L.claim lows.now) b }
     requires least { let I = L.subject lows.now in
-        IsLeastEnd I (L.claim lows.now) (length I) least }
+        IsLeastEnding I (L.claim lows.now) (length I) least }
     ensures none { let l = L.claim lows.now in
         not_excluded (L.subject lows.now) l (entry_of l b) ≡ not (is_some result) }
     ensures legal { let l = L.claim lows.now in
@@ -50,7 +50,7 @@ fn is_taken<L: Lows>(lows: &L, twins: &TwinMarks, least: Ending, b: u32) -> bool
     requires twins { AreTwinMarks (L.subject lows.now) twins.now }
     requires b_in { HasBuffer (L.claim lows.now) b }
     requires least { let I = L.subject lows.now in
-        IsLeastEnd I (L.claim lows.now) (length I) least }
+        IsLeastEnding I (L.claim lows.now) (length I) least }
     ensures { let l = L.claim lows.now in
         result ≡ not_excluded (L.subject lows.now) l (entry_of l b) }
 {

@@ -8,7 +8,7 @@ ghost use Rattle.canonical_order.specs.Claims.{HasBuffer, entry_of};
 ghost use Rattle.refute_log.specs.Lines.{cite_value};
 ghost use Rattle.search_core.specs.declared.found.Refuted.{Refuted as RefutedTerm};
 ghost use Rattle.search_core.specs.Cites.{IsCiteFor};
-ghost use Rattle.search_core.specs.Endings.{IsLeastEnd};
+ghost use Rattle.search_core.specs.Endings.{IsLeastEnding};
 ghost use Rattle.search_core.specs.TwinMarks.{AreTwinMarks};
 
 use crate::choice::own_cite;
@@ -44,7 +44,7 @@ fn cite_for<L: Lows>(
     requires twins { AreTwinMarks (L.subject lows.now) twins.now }
     requires b_in { HasBuffer (L.claim lows.now) b }
     requires least { let I = L.subject lows.now in
-        IsLeastEnd I (L.claim lows.now) (length I) least }
+        IsLeastEnding I (L.claim lows.now) (length I) least }
     requires noted { let l = L.claim lows.now in
         not_excluded (L.subject lows.now) l (entry_of l b) ≡ true →
         IsIn b (map (λ (r : RefutedTerm). r.buffer) refuted.now) }

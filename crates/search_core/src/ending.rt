@@ -3,7 +3,7 @@
 ghost use Rattle.std.specs.Prelude.{◌≡◌, ◌^◌, ◌<◌, length};
 ghost use Rattle.canonical_order.specs.Claims.{HasBuffer, entry_of};
 ghost use Rattle.conflicts.specs.Ends.{end_of};
-ghost use Rattle.search_core.specs.Endings.{IsLeastEnd};
+ghost use Rattle.search_core.specs.Endings.{IsLeastEnding};
 
 use canonical_order::Lows;
 
@@ -27,7 +27,7 @@ fn end_of<L: Lows>(lows: &L, b: u32) -> u64
 /// has no buffer, the end is above all lows.
 pub(crate) fn least_end<L: Lows>(lows: &L) -> Ending
     ensures { let I = L.subject lows.now in
-        IsLeastEnd I (L.claim lows.now) (length I) result }
+        IsLeastEnding I (L.claim lows.now) (length I) result }
 {
     let mut least = Ending {
         buffer: 0,

@@ -1,7 +1,7 @@
 //! The lines that the search appends to its log.
 
 ghost use Rattle.std.specs.Prelude.{◌≡◌, ◌+◌, ◌-◌, ◌^◌, ◌<◌, ◌≤◌, [], ◌∷◌, List, length, IfOk, OnOk};
-ghost use Rattle.dsa_terms.specs.Buffers.{IsLive, buffer as buffer_of};
+ghost use Rattle.dsa_terms.specs.Buffers.{IsLive, buffer as buffer_at};
 ghost use Rattle.dsa_terms.specs.Claims.{Claim as ClaimTerm, Covers};
 ghost use Rattle.dsa_terms.specs.Logs.{IsLegal, Line as LineTerm, claim_of};
 ghost use Rattle.refute_log.specs.Lines.{IsWithin, line_value};
@@ -28,7 +28,7 @@ fn first_moment(buffer: &Buffer) -> u64
 /// The Over line of the buffer alone, which would end above the capacity at the line's height.
 pub(crate) fn tall_line(alloc: Global, task: &Task, b: u32) -> Result<Line, NoMemory>
     requires { b < length task.now.instance.now }
-    ensures claim { let size = (buffer_of task.now.instance.now b).size in
+    ensures claim { let size = (buffer_at task.now.instance.now b).size in
         IfOk result (λ line. claim_of (line_value line) ≡ (b, task.now.capacity + 1 - size) ∷ []) }
     ensures legal { IfOk result (λ line. (earlier : List LineTerm) →
         IsLegal task.now.instance.now task.now.capacity earlier (line_value line)) }

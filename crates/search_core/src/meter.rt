@@ -2,7 +2,7 @@
 
 ghost use Rattle.std.specs.Prelude.{◌≡◌, ◌+◌, ◌≤◌};
 ghost use Rattle.std.specs.Bool.{MatchBool};
-ghost use Rattle.search_core.specs.Meters.{AreSpent, AreWithin, HasUnit, counted};
+ghost use Rattle.search_core.specs.Meters.{AreSpent, AreWithin, HasUnit, units_counted};
 
 use std::marker::Model;
 
@@ -44,7 +44,8 @@ impl Meter {
         ensures most { self.new.most ≡ self.old.most }
         ensures used { self.old.used ≤ self.new.used }
         ensures one { self.new.used ≤ self.old.used + 1 }
-        ensures taken { MatchBool result (self.new.used ≡ self.old.used + counted self.old.most 1)
+        ensures taken { MatchBool result
+            (self.new.used ≡ self.old.used + units_counted self.old.most 1)
             (self.new.used ≡ self.old.used) }
         ensures spent { MatchBool result (HasUnit self.old) (AreSpent self.new) }
     {

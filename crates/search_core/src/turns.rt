@@ -7,7 +7,7 @@ ghost use Rattle.dsa_terms.specs.Parts.{whole};
 ghost use Rattle.dsa_terms.specs.Search.{work};
 ghost use Rattle.lifetime.specs.SectionList.{AreSectionsOf};
 ghost use Rattle.search_core.specs.Descents.{IsPlace, owed, sky_root};
-ghost use Rattle.search_core.specs.Found.{IfSpent, IsFound, UnlessSpent};
+ghost use Rattle.search_core.specs.Found.{IfFoundSpent, IsFound, UnlessFoundSpent};
 ghost use Rattle.search_core.specs.Logs.{Extends, IsSearchLog};
 ghost use Rattle.search_core.specs.Meters.{AreCounted, AreMore, AreSpent};
 ghost use Rattle.search_core.specs.Turns.{IfOn, IsTurned, UnlessTurnSpent};
@@ -124,9 +124,9 @@ pub(crate) fn search(
     ensures used { let most = work task.now.instance.now task.now.capacity (whole members.now) in
         meter.new.used ≤ meter.old.used + most }
     ensures spent { let most = work task.now.instance.now task.now.capacity (whole members.now) in
-        IfOk result (IfSpent (AreSpent meter.new × (meter.new.used < meter.old.used + most))) }
+        IfOk result (IfFoundSpent (AreSpent meter.new × (meter.new.used < meter.old.used + most))) }
     ensures taken { log.old.lines ≡ [] →
-        IfOk result (UnlessSpent (AreMore meter.old meter.new)) }
+        IfOk result (UnlessFoundSpent (AreMore meter.old meter.new)) }
     ensures found { let I = task.now.instance.now in
         IfOk result (IsFound I task.now.capacity (whole members.now) log.new.lines) }
     ensures counted { OnOk result (AreCounted meter.old meter.new

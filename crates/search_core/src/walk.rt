@@ -5,7 +5,7 @@ ghost use Rattle.canonical_order.specs.Claims.{entry_of};
 ghost use Rattle.search_core.specs.Descents.{IsTrying, claim_at, through};
 ghost use Rattle.search_core.specs.Logs.{Extends, IsSearchLog};
 ghost use Rattle.search_core.specs.Tries.{rest_of};
-ghost use Rattle.search_core.specs.Turns.{IsAhead, IsOpen, IsReady};
+ghost use Rattle.search_core.specs.Turns.{IsAhead, IsAtChoices, IsUncovered};
 ghost use Rattle.search_core.specs.Walks.{HasRoom, HasWatches, due_lines, place_of};
 ghost use Rattle.search_core.specs.Watches.{AreWatched};
 
@@ -42,7 +42,7 @@ impl<'a> Walk<'a> {
     ) -> Result<(), NoMemory>
         requires log { IsSearchLog task.now.instance.now task.now.capacity log.old }
         requires ready { let I = task.now.instance.now in
-            IsReady I task.now.capacity log.old.lines (place_of self.old) frame }
+            IsUncovered I task.now.capacity log.old.lines (place_of self.old) frame }
         requires room { HasRoom self.old.path }
         ensures log { OnOk result (IsSearchLog task.now.instance.now task.now.capacity log.new) }
         ensures grown { let l = claim_at (place_of self.old) in
@@ -109,7 +109,7 @@ impl<'a> Walk<'a> {
     ) -> Result<(), NoMemory>
         requires log { IsSearchLog task.now.instance.now task.now.capacity log.old }
         requires ready { let I = task.now.instance.now in
-            IsReady I task.now.capacity log.old.lines (place_of self.old) frame }
+            IsUncovered I task.now.capacity log.old.lines (place_of self.old) frame }
         requires room { HasRoom self.old.path }
         ensures log { OnOk result (IsSearchLog task.now.instance.now task.now.capacity log.new) }
         ensures grown { let l = claim_at (place_of self.old) in
@@ -140,7 +140,7 @@ impl<'a> Walk<'a> {
     ) -> Result<(), NoMemory>
         requires log { IsSearchLog task.now.instance.now task.now.capacity log.old }
         requires opened { let I = task.now.instance.now in
-            IsOpen I task.now.capacity log.old.lines (place_of self.old) frame }
+            IsAtChoices I task.now.capacity log.old.lines (place_of self.old) frame }
         requires room { HasRoom self.old.path }
         requires watched { HasWatches log.old.lines self.old }
         requires held { AreWatched log.old.lines self.old.watches frame.levels frame.asked }

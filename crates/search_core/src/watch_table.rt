@@ -2,7 +2,7 @@
 
 ghost use Rattle.std.specs.Prelude.{◌≡◌, ◌<◌, [], IfOk, OnOk, Some, length, slice_get, slice_set, take};
 ghost use Rattle.dsa_terms.specs.Claims.{IsIn};
-ghost use Rattle.search_core.specs.Watching.{AreAppended, AreExtended, AreFiled, IsUnwatched, row_of};
+ghost use Rattle.search_core.specs.Watching.{AreAppended, AreExtended, AreFiled, IsUnwatched, row_at};
 
 use crate::watch_row::{Mark, Row};
 use dsa_model::NoMemory;
@@ -25,9 +25,9 @@ pub(crate) struct WatchTable {
 }
 
 impl Model for WatchTable {
-    ghost use Rattle.search_core.specs.Watching.{AreFiled, Table};
+    ghost use Rattle.search_core.specs.Watching.{AreFiled, Watched};
 
-    ghost Value = { Table };
+    ghost Value = { Watched };
 
     ghost view = { λ t. record { watches = t.watches.items; rows = t.rows.items } };
 
@@ -78,7 +78,7 @@ impl WatchTable {
     fn add(&mut self, b: u32, mark: Mark) -> Result<(), NoMemory>
         ensures watches { self.new.watches ≡ self.old.watches }
         ensures rows { AreAppended self.old.rows self.new.rows }
-        ensures added { b < 512 → OnOk result (IsIn mark (row_of self.new.rows b)) }
+        ensures added { b < 512 → OnOk result (IsIn mark (row_at self.new.rows b)) }
     {
         if (b as usize) < ROWS {
             let row = &mut self.rows[b as usize];
@@ -102,7 +102,7 @@ impl WatchTable {
 
     /// How many marks the row of the buffer has.
     pub(crate) fn row_len(&self, b: usize) -> usize
-        ensures value { result ≡ length (row_of self.now.rows b) }
+        ensures value { result ≡ length (row_at self.now.rows b) }
         ensures filed { AreFiled self.now.watches self.now.rows }
     {
         if b < ROWS { self.rows[b].len() } else { 0 }
@@ -110,18 +110,18 @@ impl WatchTable {
 
     /// The mark at a place of the row, which is below `row_len`.
     pub(crate) fn mark(&self, b: usize, i: usize) -> Mark
-        requires { i < length (row_of self.now.rows b) }
-        ensures { slice_get (row_of self.now.rows b) i ≡ Some result }
+        requires { i < length (row_at self.now.rows b) }
+        ensures { slice_get (row_at self.now.rows b) i ≡ Some result }
     {
         self.rows[b].at(i)
     }
 
     /// Takes the mark at a place out of the row. It is below `row_len`, and no line has that watch.
     pub(crate) fn take(&mut self, b: usize, i: usize)
-        requires in_row { i < length (row_of self.old.rows b) }
+        requires in_row { i < length (row_at self.old.rows b) }
         requires unwatched { IsUnwatched self.old b i }
         ensures watches { self.new.watches ≡ self.old.watches }
-        ensures before { take i (row_of self.new.rows b) ≡ take i (row_of self.old.rows b) }
+        ensures before { take i (row_at self.new.rows b) ≡ take i (row_at self.old.rows b) }
     {
         let row = &mut self.rows[b];
         row.take(i);

@@ -8,7 +8,7 @@ ghost use Rattle.search_core.specs.declared.watch_row.Mark.{Mark as MarkTerm};
 ghost use Rattle.search_core.specs.Cites.{IsCoveredBy};
 ghost use Rattle.search_core.specs.Looks.{IsUnmet};
 ghost use Rattle.search_core.specs.Watches.{AreRaised, AreWatched};
-ghost use Rattle.search_core.specs.Watching.{AreMoved, AreOwnMoved, FailAt, FailsAtMark, IsWatched, row_of};
+ghost use Rattle.search_core.specs.Watching.{AreMoved, AreOwnMoved, FailAt, FailsAtMark, IsWatched, row_at};
 
 use crate::levels::Levels;
 use crate::look::{Look, look_at};
@@ -82,18 +82,18 @@ fn try_mark(
     i: usize,
     now: &Levels,
 ) -> Result<Option<u64>, NoMemory>
-    requires in_row { i < length (row_of table.old.rows b) }
-    requires met { (m : MarkTerm) → slice_get (row_of table.old.rows b) i ≡ Some m →
+    requires in_row { i < length (row_at table.old.rows b) }
+    requires met { (m : MarkTerm) → slice_get (row_at table.old.rows b) i ≡ Some m →
         m.bound < slice_index now.now b }
     ensures some { (I : Instance) (l : ClaimTerm) → AreLevels I l now.now →
         IfOk result (λ found. IfSome found (IsCoveredBy I log.now.lines l)) }
-    ensures none { (m : MarkTerm) → slice_get (row_of table.old.rows b) i ≡ Some m →
+    ensures none { (m : MarkTerm) → slice_get (row_at table.old.rows b) i ≡ Some m →
         IfOk result (λ found. IfNone found
         (FailsAtMark log.now.lines table.new.watches now.now b m)) }
     ensures moved { let lines = log.now.lines in
         OnOk result (AreMoved lines now.now table.old.watches table.new.watches) }
     ensures before { OnOk result
-        (take i (row_of table.new.rows b) ≡ take i (row_of table.old.rows b)) }
+        (take i (row_at table.new.rows b) ≡ take i (row_at table.old.rows b)) }
 {
     let mark = table.mark(b, i);
     let k = mark.line;

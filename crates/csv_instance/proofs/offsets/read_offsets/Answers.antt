@@ -1,5 +1,5 @@
 use Rattle.std.proofs.Common.{◌≡◌, ◌∙◌, ◌+◌, Err, Ok, ap, sym}
-use Rattle.csv_instance.specs.Offsets.{ids_of, offsets_of}
+use Rattle.csv_instance.specs.Offsets.{ids_of, parsed_offsets}
 use Rattle.csv_instance.specs.Records.{table_of}
 use Rattle.csv_instance.proofs.FailLemmas.{IfFault-map, if_ok-of}
 use Rattle.csv_instance.proofs.FoundLemmas.{read-all}
@@ -38,16 +38,16 @@ returns-clause-back c = λ offsets small even text.
     let table = table_of c.args.bytes.now in
     let read = read-all c.ids-ids.result.now.keys ids table c.in-Ok.found.entries c.ids-ids.ensures.ids c.in-Ok.ensures
     c.offsets_by_buffer.result c.offsets_by_buffer.ensures in
-    let back : offsets_of ids table ≡ Ok offsets =
+    let back : parsed_offsets ids table ≡ Ok offsets =
     rw text (layout-back c.args.table.now c.ids-ids.ensures.parsed.0 offsets c.ids-ids.ensures.parsed.1 small even) in
-    reads-back (offsets_of ids table) offsets c.offsets_by_buffer.result back read
+    reads-back (parsed_offsets ids table) offsets c.offsets_by_buffer.result back read
 
 pub returns-in-Err-clause-back : goal.returns-in-Err-clause-back
 returns-in-Err-clause-back c = λ offsets small even text.
     let ids = ids_of c.args.table.now in
     let table = table_of c.args.bytes.now in
-    let back : offsets_of ids table ≡ Ok offsets =
+    let back : parsed_offsets ids table ≡ Ok offsets =
     rw text (layout-back c.args.table.now c.ids-ids.ensures.parsed.0 offsets c.ids-ids.ensures.parsed.1 small even) in
     IfFault-map _ _ c.in-Err.failure
-    (λ f bad. let same : Err f ≡ Ok offsets = sym bad ∙ ap (λ i. offsets_of i table) c.ids-ids.ensures.ids ∙ back in
+    (λ f bad. let same : Err f ≡ Ok offsets = sym bad ∙ ap (λ i. parsed_offsets i table) c.ids-ids.ensures.ids ∙ back in
     cc same) c.in-Err.ensures

@@ -1,6 +1,6 @@
 use Rattle.std.proofs.Common.{◌≡◌, ◌∙◌, [], map, refl, Err, arith}
 use Rattle.csv.specs.Records.{fields_of}
-use Rattle.csv_instance.specs.Offsets.{offsets_of}
+use Rattle.csv_instance.specs.Offsets.{parsed_offsets}
 use Rattle.csv_instance.specs.Records.{table_of}
 use Rattle.csv_instance.specs.declared.fault.OffsetsFault.{OffsetsFault}
 use Rattle.csv_instance.proofs.FailLemmas.{IfFault-map}
@@ -61,7 +61,7 @@ returns-in-Err-note_row c =
     let (more, first, on) = gives-some c.loop-row.row-iterator c.next-in-loop-row.new.self left
     (fields_of c.in-Ok-row.row) gives s.0 s.1 s.2 in
     let ids = map (λ k. k.items) c.args.ids.now.keys in
-    IfFault-map _ (λ (fault : OffsetsFault). offsets_of ids (table_of c.args.bytes.now)
+    IfFault-map _ (λ (fault : OffsetsFault). parsed_offsets ids (table_of c.args.bytes.now)
     ≡ Err fault) c.in-Err-note_row.failure
     (λ f bad. reading-fault reading (fields_of c.in-Ok-row.row) more f first bad)
     (c.in-Err-note_row.ensures reading.header reading.before reading.columns_are reading.entries_are)

@@ -6,7 +6,7 @@ use Rattle.csv_instance.specs.Records.{Record, table_of}
 use Rattle.csv_instance.specs.declared.fault.InstanceFault.{InstanceFault}
 use Rattle.csv_instance.proofs.FailLemmas.{IfFault-map}
 use Rattle.csv_instance.proofs.GivesLemmas.{gives-some, gives-none, put-first, seen-more}
-use Rattle.csv_instance.specs.Records.{IsShort}
+use Rattle.csv_instance.specs.Records.{HasShortFields}
 use Rattle.csv_instance.proofs.Short.{all_middle, table_short}
 use Rattle.csv_instance.proofs.read.read_instance.Goals as goal
 
@@ -72,6 +72,6 @@ with_row-requires c =
     ((c.next-in-loop-row.ensures.steps gives.turns gives.plain).0 gives.ready) in
     let (more, first, on) = gives-some c.loop-row.row-iterator c.next-in-loop-row.new.self left
     (fields_of c.in-Ok-row.row) gives s.0 s.1 s.2 in
-    all_middle IsShort c.loop-row.table (fields_of c.in-Ok-row.row) more
+    all_middle HasShortFields c.loop-row.table (fields_of c.in-Ok-row.row) more
     (rw (put-first (table_of c.args.bytes.now) c.loop-row.table left more (fields_of c.in-Ok-row.row) is first) at
     (table_short c.args.bytes.now c.requires))

@@ -1,5 +1,5 @@
 use Rattle.std.proofs.Common.{rules, ◌≡◌, map, ℕ, arith}
-use Rattle.first_fit.specs.Orders.{in_order}
+use Rattle.first_fit.specs.Orders.{numbers_in_order}
 use Rattle.first_fit.proofs.Ordering.{keyed_more, sorted_is}
 use Rattle.first_fit.proofs.orders.in_order.Goals as goal
 
@@ -9,7 +9,8 @@ loop-b-preserved c = keyed_more _ _ _ _ _ _ _ c.loop-b.invariant c.buffer.ensure
 
 pub returns : goal.returns
 returns c =
-    let e : map (λ (e : ℕ × ℕ). e.1) c.sort_unstable.new.self.items ≡ in_order c.args.order c.args.instance.now =
+    let e : map (λ (e : ℕ × ℕ). e.1) c.sort_unstable.new.self.items
+    ≡ numbers_in_order c.args.order c.args.instance.now =
     sorted_is _ _ c.loop-b.b _ _ c.len-b-end.ensures.buffers c.loop-b.invariant (omega arith)
     c.sort_unstable.ensures.permutation c.sort_unstable.ensures.sorted in
     rw (← e) (search rules)

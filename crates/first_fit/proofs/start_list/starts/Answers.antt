@@ -1,7 +1,7 @@
 use Rattle.std.proofs.Common.{refl, map, ◌≡◌}
 use Rattle.dsa_terms.specs.Starts.{starts}
 use Rattle.first_fit.specs.Starts.{offsets_in}
-use Rattle.first_fit.specs.declared.fits.Rule.TheVariants.{First}
+use Rattle.first_fit.specs.declared.fits.Fit.TheVariants.{First}
 use Rattle.first_fit.specs.declared.orders.Order.TheVariants.{SizeFalling}
 use Rattle.first_fit.proofs.Starting.{made_each, made_heights, made_more, made_none, made_value, ways}
 use Rattle.first_fit.proofs.start_list.starts.Goals as goal

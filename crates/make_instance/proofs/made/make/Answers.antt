@@ -1,6 +1,6 @@
 use Rattle.std.proofs.Common.{◌≡◌, ◌∙◌, ℕ, Vec, Global, ap, arith}
 use Rattle.std.specs.String.{string_bytes}
-use Rattle.make_instance.specs.Made.{line_text, made_record, made_text, record_of}
+use Rattle.make_instance.specs.Made.{record_line, made_record, made_text, record_of}
 use Rattle.make_instance.specs.declared.row.Row.{Row}
 use Rattle.make_instance.proofs.DrawLemmas.{state_first}
 use Rattle.make_instance.proofs.Growth.{text_first, text_last, text_more}
@@ -19,8 +19,8 @@ loop-number-preserved c =
     let number = c.loop-number.number in
     let drawn = c.loop-number.invariant.drawn in
     let row = c.next_row-row.ensures.row c.args.seed number drawn in
-    let line : c.as_str.result.now ≡ line_text (made_record c.args.seed c.args.count number) =
-    c.as_str.ensures.value ∙ c.in_ok-line.ensures ∙ ap (λ (r : Row). line_text (record_of number r)) row in
+    let line : c.as_str.result.now ≡ record_line (made_record c.args.seed c.args.count number) =
+    c.as_str.ensures.value ∙ c.in_ok-line.ensures ∙ ap (λ (r : Row). record_line (record_of number r)) row in
     record {
       drawn = c.next_row-row.ensures.state c.args.seed number drawn;
       written = c.in_ok-push_str.ensures.bytes

@@ -1,5 +1,5 @@
 use Rattle.std.proofs.Common.{◌-◌, arith, refl, sym}
-use Rattle.search_core.specs.Watching.{row_of}
+use Rattle.search_core.specs.Watching.{row_at}
 use Rattle.search_core.proofs.Looking.{from_none}
 use Rattle.search_core.proofs.WatchLemmas.{moved_refl, moved_trans}
 use Rattle.search_core.proofs.WatchRows.{fail_or_before, length_of_taken}
@@ -15,7 +15,7 @@ loop-i-preserved-then-mark-high c =
     record {
       moved = moved_trans lines c.args.now.now c.args.table.now.watches before.watches after.watches
           c.loop-i.invariant.moved found.moved;
-      within = length_of_taken (row_of before.rows c.args.b) (row_of after.rows c.args.b) (c.loop-i.i - 1)
+      within = length_of_taken (row_at before.rows c.args.b) (row_at after.rows c.args.b) (c.loop-i.i - 1)
           (let w = c.loop-i.invariant.within in omega arith) found.before;
       seen = fail_or_before lines before.watches after.watches before.rows after.rows c.args.now.now c.args.b c.args.low
           c.loop-i.i (c.loop-i.i - 1) c.mark-mark.result (omega arith) c.mark-mark.ensures found.moved found.before

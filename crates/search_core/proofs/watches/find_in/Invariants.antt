@@ -1,11 +1,11 @@
 use Rattle.std.proofs.Common.{◌≤◌, length}
-use Rattle.search_core.specs.Watching.{AreMoved, row_of}
+use Rattle.search_core.specs.Watching.{AreMoved, row_at}
 use Rattle.search_core.proofs.WatchRows.{FailOrBefore}
 use Rattle.search_core.proofs.watches.find_in.Given as goal
 
 abbrev pub invariant-loop-i : goal.invariant-loop-i
 invariant-loop-i l = record {
   moved : AreMoved l.log.lines l.now l.initial.table.watches l.table.watches;
-  within : l.i ≤ length (row_of l.table.rows l.b);
+  within : l.i ≤ length (row_at l.table.rows l.b);
   seen : FailOrBefore l.log.lines l.table.watches l.table.rows l.now l.b l.low l.i;
 }

@@ -7,7 +7,7 @@ use Rattle.csv_instance.proofs.IdLemmas.{map-map}
 use Rattle.std.proofs.Common.{ap, map, length, arith}
 use Rattle.std.proofs.lemmas.List.{length-map}
 use Rattle.csv.specs.Records.{Row}
-use Rattle.csv_instance.specs.Parse.{buffer_of}
+use Rattle.csv_instance.specs.Parse.{row_buffer}
 use Rattle.csv_instance.proofs.TableLemmas.{parse-good}
 use Rattle.csv_instance.proofs.table.Table.ids.Goals as goal
 
@@ -30,6 +30,6 @@ returns-clause-few c =
 pub returns-clause-parsed : goal.returns-clause-parsed
 returns-clause-parsed c =
     let i = c.self.invariant in (
-      map (buffer_of (fields_of c.self.inside.header)) (map fields_of c.self.inside.rows.items),
+      map (row_buffer (fields_of c.self.inside.header)) (map fields_of c.self.inside.rows.items),
       rw (← c.self.view_is) (parse-good _ _ i.header_good i.rows_good),
     )

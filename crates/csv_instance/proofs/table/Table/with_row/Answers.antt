@@ -7,7 +7,7 @@ use Rattle.csv.proofs.ReadFacts.{on-ok}
 use Rattle.std.specs.Str.{bytes_eq}
 use Rattle.csv_instance.specs.Columns.{field_of}
 use Rattle.csv_instance.specs.Records.{Record}
-use Rattle.csv_instance.specs.Parse.{buffer_of, content_fault, id_fault, parse, row_fault}
+use Rattle.csv_instance.specs.Parse.{row_buffer, content_fault, id_fault, parse, row_fault}
 use Rattle.csv_instance.specs.declared.fault.InstanceFault.{InstanceFault}
 use Rattle.csv_instance.proofs.FailLemmas.{IfFault-map}
 use Rattle.csv_instance.specs.declared.columns.Column.TheVariants.{Id}
@@ -77,7 +77,7 @@ invariant_of-result c =
     rw pushed at c.push-2.ensures.items in
     let rows_are : map fields_of c.push-2.new.self.items ≡ rows ++ row ∷ [] =
     rw items (map-append fields_of c.self.inside.rows.items (c.args.row ∷ [])) in
-    let buffer = λ (r : Row). buffer_of h (fields_of r) in
+    let buffer = λ (r : Row). row_buffer h (fields_of r) in
     let instance : c.push.new.self ≡ c.self.inside.instance ++ c.in-Ok.buffer ∷ [] =
     on-ok c.push.result (sym c.is_err-2.ensures.value ∙ c.if-is_err-2.false) c.push.ensures.appended in
     let inserted : is_ok c.insert.result ≡ true = search rules in

@@ -3,7 +3,7 @@ use Rattle.dsa_terms.proofs.NumberTests.{equal}
 use Rattle.dsa_terms.specs.Claims.{child}
 use Rattle.canonical_order.specs.Claims.{entry_of}
 use Rattle.skyline.specs.Skies.{last_claim}
-use Rattle.search_core.specs.Descents.{buffer_of}
+use Rattle.search_core.specs.Descents.{refuted_buffer}
 use Rattle.search_core.specs.Tries.{chosen_of}
 use Rattle.search_core.specs.Walks.{place_of}
 use Rattle.search_core.proofs.Stacks.{when_ok}
@@ -58,7 +58,7 @@ refute-requires-clause-noted c =
     let done : length f.refuted ≡ length f.order = equal (length f.refuted) (length f.order)
     (sym c.if-is_done.ensures) in
     rw (q, c.refuted.ensures)
-    (lifted_noted I l (map buffer_of f.refuted) (is_instance I l s)
+    (lifted_noted I l (map refuted_buffer f.refuted) (is_instance I l s)
     (each_noted I C l c.args.log.now.lines f c.requires.ready.opened.trying done))
 
 pub refute-requires-clause-covered : goal.refute-requires-clause-covered
