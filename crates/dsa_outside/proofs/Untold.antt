@@ -6,7 +6,10 @@ use Rattle.dsa_model.specs.Counts.{Rose, one_more}
 
 -- the count rose where it is one more
 pub rose_by_one : (before now : ℕ) → now ≡ one_more before → Rose before now
-rose_by_one before now is = elim (below_the_end before) [ inl lt ↦ inl (omega (arith, is, lt)) | inr end ↦ inr (omega (arith, is, end)) ]
+rose_by_one before now is = elim (below_the_end before) [
+  | inl lt ↦ inl (omega (arith, is, lt))
+  | inr end ↦ inr (omega (arith, is, end))
+]
   where
     below_the_end : (n : ℕ) → (n < 2 ^ 64 - 1) ⊎ (2 ^ 64 - 1 ≤ n)
     below_the_end n = grind arith

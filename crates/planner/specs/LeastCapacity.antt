@@ -68,8 +68,9 @@ IsLogWithin I n low log =
     IsLogBelow I (lower_bound I) log
     ⊎ ((refutation : Log) × (log ≡ Some refutation) × (lower_bound I < low) × (length refutation.lines ≤ n))
 
--- where a number of steps is given, they are enough for a layout and a log below `low`: one for a layout that is not the
--- best start, and one for each line of a log that is not the bound's, which comes only where `low` is above the bound
+-- where a number of steps is given, they are enough for a layout and a log below `low`: one for a layout that is not
+-- the best start, and one for each line of a log that is not the bound's, which comes only where `low` is above the
+-- bound
 pub record AreWithinSteps (I : Instance) (steps : Option ℕ) (low : ℕ) (offsets : List ℕ) (refutation : Option Log) :
     Type 0 where
   pub layout_steps : ℕ
