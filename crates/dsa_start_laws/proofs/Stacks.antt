@@ -33,9 +33,6 @@ found_passes {X} p (y ∷ ys) x h = go (found_passes p ys x) (p y) refl h
     go ih false e q = ih q
 
 -- ---- the counted buffers
-counts : Instance → ℕ → ℕ → ℕ → Bool
-counts I t G b = is_live (buffer I b) t && ((buffer I b).alignment % G == 0)
-
 pub in_counted : (I : Instance) (t G b : ℕ) → IsIn b (counted I t G) →
     (b < length I) × (is_live (buffer I b) t ≡ true) × (((buffer I b).alignment % G == 0) ≡ true)
 unfolding counted

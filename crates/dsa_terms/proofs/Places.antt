@@ -58,3 +58,15 @@ rises_from_increasing xs h = rises_from_pairs xs (AllPairs-from_increasing xs h)
 
 pub in_permutation : {X : Type 0} (xs ys : List X) (x : X) → IsPermutation xs ys → IsIn x xs → IsIn x ys
 in_permutation xs ys x p i = from_contains ys x (Contains-permutation xs ys x p (to_contains xs x i))
+
+-- a slice that was lent and given back
+pub handed : {X : Type 0} (xs ys : List X) (n : ℕ) → length xs ≡ n → take n (xs ++ ys) ≡ xs
+handed [] ys n e = rw (← e) refl
+handed (x ∷ xs) ys zero e = absurd (omega arith)
+handed (x ∷ xs) ys (suc n) e = ap (λ zs. x ∷ zs) (handed xs ys n (omega arith))
+
+pub get_map : {X Y : Type 0} (f : X → Y) (xs : List X) (k : ℕ) (x : X) → slice_get xs k ≡ Some x →
+    slice_get (map f xs) k ≡ Some (f x)
+get_map f [] k x h = absurd cc
+get_map f (y ∷ ys) zero x h = let e : y ≡ x = cc in ap (λ y. Some (f y)) e
+get_map f (y ∷ ys) (suc k) x h = get_map f ys k x h

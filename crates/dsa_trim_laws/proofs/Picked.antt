@@ -16,12 +16,6 @@ into_take (y ∷ ys) zero j x h lt = absurd (omega arith)
 into_take (y ∷ ys) (suc k) zero x h lt = h
 into_take (y ∷ ys) (suc k) (suc j) x h lt = into_take ys k j x h (omega arith)
 
-pub get_map : {X Y : Type 0} (f : X → Y) (xs : List X) (k : ℕ) (x : X) → slice_get xs k ≡ Some x →
-    slice_get (map f xs) k ≡ Some (f x)
-get_map f [] k x h = absurd cc
-get_map f (y ∷ ys) zero x h = let e : y ≡ x = cc in ap (λ y. Some (f y)) e
-get_map f (y ∷ ys) (suc k) x h = get_map f ys k x h
-
 pub of_get_map : {X Y : Type 0} (f : X → Y) (xs : List X) (k : ℕ) (y : Y) → slice_get (map f xs) k ≡ Some y →
     (x : X) × (slice_get xs k ≡ Some x) × (f x ≡ y)
 of_get_map f [] k y h = absurd cc

@@ -8,8 +8,9 @@ use Rattle.dsa_terms.specs.Parts.{has}
 use Rattle.dsa_terms.specs.Trims.{cited_line, cited, IsKept, at_end, by_cite, needed, renumbered, moved_cite, moved_line, picked, kept_lines, trimmed, IsCited}
 use Rattle.dsa_search_laws.proofs.Logs.{from_take}
 use Rattle.dsa_terms.proofs.Lists.{has_in, left_append, right_append, true_or_false}
+use Rattle.dsa_terms.proofs.Places.{get_map}
 use Rattle.std.proofs.lemmas.List.{length-map}
-use Rattle.dsa_trim_laws.proofs.Picked.{get_in, into_take, get_map, of_get_map, passing, passing_less, passing_ends, passing_last, passing_all, length-picked, picked_at, picked_from, picked_all}
+use Rattle.dsa_trim_laws.proofs.Picked.{get_in, into_take, of_get_map, passing, passing_less, passing_ends, passing_last, passing_all, length-picked, picked_at, picked_from, picked_all}
 use Rattle.dsa_trim_laws.proofs.Needed.{CitesEarlier, later_cites, kept_up_to, cites_earlier, kept_exactly, claim_of-moved, cited-moved, StandsMoved, legal-moved}
 
 -- ---- the trimmed log

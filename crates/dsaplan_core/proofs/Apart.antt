@@ -1,5 +1,5 @@
 -- The names of a command's files differ from each other.
-use Rattle.std.proofs.Common.{◌≡◌, ◌≢◌, Bool, true, false, ◌||◌, List, [], ◌∷◌, Option, None, Some, Ok, Err, find, bytes_eq, refl, subst}
+use Rattle.std.proofs.Common.{◌≡◌, ◌≢◌, Bool, true, false, List, [], ◌∷◌, Option, None, Some, Ok, Err, find, bytes_eq, refl, subst}
 use Rattle.std.specs.Option.{option_map_or}
 use Rattle.std.proofs.lemmas.Slice.Eq.{bytes_eq-Decides}
 use Rattle.dsa_terms.specs.Firsts.{when, first_fault}

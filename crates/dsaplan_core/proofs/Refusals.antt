@@ -1,5 +1,5 @@
 -- A log's file that gives no accepted log, and a layout file that gives no layout, as they are answered.
-use Rattle.std.proofs.Common.{◌≡◌, ℕ, List, Result, Ok, IsSome, Some, IfOk, refl, sym, subst, ◌∙◌}
+use Rattle.std.proofs.Common.{◌≡◌, List, Result, Ok, IsSome, Some, IfOk, sym, subst, ◌∙◌}
 use Rattle.dsa_terms.specs.Buffers.{Instance}
 use Rattle.dsa_model.specs.declared.fail.NoMemory.{NoMemory}
 use Rattle.dsa_outside.specs.Faults.{NoneFell}

@@ -1,4 +1,3 @@
-pub mod Lists
 pub mod Climbing
 pub mod Spanning
 pub mod Gaps

@@ -16,9 +16,6 @@ pub record AreEdgesBelow (I : Instance) (n : ℕ) (edges : List (ℕ × ℕ)) : 
   pub complete : (b t : ℕ) → b < n → IsIn t (edge_moments (buffer I b)) → IsIn (t, b) edges
   pub limit : length edges ≤ 18 * n
 
-pub none_below : (I : Instance) → AreEdgesBelow I 0 []
-none_below I = record { in_range = λ e i. absurd i; complete = λ b t lt i. absurd (omega arith); limit = omega arith }
-
 length-gap_ends : (gaps : List (ℕ × ℕ)) → length (gap_ends gaps) ≡ 2 * length gaps
 length-gap_ends [] = refl
 length-gap_ends (g ∷ gs) = let k = length-gap_ends gs in omega arith

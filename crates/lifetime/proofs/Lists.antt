@@ -1,5 +1,5 @@
 -- Lists of numbers: filtered, rising, and told apart.
-use Rattle.std.proofs.Common.{◌≡◌, ◌≢◌, ℕ, zero, suc, ◌+◌, ◌<◌, ◌⊎◌, inl, inr, Bool, true, false, cond, List, [], ◌∷◌, ◌++◌, length, filter, take, slice_index_or, refl, sym, ap, ◌∙◌, arith, append-nil}
+use Rattle.std.proofs.Common.{◌≡◌, ◌≢◌, ℕ, zero, suc, ◌+◌, ◌<◌, ◌⊎◌, inl, inr, Bool, true, false, cond, List, [], ◌∷◌, ◌++◌, length, filter, slice_index_or, refl, sym, ap, ◌∙◌, arith, append-nil}
 use Rattle.std.specs.List.{range_with_len}
 use Rattle.dsa_terms.specs.Claims.{IsIn, Rises}
 use Rattle.dsa_terms.specs.Parts.{numbers}
@@ -112,9 +112,3 @@ in_or_not x (y ∷ ys) = go (equal_or_not x y) (in_or_not x ys)
     go (inl e) q = inl (inl e)
     go (inr n) (inl i) = inl (inr i)
     go (inr m) (inr n) = inr (neither m n)
-
--- a slice that was lent and given back
-pub handed : {X : Type 0} (xs ys : List X) (n : ℕ) → length xs ≡ n → take n (xs ++ ys) ≡ xs
-handed [] ys n e = rw (← e) refl
-handed (x ∷ xs) ys zero e = absurd (omega arith)
-handed (x ∷ xs) ys (suc n) e = ap (λ zs. x ∷ zs) (handed xs ys n (omega arith))

@@ -1,7 +1,7 @@
 -- Lines that are taken one after another.
-use Rattle.std.proofs.Common.{◌≡◌, ℕ, zero, suc, ◌+◌, ◌<◌, ◌≤◌, List, [], ◌∷◌, ◌++◌, map, length, take, Some, None, slice_get, slice_index_or, option_map, refl, sym, ap, subst, ◌∙◌, arith}
+use Rattle.std.proofs.Common.{◌≡◌, ℕ, zero, suc, ◌+◌, ◌<◌, List, [], ◌∷◌, ◌++◌, map, length, take, Some, None, slice_get, slice_index_or, option_map, refl, sym, ap, ◌∙◌, arith}
 use Rattle.dsa_terms.specs.Buffers.{Instance}
-use Rattle.std.proofs.lemmas.List.{map-append, take_all}
+use Rattle.std.proofs.lemmas.List.{map-append}
 use Rattle.refute_log.specs.Logs.{Belongs, OpenLog}
 use Rattle.refute_log.specs.declared.reason.Reason.{Reason}
 use Rattle.log_text.specs.Text.{raw_line_of}
@@ -77,10 +77,3 @@ found_fault I C lines n log line r lt at t some =
     let h = get_at lines n line lt at in
     t.left ∙ some_here (illegal_at I C lines) n (length lines) (fault.Illegal n r) lt
     (at_next I C lines n log line t h ∙ ap (option_map (fault.Illegal n)) some)
-
--- all lines are taken
-pub all_are_taken : (I : Instance) (C : ℕ) (lines : List RawLine) (n : ℕ) (log : OpenLog) → length lines ≤ n →
-    IsTaken I C lines n log → log ≡ record { count = length I; capacity = C; lines = map line_of lines }
-all_are_taken I C lines n log le t = subst
-    (λ ls. log ≡ record { count = length I; capacity = C; lines = map line_of ls })
-    (take_all n lines le) t.taken

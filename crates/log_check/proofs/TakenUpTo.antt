@@ -1,5 +1,5 @@
 -- Lines that are taken from the front of the list of those that are left.
-use Rattle.std.proofs.Common.{◌≡◌, ℕ, ◌+◌, ◌<◌, ◌≤◌, List, [], ◌∷◌, ◌++◌, map, length, take, Some, None, slice_index_or, refl, sym, ap, subst, ◌∙◌, arith}
+use Rattle.std.proofs.Common.{◌≡◌, ℕ, ◌+◌, ◌<◌, List, [], ◌∷◌, ◌++◌, length, take, Some, None, slice_index_or, refl, sym, ap, subst, ◌∙◌, arith}
 use Rattle.dsa_terms.specs.Buffers.{Instance}
 use Rattle.std.proofs.lemmas.List.{length-map}
 use Rattle.refute_log.specs.Logs.{Belongs, OpenLog}
@@ -9,7 +9,7 @@ use Rattle.log_text.specs.declared.raw.RawLine.{RawLine}
 use Rattle.log_check.specs.declared.fault.CheckFault.TheVariants as fault
 use Rattle.log_check.specs.Faults.{illegal_fault, line_of, raw_reason}
 use Rattle.log_check.specs.Taking.{IsTaken}
-use Rattle.log_check.proofs.Taken.{all_are_taken, found_fault, next_taken}
+use Rattle.log_check.proofs.Taken.{found_fault, next_taken}
 
 -- the lines in front of the rest are the log
 pub record IsTakenUpTo (I : Instance) (C : ℕ) (lines rest : List RawLine) (log : OpenLog) : Type 0 where
@@ -67,20 +67,3 @@ fault_in_rest I C lines rest more log line r n t e q some =
     let p = at_front t.front line more in
     found_fault I C lines (length t.front) log line r (rw w p.0) (rw w p.1) t.are_taken some
     ∙ ap (λ k. Some (fault.Illegal k r)) (sym (q ∙ count I C lines rest log t))
-
--- all lines are in front
-all_in_front : (I : Instance) (C : ℕ) (lines rest : List RawLine) (log : OpenLog) →
-    (t : IsTakenUpTo I C lines rest log) → rest ≡ [] → length lines ≤ length t.front
-all_in_front I C lines rest log t e = go t.front lines (t.whole ∙ ap (λ r. t.front ++ r) e)
-  where
-    go : {X : Type 0} (xs ys : List X) → ys ≡ xs ++ [] → length ys ≤ length xs
-    go xs ys e = rw e (short xs)
-      where
-        short : {X : Type 0} (xs : List X) → length (xs ++ []) ≤ length xs
-        short [] = omega arith
-        short (x ∷ xs) = let h = short xs in omega arith
-
-pub all_taken : (I : Instance) (C : ℕ) (lines rest : List RawLine) (log : OpenLog) → IsTakenUpTo I C lines rest log →
-    rest ≡ [] → log ≡ record { count = length I; capacity = C; lines = map line_of lines }
-all_taken I C lines rest log t e =
-    all_are_taken I C lines (length t.front) log (all_in_front I C lines rest log t e) t.are_taken

@@ -38,9 +38,6 @@ header_no_capacity old mid rest last v w e p q h = λ a n c r f.
     (field_split (codes " ") mid v rest refl p a _ (cut (codes "dsalog ") _ _
     (sym e ∙ (f ∙ header_form a n c r)))).1).1
 
-pub no_header : (old : List ℕ) → HasNoHeader old → IsFirstFault old NotLog
-no_header old h = λ v n c r p. h v n c r p.text
-
 header_same : (old : List ℕ) (x y z : Option ℕ) (new : List ℕ) → (p : IsHeaderRead old x y z new) →
     (v n c : ℕ) (r : List ℕ) → HasHeader old v n c r → (p.v ≡ v) × (p.n ≡ n) × (p.c ≡ c) × (new ≡ r)
 header_same old x y z new p v n c r h = header_split p.v v p.n n p.c c new r (sym p.text ∙ h.text)

@@ -2,7 +2,7 @@
 use Rattle.std.proofs.Common.{◌≡◌, ◌≢◌, ℕ, zero, suc, ◌+◌, ◌-◌, ◌<◌, ◌≤◌, ◌⊎◌, inl, inr, Bool, true, false, ◌||◌, ◌==◌, List, [], ◌∷◌, ◌++◌, length, map, drop, take, replicate, slice_get, slice_set, slice_index_or, Some, refl, sym, ap, ◌∙◌, arith}
 use Rattle.std.specs.List.{flat_map}
 use Rattle.std.proofs.lemmas.Bool.Decides.{nat_tests}
-use Rattle.std.proofs.lemmas.List.{drop_all, take_at, flat_map_more, map_more, get_or-set_same, get_or-set_other, length-set, length-replicate, get_or-replicate}
+use Rattle.std.proofs.lemmas.List.{drop_all, flat_map_more, map_more, get_or-set_same, get_or-set_other, length-set, length-replicate, get_or-replicate}
 use Rattle.std.proofs.lemmas.List.FromFn.{fill_by_all, get_or-map-range_with_len, length-map-range_with_len}
 use Rattle.dsa_terms.specs.Claims.{IsIn}
 use Rattle.dsa_terms.specs.Logs.{Cite, Line, Log}
@@ -202,7 +202,3 @@ pub marked_next : {X : Type 0} (f : X → Cite) (xs : List X) (i : ℕ) (d : X) 
     AreMarkedToo (flat_map cited_line (map f (take (i + 1) xs))) old new
 marked_next f xs i d old mid new lt g h = rw (named_more f xs i d lt)
     (marked_both (flat_map cited_line (map f (take i xs))) (cited_line (f (slice_index_or xs i d))) old mid new g h)
-
--- a slice that was lent and given back
-pub handed : {X : Type 0} (xs ys : List X) (n : ℕ) → length xs ≡ n → take n (xs ++ ys) ≡ xs
-handed xs ys n e = take_at xs ys n e

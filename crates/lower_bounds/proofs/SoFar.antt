@@ -15,13 +15,6 @@ take_more (x ∷ xs) zero lt = refl
 take_more (x ∷ xs) (suc q) lt = let e : suc q + 1 ≡ suc (q + 1) = omega arith in rw e
     (ap (λ ys. x ∷ ys) (take_more xs q (omega arith)))
 
-in_take : (xs : List ℕ) (q x : ℕ) → IsIn x (take q xs) → IsIn x xs
-in_take [] zero x i = i
-in_take [] (suc q) x i = i
-in_take (y ∷ ys) zero x i = absurd i
-in_take (y ∷ ys) (suc q) x (inl e) = inl e
-in_take (y ∷ ys) (suc q) x (inr i) = inr (in_take ys q x i)
-
 taken_less : (xs : List ℕ) (q x : ℕ) → Rises xs → q < length xs → IsIn x (take q xs) → x < slice_index xs q
 taken_less [] q x r lt i = absurd (omega arith)
 taken_less (y ∷ ys) zero x r lt i = absurd i

@@ -1,5 +1,5 @@
 -- A made text, line by line.
-use Rattle.std.proofs.Common.{◌≡◌, ◌+◌, ◌++◌, ◌∷◌, ◌∙◌, ℕ, List, [], codes, map, refl, sym, ap, arith, append_assoc}
+use Rattle.std.proofs.Common.{◌≡◌, ◌+◌, ◌++◌, ◌∷◌, ◌∙◌, ℕ, List, [], codes, map, refl, sym, ap, arith, append_assoc, append-nil}
 use Rattle.std.proofs.lemmas.Grind.{flat_map-append}
 use Rattle.std.proofs.lemmas.List.FromFn.{map-range_with_len_more}
 use Rattle.std.specs.List.{flat_map, range_with_len}
@@ -14,10 +14,6 @@ pub text_first : (seed count : ℕ) → codes "id,lower,upper,size,alignment,gap
 unfolding text_to
 text_first seed count = refl
 
-nothing_after : (x : List ℕ) → x ++ [] ≡ x
-nothing_after [] = refl
-nothing_after (b ∷ x) = ap (λ (t : List ℕ). b ∷ t) (nothing_after x)
-
 -- one more line
 pub text_more : (seed count n : ℕ) (text line : List ℕ) → text ≡ text_to seed count n
     → line ≡ record_line (made_record seed count n) → text ++ line ≡ text_to seed count (n + 1)
@@ -28,7 +24,7 @@ text_more seed count n text line h e =
     map-range_with_len_more f 0 n n (omega arith) in
     let lines : flat_map record_line (map f (range_with_len 0 n)) ++ line
     ≡ flat_map record_line (map f (range_with_len 0 (n + 1))) =
-    ap (λ (t : List ℕ). flat_map record_line (map f (range_with_len 0 n)) ++ t) (e ∙ sym (nothing_after _))
+    ap (λ (t : List ℕ). flat_map record_line (map f (range_with_len 0 n)) ++ t) (e ∙ sym (append-nil _))
     ∙ sym (flat_map-append record_line (map f (range_with_len 0 n)) (f n ∷ []))
     ∙ ap (flat_map record_line) (sym more) in
     ap (λ (t : List ℕ). t ++ line) h

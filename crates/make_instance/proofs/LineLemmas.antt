@@ -1,5 +1,5 @@
 -- A line of fields that need no quotes is what the `csv` writer writes of them.
-use Rattle.std.proofs.Common.{◌≡◌, ◌<◌, ◌^◌, ◌++◌, ◌∷◌, ◌∙◌, ◌==◌, ℕ, List, [], true, false, refl, sym, ap, arith}
+use Rattle.std.proofs.Common.{◌≡◌, ◌<◌, ◌^◌, ◌++◌, ◌∷◌, ◌∙◌, ◌==◌, ℕ, List, [], true, false, refl, sym, ap, arith, append-nil}
 use Rattle.std.proofs.lemmas.Bool.Decides.{nat_tests}
 use Rattle.std.proofs.lemmas.Fmt.{digits_decimal}
 use Rattle.std.proofs.lemmas.List.Folds.{list_any-append}
@@ -65,10 +65,6 @@ abbrev pub ArePlain : Record → Type 0
 ArePlain [] = ⊤
 ArePlain (f ∷ fs) = IsPlain f × ArePlain fs
 
-nothing_after : (x : List ℕ) → x ++ [] ≡ x
-nothing_after [] = refl
-nothing_after (b ∷ x) = ap (λ (t : List ℕ). b ∷ t) (nothing_after x)
-
 plain_text : (f : List ℕ) → IsPlain f → field_text default_writer f ≡ f
 plain_text f h = rw h refl
 
@@ -76,7 +72,7 @@ joined : (f : List ℕ) (fs : Record) → ArePlain (f ∷ fs)
     → 44 ∷ join_with_byte 44 (f ∷ fs) ≡ fields_text default_writer (f ∷ fs)
 unfolding fields_text
 joined f [] h = ap (λ (t : List ℕ). 44 ∷ t)
-    (sym (nothing_after f) ∙ ap (λ (t : List ℕ). t ++ []) (sym (plain_text f h.0)))
+    (sym (append-nil f) ∙ ap (λ (t : List ℕ). t ++ []) (sym (plain_text f h.0)))
 joined f (g ∷ gs) h = ap (λ (t : List ℕ). 44 ∷ (f ++ t)) (joined g gs h.1)
     ∙ ap (λ (t : List ℕ). 44 ∷ (t ++ fields_text default_writer (g ∷ gs))) (sym (plain_text f h.0))
 

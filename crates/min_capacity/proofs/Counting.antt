@@ -1,5 +1,5 @@
 -- The bracket that is reached, and the decider's counts since the start.
-use Rattle.std.proofs.Common.{◌≡◌, ℕ, ◌+◌, ◌/◌, ◌<◌, ◌≤◌, inl, inr, Option, Some, None, refl, sym, ap, ◌∙◌, subst, arith}
+use Rattle.std.proofs.Common.{◌≡◌, ℕ, ◌+◌, ◌/◌, ◌<◌, ◌≤◌, inl, inr, Option, Some, None, sym, ap, ◌∙◌, subst, arith}
 use Rattle.dsa_terms.specs.Buffers.{Instance, IsInstance}
 use Rattle.dsa_terms.specs.Layouts.{IsLayout}
 use Rattle.dsa_terms.specs.Logs.{IsAccepted, Log}
@@ -7,10 +7,10 @@ use Rattle.dsa_terms.specs.Plans.{layout_height}
 use Rattle.dsa_search_laws.proofs.Plans.{layout_under, middle}
 use Rattle.refute_log.specs.Answers.{Answer, Offsets, Refutation}
 use Rattle.refute_log.specs.Hunts.{halving}
-use Rattle.min_capacity.specs.Brackets.{ArePaid, IsBracket, IsShort, LayoutIsPaid, LogIsPaid, Narrows}
+use Rattle.min_capacity.specs.Brackets.{ArePaid, IsShort, LayoutIsPaid, LogIsPaid, Narrows}
 use Rattle.min_capacity.specs.declared.brackets.Bracket.{Bracket}
 use Rattle.min_capacity.proofs.Hunts.{hunt_at_call, hunt_at_layout, hunt_at_log}
-use Rattle.min_capacity.proofs.Narrowing.{narrowed_by_layout, narrowed_by_log, not_narrowed}
+use Rattle.min_capacity.proofs.Narrowing.{narrowed_by_layout, narrowed_by_log}
 
 -- the bracket has narrowed, the counts s and u have risen to s' and u', by the charges at least, and the hunt that is
 -- left is within the first
@@ -21,17 +21,6 @@ pub record Halves (I : Instance) (gives : ℕ → Answer → Type 0) (most : ℕ
   pub units : u ≤ u'
   pub used : u' + halving most turn b.low b.high ≤ u + halving most turn start.low start.high
   pub paid : ArePaid charge u u' start b
-
-pub at_start : (I : Instance) (gives : ℕ → Answer → Type 0) (most : ℕ → ℕ) (turn : ℕ → Option ℕ)
-    (charge : Answer → ℕ) (start : Bracket) (s u : ℕ) → IsBracket I start →
-    Halves I gives most turn charge start start s s u u
-at_start I gives most turn charge start s u h = record {
-  narrowed = not_narrowed h;
-  spends = omega arith;
-  units = omega arith;
-  used = omega arith;
-  paid = record { layout_cost = 0; log_cost = 0; layout = inl refl; log = inl refl; paid = omega arith };
-}
 
 module _ {I : Instance} {gives : ℕ → Answer → Type 0} {most : ℕ → ℕ} {turn : ℕ → Option ℕ} {charge : Answer → ℕ}
     {start b : Bracket} {s s' u u' C : ℕ} (h : Halves I gives most turn charge start b s s' u u') (lt : b.low < b.high)

@@ -1,10 +1,10 @@
 use Rattle.std.proofs.Common.{rules, sym, ap, ◌∙◌, map}
+use Rattle.dsa_terms.proofs.Places.{handed}
 use Rattle.lifetime.specs.SectionList.{Section}
 use Rattle.lifetime.specs.Places.{ends_with}
 use Rattle.dsa_model.specs.Lists.{items_of}
 use Rattle.lifetime.specs.Views.{section_of}
 use Rattle.lifetime.specs.declared.section_list.Section.{Section as Declared}
-use Rattle.lifetime.proofs.Lists.{handed}
 use Rattle.lifetime.proofs.Noting.{places_below, places_more, ready, section_at}
 use Rattle.lifetime.proofs.places.places.Goals as goal
 

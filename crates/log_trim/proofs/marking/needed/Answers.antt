@@ -1,6 +1,7 @@
 use Rattle.std.proofs.Common.{◌-◌, ◌∙◌, sym, arith, rules}
+use Rattle.dsa_terms.proofs.Places.{handed}
 use Rattle.refute_log.specs.Lines.{line_value}
-use Rattle.log_trim.proofs.Marked.{all_needed, below_length, handed, only_end, with_cites, without_cites}
+use Rattle.log_trim.proofs.Marked.{all_needed, below_length, only_end, with_cites, without_cites}
 use Rattle.log_trim.proofs.marking.needed.Goals as goal
 
 pub loop-k-init : goal.loop-k-init
