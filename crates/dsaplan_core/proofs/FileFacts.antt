@@ -81,7 +81,6 @@ undisturbed = record { files = files; sink = not_risen 3 (lit< tt) }
   where
     files : (name : Word) → IsIn name (codes "a" ∷ []) → Rose 0 (disturbed.faults name) → ⊥
     files name (inl e) rose = not_risen 0 (lit< tt) (subst (λ other. Rose 0 (disturbed.faults other)) e rose)
-      where
     files name (inr i) rose = i
 
 disturbed_input : IsUndisturbed (Bounds (codes "i")) (told input_alone) disturbed

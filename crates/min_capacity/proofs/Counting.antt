@@ -6,13 +6,13 @@ use Rattle.dsa_terms.specs.Logs.{IsAccepted, Log}
 use Rattle.dsa_terms.specs.Plans.{layout_height}
 use Rattle.dsa_search_laws.proofs.Plans.{layout_under, middle}
 use Rattle.refute_log.specs.Answers.{Answer, Offsets, Refutation}
-use Rattle.refute_log.specs.Hunts.{halving}
+use Rattle.refute_log.specs.Halvings.{halving}
 use Rattle.min_capacity.specs.Brackets.{ArePaid, IsShort, LayoutIsPaid, LogIsPaid, Narrows}
 use Rattle.min_capacity.specs.declared.brackets.Bracket.{Bracket}
-use Rattle.min_capacity.proofs.Hunts.{hunt_at_call, hunt_at_layout, hunt_at_log}
+use Rattle.min_capacity.proofs.Halvings.{halving_at_call, halving_at_layout, halving_at_log}
 use Rattle.min_capacity.proofs.Narrowing.{narrowed_by_layout, narrowed_by_log}
 
--- the bracket has narrowed, the counts s and u have risen to s' and u', by the charges at least, and the hunt that is
+-- the bracket has narrowed, the counts s and u have risen to s' and u', by the charges at least, and the halving that is
 -- left is within the first
 pub record Halves (I : Instance) (gives : ℕ → Answer → Type 0) (most : ℕ → ℕ) (turn : ℕ → Option ℕ)
     (charge : Answer → ℕ) (start b : Bracket) (s s' u u' : ℕ) : Type 0 where
@@ -25,10 +25,10 @@ pub record Halves (I : Instance) (gives : ℕ → Answer → Type 0) (most : ℕ
 module _ {I : Instance} {gives : ℕ → Answer → Type 0} {most : ℕ → ℕ} {turn : ℕ → Option ℕ} {charge : Answer → ℕ}
     {start b : Bracket} {s s' u u' C : ℕ} (h : Halves I gives most turn charge start b s s' u u') (lt : b.low < b.high)
     (mid : C ≡ (b.low + b.high) / 2) where
-  -- the units of one call are within the hunt
+  -- the units of one call are within the halving
   pub call_within : u' + most C ≤ u + halving most turn start.low start.high
   call_within =
-      let k = hunt_at_call most turn b.low b.high lt in let e = ap most mid in let l = h.used in omega arith
+      let k = halving_at_call most turn b.low b.high lt in let e = ap most mid in let l = h.used in omega arith
 
   -- fewer than the most units of one call that ends the halving
   pub call_short : {u'' : ℕ} → u'' < u' + most C → IsShort most turn u u'' start b
@@ -65,7 +65,7 @@ module _ {I : Instance} {gives : ℕ → Answer → Type 0} {most : ℕ → ℕ}
 
         left : halving most turn b.low b.high ≡ most C + halving most turn n.low n.high
         left =
-            hunt_at_layout most turn b.low b.high lt n.high under at_middle
+            halving_at_layout most turn b.low b.high lt n.high under at_middle
             ∙ (let e = ap most mid in let f = ap (λ x. halving most turn x n.high) low in omega arith)
 
     pub after_log : (n : Bracket) (log : Log) → IsAccepted I log → log.capacity ≡ C → gives C (Refutation log) →
@@ -94,7 +94,7 @@ module _ {I : Instance} {gives : ℕ → Answer → Type 0} {most : ℕ → ℕ}
 
         left : halving most turn b.low b.high ≡ most C + halving most turn n.low n.high
         left =
-            hunt_at_log most turn b.low b.high lt (ap turn (sym mid) ∙ turned)
+            halving_at_log most turn b.low b.high lt (ap turn (sym mid) ∙ turned)
             ∙ (
             let e = ap most mid in
             let f = ap (λ x. halving most turn x n.high) (low ∙ ap (λ x. x + 1) mid) in

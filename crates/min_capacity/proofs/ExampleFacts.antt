@@ -9,7 +9,7 @@ use Rattle.dsa_terms.specs.Plans.{layout_height}
 use Rattle.dsa_terms.specs.Search.{comes_before, first, is_tall}
 use Rattle.dsa_terms.proofs.Examples.{two_of_four}
 use Rattle.dsa_search_laws.proofs.Parts.{searched_is_layout}
-use Rattle.refute_log.specs.Hunts.{halving}
+use Rattle.refute_log.specs.Halvings.{halving}
 use Rattle.min_capacity.specs.Brackets.{ArePaid, IsBracket, IsShort, LayoutComes, LayoutIsPaid, LogIsPaid, Refutes}
 use Rattle.min_capacity.specs.declared.brackets.Bracket.{Bracket}
 

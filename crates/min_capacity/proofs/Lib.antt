@@ -1,4 +1,4 @@
-pub mod Hunts
+pub mod Halvings
 pub mod Narrowing
 pub mod Counting
 pub mod ExampleFacts

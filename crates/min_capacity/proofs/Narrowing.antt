@@ -1,5 +1,5 @@
 -- Brackets that narrow.
-use Rattle.std.proofs.Common.{◌≡◌, ℕ, ◌+◌, ◌-◌, ◌/◌, ◌<◌, ◌≤◌, ◌⊎◌, inl, inr, List, Option, Some, None, refl, sym, ap, ◌∙◌, subst, arith}
+use Rattle.std.proofs.Common.{◌≡◌, ℕ, ◌+◌, ◌-◌, ◌/◌, ◌<◌, ◌≤◌, ◌⊎◌, inl, inr, List, Option, Some, None, sym, ap, ◌∙◌, subst, arith}
 use Rattle.std.specs.List.{All}
 use Rattle.std.proofs.lemmas.Grind.{get_or_default_zero}
 use Rattle.dsa_terms.specs.Buffers.{Instance, IsInstance}
@@ -42,16 +42,6 @@ above_low I low C (Some log) offsets sound r l = elim (cases low C) [
   where
     cases : (x y : ℕ) → (x ≤ y) ⊎ (y < x)
     cases x y = grind arith
-
-pub not_narrowed : {I : Instance} {gives : ℕ → Answer → Type 0} {start : Bracket} → IsBracket I start →
-    Narrows I gives start start
-not_narrowed h = record {
-  bracket = h;
-  low = omega arith;
-  high = omega arith;
-  layout = inl refl;
-  log = inl refl;
-}
 
 module _ {I : Instance} {gives : ℕ → Answer → Type 0} {start b : Bracket} {C : ℕ} (h : Narrows I gives start b)
     (lt : b.low < b.high) (mid : C ≡ (b.low + b.high) / 2) where

@@ -6,7 +6,7 @@ use Rattle.dsa_terms.specs.Layouts.{IsLayout}
 use Rattle.dsa_terms.specs.Logs.{IsAccepted, Log}
 use Rattle.dsa_terms.specs.Plans.{layout_height}
 use Rattle.refute_log.specs.Answers.{Answer, Offsets, Refutation}
-use Rattle.refute_log.specs.Hunts.{halving}
+use Rattle.refute_log.specs.Halvings.{halving}
 use Rattle.min_capacity.specs.declared.brackets.Bracket.{Bracket}
 use Rattle.min_capacity.specs.declared.brackets.Least.{Least}
 use Rattle.min_capacity.specs.declared.brackets.Least.TheVariants.{Exact, Open}

@@ -3,7 +3,7 @@
 ghost use Rattle.std.specs.Prelude.{◌≡◌, ℕ, ◌+◌, ◌<◌, ◌≤◌, IfOk};
 ghost use Rattle.dsa_terms.specs.Layouts.{IsLeast};
 ghost use Rattle.dsa_model.specs.Counts.{Rose};
-ghost use Rattle.refute_log.specs.Hunts.{halving};
+ghost use Rattle.refute_log.specs.Halvings.{halving};
 ghost use Rattle.min_capacity.specs.Brackets.{ArePaid, IsBracket, IsShort, Narrows, bracket_of};
 ghost use Rattle.min_capacity.specs.Brackets.{IfExact, IfOpen};
 

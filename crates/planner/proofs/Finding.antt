@@ -11,7 +11,7 @@ use Rattle.dsa_terms.specs.Starts.{best_start, planned, starts}
 use Rattle.dsa_search_laws.proofs.Plans.{plan_lower}
 use Rattle.dsa_model.specs.Buffer.{IsBuffer}
 use Rattle.dsa_model.proofs.Instances.{sound_instance}
-use Rattle.refute_log.specs.Hunts.{halving}
+use Rattle.refute_log.specs.Halvings.{halving}
 use Rattle.search_core.specs.Courses.{at_start, Course}
 use Rattle.search_core.specs.Decisions.{allowance_of, IsGiven, turn_of}
 use Rattle.min_capacity.specs.Brackets.{bracket_of, IfExact, IfOpen, LayoutComes, LogComes, Narrows, Refutes}

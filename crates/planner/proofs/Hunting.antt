@@ -8,14 +8,14 @@ use Rattle.dsa_terms.specs.Starts.{best_start, hunted, planned, starts}
 use Rattle.dsa_terms.proofs.NumberTests.{below_or_from}
 use Rattle.dsa_search_laws.proofs.Parts.{searched_is_layout}
 use Rattle.dsa_search_laws.proofs.Plans.{hunt_equation, hunt_met, layout_under, middle}
-use Rattle.refute_log.specs.Hunts as decider
+use Rattle.refute_log.specs.Halvings.{halving}
 use Rattle.search_core.specs.Decisions.{turn_of}
-use Rattle.min_capacity.proofs.Hunts as halving
+use Rattle.min_capacity.proofs.Halvings.{halving_equation, halving_met}
 use Rattle.planner.proofs.BestStart.{planned_below}
 
 -- the work by the search, and the work by the plan
 abbrev by_search : Instance → ℕ → ℕ → ℕ
-by_search I a b = decider.halving (whole_work I) (turn_of I) a b
+by_search I a b = halving (whole_work I) (turn_of I) a b
 
 abbrev by_plan : Instance → ℕ → ℕ → ℕ
 by_plan I a b = hunt (starts I) I a b
@@ -27,7 +27,7 @@ plan_is_search I C lt = planned_below I C lt
 -- the same is left after the middle, by what the search answers there
 same_after : (I : Instance) (a b m : ℕ) (found : Option (List ℕ)) → IsInstance I → searched I m ≡ found →
     a ≤ m → m < b → ((x y : ℕ) → y ≤ b → y - x < b - a → by_search I x y ≡ by_plan I x y) →
-    decider.after_turn (by_search I) a b m (option_map (layout_height I) found) ≡ after_plan (by_plan I) I a b m found
+    after_turn (by_search I) a b m (option_map (layout_height I) found) ≡ after_plan (by_plan I) I a b m found
 same_after I a b m None s e le lt ih = ih (m + 1) b (omega arith) (omega arith)
 same_after I a b m (Some offsets) s e le lt ih =
     let h = layout_under I m offsets (searched_is_layout I m offsets s e) in
@@ -37,13 +37,13 @@ same_after I a b m (Some offsets) s e le lt ih =
 same_within : (n : ℕ) (I : Instance) (a b : ℕ) → IsInstance I → b ≤ layout_height I (best_start I) → b - a ≤ n →
     by_search I a b ≡ by_plan I a b
 same_within zero I a b s le few =
-    halving.hunt_met (whole_work I) (turn_of I) a b (omega arith) ∙ sym (hunt_met (starts I) I a b (omega arith))
+    halving_met (whole_work I) (turn_of I) a b (omega arith) ∙ sym (hunt_met (starts I) I a b (omega arith))
 same_within (suc n) I a b s le few = elim (below_or_from a b) [
-  | inr met ↦ halving.hunt_met (whole_work I) (turn_of I) a b met ∙ sym (hunt_met (starts I) I a b met)
+  | inr met ↦ halving_met (whole_work I) (turn_of I) a b met ∙ sym (hunt_met (starts I) I a b met)
   | inl lt ↦
       let m = middle a b lt in
       let below : (a + b) / 2 < layout_height I (best_start I) = let k = m.1 in omega arith in
-      halving.hunt_equation (whole_work I) (turn_of I) a b lt
+      halving_equation (whole_work I) (turn_of I) a b lt
       ∙ ap (λ w. whole_work I ((a + b) / 2) + w)
       (same_after I a b ((a + b) / 2) (searched I ((a + b) / 2)) s refl m.0 m.1
       (λ x y below shorter. same_within n I x y s (omega arith) (omega arith)))
@@ -53,6 +53,6 @@ same_within (suc n) I a b s le few = elim (below_or_from a b) [
 ]
 
 pub same_hunt : (I : Instance) (a b : ℕ) → IsInstance I → b ≤ layout_height I (best_start I) →
-    decider.halving (whole_work I) (turn_of I) a b ≡ hunted I a b
+    halving (whole_work I) (turn_of I) a b ≡ hunted I a b
 unfolding hunted
 same_hunt I a b s le = same_within (b - a) I a b s le (omega arith)

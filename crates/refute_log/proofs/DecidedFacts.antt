@@ -1,4 +1,4 @@
--- Answers of a decider for two buffers of size 3 aligned to four, which fit into 7; and the steps of the hunt.
+-- Answers of a decider for two buffers of size 3 aligned to four, which fit into 7; and the steps of halving.
 use Rattle.std.proofs.Common.{◌≡◌, ℕ, zero, suc, ◌+◌, ◌*◌, ◌<◌, inl, inr, [], ◌∷◌, slice_get, take, cond, nat_le, Some, None, refl, subst, arith}
 use Rattle.dsa_terms.specs.Buffers.{is_live, buffer}
 use Rattle.dsa_terms.specs.Claims.{Entry, Claim, IsIn, up}
@@ -11,7 +11,7 @@ use Rattle.dsa_model.proofs.LayoutFaults.{layout_exactly}
 use Rattle.refute_log.specs.Answers.{Offsets, Refutation, NoAnswer}
 use Rattle.refute_log.specs.Decided.{answer_of, IsRight, TurnsOut, IfSpent}
 use Rattle.refute_log.specs.Logs.{ended}
-use Rattle.refute_log.specs.Hunts.{after_turn, halving_within}
+use Rattle.refute_log.specs.Halvings.{after_turn, halving_within}
 use Rattle.refute_log.specs.declared.decided.Decided.{Decided}
 use Rattle.refute_log.specs.declared.decided.Decided.TheVariants.{Layout, Refuted, Spent}
 
@@ -116,7 +116,7 @@ spent_is = omega arith
 spent_is_not : IfSpent Spent ⊥ → ⊥
 spent_is_not h = h
 
--- ---- the hunt in 4..9 after its middle 6: on to 7..9 without a height, else to 4 and that height, or 6 if it is above
+-- ---- halving 4..9 after its middle 6: on to 7..9 without a height, else to 4 and that height, or 6 if it is above
 turn_of_none : after_turn (λ a b. 10 * a + b) 4 9 6 None ≡ 79
 turn_of_none = refl
 
@@ -130,7 +130,7 @@ turn_of_8 = refl
 up_to_seven : halving_within 5 (λ C. C) (λ C. cond (nat_le 7 C) (Some C) None) 4 9 ≡ 21
 up_to_seven = refl
 
--- a bracket that has met, and a hunt of length 0
+-- a bracket that has met, and a halving of length 0
 has_met : halving_within 5 (λ C. C) (λ C. None) 9 9 ≡ 0
 has_met = refl
 

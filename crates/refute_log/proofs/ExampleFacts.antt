@@ -3,7 +3,7 @@ use Rattle.std.proofs.Common.{◌≡◌, ℕ, [], ◌∷◌, Option, Some, None,
 use Rattle.dsa_terms.specs.Buffers.{Buffer, Instance, is_live, buffer, do_share, have_same_moments, some_before}
 use Rattle.dsa_terms.specs.Claims.{up, step, child}
 use Rattle.dsa_terms.specs.Logs.{is_stacked, rounded, rounding, ends_below, is_twin, ByLine, Below, Twin, Line, Over, Cases}
-use Rattle.refute_log.specs.Hunts.{halving}
+use Rattle.refute_log.specs.Halvings.{halving}
 use Rattle.refute_log.specs.Lines.{HasCites}
 use Rattle.refute_log.specs.Reasons.{covers, first_reason, stack_height}
 use Rattle.refute_log.specs.declared.reason.Reason.TheVariants as reason
@@ -154,20 +154,20 @@ not_in_claim = refl
 cites_of_both : HasCites case_12
 cites_of_both = refl
 
--- ---- the hunt
+-- ---- halving
 -- at 12 a layout of height 10, and at 9 none: two capacities of one unit each
 abbrev from_ten : ℕ → Option ℕ
 from_ten C = cond (nat_le 10 C) (Some 10) None
 
-hunt_of_two : halving (λ C. 1) from_ten 8 16 ≡ 2
+halving_of_two : halving (λ C. 1) from_ten 8 16 ≡ 2
 unfolding halving
-hunt_of_two = refl
+halving_of_two = refl
 
 -- a turn above the middle is cut to it
-hunt_of_a_high_turn : halving (λ C. 1) (λ C. Some 99) 0 2 ≡ 2
+halving_of_a_high_turn : halving (λ C. 1) (λ C. Some 99) 0 2 ≡ 2
 unfolding halving
-hunt_of_a_high_turn = refl
+halving_of_a_high_turn = refl
 
-no_hunt : halving (λ C. 1) from_ten 7 7 ≡ 0
+no_halving : halving (λ C. 1) from_ten 7 7 ≡ 0
 unfolding halving
-no_hunt = refl
+no_halving = refl

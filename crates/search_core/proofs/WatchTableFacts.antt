@@ -6,7 +6,7 @@ use Rattle.dsa_terms.proofs.Lists.{same_some}
 use Rattle.search_core.specs.declared.watch_row.Mark.{Mark}
 use Rattle.search_core.specs.Looks.{IsUnmet}
 use Rattle.search_core.specs.Watches.{Fails, RulesOut}
-use Rattle.search_core.specs.Watching.{AreAppended, AreExtended, AreFiled, AreMoved, AreOwnMoved, FailAt, FailsAtMark, IsUnwatched, IsWatched, Watched, mark_of, row_at}
+use Rattle.search_core.specs.Watching.{AreAppended, AreExtended, AreFiled, AreMoved, AreOwnMoved, FailAt, FailsAtMark, IsUnwatched, IsWatched, WatchedLines, mark_of, row_at}
 use Rattle.search_core.proofs.WatchFacts.{met_at_other, other}
 
 abbrev first_line : Line
@@ -19,7 +19,7 @@ lines = first_line ∷ []
 abbrev watches : List Entry
 watches = (1, 5) ∷ []
 
-abbrev table : Watched
+abbrev table : WatchedLines
 table = record { watches = watches; rows = (mark_of 0 2 ∷ []) ∷ (mark_of 0 5 ∷ []) ∷ [] }
 
 same_mark : {x y : Mark} → Some x ≡ Some y → x ≡ y

@@ -7,7 +7,7 @@ use Rattle.search_core.specs.Looks.{IsUnmet}
 use Rattle.search_core.specs.Watches.{Fails, RulesOut}
 
 -- the watches by line, and the marks of lines by buffer
-pub record Watched : Type 0 where
+pub record WatchedLines : Type 0 where
   pub watches : List Entry
   pub rows : List (List Mark)
 
@@ -29,7 +29,7 @@ abbrev pub AreAppended : List (List Mark) → List (List Mark) → Type 0
 AreAppended before after = (b : ℕ) → (more : List Mark) × (row_at after b ≡ row_at before b ++ more)
 
 -- no line has the mark at that place of the row of b for its watch
-abbrev pub IsUnwatched : Watched → ℕ → ℕ → Type 0
+abbrev pub IsUnwatched : WatchedLines → ℕ → ℕ → Type 0
 IsUnwatched table b i = (m : Mark) → slice_get (row_at table.rows b) i ≡ Some m →
     slice_get table.watches m.line ≡ Some (b, m.bound) → ⊥
 

@@ -25,9 +25,9 @@ pub(crate) struct WatchTable {
 }
 
 impl Model for WatchTable {
-    ghost use Rattle.search_core.specs.Watching.{AreFiled, Watched};
+    ghost use Rattle.search_core.specs.Watching.{AreFiled, WatchedLines};
 
-    ghost Value = { Watched };
+    ghost Value = { WatchedLines };
 
     ghost view = { λ t. record { watches = t.watches.items; rows = t.rows.items } };
 

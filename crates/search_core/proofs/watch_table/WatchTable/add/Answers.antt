@@ -1,6 +1,6 @@
 use Rattle.std.proofs.Common.{arith, slice_set, subst}
 use Rattle.std.proofs.lemmas.List.{length-set}
-use Rattle.search_core.specs.Watching.{AreAppended, Watched}
+use Rattle.search_core.specs.Watching.{AreAppended, WatchedLines}
 use Rattle.search_core.proofs.WatchRows.{appended_row, filed_appended, in_new_row}
 use Rattle.search_core.proofs.watch_table.WatchTable.add.Goals as goal
 
@@ -16,7 +16,7 @@ invariant_of-self c =
 pub returns-in_ok-push-clause-rows : goal.returns-in_ok-push-clause-rows
 returns-in_ok-push-clause-rows c =
     let rows = c.self.inside.rows.items in
-    subst (λ (t : Watched). AreAppended t.rows (slice_set rows c.args.b c.push.new.self)) c.self.view_is
+    subst (λ (t : WatchedLines). AreAppended t.rows (slice_set rows c.args.b c.push.new.self)) c.self.view_is
     (appended_row rows c.args.b c.index_mut-row.result.now c.push.new.self c.args.mark
     (omega (arith, c.self.inside.rows.ok.0)) c.index_mut-row.ensures.value c.in_ok-push.ensures.appended)
 

@@ -5,8 +5,8 @@ use Rattle.std.specs.declared.option.Option.TheVariants.{Some, None}
 -- what is left after the turn at m: none raises the lower end past m; a height lowers the upper end to it, or to m
 -- where it is greater
 abbrev pub after_turn : (ℕ → ℕ → ℕ) → ℕ → ℕ → ℕ → Option ℕ → ℕ
-after_turn hunt_on a b m None = hunt_on (m + 1) b
-after_turn hunt_on a b m (Some t) = hunt_on a (min t m)
+after_turn halve_on a b m None = halve_on (m + 1) b
+after_turn halve_on a b m (Some t) = halve_on a (min t m)
 
 -- the most units for a bracket a, b of that length at most
 abbrev pub halving_within : ℕ → (ℕ → ℕ) → (ℕ → Option ℕ) → ℕ → ℕ → ℕ

@@ -1,17 +1,17 @@
--- The hunt as an equation, and what one call at the middle leaves of it.
+-- Halving as an equation, and what one call at the middle leaves of it.
 use Rattle.std.proofs.Common.{◌≡◌, ℕ, zero, suc, ◌+◌, ◌-◌, ◌/◌, ◌<◌, ◌≤◌, Bool, true, false, cond, nat_le, Option, Some, None, refl, ap, ◌∙◌, arith}
 use Rattle.std.specs.Prelude.{min}
 use Rattle.dsa_search_laws.proofs.Plans.{middle}
 use Rattle.dsa_terms.proofs.NumberTests.{above, is_at_most, not_at_most}
-use Rattle.refute_log.specs.Hunts.{after_turn, halving_within, halving}
+use Rattle.refute_log.specs.Halvings.{after_turn, halving_within, halving}
 
 -- the counter of steps makes no difference once it is as long as the bracket
-hunt_enough : (most : ℕ → ℕ) (turn : ℕ → Option ℕ) (j k a b : ℕ) → b - a ≤ j → b - a ≤ k →
+halving_enough : (most : ℕ → ℕ) (turn : ℕ → Option ℕ) (j k a b : ℕ) → b - a ≤ j → b - a ≤ k →
     halving_within j most turn a b ≡ halving_within k most turn a b
-hunt_enough most turn zero zero a b p q = refl
-hunt_enough most turn zero (suc k) a b p q = let e = is_at_most b a (omega arith) in rw e refl
-hunt_enough most turn (suc j) zero a b p q = let e = is_at_most b a (omega arith) in rw e refl
-hunt_enough most turn (suc j) (suc k) a b p q = go (λ x y. hunt_enough most turn j k x y) (nat_le b a) refl
+halving_enough most turn zero zero a b p q = refl
+halving_enough most turn zero (suc k) a b p q = let e = is_at_most b a (omega arith) in rw e refl
+halving_enough most turn (suc j) zero a b p q = let e = is_at_most b a (omega arith) in rw e refl
+halving_enough most turn (suc j) (suc k) a b p q = go (λ x y. halving_enough most turn j k x y) (nat_le b a) refl
   where
     go : ((x y : ℕ) → y - x ≤ j → y - x ≤ k → halving_within j most turn x y ≡ halving_within k most turn x y) →
         (t : Bool) → nat_le b a ≡ t →
@@ -32,16 +32,16 @@ hunt_enough most turn (suc j) (suc k) a b p q = go (λ x y. hunt_enough most tur
             ih a (min t ((a + b) / 2)) (let x = m.0 in let y = m.1 in omega arith) (let x = m.0 in let y = m.1 in
             omega arith)
 
-pub hunt_met : (most : ℕ → ℕ) (turn : ℕ → Option ℕ) (a b : ℕ) → b ≤ a → halving most turn a b ≡ 0
+pub halving_met : (most : ℕ → ℕ) (turn : ℕ → Option ℕ) (a b : ℕ) → b ≤ a → halving most turn a b ≡ 0
 unfolding halving
-hunt_met most turn a b le = let e : b - a ≡ 0 = omega arith in rw e refl
+halving_met most turn a b le = let e : b - a ≡ 0 = omega arith in rw e refl
 
-pub hunt_equation : (most : ℕ → ℕ) (turn : ℕ → Option ℕ) (a b : ℕ) → a < b →
+pub halving_equation : (most : ℕ → ℕ) (turn : ℕ → Option ℕ) (a b : ℕ) → a < b →
     halving most turn a b
     ≡ most ((a + b) / 2) + after_turn (halving most turn) a b ((a + b) / 2) (turn ((a + b) / 2))
 unfolding halving
-hunt_equation most turn a b lt =
-    hunt_enough most turn (b - a) (suc (b - a)) a b (omega arith) (omega arith)
+halving_equation most turn a b lt =
+    halving_enough most turn (b - a) (suc (b - a)) a b (omega arith) (omega arith)
     ∙ rw e (ap (λ w. most ((a + b) / 2) + w) (by (turn ((a + b) / 2))))
   where
     e : nat_le b a ≡ false
@@ -53,30 +53,30 @@ hunt_equation most turn a b lt =
     by : (o : Option ℕ) → after_turn (halving_within (b - a) most turn) a b ((a + b) / 2) o
         ≡ after_turn (λ x y. halving_within (y - x) most turn x y) a b ((a + b) / 2) o
     by None =
-        hunt_enough most turn (b - a) (b - ((a + b) / 2 + 1)) ((a + b) / 2 + 1) b (let x = m.0 in omega arith)
+        halving_enough most turn (b - a) (b - ((a + b) / 2 + 1)) ((a + b) / 2 + 1) b (let x = m.0 in omega arith)
         (omega arith)
     by (Some t) =
-        hunt_enough most turn (b - a) (min t ((a + b) / 2) - a) a (min t ((a + b) / 2)) (let y = m.1 in omega arith)
+        halving_enough most turn (b - a) (min t ((a + b) / 2) - a) a (min t ((a + b) / 2)) (let y = m.1 in omega arith)
         (omega arith)
 
 -- ---- one call at the middle
 module _ (most : ℕ → ℕ) (turn : ℕ → Option ℕ) (a b : ℕ) (lt : a < b) where
   -- a layout of height h, which is at most the middle
-  pub hunt_at_layout : (h : ℕ) → h ≤ (a + b) / 2 → turn ((a + b) / 2) ≡ Some h →
+  pub halving_at_layout : (h : ℕ) → h ≤ (a + b) / 2 → turn ((a + b) / 2) ≡ Some h →
       halving most turn a b ≡ most ((a + b) / 2) + halving most turn a h
-  hunt_at_layout h le e =
+  halving_at_layout h le e =
       let k : min h ((a + b) / 2) ≡ h = omega arith in
-      hunt_equation most turn a b lt
+      halving_equation most turn a b lt
       ∙ ap (λ o. most ((a + b) / 2) + after_turn (halving most turn) a b ((a + b) / 2) o) e
       ∙ ap (λ k. most ((a + b) / 2) + halving most turn a k) k
 
   -- a log at the middle
-  pub hunt_at_log : turn ((a + b) / 2) ≡ None →
+  pub halving_at_log : turn ((a + b) / 2) ≡ None →
       halving most turn a b ≡ most ((a + b) / 2) + halving most turn ((a + b) / 2 + 1) b
-  hunt_at_log e =
-      hunt_equation most turn a b lt
+  halving_at_log e =
+      halving_equation most turn a b lt
       ∙ ap (λ o. most ((a + b) / 2) + after_turn (halving most turn) a b ((a + b) / 2) o) e
 
-  -- the call is within the hunt
-  pub hunt_at_call : most ((a + b) / 2) ≤ halving most turn a b
-  hunt_at_call = let e = hunt_equation most turn a b lt in omega arith
+  -- the call is within the halving
+  pub halving_at_call : most ((a + b) / 2) ≤ halving most turn a b
+  halving_at_call = let e = halving_equation most turn a b lt in omega arith
