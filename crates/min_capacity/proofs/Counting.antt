@@ -12,8 +12,8 @@ use Rattle.min_capacity.specs.declared.brackets.Bracket.{Bracket}
 use Rattle.min_capacity.proofs.Halvings.{halving_at_call, halving_at_layout, halving_at_log}
 use Rattle.min_capacity.proofs.Narrowing.{narrowed_by_layout, narrowed_by_log}
 
--- the bracket has narrowed, the counts s and u have risen to s' and u', by the charges at least, and the halving that is
--- left is within the first
+-- the bracket has narrowed, the counts s and u have risen to s' and u', by the charges at least, and the halving that
+-- is left is within the first
 pub record Halves (I : Instance) (gives : ℕ → Answer → Type 0) (most : ℕ → ℕ) (turn : ℕ → Option ℕ)
     (charge : Answer → ℕ) (start b : Bracket) (s s' u u' : ℕ) : Type 0 where
   pub narrowed : Narrows I gives start b

@@ -5,7 +5,8 @@ use Rattle.search_core.proofs.watch_table.WatchTable.take.Goals as goal
 use Rattle.search_core.proofs.watch_table.WatchTable.take.Goals.{After-take}
 
 inside : (c : After-take) → c.args.i < length (row_at c.self.inside.rows.items c.args.b)
-inside c = subst (λ (t : WatchedLines). c.args.i < length (row_at t.rows c.args.b)) (sym c.self.view_is) c.requires.in_row
+inside c =
+    subst (λ (t : WatchedLines). c.args.i < length (row_at t.rows c.args.b)) (sym c.self.view_is) c.requires.in_row
 
 pub invariant_of-self : goal.invariant_of-self
 invariant_of-self c =
