@@ -4,12 +4,12 @@ use Rattle.dsa_terms.specs.Buffers.{Instance, IsInstance}
 use Rattle.dsa_terms.specs.Layouts.{IsLayout}
 use Rattle.dsa_terms.specs.Logs.{IsAccepted, Log}
 use Rattle.dsa_terms.specs.Plans.{layout_height}
-use Rattle.dsa_search_laws.proofs.Plans.{layout_under, middle}
+use Rattle.dsa_search_laws.proofs.Plans.{layout_under}
 use Rattle.refute_log.specs.Answers.{Answer, Offsets, Refutation}
 use Rattle.refute_log.specs.Halvings.{halving}
 use Rattle.min_capacity.specs.Brackets.{ArePaid, IsShort, LayoutIsPaid, LogIsPaid, Narrows}
 use Rattle.min_capacity.specs.declared.brackets.Bracket.{Bracket}
-use Rattle.min_capacity.proofs.Halvings.{halving_at_call, halving_at_layout, halving_at_log}
+use Rattle.min_capacity.proofs.Halvings.{halving_at_call, halving_at_layout, halving_at_log, middle}
 use Rattle.min_capacity.proofs.Narrowing.{narrowed_by_layout, narrowed_by_log}
 
 -- the bracket has narrowed, the counts s and u have risen to s' and u', by the charges at least, and the halving that

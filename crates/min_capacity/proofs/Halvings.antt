@@ -1,9 +1,11 @@
 -- Halving as an equation, and what one call at the middle leaves of it.
 use Rattle.std.proofs.Common.{◌≡◌, ℕ, zero, suc, ◌+◌, ◌-◌, ◌/◌, ◌<◌, ◌≤◌, Bool, true, false, cond, nat_le, Option, Some, None, refl, ap, ◌∙◌, arith}
 use Rattle.std.specs.Prelude.{min}
-use Rattle.dsa_search_laws.proofs.Plans.{middle}
 use Rattle.dsa_terms.proofs.NumberTests.{above, is_at_most, not_at_most}
 use Rattle.refute_log.specs.Halvings.{after_turn, halving_within, halving}
+
+pub middle : (a b : ℕ) → a < b → (a ≤ (a + b) / 2) × ((a + b) / 2 < b)
+middle a b lt = (omega arith, omega arith)
 
 -- the counter of steps makes no difference once it is as long as the bracket
 halving_enough : (most : ℕ → ℕ) (turn : ℕ → Option ℕ) (j k a b : ℕ) → b - a ≤ j → b - a ≤ k →

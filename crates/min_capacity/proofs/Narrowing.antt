@@ -7,10 +7,11 @@ use Rattle.dsa_terms.specs.Layouts.{IsLayout, IsInfeasible, IsLeast}
 use Rattle.dsa_terms.specs.Logs.{IsAccepted, Log}
 use Rattle.dsa_terms.specs.Plans.{layout_height}
 use Rattle.dsa_search_laws.proofs.Logs.{accepted_is_infeasible, layout_higher}
-use Rattle.dsa_search_laws.proofs.Plans.{layout_under, under_layout_height, middle}
+use Rattle.dsa_search_laws.proofs.Plans.{layout_under, under_layout_height}
 use Rattle.refute_log.specs.Answers.{Answer, Offsets, Refutation}
 use Rattle.min_capacity.specs.Brackets.{IsBracket, LayoutComes, LogComes, Narrows, Refutes}
 use Rattle.min_capacity.specs.declared.brackets.Bracket.{Bracket}
+use Rattle.min_capacity.proofs.Halvings.{middle}
 
 -- a layout is one at its height
 layout_at_height : (I : Instance) (C : ℕ) (offsets : List ℕ) → IsLayout I C offsets →

@@ -7,10 +7,10 @@ use Rattle.dsa_terms.specs.Plans.{after_plan, hunt, layout_height, plan}
 use Rattle.dsa_terms.specs.Starts.{best_start, hunted, planned, starts}
 use Rattle.dsa_terms.proofs.NumberTests.{below_or_from}
 use Rattle.dsa_search_laws.proofs.Parts.{searched_is_layout}
-use Rattle.dsa_search_laws.proofs.Plans.{hunt_equation, hunt_met, layout_under, middle}
+use Rattle.dsa_search_laws.proofs.Plans.{hunt_equation, hunt_met, layout_under}
 use Rattle.refute_log.specs.Halvings.{halving}
 use Rattle.search_core.specs.Decisions.{turn_of}
-use Rattle.min_capacity.proofs.Halvings.{halving_equation, halving_met}
+use Rattle.min_capacity.proofs.Halvings.{halving_equation, halving_met, middle}
 use Rattle.planner.proofs.BestStart.{planned_below}
 
 -- the work by the search, and the work by the plan

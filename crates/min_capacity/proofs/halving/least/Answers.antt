@@ -1,10 +1,10 @@
 use Rattle.std.proofs.Common.{◌≤◌, ◌^◌, ◌∙◌, refl, sym, subst, arith}
 use Rattle.std.specs.List.{All}
-use Rattle.dsa_search_laws.proofs.Plans.{middle}
 use Rattle.dsa_model.proofs.Instances.{sound_instance}
 use Rattle.min_capacity.proofs.Counting.{after_layout, after_log, call_short, call_within}
 use Rattle.min_capacity.proofs.Narrowing.{layout_lower, met_is_least, offsets_limited}
 use Rattle.min_capacity.proofs.halving.least.Goals as goal
+use Rattle.min_capacity.proofs.Halvings.{middle}
 
 -- ---- the units of a call that ends the halving
 pub returns-in_err-layout-clause-used : goal.returns-in_err-layout-clause-used
