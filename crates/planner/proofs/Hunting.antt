@@ -8,7 +8,7 @@ use Rattle.dsa_terms.specs.Starts.{best_start, hunted, planned, starts}
 use Rattle.dsa_terms.proofs.NumberTests.{below_or_from}
 use Rattle.dsa_search_laws.proofs.Parts.{searched_is_layout}
 use Rattle.dsa_search_laws.proofs.Plans.{hunt_equation, hunt_met, layout_under}
-use Rattle.refute_log.specs.Halvings.{halving}
+use Rattle.refute_log.specs.Halvings.{after_turn, halving}
 use Rattle.search_core.specs.Decisions.{turn_of}
 use Rattle.min_capacity.proofs.Halvings.{halving_equation, halving_met, middle}
 use Rattle.planner.proofs.BestStart.{planned_below}
