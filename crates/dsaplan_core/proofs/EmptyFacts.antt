@@ -142,7 +142,7 @@ half_printed = record {
   status = status.Feasible 1;
   text = codes "feasible 1\n";
   says = says_feasible;
-  rose = omega arith;
+  rose = inl (omega arith);
   taken = 4;
   prefix = refl;
 }

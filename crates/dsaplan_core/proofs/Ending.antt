@@ -1,11 +1,14 @@
--- Memory that runs out between two writes.
+-- A first write that fails, and memory that runs out between two writes.
 use Rattle.std.proofs.Common.{◌≡◌, List, Result, Ok, Err, OnErr, inr, ap, ◌∙◌}
-use Rattle.dsa_outside.specs.Held.{with_file}
+use Rattle.dsa_model.specs.Counts.{Rose}
+use Rattle.dsa_outside.specs.Faults.{NoneFell}
+use Rattle.dsa_outside.specs.Held.{with_file, without_file}
 use Rattle.command_words.specs.Options.{Word}
 use Rattle.dsaplan_core.specs.Seen.{FilesSeen}
-use Rattle.dsaplan_core.specs.Prepares.{AreWritings, IsBroken}
+use Rattle.dsaplan_core.specs.Prepares.{AreWritings, IsBroken, IsRightly}
 use Rattle.dsaplan_core.specs.declared.prepared.Said.{Said}
 use Rattle.dsaplan_core.specs.declared.prepared.Writing.{Writing}
+use Rattle.dsaplan_core.proofs.Earlier.{rose_since}
 
 -- what follows from the fact of an error
 pub on_err : {T E P Q : Type 0} (r : Result T E) → OnErr r P → (P → Q) → OnErr r Q
@@ -32,3 +35,15 @@ half_written words old mid half new first second said writings same written stay
   where
     half_held : new.held ≡ with_file old.held first.name.now first.bytes.items
     half_held = stays ∙ written ∙ ap (λ h. with_file h first.name.now first.bytes.items) same
+
+-- the first of two files could not be written, as it is seen from the start of the run
+pub first_lost : (words : List Word) (old mid new : FilesSeen) (first second : Writing) (said : Said) →
+    AreWritings words old first second said → mid.held ≡ old.held → NoneFell old.faults mid.faults →
+    Rose (mid.faults first.name.now) (new.faults first.name.now) →
+    without_file new.held first.name.now ≡ without_file mid.held first.name.now →
+    IsRightly words old new first.unwritten
+first_lost words old mid new first second said writings same none rose others =
+    writings.first_unwritten new
+    (rose_since (old.faults first.name.now) (mid.faults first.name.now) (new.faults first.name.now)
+    (none first.name.now) rose)
+    (others ∙ ap (λ h. without_file h first.name.now) same)

@@ -1,5 +1,5 @@
 -- What files hold for a run, in the small world.
-use Rattle.std.proofs.Common.{◌≡◌, ℕ, List, Option, unwrap_or, ◌<◌, ◌≤◌, inl, inr, [], ◌∷◌, Some, None, codes, cond, refl, sym, ap, ◌∙◌, length, lit<, lit≤, arith, subst}
+use Rattle.std.proofs.Common.{◌≡◌, ℕ, List, Option, unwrap_or, ◌-◌, ◌^◌, ◌<◌, ◌≤◌, inl, inr, [], ◌∷◌, Some, None, codes, cond, refl, sym, ap, ◌∙◌, length, lit<, lit≤, arith, subst}
 use Rattle.std.specs.Str.{bytes_eq}
 use Rattle.dsa_terms.specs.Claims.{IsIn}
 use Rattle.dsa_outside.specs.Held.{IsMissing}

@@ -1,5 +1,5 @@
 -- What is left where a file could not be written, and between two writes.
-use Rattle.std.proofs.Common.{◌≡◌, ◌∙◌, ℕ, List, Option, Some, None, codes, cond, refl, sym, ap, subst, lit≤, arith, rules}
+use Rattle.std.proofs.Common.{◌≡◌, ◌∙◌, ℕ, List, Option, Some, None, codes, cond, inl, refl, sym, ap, subst, lit<, lit≤, arith, rules}
 use Rattle.std.specs.FinMap.{empty, gets, insert}
 use Rattle.std.specs.Str.{bytes_eq}
 use Rattle.dsa_outside.specs.Held.{FileMap, file_at, without_file}
@@ -33,7 +33,7 @@ half_an_output = record {
   asked = refl;
   its_output = refl;
   writes = trims_a_line;
-  cause = lit≤ tt;
+  cause = inl (lit< tt);
   others = ap Some (remove-insert (with_log_file double_file) (codes "o") (codes "dsa"));
 }
 
@@ -71,7 +71,7 @@ half_a_log = record {
   asked = refl;
   its_log = refl;
   writes = refuted;
-  cause = lit≤ tt;
+  cause = inl (lit< tt);
   others = ap Some (remove-insert input_alone (codes "l") (codes "dsa")
       ∙ sym (remove-insert input_alone (codes "l") log_file));
 }
@@ -90,7 +90,7 @@ output_without_log = record {
   asked = refl;
   its_log = refl;
   writes = (lit≤ tt, found);
-  cause = lit≤ tt;
+  cause = inl (lit< tt);
   others = ap Some (sym (remove-insert (insert input_alone (codes "o") out_file) (codes "l") log_file));
 }
 
