@@ -33,6 +33,10 @@ use Rattle.dsaplan_core.specs.declared.status.Role.TheVariants as role
 use Rattle.dsaplan_core.proofs.Apart.{apart}
 use Rattle.dsaplan_core.proofs.Saying.{HasLine, rightly}
 
+-- the two logs of a bracket are one
+pub same_log : (held : Option Log) (a b : Log) → held ≡ Some a → held ≡ Some b → a ≡ b
+same_log held a b one two = cc
+
 -- the files once these are written
 abbrev pub left : FilesSeen → Word → List ℕ → FilesSeen
 left files name bytes = record { held = with_file files.held name bytes; faults = files.faults }

@@ -1,21 +1,15 @@
 -- A capacity that stays open: of two buffers whose best start ends at 5 and whose lower bound is 4, without steps.
-use Rattle.std.proofs.Common.{◌≡◌, ◌<◌, ℕ, inl, inr, List, [], ◌∷◌, Some, Ok, codes, refl, sym, subst, ap₂, lit<, lit≤, arith}
+use Rattle.std.proofs.Common.{◌≡◌, ◌<◌, ℕ, inl, inr, List, [], ◌∷◌, Some, codes, refl, sym, subst, ap₂, lit<, lit≤, arith}
 use Rattle.std.proofs.lemmas.List.Elements.{All-cons, All-nil}
-use Rattle.std.specs.FinMap.{empty, insert}
+use Rattle.std.specs.FinMap.{insert}
 use Rattle.std.specs.Fmt.{digits}
-use Rattle.csv.specs.Machine.{next_record}
-use Rattle.csv.specs.Reading.{records_from, strip_bom}
 use Rattle.csv.specs.Writing.{escaped, fields_text, is_blank}
 use Rattle.dsa_terms.specs.Bounds.{counted, stack_log}
-use Rattle.dsa_terms.specs.Buffers.{buffer, is_live, some_before}
+use Rattle.dsa_terms.specs.Buffers.{buffer, is_live}
 use Rattle.dsa_terms.specs.Claims.{IsIn}
 use Rattle.dsa_terms.specs.Logs.{Log, Over}
 use Rattle.dsa_terms.proofs.Examples.{small_below}
-use Rattle.dsa_model.specs.Buffer.{is_ever_live}
-use Rattle.dsa_outside.specs.Held.{FileMap}
 use Rattle.csv_instance.specs.Layout.{layout_text}
-use Rattle.csv_instance.specs.Parse.{parse}
-use Rattle.csv_instance.specs.Records.{Record, table_of}
 use Rattle.log_text.specs.Faults.{HasCite, IsTextOf}
 use Rattle.log_text.specs.Numerals.{numeral}
 use Rattle.log_text.specs.RawLogs.{IsRawLineKept, IsPairWithin}
@@ -33,28 +27,8 @@ use Rattle.dsaplan_core.specs.Asked.{IsAsked}
 use Rattle.dsaplan_core.specs.Decided.{IsShortOfWork, LeavesOpen}
 use Rattle.dsaplan_core.specs.Seen.{FilesSeen}
 use Rattle.dsaplan_core.specs.declared.status.Status.TheVariants as status
-use Rattle.dsaplan_core.proofs.WorldFacts.{reads_i, told}
-
--- ---- the input, in the file i
-abbrev below_file : List ℕ
-below_file = codes "id,lower,upper,size,alignment\nA,0,1,3,1\nB,0,1,1,4\n"
-
-abbrev below_rows : List Record
-below_rows =
-    (codes "id" ∷ codes "lower" ∷ codes "upper" ∷ codes "size" ∷ codes "alignment" ∷ [])
-    ∷ (codes "A" ∷ codes "0" ∷ codes "1" ∷ codes "3" ∷ codes "1" ∷ [])
-    ∷ (codes "B" ∷ codes "0" ∷ codes "1" ∷ codes "1" ∷ codes "4" ∷ []) ∷ []
-
-below_reads : table_of below_file ≡ below_rows
-unfolding strip_bom records_from next_record
-below_reads = refl
-
-rows_are_below : parse below_rows ≡ Ok small_below
-unfolding is_live some_before is_ever_live
-rows_are_below = refl
-
-abbrev below_alone : FileMap
-below_alone = insert empty (codes "i") below_file
+use Rattle.dsaplan_core.proofs.BelowFacts.{below_alone, below_input, below_rows}
+use Rattle.dsaplan_core.proofs.WorldFacts.{told}
 
 -- ---- the words
 abbrev without_steps : List Word
@@ -70,12 +44,7 @@ asks_below = record {
   words_ask = refl;
   name = codes "i";
   its_input = refl;
-  input = record {
-    bytes = below_file;
-    whole = record { held = λ told. reads_i below_file; short = lit≤ tt };
-    records = sym below_reads;
-    parsed = rows_are_below;
-  };
+  input = below_input;
 }
 
 -- ---- the best start, which is written to the file o
@@ -147,9 +116,6 @@ short_of_four_steps = record {
   not_below = lit≤ tt;
   below = lit< tt;
 }
-
-four_steps_are_enough : IsShortOfWork small_below 4 4 4 5 → ⊥
-four_steps_are_enough h = let e = four_steps in let k = h.few in omega (arith, e, k)
 
 abbrev open_files : FilesSeen
 open_files = told (insert (insert below_alone (codes "o") start_file) (codes "l") bound_file)

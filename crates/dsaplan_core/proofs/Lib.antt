@@ -42,6 +42,7 @@ mod GivenLayoutFacts
 mod ReportFacts
 pub mod LogFileFacts
 mod HeldLogFacts
+pub mod BelowFacts
 mod ShortFacts
 mod PromiseFacts
 pub mod WrittenFacts

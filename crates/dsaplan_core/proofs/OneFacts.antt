@@ -1,4 +1,4 @@
--- An instance of one buffer of one byte: its layout within one byte, and the log below it.
+-- An instance of one buffer of one byte: its layout within one byte, its peak, and the log below it.
 use Rattle.std.proofs.Common.{◌≡◌, ◌∙◌, ℕ, zero, suc, ◌+◌, ◌≤◌, ◌<◌, slice_get, slice_index, take, List, [], ◌∷◌, Some, Ok, codes, refl, sym, ap, subst, inl, inr, lit<, lit≤, arith}
 use Rattle.std.proofs.lemmas.List.Elements.{All-cons, All-nil}
 use Rattle.dsa_terms.specs.Bounds.{bound_modulus, counted, highest_stack, lower_bound, moduli, moments, rounded_size, stack, stack_log}
@@ -10,10 +10,11 @@ use Rattle.dsa_terms.specs.Lean.{IsLean, IsLeanLine}
 use Rattle.dsa_terms.specs.Logs.{IsAccepted, IsLegal, IsOver, Line, Log, Over, claim_of, ends_below, is_stacked, is_twin, rounded, rounding}
 use Rattle.dsa_terms.specs.Orders.{falls_by, orders, rises_by}
 use Rattle.dsa_terms.specs.Parts.{is_cut, last_cut, part_of, parts, searched}
-use Rattle.dsa_terms.specs.Plans.{layout_height, plan}
+use Rattle.dsa_terms.specs.Plans.{IsPeak, layout_height, load, plan}
 use Rattle.dsa_terms.specs.Search.{comes_before, first, is_tall}
 use Rattle.dsa_terms.specs.Starts.{best_start, lowest_place, planned, starts}
 use Rattle.dsa_model.specs.Buffer.{is_ever_live}
+use Rattle.dsa_model.proofs.Live.{not_live_after}
 use Rattle.csv_instance.specs.Parse.{parse}
 use Rattle.csv_instance.specs.Records.{Record}
 use Rattle.log_text.specs.Faults.{HasCite, IsTextOf}
@@ -64,6 +65,22 @@ unfolding best_start lowest_place layout_height starts orders falls_by rises_by 
     first_place first_passing best_place free_ranges stretches holds is_tighter is_free highest top do_share
     some_before is_live buffer
 one_best = refl
+
+-- ---- its peak
+later_load : (s : ℕ) → load one (suc s) ≡ 0
+unfolding load
+later_load s = rw (not_live_after byte (suc s) (omega arith)) refl
+
+pub first_load : load one 0 ≡ 1
+unfolding load is_live
+first_load = refl
+
+pub one_peak : IsPeak one 0
+one_peak = record { not_empty = λ e. absurd cc; most = most; earliest = λ s lt. absurd (omega arith) }
+  where
+    most : (s : ℕ) → load one s ≤ load one 0
+    most zero = omega arith
+    most (suc s) = omega (arith, later_load s)
 
 -- ---- the records of its file
 abbrev pub rows : List Record

@@ -19,11 +19,7 @@ use Rattle.dsaplan_core.specs.Decided.{MayStayOpen}
 use Rattle.dsaplan_core.specs.Prepares.{PutsBoth, Prepares}
 use Rattle.dsaplan_core.specs.declared.prepared.Prepared.{Prepared}
 use Rattle.dsaplan_core.specs.declared.status.Status.TheVariants as status
-use Rattle.dsaplan_core.proofs.BothWritings.{writes_open}
-
--- the two logs of a bracket are one
-same_log : (held : Option Log) (a b : Log) → held ≡ Some a → held ≡ Some b → a ≡ b
-same_log held a b one two = cc
+use Rattle.dsaplan_core.proofs.BothWritings.{same_log, writes_open}
 
 module _ (old new : FilesSeen) (C : ℕ) (input output log : Word) (steps : Option ℕ) (table : List Record) (I : Instance)
     (b : Bracket) (refutation : Log) (given : IsInput old input table I) (spent : IsSpentAt I C steps b)

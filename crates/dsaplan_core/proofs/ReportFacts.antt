@@ -5,8 +5,7 @@ use Rattle.csv.specs.Writing.{escaped, fields_text, is_blank}
 use Rattle.dsa_terms.specs.Buffers.{IsLive, buffer, is_live}
 use Rattle.dsa_terms.specs.Claims.{IsIn}
 use Rattle.dsa_terms.specs.Layouts.{IsLayout}
-use Rattle.dsa_terms.specs.Plans.{IsPeak, layout_height, load}
-use Rattle.dsa_model.proofs.Live.{not_live_after}
+use Rattle.dsa_terms.specs.Plans.{layout_height}
 use Rattle.dsa_outside.specs.Held.{file_at}
 use Rattle.csv_instance.specs.Offsets.{ids_of, parsed_offsets}
 use Rattle.csv_instance.specs.Records.{Record, file_limit, table_of}
@@ -21,7 +20,7 @@ use Rattle.dsaplan_core.specs.Asked.{layout_of}
 use Rattle.dsaplan_core.specs.Shown.{ShowsLayout}
 use Rattle.dsaplan_core.proofs.InputFacts.{only_bytes, only_command, only_table}
 use Rattle.dsaplan_core.proofs.LayoutFileFacts.{beside, no_fault, reads_file}
-use Rattle.dsaplan_core.proofs.OneFacts.{byte, one, one_laid, rows}
+use Rattle.dsaplan_core.proofs.OneFacts.{first_load, one, one_laid, one_peak, rows}
 use Rattle.dsaplan_core.proofs.TableFacts.{bare_file, bare_offsets, low_file, low_offsets}
 use Rattle.dsaplan_core.proofs.WorldFacts.{reads_beside_layout, reads_layout, with_layout}
 
@@ -31,22 +30,7 @@ report = Report (codes "i") (codes "a")
 abbrev report_words : List Word
 report_words = codes "report" ∷ codes "--input" ∷ codes "i" ∷ codes "--layout" ∷ codes "a" ∷ []
 
--- ---- the moment 0, and the row of the buffer then
-later_load : (s : ℕ) → load one (suc s) ≡ 0
-unfolding load
-later_load s = rw (not_live_after byte (suc s) (omega arith)) refl
-
-first_load : load one 0 ≡ 1
-unfolding load is_live
-first_load = refl
-
-one_peak : IsPeak one 0
-one_peak = record { not_empty = λ e. absurd cc; most = most; earliest = λ s lt. absurd (omega arith) }
-  where
-    most : (s : ℕ) → load one s ≤ load one 0
-    most zero = omega arith
-    most (suc s) = omega (arith, later_load s)
-
+-- ---- the row of the buffer at moment 0
 -- what holds of the one item of a list
 alone : {A : Type 0} (P : A → Type 0) (x : A) → P x → (y : A) → IsIn y (x ∷ []) → P y
 alone P x p y (inl e) = subst P (sym e) p

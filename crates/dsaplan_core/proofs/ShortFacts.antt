@@ -1,9 +1,5 @@
 -- Steps that are too few, and steps that are enough, for two buffers of which the starts come to 5 and the bound to 4.
-use Rattle.std.proofs.Common.{◌≡◌, ◌+◌, ◌/◌, ◌++◌, ℕ, List, [], ◌∷◌, Some, None, Ok, codes, refl, sym, ap, subst, lit<, lit≤, arith}
-use Rattle.std.specs.FinMap.{empty, insert}
-use Rattle.csv.specs.Machine.{next_record}
-use Rattle.csv.specs.Reading.{records_from, strip_bom}
-use Rattle.dsa_model.specs.Buffer.{is_ever_live}
+use Rattle.std.proofs.Common.{◌≡◌, ◌+◌, ◌/◌, ◌++◌, ℕ, List, [], ◌∷◌, Some, None, codes, refl, sym, subst, lit<, lit≤, arith}
 use Rattle.dsa_terms.specs.Bounds.{lower_bound}
 use Rattle.dsa_terms.specs.Buffers.{buffer, do_share, have_same_moments, is_live, some_before}
 use Rattle.dsa_terms.specs.Claims.{child, step, up}
@@ -15,27 +11,22 @@ use Rattle.dsa_terms.specs.Plans.{hunt, layout_height, plan}
 use Rattle.dsa_terms.specs.Search.{comes_before, first, is_tall, work}
 use Rattle.dsa_terms.specs.Starts.{best_start, hunted, starts}
 use Rattle.dsa_terms.proofs.Examples.{small_below}
-use Rattle.dsa_outside.specs.Held.{FileMap}
-use Rattle.csv_instance.specs.Parse.{parse}
-use Rattle.csv_instance.specs.Records.{Record, table_of}
 use Rattle.command_words.specs.Commands.{Command, Least, Solve, Verify}
 use Rattle.command_words.specs.Options.{Word}
-use Rattle.planner.proofs.ExampleLeastFacts.{below_best, below_bound, four_steps}
+use Rattle.planner.proofs.ExampleLeastFacts.{below_bound, four_steps}
+use Rattle.planner.proofs.StepFacts.{best_at_5}
 use Rattle.dsaplan_core.specs.Decided.{IsShortOfHunt, IsShortOfWork, MayStayOpen}
 use Rattle.dsaplan_core.specs.Theorem.{RunsOut}
+use Rattle.dsaplan_core.proofs.BelowFacts.{below_alone, below_input, below_rows}
 use Rattle.dsaplan_core.proofs.InputFacts.{only_command}
-use Rattle.dsaplan_core.proofs.WorldFacts.{input_alone, reads_i, reads_input, solve_words, told}
-
-best_height : layout_height small_below (best_start small_below) ≡ 5
-unfolding layout_height buffer
-best_height = ap (layout_height small_below) below_best
+use Rattle.dsaplan_core.proofs.WorldFacts.{input_alone, reads_input, solve_words, told}
 
 -- ---- the work at 4 is four steps
 three_of_four : IsShortOfWork small_below 4 3 4 5
 three_of_four = record {
   few = let e = four_steps in omega arith;
   low = sym below_bound;
-  high = sym best_height;
+  high = sym best_at_5;
   not_below = lit≤ tt;
   below = lit< tt;
 }
@@ -57,7 +48,7 @@ unfolding hunted hunt whole_work work plan layout_height starts orders falls_by 
 halving = refl
 
 its_hunt : hunted small_below (lower_bound small_below) (layout_height small_below (best_start small_below)) ≡ 4
-its_hunt = rw (below_bound, best_height) halving
+its_hunt = rw (below_bound, best_at_5) halving
 
 its_middle : whole_work small_below ((4 + 5) / 2) ≡ 4
 its_middle = four_steps
@@ -66,7 +57,7 @@ three_of_the_hunt : IsShortOfHunt small_below 3 4 5
 three_of_the_hunt = record {
   few = let e = its_hunt in omega arith;
   from_bound = let e = below_bound in omega arith;
-  to_best = let e = best_height in omega arith;
+  to_best = let e = best_at_5 in omega arith;
   one_more = let e = halving in let f = its_hunt in let w = its_middle in omega (arith, e, f, w);
 }
 
@@ -91,27 +82,6 @@ module _ (i o l a : Word) where
   verify_has_none h = h
 
 -- ---- words that give three steps
-abbrev below_file : List ℕ
-below_file = codes "id,lower,upper,size,alignment\nA,0,1,3,1\nB,0,1,1,4\n"
-
-abbrev below_rows : List Record
-below_rows =
-    (codes "id" ∷ codes "lower" ∷ codes "upper" ∷ codes "size" ∷ codes "alignment" ∷ [])
-    ∷ (codes "A" ∷ codes "0" ∷ codes "1" ∷ codes "3" ∷ codes "1" ∷ [])
-    ∷ (codes "B" ∷ codes "0" ∷ codes "1" ∷ codes "1" ∷ codes "4" ∷ [])
-    ∷ []
-
-below_reads : table_of below_file ≡ below_rows
-unfolding strip_bom records_from next_record
-below_reads = refl
-
-rows_are_below : parse below_rows ≡ Ok small_below
-unfolding is_live some_before is_ever_live
-rows_are_below = refl
-
-abbrev below_alone : FileMap
-below_alone = insert empty (codes "i") below_file
-
 abbrev three_steps : List Word
 three_steps = solve_words (codes "4") ++ codes "--steps" ∷ codes "3" ∷ []
 
@@ -124,12 +94,7 @@ runs_out = record {
     words_ask = refl;
     name = codes "i";
     its_input = refl;
-    input = record {
-      bytes = below_file;
-      whole = record { held = λ told. reads_i below_file; short = lit≤ tt };
-      records = sym below_reads;
-      parsed = rows_are_below;
-    };
+    input = below_input;
   };
   positive = lit≤ tt;
   apart = lit< tt;

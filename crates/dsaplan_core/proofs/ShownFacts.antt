@@ -1,5 +1,5 @@
 -- Facts of the one buffer, and the report of a trial without buffers.
-use Rattle.std.proofs.Common.{◌≡◌, ℕ, zero, suc, ◌≤◌, ◌++◌, inl, [], Option, Some, None, Ok, codes, refl, sym, ap, lit≤, arith}
+use Rattle.std.proofs.Common.{◌≡◌, ℕ, ◌++◌, inl, [], Option, Some, None, Ok, codes, refl, sym, ap, lit≤, arith}
 use Rattle.std.specs.FinMap.{empty}
 use Rattle.std.specs.Fmt.{digits}
 use Rattle.dsa_terms.specs.Bounds.{bound_modulus, counted, highest_stack, lower_bound, moduli, moments, rounded_size, stack}
@@ -8,9 +8,8 @@ use Rattle.dsa_terms.specs.Fits.{best_fit, best_place, first_fit, first_passing,
 use Rattle.dsa_terms.specs.Layouts.{IsLayout, IsLeast}
 use Rattle.dsa_terms.specs.Orders.{falls_by, orders, rises_by}
 use Rattle.dsa_terms.specs.Parts.{is_cut, last_cut, part_of, parts, searched}
-use Rattle.dsa_terms.specs.Plans.{IsPeak, layout_height, load, plan}
+use Rattle.dsa_terms.specs.Plans.{layout_height, plan}
 use Rattle.dsa_terms.specs.Starts.{best_start, lowest_place, planned, starts}
-use Rattle.dsa_model.proofs.Live.{not_live_after}
 use Rattle.csv_instance.specs.Parse.{parse}
 use Rattle.csv_instance.specs.Records.{table_of}
 use Rattle.layout_report.specs.Facts.{bounds_text}
@@ -22,26 +21,10 @@ use Rattle.planner.proofs.Keeping.{none_given}
 use Rattle.dsaplan_core.specs.Shown.{IsFoundWithin, IsVerdict, ShowsTrial}
 use Rattle.dsaplan_core.specs.declared.status.Status.TheVariants as status
 use Rattle.make_instance.proofs.TextLemmas.{table-read}
-use Rattle.dsaplan_core.proofs.OneFacts.{byte, one}
+use Rattle.dsaplan_core.proofs.OneFacts.{first_load, one, one_peak}
 use Rattle.dsaplan_core.proofs.WorldFacts.{told, trial_words}
 
--- ---- the peak of the one buffer
-later_load : (s : ℕ) → load one (suc s) ≡ 0
-unfolding load
-later_load s = rw (not_live_after byte (suc s) (omega arith)) refl
-
-first_load : load one 0 ≡ 1
-unfolding load is_live
-first_load = refl
-
-one_peak : IsPeak one 0
-one_peak = record { not_empty = λ e. absurd cc; most = most; earliest = λ s lt. absurd (omega arith) }
-  where
-    most : (s : ℕ) → load one s ≤ load one 0
-    most zero = omega arith
-    most (suc s) = omega (arith, later_load s)
-
--- ---- its facts
+-- ---- the facts of the one buffer
 abbrev one_facts : Facts
 one_facts = record { buffers = 1; peak = Some (0, 1); parts = 1; bound = 1; modulus = 1; best = 1 }
 

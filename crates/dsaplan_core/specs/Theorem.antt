@@ -43,7 +43,8 @@ pub record HoldsLayout (words : List Word) (old new : FilesSeen) (C : ℕ) : Typ
   pub held : IsSome old.held → file_at new.held output ≡ Some (layout_text table offsets)
 
 -- the log's file of the command holds the text of a log that is accepted at the capacity, and no layout fits within it;
--- where the lower bound leaves the capacity open and the command gives a number of steps, the log has no more lines
+-- where the lower bound leaves the capacity open and the command gives a number of steps, the log has at most so many
+-- lines
 pub record HoldsRefutation (words : List Word) (old new : FilesSeen) (C : ℕ) : Type 0 where
   pub command : Command
   pub log : Word

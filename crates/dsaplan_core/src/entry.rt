@@ -88,6 +88,7 @@ pub fn run<F: Files, S: Sink>(alloc: Global, words: &[String], files: &mut F, ou
     ensures refused { (fault : UsageTerm) →
         command_of (map string_bytes words.now) ≡ Err fault → IsMisuse fault result }
 
+    // Printing is blamed only where the sink's count of faults rose.
     ensures print_fault { result ≡ Status.PrintFault → Rose (S.faults out.old) (S.faults out.new) }
 
     // Where the words are a command, the files that it reads are there and within their limits, its

@@ -62,12 +62,12 @@ refuted_exactly I C steps (Refuted log) none h = (λ refuted. h.infeasible, λ i
 refuted_exactly I C steps (Open b) none h = let given = h.too_few.given in absurd cc
 
 -- ---- the bound
-le_or_gt : (m n : ℕ) → (m ≤ n) ⊎ (n < m)
-le_or_gt m n = grind arith
+pub le_or_lt : (m n : ℕ) → (m ≤ n) ⊎ (n < m)
+le_or_lt m n = grind arith
 
 -- where the bound has no log, the capacity is not below it
 pub not_below : (found : Option Log) (C bound : ℕ) → (IsSome found ↔ (C < bound)) → found ≡ None → bound ≤ C
-not_below found C bound h e = elim (le_or_gt bound C) [
+not_below found C bound h e = elim (le_or_lt bound C) [
   | inl le ↦ le
   | inr lt ↦ absurd (let some = rw e at h.1 lt in cc)
 ]

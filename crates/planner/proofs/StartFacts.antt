@@ -8,7 +8,7 @@ use Rattle.dsa_terms.specs.Plans.{layout_height}
 use Rattle.dsa_terms.specs.Starts.{starts}
 use Rattle.dsa_terms.proofs.Examples.{small_below}
 use Rattle.first_fit.specs.declared.start_list.Start.{Start}
-use Rattle.planner.specs.FirstStart.{IsBestStart, IsFitting, start_within}
+use Rattle.planner.specs.FirstStart.{IsBestStart, IsFittingOf, start_within}
 use Rattle.planner.specs.declared.starting.Fitting.TheVariants.{Past, Within}
 use Rattle.planner.proofs.ExampleLeastFacts.{below_best, four_is_open}
 
@@ -48,16 +48,16 @@ module _ (s : Start) where
 
 -- ---- starts that are tried
 module _ (offsets : Vec ℕ) where
-  taken_at_5 : offsets.items ≡ 0 ∷ 4 ∷ [] → IsFitting small_below 5 (Within offsets)
+  taken_at_5 : offsets.items ≡ 0 ∷ 4 ∷ [] → IsFittingOf small_below 5 (Within offsets)
   taken_at_5 e = within_5 ∙ ap Some (sym e)
 
-  none_taken_at_4 : IsFitting small_below 4 (Within offsets) → ⊥
+  none_taken_at_4 : IsFittingOf small_below 4 (Within offsets) → ⊥
   none_taken_at_4 h = let e = sym none_within_4 ∙ h in absurd cc
 
 module _ (s : Start) where
-  past_4 : s.height ≡ 5 → s.offsets.items ≡ 0 ∷ 4 ∷ [] → IsFitting small_below 4 (Past s)
+  past_4 : s.height ≡ 5 → s.offsets.items ≡ 0 ∷ 4 ∷ [] → IsFittingOf small_below 4 (Past s)
   past_4 height offsets = (none_within_4, best_at_5 s height offsets)
 
   -- a start is within 5
-  not_past_5 : IsFitting small_below 5 (Past s) → ⊥
+  not_past_5 : IsFittingOf small_below 5 (Past s) → ⊥
   not_past_5 h = let e = sym within_5 ∙ h.0 in absurd cc

@@ -1,5 +1,5 @@
 -- What the number of steps says of a layout and of a log.
-use Rattle.std.proofs.Common.{◌≡◌, ◌+◌, ◌-◌, ◌<◌, ◌≤◌, ◌⊎◌, inl, inr, ℕ, List, length, Option, Some, None, ap, subst, arith}
+use Rattle.std.proofs.Common.{◌≡◌, ◌+◌, ◌-◌, ◌<◌, ◌≤◌, inl, inr, ℕ, List, length, Option, Some, None, ap, subst, arith}
 use Rattle.dsa_terms.specs.Bounds.{lower_bound}
 use Rattle.dsa_terms.specs.Buffers.{Instance, IsInstance}
 use Rattle.dsa_terms.specs.Layouts.{IsInfeasible, IsLayout}
@@ -14,15 +14,12 @@ use Rattle.planner.specs.FirstStart.{start_within}
 use Rattle.planner.specs.LeastCapacity.{AreWithinSteps, IsLayoutWithin, IsLogWithin}
 use Rattle.planner.specs.Openings.{AreGiven, StaysOpen, IsSpentAt}
 use Rattle.planner.proofs.BestStart.{past_starts}
-use Rattle.planner.proofs.Choosing.{planned_start}
+use Rattle.planner.proofs.Choosing.{le_or_lt, planned_start}
 use Rattle.planner.proofs.Keeping.{none_given}
 
 fewer_given : (steps : Option ℕ) (m n : ℕ) → m ≤ n → AreGiven steps n → AreGiven steps m
 fewer_given None m n le given = tt
 fewer_given (Some k) m n le given = omega (arith, le, given)
-
-le_or_lt : (m n : ℕ) → (m ≤ n) ⊎ (n < m)
-le_or_lt m n = grind arith
 
 -- ---- a capacity that is decided
 -- a layout does not come below the lower bound

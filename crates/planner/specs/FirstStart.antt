@@ -18,6 +18,6 @@ pub record IsBestStart (I : Instance) (s : Start) : Type 0 where
   pub best : offsets_in s ≡ best_start I
 
 -- these offsets are the first start within the capacity, or there is none and this is the best start
-abbrev pub IsFitting : Instance → ℕ → Fitting → Type 0
-IsFitting I C (Within offsets) = start_within I C ≡ Some offsets.items
-IsFitting I C (Past best) = (start_within I C ≡ None) × IsBestStart I best
+abbrev pub IsFittingOf : Instance → ℕ → Fitting → Type 0
+IsFittingOf I C (Within offsets) = start_within I C ≡ Some offsets.items
+IsFittingOf I C (Past best) = (start_within I C ≡ None) × IsBestStart I best

@@ -3,7 +3,7 @@
 ghost use Rattle.std.specs.Prelude.{◌≡◌, ◌<◌, ◌^◌, length, map, slice_index_or, IfOk};
 ghost use Rattle.dsa_terms.specs.Starts.{lowest_place};
 ghost use Rattle.first_fit.specs.Starts.{height_in};
-ghost use Rattle.planner.specs.FirstStart.{IsBestStart, IsFitting};
+ghost use Rattle.planner.specs.FirstStart.{IsBestStart, IsFittingOf};
 
 use dsa_model::{Instance, NoMemory};
 use first_fit::{Start, best_start, first_within, starts};
@@ -44,7 +44,7 @@ pub(crate) fn try_starts(
     instance: &Instance,
     capacity: u64,
 ) -> Result<Fitting, NoMemory>
-    ensures { IfOk result (IsFitting instance.now capacity) }
+    ensures { IfOk result (IsFittingOf instance.now capacity) }
 {
     let mut starts = starts(alloc, instance)?;
     match first_within(&starts, capacity) {
