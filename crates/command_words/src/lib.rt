@@ -4,6 +4,7 @@
 
 mod command;
 mod fault;
+mod fault_text;
 mod judge;
 mod option;
 mod pair;

@@ -29,19 +29,28 @@ pub enum Column {
     Offset,
 }
 
-/// A column's name.
+impl Column {
+    /// The column's name, as it stands in a header.
+    pub fn name(self) -> &'static str
+        ensures value { result.now ≡ name_of self }
+    {
+        match self {
+            Column::Id => "id",
+            Column::Lower => "lower",
+            Column::Upper => "upper",
+            Column::Size => "size",
+            Column::Alignment => "alignment",
+            Column::Gaps => "gaps",
+            Column::Offset => "offset",
+        }
+    }
+}
+
+/// A column's name in bytes.
 pub(crate) fn column_name(column: Column) -> &'static [u8]
     ensures { result.now ≡ name_of column }
 {
-    match column {
-        Column::Id => b"id",
-        Column::Lower => b"lower",
-        Column::Upper => b"upper",
-        Column::Size => b"size",
-        Column::Alignment => b"alignment",
-        Column::Gaps => b"gaps",
-        Column::Offset => b"offset",
-    }
+    column.name().as_bytes()
 }
 
 /// Where the columns of an instance file's header stand.

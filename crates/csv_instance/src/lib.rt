@@ -4,6 +4,7 @@
 
 mod columns;
 mod fault;
+mod fault_texts;
 mod gaps;
 mod header;
 mod layout;

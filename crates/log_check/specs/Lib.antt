@@ -1,3 +1,4 @@
 pub mod Faults
 pub mod Narrowing
 pub mod Taking
+pub mod FaultTexts

@@ -5,6 +5,7 @@
 mod checker;
 mod ending;
 mod fault;
+mod fault_text;
 mod lines;
 mod narrowing;
 
