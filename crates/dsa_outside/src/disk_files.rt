@@ -33,9 +33,7 @@ impl<'a, R: std::rt::Files> DiskFiles<'a, R> {
 }
 
 impl<'a, R: std::rt::Files> Files for DiskFiles<'a, R> {
-    ghost held = { λ _. None };
-
-    ghost faults = { λ files _. files.faults };
+    ghost seen = { λ files. record { held = None; faults = λ _. files.faults } };
 
     fn read(&mut self, name: &str, most: u64) -> Result<Vec<u8>, FileFault>
         ensures length { IfOk result (λ bytes. length bytes.items ≤ most) }

@@ -71,9 +71,7 @@ impl MemoryFiles {
 }
 
 impl Files for MemoryFiles {
-    ghost held = { λ s. Some s.files };
-
-    ghost faults = { λ s _. s.calls.faults };
+    ghost seen = { λ s. record { held = Some s.files; faults = λ _. s.calls.faults } };
 
     fn read(&mut self, name: &str, most: u64) -> Result<Vec<u8>, FileFault>
         ensures bytes { IfOk result (λ bytes.

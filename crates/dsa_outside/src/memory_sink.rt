@@ -51,9 +51,7 @@ impl MemorySink {
 }
 
 impl Sink for MemorySink {
-    ghost content = { λ s. Some s.content };
-
-    ghost faults = { λ s. s.calls.faults };
+    ghost seen = { λ s. record { content = Some s.content; faults = s.calls.faults } };
 
     fn put(&mut self, bytes: &[u8]) -> Result<(), SinkFault>
         ensures appended { OnOk result (self.new ≡ record {

@@ -57,9 +57,7 @@ impl SoundFiles {
 }
 
 impl Files for SoundFiles {
-    ghost held = { λ s. Some s };
-
-    ghost faults = { λ _ _. 0 };
+    ghost seen = { λ s. record { held = Some s; faults = λ _. 0 } };
 
     fn read(&mut self, name: &str, most: u64) -> Result<Vec<u8>, FileFault>
         ensures bytes { IfOk result (λ bytes.

@@ -40,9 +40,7 @@ impl SoundSink {
 }
 
 impl Sink for SoundSink {
-    ghost content = { λ s. Some s };
-
-    ghost faults = { λ _. 0 };
+    ghost seen = { λ s. record { content = Some s; faults = 0 } };
 
     fn put(&mut self, bytes: &[u8]) -> Result<(), SinkFault>
         ensures appended { OnOk result (self.new ≡ self.old ++ bytes.now) }

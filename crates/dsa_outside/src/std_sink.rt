@@ -25,9 +25,7 @@ impl<'a, R: Print> StdSink<'a, R> {
 }
 
 impl<'a, R: Print> Sink for StdSink<'a, R> {
-    ghost content = { λ _. None };
-
-    ghost faults = { λ sink. sink.faults };
+    ghost seen = { λ sink. record { content = None; faults = sink.faults } };
 
     fn put(&mut self, bytes: &[u8]) -> Result<(), SinkFault>
         ensures failed { IsErrOf result SinkFault.Failed →

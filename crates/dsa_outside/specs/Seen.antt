@@ -1,0 +1,13 @@
+-- Files and a sink at a moment, as far as they tell.
+use Rattle.std.specs.Prelude.{ℕ, List, Option}
+use Rattle.dsa_outside.specs.Held.{FileMap}
+
+-- what files hold by name, where that is told, and how often calls on each name have failed
+pub record FilesSeen : Type 0 where
+  pub held : Option FileMap
+  pub faults : List ℕ → ℕ
+
+-- what a sink has taken, where that is told, and how often it has failed
+pub record SinkSeen : Type 0 where
+  pub content : Option (List ℕ)
+  pub faults : ℕ
