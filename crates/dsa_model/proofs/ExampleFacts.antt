@@ -3,6 +3,7 @@ use Rattle.std.proofs.Common.{◌≡◌, ℕ, ◌-◌, ◌^◌, inl, inr, [], �
 use Rattle.std.specs.Global.{Vec}
 use Rattle.dsa_terms.specs.Buffers.{Instance, is_live, buffer, some_before}
 use Rattle.dsa_model.specs.Buffer.{buffer_fault, buffer_of, is_ever_live}
+use Rattle.dsa_model.specs.Chosen.{some_of}
 use Rattle.dsa_model.specs.Lists.{items_of, pair_at}
 use Rattle.dsa_model.specs.Moments.{first_common}
 use Rattle.dsa_model.specs.Counts.{Rose, one_more}
@@ -154,6 +155,12 @@ gap_is_overrun = refl
 nothing_to_lay_out : layout_fault [] 0 [] ≡ None
 unfolding first_unaligned first_above first_overlap
 nothing_to_lay_out = refl
+
+-- ---- some of the buffers: in the order of the numbers, which may repeat
+last_first_last : some_of four (3 ∷ 0 ∷ 3 ∷ [])
+    ≡ buffer_of 1 3 4 1 [] ∷ buffer_of 0 2 4 1 [] ∷ buffer_of 1 3 4 1 [] ∷ []
+unfolding buffer
+last_first_last = refl
 
 -- ---- counts: they stop at the end of their type, where a rise can't be seen
 last_number_stays : one_more (2 ^ 64 - 1) ≡ 2 ^ 64 - 1

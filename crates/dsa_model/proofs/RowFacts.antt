@@ -1,10 +1,10 @@
 -- Worked facts of the rows of an instance.
-use Rattle.std.proofs.Common.{◌≡◌, ℕ, zero, suc, ◌<◌, Bool, true, false, List, [], ◌∷◌, replicate, slice_index_or, All, refl, ap, arith}
+use Rattle.std.proofs.Common.{◌≡◌, ℕ, zero, suc, ◌<◌, Bool, true, false, List, [], ◌∷◌, length, replicate, slice_index_or, All, refl, ap, arith}
 use Rattle.std.proofs.lemmas.List.{length-replicate}
 use Rattle.std.proofs.lemmas.List.Elements.{All-cons, All-nil}
 use Rattle.dsa_terms.specs.Buffers.{Buffer, Instance, buffer, do_share, is_live, some_before}
 use Rattle.dsa_model.specs.Buffer.{lasting}
-use Rattle.dsa_model.specs.Rows.{AreRows, IsNoted, IsTable, IsWide, entries_of, entry, instance_of}
+use Rattle.dsa_model.specs.Rows.{AreChosen, ArePicked, AreRows, IsNoted, IsTable, IsWide, entries_of, entry, instance_of}
 use Rattle.dsa_model.specs.declared.instance.Row.{Row}
 
 its_buffers : (first second : Row) → instance_of (first ∷ second ∷ []) ≡ first.buffer ∷ second.buffer ∷ []
@@ -101,3 +101,29 @@ not_its_own : (others : Bool) →
     (lasting 2 4 []) → ⊥
 unfolding row buffer do_share some_before is_live
 not_its_own others h = let told = h.owns 0 (omega arith) in absurd cc
+
+-- ---- rows of some of the buffers
+-- the first entry of the new row is the second of the old one
+picked_one : (others : Bool) → ArePicked (row true false others) (1 ∷ 0 ∷ []) (row false true others) 2
+unfolding row
+picked_one others zero lt = refl
+picked_one others (suc zero) lt = refl
+picked_one others (suc (suc k)) lt = absurd (omega arith)
+
+-- the row is the old one as it was
+not_as_it_was : (others : Bool) → ArePicked (row true false others) (1 ∷ 0 ∷ []) (row true false others) 1 → ⊥
+unfolding row
+not_as_it_was others h = let told = h 0 (omega arith) in absurd cc
+
+-- no rows are the first 0 of any
+none_chosen : (members : List ℕ) → AreChosen two members [] 0
+none_chosen members = record {
+  buffers = refl;
+  sound = λ k d lt. absurd (omega arith);
+  wide = λ k d lt. absurd (omega arith);
+  told = λ b c lb lc. absurd (omega arith);
+}
+
+-- the rows of the first alone are not those of the first two
+not_both : (members : List ℕ) (first : Row) → AreChosen two (0 ∷ 1 ∷ members) (first ∷ []) 2 → ⊥
+not_both members first h = let e = ap length h.buffers in absurd (omega (arith, e))

@@ -126,7 +126,7 @@ table_pushed I old new own next h t is count few = record {
         ∙ get_or-set_same own (length I) true false (rw h.own_wide few) ∙ sym (shares_with_itself next is))
 
 -- ---- the rows of an instance
-row_wide : (rows : List Row) (n : ℕ) (row : Row) → All IsWide (entries_of rows) → n < length rows →
+pub row_wide : (rows : List Row) (n : ℕ) (row : Row) → All IsWide (entries_of rows) → n < length rows →
     length (slice_index_or rows n row).shares.items ≡ 512
 row_wide rows n row wide lt =
     ap length (sym (get_or-map (λ (r : Row). r.shares.items) rows n row [] lt))

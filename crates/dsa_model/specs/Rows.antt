@@ -1,7 +1,9 @@
 -- The buffers of an instance as the code keeps them.
-use Rattle.std.specs.Prelude.{◌≡◌, ℕ, ◌<◌, Bool, false, List, [], length, map, slice_index_or}
+use Rattle.std.specs.Prelude.{◌≡◌, ℕ, ◌<◌, Bool, false, List, [], length, map, slice_index, slice_index_or, take}
 use Rattle.std.specs.List.{All}
 use Rattle.dsa_terms.specs.Buffers.{Buffer, Instance, buffer, do_share}
+use Rattle.dsa_model.specs.Buffer.{IsBuffer}
+use Rattle.dsa_model.specs.Chosen.{some_of}
 use Rattle.dsa_model.specs.declared.instance.Row.{Row}
 
 -- the buffers of the rows
@@ -38,3 +40,16 @@ pub record IsNoted (I : Instance) (old new : List (List Bool)) (own : List Bool)
   pub theirs : (b : ℕ) → b < n → entry new b (length I) ≡ do_share (buffer I b) next
   pub own_wide : IsWide own
   pub owns : (b : ℕ) → b < n → slice_index_or own b false ≡ do_share (buffer I b) next
+
+-- the first n entries of `among` are those that `shares` has at the places of these members
+abbrev pub ArePicked : List Bool → List ℕ → List Bool → ℕ → Type 0
+ArePicked shares members among n =
+    (k : ℕ) → k < n → slice_index_or among k false ≡ slice_index_or shares (slice_index members k) false
+
+-- the rows have the first n of these members, and tell of each which of all the members share a moment with it
+pub record AreChosen (I : Instance) (members : List ℕ) (rows : List Row) (n : ℕ) : Type 0 where
+  pub buffers : instance_of rows ≡ some_of I (take n members)
+  pub sound : All IsBuffer (instance_of rows)
+  pub wide : All IsWide (entries_of rows)
+  pub told : (b c : ℕ) → b < n → c < length members →
+      entry (entries_of rows) b c ≡ do_share (buffer I (slice_index members b)) (buffer I (slice_index members c))

@@ -1,6 +1,6 @@
 //! A buffer.
 
-ghost use Rattle.std.specs.Prelude.{◌≡◌, ◌^◌, ◌<◌, ◌≤◌, Some, IfSome, length};
+ghost use Rattle.std.specs.Prelude.{◌≡◌, ◌^◌, ◌<◌, ◌≤◌, Some, IfSome, IfOk, length};
 ghost use Rattle.std.specs.Int.{next_multiple_of};
 ghost use Rattle.dsa_terms.specs.Buffers.{is_live};
 ghost use Rattle.dsa_model.specs.Buffer.{IsBuffer, buffer_fault, buffer_of};
@@ -9,7 +9,7 @@ ghost use Rattle.dsa_model.specs.Fails.{UnlessNoMemory};
 
 use crate::buffer_fault::{gap_fault, number_fault};
 use crate::moments::{is_in_gap, next_live};
-use crate::{BufferFault, Fail};
+use crate::{BufferFault, Fail, NoMemory};
 use std::alloc::Global;
 use std::marker::Model;
 
@@ -74,6 +74,20 @@ impl Buffer {
             size,
             alignment,
             gaps,
+        })
+    }
+
+    /// An equal buffer.
+    pub fn copy(&self, alloc: Global) -> Result<Buffer, NoMemory>
+        ensures value { IfOk result (λ copy. copy ≡ self.now) }
+        ensures buffer { IfOk result IsBuffer }
+    {
+        Ok(Buffer {
+            lower: self.lower,
+            upper: self.upper,
+            size: self.size,
+            alignment: self.alignment,
+            gaps: self.gaps.to_vec(alloc)?,
         })
     }
 

@@ -142,3 +142,17 @@ fn an_alignment_is_kept(rt: HostRuntime) -> Result<(), test::Fail> {
     assert_eq!(rt; judge(&both, 9, &[6, 0]), Ok(()));
     Ok(())
 }
+
+#[test]
+fn some_buffers_are_an_instance_of_their_own(rt: HostRuntime) -> Result<(), test::Fail> {
+    let alloc = rt.alloc();
+    let x = Buffer::new(alloc, 0, 5, 4, 1, &[(1, 2)])?;
+    let y = Buffer::new(alloc, 5, 8, 6, 2, &[])?;
+    let both = pair(alloc, x, y)?;
+    let some = both.some_of(alloc, &[1, 0, 1])?;
+    assert_eq!(rt; some.len(), 3);
+    assert_eq!(rt; some.buffer(1).gaps().len(), 1);
+    assert_eq!(rt; (some.do_share(0, 1), some.do_share(0, 2)), (false, true));
+    assert_eq!(rt; height(&some, &[0, 6, 6]), 12);
+    Ok(())
+}
