@@ -6,3 +6,4 @@ pub mod FirstStart
 pub mod FirstBracket
 pub mod Searches
 pub mod InstanceFacts
+pub mod Shortage

@@ -1,0 +1,128 @@
+-- How the commands go that decide: a layout, a log by which there is none, or both.
+use Rattle.std.specs.Prelude.{◌≡◌, ◌<◌, ◌≤◌, ◌-◌, ◌↔◌, ◌⊎◌, ℕ, List, [], ◌∷◌, length, Option, Some, None}
+use Rattle.dsa_terms.specs.Buffers.{Instance}
+use Rattle.dsa_terms.specs.Bounds.{lower_bound}
+use Rattle.dsa_terms.specs.Layouts.{IsLayout, IsLeast}
+use Rattle.dsa_terms.specs.Logs.{Log}
+use Rattle.dsa_terms.specs.Starts.{best_start, planned}
+use Rattle.csv_instance.specs.Records.{Record}
+use Rattle.csv_instance.specs.Layout.{layout_text}
+use Rattle.log_text.specs.Faults.{IsTextOf}
+use Rattle.log_text.specs.Text.{log_text, raw_log_of}
+use Rattle.planner.specs.Decides.{IsBoundLog, LeavesNoLayout}
+use Rattle.planner.specs.FirstStart.{start_within}
+use Rattle.planner.specs.LeastCapacity.{AreWithinSteps, RefutesBelow}
+use Rattle.planner.specs.Openings.{AreGiven, StaysOpen}
+use Rattle.planner.specs.Shortage.{IsShortOfHunt, IsShortOfWork}
+use Rattle.command_words.specs.Options.{Word}
+use Rattle.run_status.specs.declared.status.Status.TheVariants.{Feasible, Infeasible, Least, Open}
+use Rattle.run_status.specs.declared.status.Role.TheVariants as role
+use Rattle.run_course.specs.Course.{Course, Outcome, Concludes, Write, writes}
+use Rattle.readings.specs.Input.{opened}
+
+-- the layout of these offsets, for the output
+abbrev pub layout_file : Word → List Record → List ℕ → Write
+layout_file output table offsets = record { role = role.Output; name = output; bytes = layout_text table offsets }
+
+-- the log, for its file
+abbrev pub log_file : Word → Log → Write
+log_file name log = record { role = role.Log; name = name; bytes = log_text log }
+
+-- the text of the log reads back
+abbrev pub ReadsBack : Log → Type 0
+ReadsBack log = IsTextOf (log_text log) (raw_log_of log)
+
+-- the words of `solve`: the capacity is in bytes, and the steps, where a number is given, are units
+pub record Solve : Type 0 where
+  pub capacity : ℕ
+  pub input : Word
+  pub output : Word
+  pub log : Word
+  pub steps : Option ℕ
+
+-- the plan at the capacity is written, a layout; where no start is within the capacity, a step at least is given, if a
+-- number is
+pub record LaysOut (s : Solve) (table : List Record) (I : Instance) (o : Outcome) : Type 0 where
+  pub offsets : List ℕ
+  pub planned : planned I s.capacity ≡ Some offsets
+  pub layout : IsLayout I s.capacity offsets
+  pub searched : start_within I s.capacity ≡ None → AreGiven s.steps 1
+  pub written : o ≡ writes (layout_file s.output table offsets ∷ []) (Feasible s.capacity)
+
+-- no layout fits within the capacity, and a log without waste that is accepted at it is written: the bound's where the
+-- capacity is below the lower bound, and else one with a step given for each line, if a number is
+pub record Refutes (s : Solve) (I : Instance) (o : Outcome) : Type 0 where
+  pub refutation : Log
+  pub refuted : LeavesNoLayout I s.capacity refutation
+  pub by_bound : s.capacity < lower_bound I → IsBoundLog I s.capacity refutation
+  pub searched : lower_bound I ≤ s.capacity → AreGiven s.steps (length refutation.lines)
+  pub readable : ReadsBack refutation
+  pub written : o ≡ writes (log_file s.log refutation ∷ []) (Infeasible s.capacity)
+
+-- the steps ran out: the best start and the bound's log are written
+pub record LeavesOpen (s : Solve) (table : List Record) (I : Instance) (o : Outcome) : Type 0 where
+  pub steps : ℕ
+  pub low : ℕ
+  pub high : ℕ
+  pub refutation : Log
+  pub given : s.steps ≡ Some steps
+  pub short : IsShortOfWork I s.capacity steps low high
+  pub opened : StaysOpen I low high (best_start I) refutation
+  pub by_bound : IsBoundLog I (low - 1) refutation
+  pub readable : ReadsBack refutation
+  pub written : o ≡ writes (layout_file s.output table (best_start I) ∷ log_file s.log refutation ∷ []) (Open low high)
+
+-- how `solve` goes
+abbrev pub solve : Solve → Course
+solve s = opened s.input (λ table I. Concludes (λ o. LaysOut s table I o ⊎ Refutes s I o ⊎ LeavesOpen s table I o))
+
+-- the words of `least`
+pub record LeastOf : Type 0 where
+  pub input : Word
+  pub output : Word
+  pub log : Word
+  pub steps : Option ℕ
+
+-- a log, where there is one, for its file
+abbrev pub log_files : Word → Option Log → List Write
+log_files name None = []
+log_files name (Some log) = log_file name log ∷ []
+
+-- the text of the log, where there is one, reads back
+abbrev pub AllReadBack : Option Log → Type 0
+AllReadBack None = Unit {0}
+AllReadBack (Some log) = ReadsBack log
+
+-- C is the least capacity that has a layout; the plan at it is written, and a log that refutes one byte less, unless C
+-- is 0; where a number of steps is given, they are enough for what the starts and the bound do not give
+pub record FindsLeast (l : LeastOf) (table : List Record) (I : Instance) (o : Outcome) : Type 0 where
+  pub capacity : ℕ
+  pub offsets : List ℕ
+  pub refutation : Option Log
+  pub least : IsLeast I capacity
+  pub zero_for_none : (I ≡ []) ↔ (capacity ≡ 0)
+  pub planned : planned I capacity ≡ Some offsets
+  pub layout : IsLayout I capacity offsets
+  pub refuted : RefutesBelow I capacity refutation
+  pub within_steps : AreWithinSteps I l.steps capacity offsets refutation
+  pub readable : AllReadBack refutation
+  pub written : o ≡ writes (layout_file l.output table offsets ∷ log_files l.log refutation) (Least capacity)
+
+-- the steps ran out: the plan at the upper end is written, a layout of that height, and a log that refutes one byte
+-- less than the lower end; the steps are enough for what the starts and the bound do not give
+pub record LeavesLeastOpen (l : LeastOf) (table : List Record) (I : Instance) (o : Outcome) : Type 0 where
+  pub steps : ℕ
+  pub low : ℕ
+  pub high : ℕ
+  pub offsets : List ℕ
+  pub refutation : Log
+  pub given : l.steps ≡ Some steps
+  pub short : IsShortOfHunt I steps low high
+  pub opened : StaysOpen I low high offsets refutation
+  pub within_steps : AreWithinSteps I l.steps low offsets (Some refutation)
+  pub readable : ReadsBack refutation
+  pub written : o ≡ writes (layout_file l.output table offsets ∷ log_file l.log refutation ∷ []) (Open low high)
+
+-- how `least` goes
+abbrev pub least : LeastOf → Course
+least l = opened l.input (λ table I. Concludes (λ o. FindsLeast l table I o ⊎ LeavesLeastOpen l table I o))

@@ -1,0 +1,36 @@
+-- How the commands go that judge a layout file.
+use Rattle.std.specs.Prelude.{◌≡◌, ◌^◌, ℕ, List}
+use Rattle.dsa_terms.specs.Buffers.{Instance}
+use Rattle.csv_instance.specs.Records.{Record}
+use Rattle.layout_report.specs.Report.{IsReportOf}
+use Rattle.command_words.specs.Options.{Word}
+use Rattle.run_status.specs.declared.status.Status.TheVariants.{Right}
+use Rattle.run_course.specs.Course.{Course, Outcome, Concludes, Ends, says, shows}
+use Rattle.readings.specs.Input.{opened}
+use Rattle.readings.specs.Judging.{judged}
+
+-- the words of `verify`: the layout is judged at the capacity, in bytes
+pub record Verify : Type 0 where
+  pub capacity : ℕ
+  pub input : Word
+  pub layout : Word
+
+-- how `verify` goes
+abbrev pub verify : Verify → Course
+verify v = opened v.input (λ table I. judged v.layout table I v.capacity (λ offsets. Ends (says Right)))
+
+-- the words of `report`
+pub record Report : Type 0 where
+  pub input : Word
+  pub layout : Word
+
+-- the tightest moment of the layout is shown
+pub record ShowsLayout (table : List Record) (I : Instance) (offsets : List ℕ) (o : Outcome) : Type 0 where
+  pub text : List ℕ
+  pub its_text : IsReportOf table I offsets text
+  pub shown : o ≡ shows text
+
+-- how `report` goes: the layout is judged at the greatest capacity
+abbrev pub report : Report → Course
+report r =
+    opened r.input (λ table I. judged r.layout table I (2 ^ 60) (λ offsets. Concludes (ShowsLayout table I offsets)))

@@ -1,0 +1,4 @@
+pub mod Opening
+pub mod Judged
+pub mod CheckedLogs
+mod Faulty

@@ -1,0 +1,11 @@
+//! The files that commands read: the instance, a layout to judge and a log to check, each with what
+//! ends the run where the file does not give it.
+#![tactic(auto)]
+
+mod input;
+mod layout_file;
+mod log_file;
+
+pub use input::{FILE_LIMIT, Input, open_input};
+pub use layout_file::{Judged, read_judged_layout};
+pub use log_file::{Checked, read_checked_log};

@@ -1,0 +1,68 @@
+-- What follows from an answer for every command.
+use Rattle.std.proofs.Common.{◌≡◌, ◌⊎◌, ℕ, ◌≤◌, ◌<◌, List, length, Option, IsSome, Some, None, refl, sym, subst, ap, ◌∙◌, inl, inr, arith}
+use Rattle.dsa_outside.specs.Held.{FileMap, file_at, IsMissing}
+use Rattle.command_words.specs.Options.{Word}
+use Rattle.run_status.specs.declared.status.Status.{Status}
+use Rattle.run_status.specs.declared.status.Status.TheVariants as status
+use Rattle.run_status.specs.declared.status.Role.{Role}
+use Rattle.dsa_outside.specs.Seen.{FilesSeen, SinkSeen}
+use Rattle.run_course.specs.Readings.{IsWholeFile, HoldsMore}
+use Rattle.run_course.specs.Course.{Course, Concludes, Reads, Comes, Outcome, IsUnreadable}
+use Rattle.run_course.specs.Answers.{Tells, IsSaid, Leaves, told_status, with_writes}
+use Rattle.run_course.specs.Complete.{IsReadable, IsServed, ConcludesOn}
+
+-- the outcome that the run came to, with all its files written
+pub record Came (course : Course) (old new : FilesSeen) (s : Status) : Type 0 where
+  pub outcome : Outcome
+  pub comes : Comes old new course outcome
+  pub its_status : outcome.status ≡ s
+  pub files : new.held ≡ with_writes old.held outcome.writes
+
+told_all : (course : Course) (old new : FilesSeen) (s : Status) (o : Outcome) (lost : Option Role) →
+    Comes old new course o → Leaves old new o.writes lost → s ≡ told_status o lost →
+    ((role : Role) → s ≡ status.WriteFault role → ⊥) → Came course old new s
+told_all course old new s o None comes left is kept =
+    record { outcome = o; comes = comes; its_status = sym is; files = left }
+told_all course old new s o (Some role) comes left is kept = absurd (kept role is)
+
+-- a status of a command's own comes of an outcome
+pub came : (course : Course) (old new : FilesSeen) (before after : SinkSeen) (s : Status) →
+    ((role : Role) → s ≡ status.WriteFault role → ⊥) → IsSaid course old new before after s → Came course old new s
+came course old new before after s kept said =
+    told_all course old new s said.tells.outcome said.tells.lost said.tells.comes said.tells.files
+    said.tells.its_status kept
+
+same_bytes : (held : Option FileMap) (name : Word) (bytes seen : List ℕ) → file_at held name ≡ Some bytes →
+    (IsSome held → file_at held name ≡ Some seen) → bytes ≡ seen
+same_bytes None name bytes seen one two = cc
+same_bytes (Some m) name bytes seen one two = let e = two refl in cc
+
+not_missing : (held : Option FileMap) (name : Word) (bytes : List ℕ) → file_at held name ≡ Some bytes →
+    IsMissing held name → ⊥
+not_missing None name bytes one missing = missing
+not_missing (Some m) name bytes one missing = cc
+
+is_told : (held : Option FileMap) (name : Word) (bytes : List ℕ) → file_at held name ≡ Some bytes → IsSome held
+is_told None name bytes one = cc
+is_told (Some m) name bytes one = refl
+
+too_long : (files : FilesSeen) (name : Word) (most : ℕ) → IsReadable files name most → HoldsMore files name most → ⊥
+too_long files name most file more =
+    let e : file.bytes ≡ more.bytes = same_bytes files.held name file.bytes more.bytes file.held (λ told. more.held) in
+    let short : length more.bytes ≤ most = subst (λ b. length b ≤ most) e file.short in
+    omega (arith, short, more.long)
+
+-- where its files are served, the course comes to an outcome of its own
+pub concludes_on : (old new : FilesSeen) (course : Course) (o : Outcome) → IsServed old new course →
+    Comes old new course o → ConcludesOn old course o
+concludes_on old new (Concludes allowed) o served comes = comes
+concludes_on old new (Reads role name most next) o served (inl (inl (is, inl rose), same)) = absurd (served.0 rose)
+concludes_on old new (Reads role name most next) o served (inl (inl (is, inr missing), same)) =
+    absurd (not_missing old.held name served.1.0.bytes served.1.0.held missing)
+concludes_on old new (Reads role name most next) o served (inl (inr (is, more), same)) =
+    absurd (too_long old name most served.1.0
+    (more (is_told old.held name served.1.0.bytes served.1.0.held)))
+concludes_on old new (Reads role name most next) o served (inr (bytes, whole, comes)) =
+    let e : served.1.0.bytes ≡ bytes = same_bytes old.held name served.1.0.bytes bytes served.1.0.held whole.held in
+    (served.1.0, concludes_on old new (next served.1.0.bytes) o served.1.1
+      (subst (λ b. Comes old new (next b) o) (sym e) comes))

@@ -1,0 +1,5 @@
+pub mod Since
+mod TwoWrites
+mod Performing
+pub mod Silently
+pub mod Concluding

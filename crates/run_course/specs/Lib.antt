@@ -1,0 +1,5 @@
+pub mod Readings
+pub mod Course
+pub mod Answers
+pub mod Prepares
+pub mod Complete

@@ -1,0 +1,54 @@
+-- The printed line of each status, without the reports that are shown.
+use Rattle.std.specs.Prelude.{ℕ, List, [], ◌++◌, codes, decimal}
+use Rattle.run_status.specs.declared.status.Status.{Status}
+use Rattle.run_status.specs.declared.status.Status.TheVariants as status
+use Rattle.run_status.specs.declared.status.Role.{Role}
+use Rattle.run_status.specs.declared.status.Role.TheVariants as role
+use Rattle.run_status.specs.declared.status.WrongCause.{WrongCause}
+use Rattle.run_status.specs.declared.status.WrongCause.TheVariants as wrong
+use Rattle.run_status.specs.declared.status.LogCause.{LogCause}
+use Rattle.run_status.specs.declared.status.LogCause.TheVariants as refused
+use Rattle.command_words.specs.FaultTexts.{usage_text}
+use Rattle.csv_instance.specs.FaultTexts.{instance_text, offsets_text}
+use Rattle.dsa_model.specs.FaultTexts.{layout_fault_text}
+use Rattle.log_text.specs.FaultTexts.{text_fault_text}
+use Rattle.log_check.specs.FaultTexts.{check_text}
+
+-- the option that names a file of this role
+abbrev pub role_text : Role → List ℕ
+role_text role.Input = codes "--input"
+role_text role.Layout = codes "--layout"
+role_text role.Log = codes "--log"
+role_text role.Output = codes "--output"
+
+-- why a layout is wrong
+abbrev pub wrong_text : WrongCause → List ℕ
+wrong_text (wrong.Offsets fault) = offsets_text fault
+wrong_text (wrong.Layout fault) = layout_fault_text fault
+
+-- why a log is refused
+abbrev pub refused_text : LogCause → List ℕ
+refused_text (refused.Text fault) = text_fault_text fault
+refused_text (refused.Check fault) = check_text fault
+
+-- the printed line of a status; a report that is shown has its own text, and two statuses print nothing
+abbrev pub line : Status → List ℕ
+line (status.Feasible capacity) = codes "feasible " ++ decimal capacity ++ codes "\n"
+line (status.Infeasible capacity) = codes "infeasible " ++ decimal capacity ++ codes "\n"
+line (status.Least capacity) = codes "least " ++ decimal capacity ++ codes "\n"
+line (status.Open low high) = codes "open " ++ decimal low ++ codes " " ++ decimal high ++ codes "\n"
+line status.Right = codes "right\n"
+line (status.Wrong cause) = codes "wrong " ++ wrong_text cause ++ codes "\n"
+line (status.Accepted capacity) = codes "accepted " ++ decimal capacity ++ codes "\n"
+line (status.LogRefused cause) = codes "refused " ++ refused_text cause ++ codes "\n"
+line (status.Trimmed before after) =
+    codes "trimmed " ++ decimal before ++ codes " " ++ decimal after ++ codes "\n"
+line status.Shown = []
+line (status.Usage fault) = codes "usage " ++ usage_text fault ++ codes "\n"
+line (status.Malformed fault) = codes "malformed " ++ instance_text fault ++ codes "\n"
+line (status.ReadFault role) = codes "unread " ++ role_text role ++ codes "\n"
+line (status.TooLong role) = codes "too long " ++ role_text role ++ codes "\n"
+line (status.WriteFault role) = codes "unwritten " ++ role_text role ++ codes "\n"
+line status.PrintFault = []
+line (status.TooMany count) = codes "too many " ++ decimal count ++ codes "\n"
+line status.NoMemory = []

@@ -1,0 +1,9 @@
+//! How a run ends, and the line that is printed for it.
+#![tactic(auto)]
+
+mod lines;
+mod status;
+
+pub use command_words::{OptionName, UsageFault};
+pub use lines::{status_line, unwritten_line};
+pub use status::{LogCause, Role, Status, WrongCause};

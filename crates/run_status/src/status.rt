@@ -1,0 +1,112 @@
+//! How a run ends.
+
+ghost use Rattle.std.specs.Prelude.{◌≡◌};
+ghost use Rattle.run_status.specs.Codes.{code_of};
+
+use command_words::UsageFault;
+use csv_instance::{InstanceFault, OffsetsFault};
+use dsa_model::LayoutFault;
+use log_check::CheckFault;
+use log_text::TextFault;
+
+/// A file's part in a command, named by its option.
+#[derive(Clone, Copy, Debug, PartialEq, Eq)]
+pub enum Role {
+    /// `--input`: the instance.
+    Input,
+    /// `--layout`: a layout to judge.
+    Layout,
+    /// `--log`: a log.
+    Log,
+    /// `--output`: the file to write.
+    Output,
+}
+
+/// Why a layout file is wrong.
+#[derive(Clone, Copy, Debug, PartialEq, Eq)]
+pub enum WrongCause {
+    /// It gives no offsets for the instance.
+    Offsets(OffsetsFault),
+    /// Its offsets are no layout.
+    Layout(LayoutFault),
+}
+
+/// Why a log is refused.
+#[derive(Clone, Copy, Debug, PartialEq, Eq)]
+pub enum LogCause {
+    /// Its bytes are no log's text.
+    Text(TextFault),
+    /// It is not accepted for the instance.
+    Check(CheckFault),
+}
+
+/// How a run ends. The step that comes first decides: words, the count of a trial, reading the
+/// input, its length, its records, reading the second file, its length, its content, deciding,
+/// writing the output, writing the log, printing.
+#[derive(Clone, Copy, Debug, PartialEq, Eq)]
+pub enum Status {
+    /// A layout within the capacity (bytes) is written.
+    Feasible { capacity: u64 },
+    /// No layout fits within the capacity (bytes), and a log that proves it is written.
+    Infeasible { capacity: u64 },
+    /// The capacity (bytes) is the least that has a layout; the layout is written, and a log that
+    /// proves that one byte less is too little, unless the capacity is 0.
+    Least { capacity: u64 },
+    /// The steps ran out: the least capacity (bytes) is at least `low` and at most `high`. A layout
+    /// of height `high` is written, and a log that proves that one byte less than `low` is too
+    /// little.
+    Open { low: u64, high: u64 },
+    /// The offsets are a layout at the capacity.
+    Right,
+    /// They are not.
+    Wrong(WrongCause),
+    /// The log is accepted: no layout fits within its capacity (bytes).
+    Accepted { capacity: u64 },
+    /// The log is not accepted.
+    LogRefused(LogCause),
+    /// The log had so many lines, and the log that is written has so many.
+    Trimmed { before: u64, after: u64 },
+    /// A report is printed.
+    Shown,
+    /// The words are no command.
+    Usage(UsageFault),
+    /// The input is no instance.
+    Malformed(InstanceFault),
+    /// A file could not be read.
+    ReadFault(Role),
+    /// A file holds more bytes than its limit.
+    TooLong(Role),
+    /// A file could not be written; nothing is known of what it holds.
+    WriteFault(Role),
+    /// The line could not be printed, or only in part.
+    PrintFault,
+    /// A trial of more buffers than an instance may have.
+    TooMany { count: u64 },
+    /// Memory ran out.
+    NoMemory,
+}
+
+impl Status {
+    /// The exit code of the program: 0 for a yes, 1 for a no, 2 for steps that ran out, 3 for wrong
+    /// words or a count that is too great, 4 for a malformed instance, 5 for a file or a sink that
+    /// fails, 6 for want of memory, 7 for a file that is too long.
+    pub fn code(&self) -> u8
+        ensures { result ≡ code_of self.now }
+    {
+        match self {
+            Status::Feasible { .. }
+            | Status::Least { .. }
+            | Status::Right
+            | Status::Accepted { .. }
+            | Status::Trimmed { .. }
+            | Status::Shown => 0,
+            Status::Infeasible { .. } | Status::Wrong(_) | Status::LogRefused(_) => 1,
+            Status::Open { .. } => 2,
+            Status::Usage(_) | Status::TooMany { .. } => 3,
+            Status::Malformed(_) => 4,
+            Status::ReadFault(_) | Status::WriteFault(_) | Status::PrintFault => 5,
+            Status::NoMemory => 6,
+            Status::TooLong(_) => 7,
+        }
+    }
+}
