@@ -1,24 +1,86 @@
 //! The one call.
 
-ghost use Rattle.std.specs.Prelude.{◌≡◌, ℕ, List, map, string_bytes, Err};
+ghost use Rattle.std.specs.Prelude.{◌≡◌, map, string_bytes, Ok};
 ghost use Rattle.dsa_terms.specs.Buffers.{Instance};
-ghost use Rattle.dsa_model.specs.Counts.{Rose};
-ghost use Rattle.dsa_terms.specs.Logs.{Log as LogTerm};
-ghost use Rattle.command_words.specs.Options.{Word};
-ghost use Rattle.command_words.specs.Commands.{Command, Refute, command_of};
-ghost use Rattle.command_words.specs.declared.fault.UsageFault.{UsageFault as UsageTerm};
-ghost use Rattle.dsaplan_core.specs.Answers.{Answers};
-ghost use Rattle.dsaplan_core.specs.Complete.{HoldsLog, IsAcceptedAt, IsConcluded, IsReady, IsUndisturbed};
-ghost use Rattle.dsaplan_core.specs.Checked.{AcceptsLog};
-ghost use Rattle.dsaplan_core.specs.Decided.{TrimsLog};
-ghost use Rattle.dsaplan_core.specs.Judged.{JudgesRight};
-ghost use Rattle.dsaplan_core.specs.Shown.{Shows};
-ghost use Rattle.dsaplan_core.specs.Theorem.{Headline, IsMisuse};
+ghost use Rattle.command_words.specs.Requests.{Request as RequestTerm, request_of};
+ghost use Rattle.run_course.specs.Answers.{Answers};
+ghost use Rattle.dsaplan_core.specs.Courses.{course, course_with};
+ghost use Rattle.dsaplan_core.specs.Theorem.{Headline};
+ghost use Rattle.dsaplan_core.specs.Choice.{Choice};
+ghost use Rattle.dsaplan_core.specs.Complete.{IsConcluded, IsReady, IsUndisturbed};
 
-use crate::course::execute;
-use crate::status::Status;
+use crate::misuse::Misuse;
+use checking::{Refute, Trim};
+use command_words::{OptionName, Request, Verb, read_words};
+use deciding::{Least, Solve};
 use dsa_outside::{Files, Sink};
+use fact_reports::{Bounds, Trial};
+use judging::{Report, Verify};
+use run_course::perform;
+use run_status::Status;
 use std::alloc::Global;
+
+/// Does what the command asks for.
+fn answer<F: Files, S: Sink>(
+    alloc: Global,
+    request: &Request<'_>,
+    files: &mut F,
+    out: &mut S,
+) -> Status
+    ensures answer { Answers (course_with request.now.verb request.now.pairs)
+        (F.seen files.old) (F.seen files.new) (S.seen out.old) (S.seen out.new) result }
+{
+    let capacity = request.number(OptionName::Capacity);
+    let input = request.word(OptionName::Input);
+    let output = request.word(OptionName::Output);
+    let log = request.word(OptionName::Log);
+    let layout = request.word(OptionName::Layout);
+    let steps = request.number_given(OptionName::Steps);
+    match request.verb() {
+        Verb::Solve => {
+            let solve = Solve {
+                capacity,
+                input,
+                output,
+                log,
+                steps,
+            };
+            perform(alloc, &solve, files, out)
+        }
+        Verb::Least => {
+            let least = Least {
+                input,
+                output,
+                log,
+                steps,
+            };
+            perform(alloc, &least, files, out)
+        }
+        Verb::Verify => {
+            let verify = Verify {
+                capacity,
+                input,
+                layout,
+            };
+            perform(alloc, &verify, files, out)
+        }
+        Verb::Refute => perform(alloc, &Refute { input, log }, files, out),
+        Verb::Trim => {
+            let trim = Trim { input, log, output };
+            perform(alloc, &trim, files, out)
+        }
+        Verb::Bounds => perform(alloc, &Bounds { input }, files, out),
+        Verb::Report => perform(alloc, &Report { input, layout }, files, out),
+        Verb::Trial => {
+            let trial = Trial {
+                seed: request.number(OptionName::Seed),
+                count: request.number(OptionName::Count),
+                steps: request.number(OptionName::Steps),
+            };
+            perform(alloc, &trial, files, out)
+        }
+    }
+}
 
 /// Does what the words (those after the program's name) ask for, with these files, and prints one
 /// text last. The status says which step decided, in this order: the words, the count of a trial,
@@ -27,82 +89,35 @@ use std::alloc::Global;
 /// `alloc` is where all memory comes from. The problem is Dynamic Storage Allocation, SR2 of Garey
 /// and Johnson.
 pub fn run<F: Files, S: Sink>(alloc: Global, words: &[String], files: &mut F, out: &mut S) -> Status
-    // What each answer says of the instance, and what it leaves of the files and the sink.
-    ensures answer { Answers (map string_bytes words.now)
-        (record { held = F.held files.old; faults = F.faults files.old })
-        (record { held = F.held files.new; faults = F.faults files.new })
-        (record { content = S.content out.old; faults = S.faults out.old })
-        (record { content = S.content out.new; faults = S.faults out.new })
-        result }
+    // The words go as their command goes, or their first fault is told: what is read, concluded,
+    // written and printed, in that order, and what is left where one of these fails.
+    ensures answer { Answers (course (map string_bytes words.now))
+        (F.seen files.old) (F.seen files.new) (S.seen out.old) (S.seen out.new) result }
 
     // The layout that is written with 'feasible', 'least C' or 'open L H' is aligned, within its
     // capacity and free of overlap at every moment; with 'infeasible', 'least C' or 'open L H' the
     // written log, at C - 1 or L - 1 unless C or L is zero, is accepted, and an accepted log means
-    // that no layout fits. Where the words give a number of steps, a layout that no start gives
-    // comes only where it is 1 or more, and a log at a capacity that the lower bound leaves open
-    // has no more lines.
+    // that no layout fits. 'right', 'accepted' and 'trimmed' say the same of what was read.
     ensures headline { Headline (map string_bytes words.now)
-        (record { held = F.held files.old; faults = F.faults files.old })
-        (record { held = F.held files.new; faults = F.faults files.new }) result }
+        (F.seen files.old) (F.seen files.new) result }
 
-    // With 'right' the layout file gives a layout at the capacity.
-    ensures right { result ≡ Status.Right → JudgesRight (map string_bytes words.now)
-        (record { held = F.held files.old; faults = F.faults files.old })
-        (record { held = F.held files.new; faults = F.faults files.new }) }
-
-    // With 'accepted' the log's file is the text of an accepted log, whoever made it, so no layout
-    // fits.
-    ensures accepted { (C : ℕ) → result ≡ Status.Accepted C →
-        AcceptsLog (map string_bytes words.now)
-        (record { held = F.held files.old; faults = F.faults files.old })
-        (record { held = F.held files.new; faults = F.faults files.new }) C }
-
-    // Where `refute` reads the text of an accepted log from a file within its limit, and nothing
-    // outside fails, the log is accepted, unless memory runs out.
-    ensures checks { (input log : Word) (I : Instance) (g : LogTerm) →
-        IsReady (map string_bytes words.now)
-        (record { held = F.held files.old; faults = F.faults files.old }) (Refute input log) I →
-        IsUndisturbed (Refute input log)
-        (record { held = F.held files.old; faults = F.faults files.old })
-        (record { held = F.held files.new; faults = F.faults files.new })
-        (record { content = S.content out.old; faults = S.faults out.old })
-        (record { content = S.content out.new; faults = S.faults out.new }) →
-        HoldsLog I g (record { held = F.held files.old; faults = F.faults files.old }) log →
-        IsAcceptedAt g.capacity result }
-
-    // With 'trimmed' the log's file is the text of an accepted log, and the output holds that of
-    // its needed lines alone, which is accepted too.
-    ensures trimmed { (before after : ℕ) → result ≡ Status.Trimmed before after →
-        TrimsLog (map string_bytes words.now)
-        (record { held = F.held files.old; faults = F.faults files.old })
-        (record { held = F.held files.new; faults = F.faults files.new }) before after }
-
-    // A report that is shown is true of the input's instance, of its layout, or of the made
-    // instance.
-    ensures shown { result ≡ Status.Shown → Shows (map string_bytes words.now)
-        (record { held = F.held files.old; faults = F.faults files.old })
-        (record { held = F.held files.new; faults = F.faults files.new }) }
-
-    // Words that are no command are answered by their first fault, unless printing fails or memory
-    // runs out.
-    ensures refused { (fault : UsageTerm) →
-        command_of (map string_bytes words.now) ≡ Err fault → IsMisuse fault result }
-
-    // Printing is blamed only where the sink's count of faults rose.
-    ensures print_fault { result ≡ Status.PrintFault → Rose (S.faults out.old) (S.faults out.new) }
+    // The layout is the plan, the log is without waste, and steps bound both; 'open' comes only
+    // where the steps may be too few.
+    ensures choice { Choice (map string_bytes words.now)
+        (F.seen files.old) (F.seen files.new) result }
 
     // Where the words are a command, the files that it reads are there and within their limits, its
     // input is an instance, and nothing outside fails, the command is concluded, unless memory runs
     // out; without steps 'open' never comes.
-    ensures complete { (command : Command) (I : Instance) →
-        IsReady (map string_bytes words.now)
-        (record { held = F.held files.old; faults = F.faults files.old }) command I →
-        IsUndisturbed command
-        (record { held = F.held files.old; faults = F.faults files.old })
-        (record { held = F.held files.new; faults = F.faults files.new })
-        (record { content = S.content out.old; faults = S.faults out.old })
-        (record { content = S.content out.new; faults = S.faults out.new }) →
-        IsConcluded command I result }
+    ensures complete { (request : RequestTerm) (I : Instance) →
+        request_of (map string_bytes words.now) ≡ Ok request →
+        IsReady (F.seen files.old) request I →
+        IsUndisturbed request
+        (F.seen files.old) (F.seen files.new) (S.seen out.old) (S.seen out.new) →
+        IsConcluded request.verb request.pairs I result }
 {
-    execute(alloc, words, files, out)
+    match read_words(words) {
+        Ok(request) => answer(alloc, &request, files, out),
+        Err(fault) => perform(alloc, &Misuse { fault }, files, out),
+    }
 }

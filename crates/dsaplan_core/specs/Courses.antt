@@ -1,0 +1,83 @@
+-- How each command goes.
+use Rattle.std.specs.Prelude.{List, Result, Ok, Err}
+use Rattle.command_words.specs.Options.{Word}
+use Rattle.command_words.specs.Pairs.{Pair, number_at, number_given, word_at}
+use Rattle.command_words.specs.Requests.{Request, request_of}
+use Rattle.command_words.specs.declared.option.OptionName.TheVariants as option
+use Rattle.command_words.specs.declared.verb.Verb.{Verb}
+use Rattle.command_words.specs.declared.verb.Verb.TheVariants as verb
+use Rattle.command_words.specs.declared.fault.UsageFault.{UsageFault}
+use Rattle.run_status.specs.declared.status.Status.TheVariants.{Usage}
+use Rattle.run_course.specs.Course.{Course, Ends, says}
+use Rattle.judging.specs.Judging.{Report, Verify, report, verify}
+use Rattle.checking.specs.Checking.{Refute, Trim, refute, trim}
+use Rattle.fact_reports.specs.Reporting.{Bounds, Trial, bounds, trial}
+use Rattle.deciding.specs.Deciding.{LeastOf, Solve, least, solve}
+
+-- what the pairs ask of each command
+abbrev pub solve_of : List Pair → Solve
+solve_of pairs = record {
+  capacity = number_at pairs option.Capacity;
+  input = word_at pairs option.Input;
+  output = word_at pairs option.Output;
+  log = word_at pairs option.Log;
+  steps = number_given pairs option.Steps;
+}
+
+abbrev pub least_of : List Pair → LeastOf
+least_of pairs = record {
+  input = word_at pairs option.Input;
+  output = word_at pairs option.Output;
+  log = word_at pairs option.Log;
+  steps = number_given pairs option.Steps;
+}
+
+abbrev pub verify_of : List Pair → Verify
+verify_of pairs = record {
+  capacity = number_at pairs option.Capacity;
+  input = word_at pairs option.Input;
+  layout = word_at pairs option.Layout;
+}
+
+abbrev pub refute_of : List Pair → Refute
+refute_of pairs = record { input = word_at pairs option.Input; log = word_at pairs option.Log }
+
+abbrev pub trim_of : List Pair → Trim
+trim_of pairs = record {
+  input = word_at pairs option.Input;
+  log = word_at pairs option.Log;
+  output = word_at pairs option.Output;
+}
+
+abbrev pub bounds_of : List Pair → Bounds
+bounds_of pairs = record { input = word_at pairs option.Input }
+
+abbrev pub report_of : List Pair → Report
+report_of pairs = record { input = word_at pairs option.Input; layout = word_at pairs option.Layout }
+
+abbrev pub trial_of : List Pair → Trial
+trial_of pairs = record {
+  seed = number_at pairs option.Seed;
+  count = number_at pairs option.Count;
+  steps = number_at pairs option.Steps;
+}
+
+-- how a command goes
+abbrev pub course_with : Verb → List Pair → Course
+course_with verb.Solve pairs = solve (solve_of pairs)
+course_with verb.Least pairs = least (least_of pairs)
+course_with verb.Verify pairs = verify (verify_of pairs)
+course_with verb.Refute pairs = refute (refute_of pairs)
+course_with verb.Trim pairs = trim (trim_of pairs)
+course_with verb.Bounds pairs = bounds (bounds_of pairs)
+course_with verb.Report pairs = report (report_of pairs)
+course_with verb.Trial pairs = trial (trial_of pairs)
+
+-- how words go: as their command, or their first fault is told
+abbrev pub course_or_fault : Result Request UsageFault → Course
+course_or_fault (Ok request) = course_with request.verb request.pairs
+course_or_fault (Err fault) = Ends (says (Usage fault))
+
+-- how words go
+abbrev pub course : List Word → Course
+course words = course_or_fault (request_of words)
