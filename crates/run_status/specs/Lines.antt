@@ -43,6 +43,12 @@ line (status.Accepted capacity) = codes "accepted " ++ decimal capacity ++ codes
 line (status.LogRefused cause) = codes "refused " ++ refused_text cause ++ codes "\n"
 line (status.Trimmed before after) =
     codes "trimmed " ++ decimal before ++ codes " " ++ decimal after ++ codes "\n"
+line (status.Classed height load) =
+    codes "classes " ++ decimal height ++ codes " " ++ decimal load ++ codes "\n"
+line (status.NotPlain buffer) = codes "not plain " ++ decimal buffer ++ codes "\n"
+line (status.Core members) = codes "core " ++ decimal members ++ codes "\n"
+line (status.NoCore capacity) = codes "no core " ++ decimal capacity ++ codes "\n"
+line (status.Drawn rectangles) = codes "drawn " ++ decimal rectangles ++ codes "\n"
 line status.Shown = []
 line (status.Usage fault) = codes "usage " ++ usage_text fault ++ codes "\n"
 line (status.Malformed fault) = codes "malformed " ++ instance_text fault ++ codes "\n"

@@ -53,6 +53,13 @@ fn trimmed_line(alloc: Global, before: u64, after: u64) -> Result<String, NoMemo
     Ok(format!(in alloc; "trimmed {before} {after}\n")?)
 }
 
+/// The line of a plan by size class.
+fn classes_line(alloc: Global, height: u64, load: u64) -> Result<String, NoMemory>
+    ensures { IfOk result (λ text. string_bytes text ≡ line (Status.Classed height load)) }
+{
+    Ok(format!(in alloc; "classes {height} {load}\n")?)
+}
+
 /// The line of a status.
 pub fn status_line(alloc: Global, status: Status) -> Result<String, NoMemory>
     ensures { IfOk result (λ text. string_bytes text ≡ line status) }
@@ -63,6 +70,11 @@ pub fn status_line(alloc: Global, status: Status) -> Result<String, NoMemory>
         Status::Least { capacity } => Ok(format!(in alloc; "least {capacity}\n")?),
         Status::Open { low, high } => open_line(alloc, low, high),
         Status::Trimmed { before, after } => trimmed_line(alloc, before, after),
+        Status::Classed { height, load } => classes_line(alloc, height, load),
+        Status::NotPlain { buffer } => Ok(format!(in alloc; "not plain {buffer}\n")?),
+        Status::Core { members } => Ok(format!(in alloc; "core {members}\n")?),
+        Status::NoCore { capacity } => Ok(format!(in alloc; "no core {capacity}\n")?),
+        Status::Drawn { rectangles } => Ok(format!(in alloc; "drawn {rectangles}\n")?),
         Status::TooMany { count } => Ok(format!(in alloc; "too many {count}\n")?),
         Status::Right => Ok(String::from_str(alloc, "right\n")?),
         Status::Accepted { capacity } => Ok(format!(in alloc; "accepted {capacity}\n")?),

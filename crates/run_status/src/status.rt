@@ -66,6 +66,16 @@ pub enum Status {
     LogRefused(LogCause),
     /// The log had so many lines, and the log that is written has so many.
     Trimmed { before: u64, after: u64 },
+    /// A plan by size class is written: its height, and the greatest load, in bytes.
+    Classed { height: u64, load: u64 },
+    /// The instance is not plain, for this buffer first: it has a gap or an alignment above 1.
+    NotPlain { buffer: u32 },
+    /// An irreducible set of so many buffers that do not fit is written, with a log that proves it.
+    Core { members: u32 },
+    /// All buffers fit within the capacity (bytes), so there is no such set.
+    NoCore { capacity: u64 },
+    /// A picture of so many rectangles is written.
+    Drawn { rectangles: u64 },
     /// A report is printed.
     Shown,
     /// The words are no command.
@@ -99,11 +109,17 @@ impl Status {
             | Status::Right
             | Status::Accepted { .. }
             | Status::Trimmed { .. }
+            | Status::Classed { .. }
+            | Status::NoCore { .. }
+            | Status::Drawn { .. }
             | Status::Shown => 0,
-            Status::Infeasible { .. } | Status::Wrong(_) | Status::LogRefused(_) => 1,
+            Status::Infeasible { .. }
+            | Status::Wrong(_)
+            | Status::LogRefused(_)
+            | Status::Core { .. } => 1,
             Status::Open { .. } => 2,
             Status::Usage(_) | Status::TooMany { .. } => 3,
-            Status::Malformed(_) => 4,
+            Status::Malformed(_) | Status::NotPlain { .. } => 4,
             Status::ReadFault(_) | Status::WriteFault(_) | Status::PrintFault => 5,
             Status::NoMemory => 6,
             Status::TooLong(_) => 7,

@@ -1,0 +1,31 @@
+use Rattle.std.proofs.Common.{refl, ◌^◌}
+use Rattle.run_status.specs.declared.status.Status.TheVariants as status
+use Rattle.run_course.specs.Course.{Concludes, Ends, says, shows}
+use Rattle.run_course.proofs.Silently.{silently, comes_by}
+use Rattle.readings.specs.Judging.{judged}
+use Rattle.readings.proofs.Opening.{no_input}
+use Rattle.readings.proofs.Judged.{not_judged, then_judged}
+use Rattle.judging.specs.Judging.{ShowsLayout, report}
+use Rattle.judging.proofs.report.ReportCommand.conclude.Goals as goal
+
+pub returns-in-Missing-clause-comes : goal.returns-in-Missing-clause-comes
+returns-in-Missing-clause-comes g c =
+    let found = rw c.in-Missing.is at c.in_ok-table.ensures.input in
+    silently (g.F.Files.seen c.args.files.now) (g.F.Files.seen c.open_input.new.files)
+    (report (record { input = c.args.self.now.input.now; layout = c.args.self.now.layout.now }))
+    c.in-Missing.status c.silent.result c.silent.ensures
+    (no_input (g.F.Files.seen c.args.files.now) (g.F.Files.seen c.open_input.new.files)
+    c.args.self.now.input.now c.in-Missing.status
+    (λ t I. judged c.args.self.now.layout.now t I (2 ^ 60) (λ offsets. Concludes (ShowsLayout t I offsets))) found)
+
+pub returns-in-NoLayout-clause-comes : goal.returns-in-NoLayout-clause-comes
+returns-in-NoLayout-clause-comes g c =
+    let found = rw c.in-NoLayout.is at c.in_ok-judged.ensures.judged in
+    silently (g.F.Files.seen c.args.files.now) (g.F.Files.seen c.read_judged_layout.new.files)
+    (report (record { input = c.args.self.now.input.now; layout = c.args.self.now.layout.now }))
+    c.in-NoLayout.status c.silent-in-NoLayout.result c.silent-in-NoLayout.ensures
+    (not_judged (g.F.Files.seen c.args.files.now) (g.F.Files.seen c.open_input.new.files)
+    (g.F.Files.seen c.read_judged_layout.new.files) c.args.self.now.input.now c.args.self.now.layout.now
+    (2 ^ 60) (λ t I offsets. Concludes (ShowsLayout t I offsets)) c.in-Table.table found.instance
+    (rw c.in-Table.is at c.in_ok-table.ensures.input) found.parsed c.in_ok-table.ensures.files
+    c.in_ok-table.ensures.counts c.in-NoLayout.status found.judged)
