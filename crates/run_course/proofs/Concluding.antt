@@ -63,6 +63,8 @@ concludes_on old new (Reads role name most next) o served (inl (inr (is, more), 
     absurd (too_long old name most served.1.0
     (more (is_told old.held name served.1.0.bytes served.1.0.held)))
 concludes_on old new (Reads role name most next) o served (inr (bytes, whole, comes)) =
-    let e : served.1.0.bytes ≡ bytes = same_bytes old.held name served.1.0.bytes bytes served.1.0.held whole.held in
-    (served.1.0, concludes_on old new (next served.1.0.bytes) o served.1.1
-      (subst (λ b. Comes old new (next b) o) (sym e) comes))
+    let e : served.1.0.bytes ≡ bytes = same_bytes old.held name served.1.0.bytes bytes served.1.0.held whole.held in (
+      served.1.0,
+      concludes_on old new (next served.1.0.bytes) o served.1.1
+          (subst (λ b. Comes old new (next b) o) (sym e) comes),
+    )

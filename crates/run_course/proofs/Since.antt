@@ -62,8 +62,11 @@ comes_since old mid new (Concludes allowed) o same none comes = comes
 comes_since old mid new (Reads role name most next) o same none (inl failed) =
     inl (unreadable_since old mid new role name most o.status same none failed.0, failed.1)
 comes_since old mid new (Reads role name most next) o same none (inr read) =
-    inr (read.0, whole_since old mid name most read.0 same read.1,
-      comes_since old mid new (next read.0) o same none read.2)
+    inr (
+      read.0,
+      whole_since old mid name most read.0 same read.1,
+      comes_since old mid new (next read.0) o same none read.2,
+    )
 
 -- what a course came to, seen from the end of the run
 pub comes_until : (old mid new : FilesSeen) (course : Course) (o : Outcome) →

@@ -64,7 +64,7 @@ pub fn shown<'a>(text: Vec<u8>) -> Prepared<'a>
 
 /// A file to write, and then a status with its line.
 pub fn one_write(alloc: Global, file: Writing<'_>, status: Status) -> Result<Prepared<'_>, NoMemory>
-    ensures { IfOk result (λ p. outcome_of p ≡ writes (write_of file ∷ []) status) }
+    ensures { IfOk result (λ p. outcome_of p ≡ writes (write_of file.entry ∷ []) status) }
 {
     Ok(Prepared::One(file, say(alloc, status)?))
 }
@@ -76,7 +76,7 @@ pub fn two_writes<'a>(
     second: Writing<'a>,
     status: Status,
 ) -> Result<Prepared<'a>, NoMemory>
-    ensures { IfOk result (λ p. outcome_of p ≡ writes (write_of first ∷ write_of second ∷ []) status) }
+    ensures { IfOk result (λ p. outcome_of p ≡ writes (write_of first.entry ∷ write_of second.entry ∷ []) status) }
 {
     Ok(Prepared::Both(first, second, say(alloc, status)?))
 }
