@@ -1,5 +1,5 @@
 -- From what a log's file comes to, to what a course comes to that checks it.
-use Rattle.std.proofs.Common.{◌≡◌, ◌⊎◌, ℕ, List, [], ◌∷◌, length, Ok, refl, sym, subst, inl, inr, ◌∙◌, ap}
+use Rattle.std.proofs.Common.{◌≡◌, ◌⊎◌, List, Ok, refl, sym, subst, inl, inr, ap}
 use Rattle.dsa_terms.specs.Buffers.{Instance}
 use Rattle.dsa_terms.specs.Logs.{Log}
 use Rattle.command_words.specs.Options.{Word}
@@ -10,7 +10,7 @@ use Rattle.run_status.specs.declared.status.Status.{Status}
 use Rattle.run_status.specs.declared.status.Role.TheVariants as role
 use Rattle.run_status.specs.Spoken.{IsSpoken}
 use Rattle.dsa_outside.specs.Seen.{FilesSeen}
-use Rattle.run_course.specs.Course.{Course, Comes, Outcome, IsUnreadable, says}
+use Rattle.run_course.specs.Course.{Comes, Outcome, IsUnreadable, says}
 use Rattle.readings.specs.Input.{opened}
 use Rattle.readings.specs.Opens.{IsInput}
 use Rattle.readings.proofs.Opening.{with_input}

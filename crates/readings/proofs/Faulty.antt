@@ -1,5 +1,5 @@
 -- Faults that a clause speaks of.
-use Rattle.std.proofs.Common.{◌≡◌, ℕ, List, Result, Err, sym, subst}
+use Rattle.std.proofs.Common.{◌≡◌, Result, Err, subst}
 use Rattle.dsa_model.specs.Fails.{IfFault, UnlessNoMemory}
 use Rattle.dsa_model.specs.declared.fail.Fail.{Fail}
 use Rattle.dsa_model.specs.declared.fail.Fail.TheVariants.{Fault}

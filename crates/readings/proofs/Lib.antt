@@ -1,4 +1,4 @@
 pub mod Opening
-pub mod Judged
+pub mod JudgedLayouts
 pub mod CheckedLogs
 mod Faulty

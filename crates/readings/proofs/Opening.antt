@@ -1,5 +1,5 @@
 -- From what reading the input comes to, to what a course comes to that begins with it.
-use Rattle.std.proofs.Common.{◌≡◌, ◌⊎◌, ℕ, List, Result, Ok, Err, refl, sym, subst, ap, inl, inr}
+use Rattle.std.proofs.Common.{◌≡◌, ◌⊎◌, List, Ok, refl, sym, subst, ap, inl, inr}
 use Rattle.dsa_terms.specs.Buffers.{Instance}
 use Rattle.csv_instance.specs.Records.{Record, file_limit, table_of}
 use Rattle.csv_instance.specs.Parse.{parse}
@@ -26,9 +26,12 @@ pub no_input : (old new : FilesSeen) (name : Word) (s : Status) (next : List Rec
     IsMissing old new name s → Comes old new (opened name next) (says s)
 no_input old new name s next (inl failed) = inl (failed, refl)
 no_input old new name s next (inr (fault, told, bad)) =
-    inr (bad.bytes, bad.whole,
+    inr (
+      bad.bytes,
+      bad.whole,
       subst (λ r. Comes old new (instance_or_fault r (next (table_of bad.bytes))) (says s)) (sym bad.refused)
-      (subst IsSpoken (sym told) tt, ap says told))
+          (subst IsSpoken (sym told) tt, ap says told),
+    )
 
 -- the input gives an instance, so the course goes on
 pub with_input : (old mid new : FilesSeen) (name : Word) (table : List Record) (J : Instance)
@@ -36,7 +39,10 @@ pub with_input : (old mid new : FilesSeen) (name : Word) (table : List Record) (
     mid.held ≡ old.held → NoneFell old.faults mid.faults →
     (o : Outcome) → Comes mid new (next table J) o → Comes old new (opened name next) o
 with_input old mid new name table J next (I, input) parsed same none o comes =
-    inr (input.bytes, input.whole,
+    inr (
+      input.bytes,
+      input.whole,
       subst (λ t. Comes old new (instance_or_fault (parse t) (next t)) o) input.records
-      (subst (λ r. Comes old new (instance_or_fault r (next table)) o) (sym parsed)
-      (comes_since old mid new (next table J) o same none comes)))
+          (subst (λ r. Comes old new (instance_or_fault r (next table)) o) (sym parsed)
+          (comes_since old mid new (next table J) o same none comes)),
+    )

@@ -1,5 +1,5 @@
 -- How a command begins that reads an instance.
-use Rattle.std.specs.Prelude.{List, Result, Ok, Err, ℕ}
+use Rattle.std.specs.Prelude.{List, Result, Ok, Err}
 use Rattle.dsa_terms.specs.Buffers.{Instance}
 use Rattle.csv_instance.specs.Records.{Record, file_limit, table_of}
 use Rattle.csv_instance.specs.Parse.{parse}

@@ -5,7 +5,6 @@ use Rattle.csv_instance.specs.Records.{Record, file_limit, table_of}
 use Rattle.csv_instance.specs.Parse.{parse}
 use Rattle.csv_instance.specs.declared.fault.InstanceFault.{InstanceFault}
 use Rattle.command_words.specs.Options.{Word}
-use Rattle.run_status.specs.declared.status.Status.{Status}
 use Rattle.run_status.specs.declared.status.Status.TheVariants.{Malformed}
 use Rattle.run_status.specs.declared.status.Role.TheVariants as role
 use Rattle.dsa_outside.specs.Seen.{FilesSeen}

@@ -22,11 +22,7 @@ pub enum Input {
 }
 
 /// Reads the input and the instance that it holds.
-pub fn open_input<F: Files>(
-    alloc: Global,
-    files: &mut F,
-    name: &str,
-) -> Result<Input, NoMemory>
+pub fn open_input<F: Files>(alloc: Global, files: &mut F, name: &str) -> Result<Input, NoMemory>
     ensures input { IfOk result (λ input. OpensInput (F.seen files.old) (F.seen files.new)
         name.now input) }
     ensures files { (F.seen files.new).held ≡ (F.seen files.old).held }

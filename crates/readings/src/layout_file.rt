@@ -5,11 +5,11 @@ ghost use Rattle.dsa_outside.specs.Faults.{NoneFell};
 ghost use Rattle.readings.specs.GivenLayouts.{JudgesTable};
 
 use crate::FILE_LIMIT;
-use run_course::{Content, read_file};
-use run_status::{Role, Status, WrongCause};
 use csv_instance::{Table, read_offsets};
 use dsa_model::{Fail, NoMemory, judge};
 use dsa_outside::Files;
+use run_course::{Content, read_file};
+use run_status::{Role, Status, WrongCause};
 use std::alloc::Global;
 
 /// The offsets of a file, a layout at the capacity, or the status that the run ends with.

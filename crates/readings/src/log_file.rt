@@ -4,13 +4,13 @@ ghost use Rattle.std.specs.Prelude.{◌≡◌, IfOk};
 ghost use Rattle.dsa_outside.specs.Faults.{NoneFell};
 ghost use Rattle.readings.specs.GivenLogs.{ChecksLog};
 
-use run_course::{Content, read_file};
-use run_status::{LogCause, Role, Status};
 use dsa_model::{Fail, Instance, NoMemory};
 use dsa_outside::Files;
 use log_check::check;
 use log_text::read_log;
 use refute_log::ClosedLog;
+use run_course::{Content, read_file};
+use run_status::{LogCause, Role, Status};
 use std::alloc::Global;
 
 /// The greatest number of bytes of a log's file.

@@ -1,5 +1,4 @@
-use Rattle.std.proofs.Common.{inl, inr, subst}
-use Rattle.csv_instance.specs.Offsets.{ids_of, parsed_offsets}
+use Rattle.std.proofs.Common.{inl, inr}
 use Rattle.readings.proofs.layout_file.read_judged_layout.Goals as goal
 
 pub returns-in-Unreadable-clause-judged : goal.returns-in-Unreadable-clause-judged

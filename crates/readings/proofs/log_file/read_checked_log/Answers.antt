@@ -16,18 +16,18 @@ returns-in-Unreadable-clause-checked g c = inl (rw c.in-Unreadable.is at c.in_ok
 
 pub returns-in-Err-Fault-clause-checked : goal.returns-in-Err-Fault-clause-checked
 returns-in-Err-Fault-clause-checked g c =
-  let first : IsFirstFault c.as_slice.result.now c.in-Err-Fault.fault = fault_gives
-      (λ (raw : RawLog). IsTextOf c.as_slice.result.now raw)
-      (λ (f : TextFault). IsFirstFault c.as_slice.result.now f)
-      c.read_log.result c.in-Err-Fault.field-0 c.in-Err-Fault.fault c.in-Err-Fault.is c.in-Err-Fault.field-0-is
-      c.read_log.ensures.sound in
-  inr (inl (record {
-  bytes = c.in-Bytes.bytes.items;
-  fault = c.in-Err-Fault.fault;
-  told = ap (λ (f : TextFault). status.LogRefused (refused.Text f)) c.in-Err-Fault.fault-is;
-  whole = rw c.in-Bytes.is at c.in_ok-bytes.ensures.content;
-  refused = rw c.as_slice.ensures.value at first;
-}))
+    let first : IsFirstFault c.as_slice.result.now c.in-Err-Fault.fault = fault_gives
+    (λ (raw : RawLog). IsTextOf c.as_slice.result.now raw)
+    (λ (f : TextFault). IsFirstFault c.as_slice.result.now f)
+    c.read_log.result c.in-Err-Fault.field-0 c.in-Err-Fault.fault c.in-Err-Fault.is c.in-Err-Fault.field-0-is
+    c.read_log.ensures.sound in
+    inr (inl (record {
+      bytes = c.in-Bytes.bytes.items;
+      fault = c.in-Err-Fault.fault;
+      told = ap (λ (f : TextFault). status.LogRefused (refused.Text f)) c.in-Err-Fault.fault-is;
+      whole = rw c.in-Bytes.is at c.in_ok-bytes.ensures.content;
+      refused = rw c.as_slice.ensures.value at first;
+    }))
 
 pub returns-in-Err-Fault-check-clause-checked : goal.returns-in-Err-Fault-check-clause-checked
 returns-in-Err-Fault-check-clause-checked g c = inr (inr (record {

@@ -4,7 +4,7 @@ use Rattle.run_course.specs.Course.{Concludes, Ends, says, shows}
 use Rattle.run_course.proofs.Silently.{silently, comes_by}
 use Rattle.readings.specs.Judging.{judged}
 use Rattle.readings.proofs.Opening.{no_input}
-use Rattle.readings.proofs.Judged.{not_judged, then_judged}
+use Rattle.readings.proofs.JudgedLayouts.{not_judged, then_judged}
 use Rattle.judging.specs.Judging.{verify}
 use Rattle.judging.proofs.verify.VerifyCommand.conclude.Goals as goal
 

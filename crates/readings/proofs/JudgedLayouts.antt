@@ -1,11 +1,7 @@
 -- From what a layout file comes to, to what a course comes to that judges it.
-use Rattle.std.proofs.Common.{◌≡◌, ◌⊎◌, ℕ, List, Option, Some, None, Result, Ok, Err, refl, sym, subst, inl, inr, ◌∙◌, ap}
+use Rattle.std.proofs.Common.{◌≡◌, ◌⊎◌, ℕ, List, Ok, refl, sym, subst, inl, inr, ap}
 use Rattle.dsa_terms.specs.Buffers.{Instance}
-use Rattle.dsa_model.specs.LayoutFaults.{layout_fault}
-use Rattle.dsa_model.specs.declared.layout.LayoutFault.{LayoutFault}
-use Rattle.csv_instance.specs.Records.{Record, file_limit, table_of}
-use Rattle.csv_instance.specs.Offsets.{ids_of, parsed_offsets}
-use Rattle.csv_instance.specs.declared.fault.OffsetsFault.{OffsetsFault}
+use Rattle.csv_instance.specs.Records.{Record, file_limit}
 use Rattle.command_words.specs.Options.{Word}
 use Rattle.csv_instance.specs.Parse.{parse}
 use Rattle.dsa_outside.specs.Faults.{NoneFell}
@@ -13,7 +9,7 @@ use Rattle.run_status.specs.declared.status.Status.{Status}
 use Rattle.run_status.specs.declared.status.Role.TheVariants as role
 use Rattle.run_status.specs.Spoken.{IsSpoken}
 use Rattle.dsa_outside.specs.Seen.{FilesSeen}
-use Rattle.run_course.specs.Course.{Course, Comes, Outcome, IsUnreadable, Ends, says}
+use Rattle.run_course.specs.Course.{Course, Comes, Outcome, IsUnreadable, says}
 use Rattle.readings.specs.Input.{opened}
 use Rattle.readings.specs.Opens.{IsInput}
 use Rattle.readings.specs.Judging.{judged, layout_or_fault, offsets_or_fault}
@@ -30,23 +26,32 @@ pub no_layout : (old new : FilesSeen) (name : Word) (table : List Record) (I : I
     (next : List ℕ → Course) → IsNone old new name table I C s → Comes old new (judged name table I C next) (says s)
 no_layout old new name table I C s next (inl failed) = inl (failed, refl)
 no_layout old new name table I C s next (inr (inl gives)) =
-    inr (gives.bytes, gives.whole,
+    inr (
+      gives.bytes,
+      gives.whole,
       subst (λ r. Comes old new (offsets_or_fault r I C next) (says s)) (sym gives.refused)
-      (subst IsSpoken (sym gives.told) tt, ap says gives.told))
+          (subst IsSpoken (sym gives.told) tt, ap says gives.told),
+    )
 no_layout old new name table I C s next (inr (inr gives)) =
-    inr (gives.bytes, gives.whole,
+    inr (
+      gives.bytes,
+      gives.whole,
       subst (λ r. Comes old new (offsets_or_fault r I C next) (says s)) (sym gives.parsed)
-      (subst (λ f. Comes old new (layout_or_fault f (next gives.offsets)) (says s)) (sym gives.refused)
-      (subst IsSpoken (sym gives.told) tt, ap says gives.told)))
+          (subst (λ f. Comes old new (layout_or_fault f (next gives.offsets)) (says s)) (sym gives.refused)
+          (subst IsSpoken (sym gives.told) tt, ap says gives.told)),
+    )
 
 -- the file gives a layout, so the course goes on
 pub with_layout : (old new : FilesSeen) (name : Word) (table : List Record) (I : Instance) (C : ℕ) (offsets : List ℕ)
     (next : List ℕ → Course) → GivesLayout old name table I C offsets →
     (o : Outcome) → Comes old new (next offsets) o → Comes old new (judged name table I C next) o
 with_layout old new name table I C offsets next gives o comes =
-    inr (gives.bytes, gives.whole,
+    inr (
+      gives.bytes,
+      gives.whole,
       subst (λ r. Comes old new (offsets_or_fault r I C next) o) (sym gives.parsed)
-      (subst (λ f. Comes old new (layout_or_fault f (next offsets)) o) (sym gives.legal) comes))
+          (subst (λ f. Comes old new (layout_or_fault f (next offsets)) o) (sym gives.legal) comes),
+    )
 
 -- the input gives an instance, and then the layout file is judged
 module _ (old mid new : FilesSeen) (input layout : Word) (C : ℕ) (next : List Record → Instance → List ℕ → Course)
