@@ -11,3 +11,4 @@ pub mod Layout
 pub mod Wrote
 pub mod Offsets
 pub mod Found
+pub mod Chosen
