@@ -8,6 +8,7 @@ use Rattle.dsa_model.specs.Buffer.{is_ever_live}
 use Rattle.dsa_terms.specs.Buffers.{is_live, some_before}
 use Rattle.dsa_model.specs.declared.buffer_fault.BufferFault.TheVariants as buffer
 use Rattle.dsa_model.specs.Numbers.{written_number}
+use Rattle.csv_instance.specs.Chosen.{chosen_records, chosen_text}
 use Rattle.csv_instance.specs.Gaps.{gaps_of}
 use Rattle.csv_instance.specs.Layout.{layout_text}
 use Rattle.csv_instance.specs.Numbers.{time_limit}
@@ -146,6 +147,19 @@ written : layout_text two (12 ∷ 0 ∷ []) ≡ codes "id,note,offset" ++ 10 ∷
     ++ 10 ∷ []
 unfolding two digits escaped fields_text is_blank
 written = refl
+
+-- ---- some rows
+last_row : chosen_records two (1 ∷ []) ≡ (codes "id" ∷ codes "note" ∷ []) ∷ (codes "B" ∷ [] ∷ []) ∷ []
+unfolding two
+last_row = refl
+
+first_row_written : chosen_text two (0 ∷ []) ≡ codes "id,note" ++ 10 ∷ codes "A,\"x,y\"" ++ 10 ∷ []
+unfolding two escaped fields_text is_blank
+first_row_written = refl
+
+header_alone_stays : chosen_records two [] ≡ (codes "id" ∷ codes "note" ∷ []) ∷ []
+unfolding two
+header_alone_stays = refl
 
 known : List (List ℕ)
 known = codes "A" ∷ codes "B" ∷ []

@@ -16,4 +16,6 @@ pub mod Mark
 pub mod OffsetLemmas
 pub mod LayoutLaw
 pub mod OffsetRows
+pub mod SomeRows
+pub mod SomeBack
 mod KeptFacts

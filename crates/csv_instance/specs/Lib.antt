@@ -12,3 +12,4 @@ pub mod Wrote
 pub mod Offsets
 pub mod Found
 pub mod FaultTexts
+pub mod Chosen

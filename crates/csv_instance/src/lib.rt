@@ -1,5 +1,6 @@
 //! Instances and layouts as CSV: an instance file is read into a table, a layout is written as the
-//! table's records with an offset each, and a layout file is read back into offsets by buffer.
+//! table's records with an offset each, a layout file is read back into offsets by buffer, and some
+//! rows of a table are written as an instance file of their own.
 #![tactic(auto)]
 
 mod columns;
@@ -14,6 +15,7 @@ mod offsets;
 mod read;
 mod records;
 mod row;
+mod rows;
 mod table;
 #[cfg(test)]
 mod tests;
@@ -23,4 +25,5 @@ pub use fault::{InstanceFault, OffsetsFault};
 pub use layout::write_layout;
 pub use offsets::read_offsets;
 pub use read::read_instance;
+pub use rows::write_rows;
 pub use table::Table;

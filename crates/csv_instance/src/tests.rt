@@ -2,7 +2,9 @@
 
 ghost use Rattle.std.specs.Prelude.{◌≤◌, length};
 
-use crate::{Column, InstanceFault, OffsetsFault, read_instance, read_offsets, write_layout};
+use crate::{
+    Column, InstanceFault, OffsetsFault, read_instance, read_offsets, write_layout, write_rows,
+};
 use dsa_model::{BufferFault, Fail, NoMemory};
 use std::alloc::Global;
 use std::test::Fail as TestFail;
@@ -62,6 +64,21 @@ fn other_columns_are_carried(rt: HostRuntime) -> Result<(), TestFail> {
         panic!(rt; "no text");
     };
     let want: &[u8] = b"size,note,id,upper,lower,offset\n4,\"x,y\",b1,3,0,0\n";
+    assert_eq!(rt; text.as_slice(), want);
+    Ok(())
+}
+
+#[test]
+fn some_rows_are_written_as_they_were_read(rt: HostRuntime) -> Result<(), TestFail> {
+    let input: &[u8] = b"id,lower,note,upper,size\nb1,0,\"x,y\",3,04\nb2,3,,9,4\nb3,0,z,9,4\n";
+    let Ok(table) = read_instance(rt.alloc(), input) else {
+        panic!(rt; "no table");
+    };
+    assert_eq!(rt; table.instance().len(), 3);
+    let Ok(text) = write_rows(rt.alloc(), &table, &[0, 2]) else {
+        panic!(rt; "no text");
+    };
+    let want: &[u8] = b"id,lower,note,upper,size\nb1,0,\"x,y\",3,04\nb3,0,z,9,4\n";
     assert_eq!(rt; text.as_slice(), want);
     Ok(())
 }

@@ -1,0 +1,138 @@
+-- Some rows of a table that is an instance read back as they are, under its header.
+use Rattle.std.proofs.Common.{◌≡◌, ◌+◌, ◌<◌, ◌≤◌, ◌∷◌, ◌++◌, ◌∙◌, ℕ, zero, suc, List, [], true, false, not, Bool, Option, None, Some, Result, Ok, Err, length, map, drop, position, slice_index_or, All, inl, inr, refl, sym, ap, subst, arith, nat_eq, codes}
+use Rattle.std.proofs.lemmas.Bool.{cases_Bool, eqb-true}
+use Rattle.std.proofs.lemmas.List.{drop_more, get_or-map, length-map}
+use Rattle.std.proofs.lemmas.Slice.Eq.{bytes_eq-Decides}
+use Rattle.std.specs.List.{starts_with}
+use Rattle.std.specs.Option.{option_map_or, option_or}
+use Rattle.std.specs.Str.{bytes_eq}
+use Rattle.csv.specs.Reading.{default_config, records}
+use Rattle.csv.specs.Writing.{default_writer, read_back, row_text}
+use Rattle.dsa_terms.specs.Buffers.{Buffer}
+use Rattle.dsa_terms.specs.Claims.{IsIn, Rises}
+use Rattle.dsa_terms.proofs.Places.{in_from_all}
+use Rattle.dsa_model.specs.Chosen.{some_of}
+use Rattle.dsa_model.proofs.Faults.{map_none, neither, not_so}
+use Rattle.csv_instance.specs.Chosen.{chosen_records, chosen_text, rows_at}
+use Rattle.csv_instance.specs.Columns.{has_column, name_of}
+use Rattle.csv_instance.specs.Layout.{text_of}
+use Rattle.csv_instance.specs.Parse.{content_fault, header_fault, header_faults, id_fault, id_faults, mark, parse, row_buffer, row_fault, rows_fault}
+use Rattle.csv_instance.specs.Records.{Record, table_of}
+use Rattle.csv_instance.specs.declared.columns.Column.{Column}
+use Rattle.csv_instance.specs.declared.columns.Column.TheVariants.{Id, Lower, Upper, Size}
+use Rattle.csv_instance.specs.declared.fault.InstanceFault.{InstanceFault}
+use Rattle.csv_instance.specs.declared.fault.InstanceFault.TheVariants as fault
+use Rattle.csv_instance.proofs.Basics.{find_none, not_false}
+use Rattle.csv_instance.proofs.IdLemmas.{all_none}
+use Rattle.csv_instance.proofs.LayoutLaw.{good}
+use Rattle.csv_instance.proofs.Mark.{no_mark}
+use Rattle.csv_instance.proofs.ReadBack.{AllReadBack, text-read}
+use Rattle.csv_instance.proofs.SomeRows.{some_parse}
+use Rattle.csv_instance.proofs.TableLemmas.{parse-good}
+
+-- ---- the text row by row
+pub chosen_text-at : (rows : List Record) (members : List ℕ) (p : ℕ) → p < length members →
+    text_of (rows_at rows (drop p members))
+    ≡ row_text default_writer (slice_index_or rows (slice_index_or members p 0) [])
+    ++ text_of (rows_at rows (drop (p + 1) members))
+chosen_text-at rows members p lt = ap (λ ms. text_of (rows_at rows ms)) (drop_more members p 0 lt)
+
+-- ---- rows without a fault have fields
+reads_back : (row : Record) → 1 ≤ length row → read_back row ≡ row
+reads_back [] some = absurd (omega arith)
+reads_back (x ∷ xs) some = refl
+
+-- each row has as many fields as the header
+pub even_rows : (header : Record) (before rows : List Record) (k : ℕ) → rows_fault header before rows ≡ None →
+    k < length rows → length (slice_index_or rows k []) ≡ length header
+even_rows header before [] k e lt = absurd (omega arith)
+even_rows header before (row ∷ rows) zero e lt =
+    let here = (neither (row_fault header before row) (rows_fault header (before ++ row ∷ []) rows) e).0 in
+    let none = all_none (id_faults header before row)
+    (neither (id_fault header before row) (content_fault header (length before) row) here).0 in
+    eqb-true _ _ (not_false _ (not_so _ (fault.FieldCount (length before)) none.1.0))
+even_rows header before (row ∷ rows) (suc k) e lt =
+    even_rows header (before ++ row ∷ []) rows k
+    (neither (row_fault header before row) (rows_fault header (before ++ row ∷ []) rows) e).1 (omega arith)
+
+rows_read : (header : Record) (rows : List Record) (members : List ℕ) → 1 ≤ length header →
+    rows_fault header [] rows ≡ None → ((b : ℕ) → IsIn b members → b < length rows) → AllReadBack (rows_at rows members)
+rows_read header rows [] some e h = tt
+rows_read header rows (k ∷ ks) some e h = (
+  reads_back (slice_index_or rows k []) (rw (even_rows header [] rows k e (h k (inl refl))) some),
+  rows_read header rows ks some e (λ j i. h j (inr i)),
+)
+
+-- ---- a header without a fault has two fields
+one_field : (f : List ℕ) → has_column (f ∷ []) Id ≡ true → has_column (f ∷ []) Lower ≡ true → ⊥
+one_field f i l = elim (cases_Bool (bytes_eq (name_of Id) f)) [
+  | inl same ↦
+      let e = (bytes_eq-Decides (name_of Id) f).0 same in
+      cc (subst (λ g. has_column (g ∷ []) Lower ≡ true) (sym e) l)
+  | inr other ↦ cc (rw other at i)
+]
+
+has_columns : (header : Record) → header_fault header ≡ None →
+    (has_column header Id ≡ true) × (has_column header Lower ≡ true)
+has_columns header e =
+    let n = all_none (header_faults header) e in
+    let missing = find_none (λ (c : Column). not (has_column header c)) Id (Lower ∷ Upper ∷ Size ∷ [])
+    (map_none fault.MissingColumn _ n.1.1.1.0) in
+    let later = find_none (λ (c : Column). not (has_column header c)) Lower (Upper ∷ Size ∷ []) missing.1 in
+    (not_false _ missing.0, not_false _ later.0)
+
+-- ---- the text reads back
+parsed : {F B : Type 0} (o : Option F) (x : B) (b : B) → option_map_or Err o (Ok x) ≡ Ok b → o ≡ None
+parsed None x b e = refl
+parsed (Some f) x b e = cc e
+
+faultless : (header : Record) (rows : List Record) (I : List Buffer) → parse (header ∷ rows) ≡ Ok I →
+    (header_fault header ≡ None) × (rows_fault header [] rows ≡ None)
+faultless header rows I e =
+    neither (header_fault header) (rows_fault header [] rows)
+    (parsed (option_or (header_fault header) (rows_fault header [] rows)) (map (row_buffer header) rows) I e)
+
+read_chosen : (header : Record) (rows : List Record) (members : List ℕ) → header_fault header ≡ None →
+    rows_fault header [] rows ≡ None → ((b : ℕ) → IsIn b members → b < length rows) →
+    table_of (chosen_text (header ∷ rows) members) ≡ header ∷ rows_at rows members
+read_chosen [] rows members e r h = let g = good [] e in cc g.id_there
+read_chosen (f ∷ []) rows members e r h = let both = has_columns (f ∷ []) e in absurd (one_field f both.0 both.1)
+read_chosen (f ∷ g ∷ fs) rows members e r h =
+    ap (records default_config) (no_mark f g fs (text_of (rows_at rows members)) plain)
+    ∙ text-read ((f ∷ g ∷ fs) ∷ rows_at rows members) (refl, rows_read (f ∷ g ∷ fs) rows members (omega arith) r h)
+  where
+    plain : starts_with nat_eq f mark ≡ false
+    plain = not_so _ fault.MarkedHeader (all_none (header_faults (f ∷ g ∷ fs)) e).0
+
+below_count : (table : List Record) (members : List ℕ) → All (λ b. b + 1 < length table) members → (b : ℕ) →
+    IsIn b members → b + 1 < length table
+below_count table members all b i = in_from_all (λ b. b + 1 < length table) members all b i
+
+pub chosen_back : (table : List Record) (I : List Buffer) (members : List ℕ) → parse table ≡ Ok I →
+    All (λ b. b + 1 < length table) members → table_of (chosen_text table members) ≡ chosen_records table members
+chosen_back [] I members e all = cc e
+chosen_back (header ∷ rows) I members e all =
+    let none = faultless header rows I e in
+    read_chosen header rows members none.0 none.1 (λ b i. let lt = below_count (header ∷ rows) members all b i in omega arith)
+
+pub chosen_parse : (table : List Record) (I : List Buffer) (members : List ℕ) → parse table ≡ Ok I → Rises members →
+    All (λ b. b + 1 < length table) members → parse (table_of (chosen_text table members)) ≡ Ok (some_of I members)
+chosen_parse [] I members e rises all = cc e
+chosen_parse (header ∷ rows) I members e rises all =
+    ap parse (chosen_back (header ∷ rows) I members e all)
+    ∙ some_parse header rows I members e rises
+    (λ b i. let lt = below_count (header ∷ rows) members all b i in let n = count in omega arith)
+  where
+    none : (header_fault header ≡ None) × (rows_fault header [] rows ≡ None)
+    none = faultless header rows I e
+
+    whole : List Buffer → Result (List Buffer) InstanceFault
+    whole b = Ok b
+
+    same : (b c : List Buffer) → whole b ≡ whole c → b ≡ c
+    same b c q = cc
+
+    count : length I ≡ length rows
+    count =
+        ap length (same I (map (row_buffer header) rows) (sym e ∙ parse-good header rows none.0 none.1))
+        ∙ length-map rows (row_buffer header)

@@ -1,0 +1,53 @@
+//! Some rows of an instance, written.
+
+ghost use Rattle.std.specs.Prelude.{◌≡◌, ◌+◌, ◌<◌, ◌++◌, ℕ, List, All, IfOk, OnOk, Ok, length};
+ghost use Rattle.csv.specs.Records.{fields_of};
+ghost use Rattle.csv.specs.Writing.{default_writer, row_text};
+ghost use Rattle.dsa_terms.specs.Buffers.{Buffer as BufferTerm};
+ghost use Rattle.dsa_terms.specs.Claims.{Rises};
+ghost use Rattle.dsa_model.specs.Chosen.{some_of};
+ghost use Rattle.csv_instance.specs.Chosen.{chosen_records, chosen_text};
+ghost use Rattle.csv_instance.specs.Parse.{parse};
+ghost use Rattle.csv_instance.specs.Records.{table_of};
+ghost use Rattle.csv_instance.specs.Wrote.{Wrote};
+
+use crate::table::Table;
+use csv::{ByteRecord, Writer, WriterBuilder};
+use dsa_model::NoMemory;
+use std::alloc::Global;
+
+/// Writes a record as it is.
+fn write_record(writer: &mut Writer<Vec<u8>>, row: &ByteRecord) -> Result<(), NoMemory>
+    ensures { (text : List ℕ) → Wrote writer.old text → OnOk result
+        (Wrote writer.new (text ++ row_text default_writer (fields_of row.now))) }
+{
+    match writer.write_byte_record(row) {
+        Ok(()) => Ok(()),
+        Err(_) => Err(NoMemory),
+    }
+}
+
+/// The text of the rows of these buffers under the table's header, each record as it was read. It
+/// is an instance file of these buffers, in this order.
+///
+/// The caller owes numbers that rise and are below the count of buffers.
+pub fn write_rows(alloc: Global, table: &Table, members: &[u32]) -> Result<Vec<u8>, NoMemory>
+    requires rises { Rises members.now }
+    requires in_range { All (λ b. b + 1 < length table.now) members.now }
+    ensures text { IfOk result (λ text. text.items ≡ chosen_text table.now members.now) }
+    ensures back { IfOk result (λ text.
+        table_of text.items ≡ chosen_records table.now members.now) }
+    ensures parsed { IfOk result (λ text. (I : List BufferTerm) → parse table.now ≡ Ok I →
+        parse (table_of text.items) ≡ Ok (some_of I members.now)) }
+{
+    let (header, rows) = table.records();
+    let mut writer = WriterBuilder::new().from_writer(Vec::new(alloc));
+    write_record(&mut writer, header)?;
+    for &member in members {
+        write_record(&mut writer, &rows[member as usize])?;
+    }
+    match writer.into_inner() {
+        Ok(text) => Ok(text),
+        Err(_) => Err(NoMemory),
+    }
+}
