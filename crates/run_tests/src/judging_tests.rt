@@ -1,0 +1,117 @@
+//! Runs over files in memory that are read and judged.
+
+use crate::tests::{FIVE, FIVE_AT_12, FIVE_OVER_11, THREE, THREE_AT_5, words_of};
+use dsaplan_core::{LogCause, Role, Status, UsageFault, WrongCause, run};
+use csv_instance::{Column, InstanceFault, OffsetsFault};
+use dsa_model::LayoutFault;
+use dsa_outside::{SoundFiles, SoundSink};
+use log_check::CheckFault;
+use log_text::TextFault;
+use std::test::Fail;
+
+const THREE_REPORT: &str = "moment 0 load 4 height 5\nplace,size,id\n0,2,C\n2,1,A\n3,1,\n4,1,B\n";
+
+const MADE_IN_1000: &str = "buffers 2\npeak 2 65\nparts 1\nbound 65 1\nbest 66\nleast 66\n";
+
+const MADE_IN_0: &str = "buffers 2\npeak 2 65\nparts 1\nbound 65 1\nbest 66\nopen 65 66\n";
+
+#[test]
+fn what_is_read_is_judged(rt: HostRuntime) -> Result<(), Fail> {
+    let alloc = rt.alloc();
+    let overlap = LayoutFault::Overlap {
+        first: 0,
+        second: 4,
+        moment: 0,
+    };
+    let cases = [
+        (
+            "bounds --input five",
+            Status::Shown,
+            "buffers 5\npeak 0 12\nparts 1\nbound 12 1\nbest 12\n",
+        ),
+        (
+            "bounds --input log",
+            Status::Malformed(InstanceFault::MissingColumn { column: Column::Id }),
+            "malformed missing column id\n",
+        ),
+        (
+            "bounds --input none",
+            Status::ReadFault(Role::Input),
+            "unread --input\n",
+        ),
+        (
+            "verify --capacity 12 --input five --layout log",
+            Status::Wrong(WrongCause::Offsets(OffsetsFault::MissingColumn { column: Column::Id })),
+            "wrong missing column id\n",
+        ),
+        (
+            "refute --input three --log log",
+            Status::LogRefused(LogCause::Check(CheckFault::WrongCount { said: 5, actual: 3 })),
+            "refused count 5 3\n",
+        ),
+        (
+            "verify --capacity 12 --input five --layout right",
+            Status::Right,
+            "right\n",
+        ),
+        (
+            "verify --capacity 12 --input five --layout wrong",
+            Status::Wrong(WrongCause::Layout(overlap)),
+            "wrong overlap 0 4 0\n",
+        ),
+        (
+            "refute --input five --log log",
+            Status::Accepted { capacity: 11 },
+            "accepted 11\n",
+        ),
+        (
+            "refute --input five --log five",
+            Status::Usage(UsageFault::SameName),
+            "usage same name\n",
+        ),
+        (
+            "refute --input five --log right",
+            Status::LogRefused(LogCause::Text(TextFault::NotLog)),
+            "refused not a log\n",
+        ),
+        (
+            "report --input three --layout placed",
+            Status::Shown,
+            THREE_REPORT,
+        ),
+        (
+            "report --input five --layout wrong",
+            Status::Wrong(WrongCause::Layout(overlap)),
+            "wrong overlap 0 4 0\n",
+        ),
+        (
+            "trial --seed 1 --count 2 --steps 1000",
+            Status::Shown,
+            MADE_IN_1000,
+        ),
+        (
+            "trial --seed 1 --count 2 --steps 0",
+            Status::Shown,
+            MADE_IN_0,
+        ),
+        (
+            "trial --seed 1 --count 513 --steps 1000",
+            Status::TooMany { count: 513 },
+            "too many 513\n",
+        ),
+    ];
+    for (line, status, printed) in cases {
+        let mut files = SoundFiles::new(alloc);
+        files.insert("five", FIVE.as_bytes())?;
+        files.insert("right", FIVE_AT_12.as_bytes())?;
+        files.insert("wrong", b"id,offset\nb1,0\nb2,0\nb3,4\nb4,0\nb5,3\n")?;
+        files.insert("log", FIVE_OVER_11.as_bytes())?;
+        files.insert("three", THREE.as_bytes())?;
+        files.insert("placed", THREE_AT_5.as_bytes())?;
+        let mut out = SoundSink::new(alloc);
+        let words = words_of(alloc, line)?;
+        assert_eq!(rt; run(alloc, words.as_slice(), &mut files, &mut out), status);
+        assert!(rt; out.content() == printed.as_bytes());
+    }
+    Ok(())
+}

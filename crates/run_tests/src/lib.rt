@@ -1,0 +1,8 @@
+//! Tests of `run` over files and sinks in memory: what is written, what is printed, and what fails
+//! outside.
+#![tactic(auto)]
+
+#[cfg(test)]
+mod judging_tests;
+#[cfg(test)]
+mod tests;

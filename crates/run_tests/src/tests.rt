@@ -1,0 +1,240 @@
+//! Runs over files and sinks in memory: what is written, and what fails outside.
+
+use dsaplan_core::{LogCause, Role, Status, UsageFault, run};
+use dsa_outside::{MemoryFiles, MemorySink, SoundFiles, SoundSink};
+use log_check::CheckFault;
+use std::alloc::{AllocError, Global};
+use std::test::Fail;
+
+pub(crate) const FIVE: &str =
+    "id,lower,upper,size\nb1,0,3,4\nb2,3,9,4\nb3,0,9,4\nb4,9,21,4\nb5,0,21,4\n";
+
+pub(crate) const FIVE_AT_12: &str =
+    "id,lower,upper,size,offset\nb1,0,3,4,0\nb2,3,9,4,0\nb3,0,9,4,4\nb4,9,21,4,0\nb5,0,21,4,8\n";
+
+pub(crate) const FIVE_OVER_11: &str = "dsalog 1 5 11\nover 0 0 1 : 0=0 2=0 4=0\nend 0\n";
+
+/// The load is 4, and the least capacity is 5.
+pub(crate) const THREE: &str = "id,lower,upper,size,alignment\nA,0,1,1,2\nB,0,1,1,2\nC,0,1,2,1\n";
+
+pub(crate) const THREE_AT_5: &str =
+    "id,lower,upper,size,alignment,offset\nA,0,1,1,2,2\nB,0,1,1,2,4\nC,0,1,2,1,0\n";
+
+const THREE_OVER_3: &str = "dsalog 1 3 3\nover 0 0 1 : 0=0 1=0 2=0\nend 0\n";
+
+const THREE_OVER_4: &str = "dsalog 1 3 4
+over 0 3 1 : 2=3
+over 0 4 1 : 1=4
+case : 1=1 2=1 : 1>0 2>1
+over 0 2 2 : 0=2 1=2
+case : 0=0 1=0 2=0 : 0>2 1~0 2>3
+end 4
+";
+
+/// Line 0 is cited by none.
+const THREE_OVER_4_WITH_WASTE: &str = "dsalog 1 3 4
+over 0 5 1 : 0=5
+over 0 3 1 : 2=3
+over 0 4 1 : 1=4
+case : 1=1 2=1 : 1>1 2>2
+over 0 2 2 : 0=2 1=2
+case : 0=0 1=0 2=0 : 0>3 1~0 2>4
+end 5
+";
+
+const LEAST: &str = "least --input i --output o --log l";
+
+pub(crate) fn words_of(alloc: Global, line: &str) -> Result<Vec<String>, AllocError> {
+    let mut words = Vec::new(alloc);
+    for word in line.split(' ') {
+        words.push(String::from_str(alloc, word)?)?;
+    }
+    Ok(words)
+}
+
+fn holds(bytes: Option<&[u8]>, text: Option<&str>) -> bool {
+    match (bytes, text) {
+        (Some(bytes), Some(text)) => bytes == text.as_bytes(),
+        (None, None) => true,
+        _ => false,
+    }
+}
+
+#[test]
+fn what_is_decided_is_written(rt: HostRuntime) -> Result<(), Fail> {
+    let alloc = rt.alloc();
+    let cases = [
+        (
+            "solve --capacity 12 --input i --output o --log l",
+            FIVE,
+            Status::Feasible { capacity: 12 },
+            "feasible 12\n",
+            Some(FIVE_AT_12),
+            None,
+        ),
+        (
+            "solve --capacity 11 --input i --output o --log l",
+            FIVE,
+            Status::Infeasible { capacity: 11 },
+            "infeasible 11\n",
+            None,
+            Some(FIVE_OVER_11),
+        ),
+        (
+            "solve --capacity x --input i --output o --log l",
+            FIVE,
+            Status::Usage(UsageFault::BadValue { word: 1 }),
+            "usage bad value 1\n",
+            None,
+            None,
+        ),
+        (
+            LEAST,
+            FIVE,
+            Status::Least { capacity: 12 },
+            "least 12\n",
+            Some(FIVE_AT_12),
+            Some(FIVE_OVER_11),
+        ),
+        (
+            "least --input i --output o --log l --steps 0",
+            THREE,
+            Status::Open { low: 4, high: 5 },
+            "open 4 5\n",
+            Some(THREE_AT_5),
+            Some(THREE_OVER_3),
+        ),
+        (
+            "solve --capacity 4 --input i --output o --log l --steps 0",
+            THREE,
+            Status::Open { low: 4, high: 5 },
+            "open 4 5\n",
+            Some(THREE_AT_5),
+            Some(THREE_OVER_3),
+        ),
+        (
+            "trim --input i --log waste --output o",
+            FIVE,
+            Status::LogRefused(LogCause::Check(CheckFault::WrongCount { said: 3, actual: 5 })),
+            "refused count 3 5\n",
+            None,
+            None,
+        ),
+        (
+            "trim --input i --log waste --output o",
+            THREE,
+            Status::Trimmed {
+                before: 6,
+                after: 5,
+            },
+            "trimmed 6 5\n",
+            Some(THREE_OVER_4),
+            None,
+        ),
+    ];
+    for (line, input, status, printed, output, log) in cases {
+        let mut files = SoundFiles::new(alloc);
+        files.insert("i", input.as_bytes())?;
+        files.insert("waste", THREE_OVER_4_WITH_WASTE.as_bytes())?;
+        let mut out = SoundSink::new(alloc);
+        let words = words_of(alloc, line)?;
+        assert_eq!(rt; run(alloc, words.as_slice(), &mut files, &mut out), status);
+        assert!(rt; out.content() == printed.as_bytes());
+        assert!(rt; holds(files.get("o"), output));
+        assert!(rt; holds(files.get("l"), log));
+    }
+    Ok(())
+}
+
+#[test]
+fn faults_outside_are_told(rt: HostRuntime) -> Result<(), Fail> {
+    let alloc = rt.alloc();
+    let cases = [
+        (
+            LEAST,
+            0,
+            9,
+            Status::ReadFault(Role::Input),
+            "unread --input\n",
+            None,
+            None,
+        ),
+        (
+            LEAST,
+            1,
+            9,
+            Status::WriteFault(Role::Output),
+            "unwritten --output\n",
+            None,
+            None,
+        ),
+        (
+            LEAST,
+            2,
+            9,
+            Status::WriteFault(Role::Log),
+            "unwritten --log\n",
+            Some(FIVE_AT_12),
+            None,
+        ),
+        (
+            LEAST,
+            9,
+            0,
+            Status::PrintFault,
+            "",
+            Some(FIVE_AT_12),
+            Some(FIVE_OVER_11),
+        ),
+        (LEAST, 0, 0, Status::PrintFault, "", None, None),
+        (
+            "refute --input i --log log",
+            1,
+            9,
+            Status::ReadFault(Role::Log),
+            "unread --log\n",
+            None,
+            None,
+        ),
+        (
+            "trim --input i --log log --output o",
+            2,
+            9,
+            Status::WriteFault(Role::Output),
+            "unwritten --output\n",
+            None,
+            None,
+        ),
+        (
+            "verify --capacity 12 --input i --layout right",
+            1,
+            9,
+            Status::ReadFault(Role::Layout),
+            "unread --layout\n",
+            None,
+            None,
+        ),
+        (
+            "report --input i --layout right",
+            1,
+            9,
+            Status::ReadFault(Role::Layout),
+            "unread --layout\n",
+            None,
+            None,
+        ),
+    ];
+    for (line, failing_call, failing_put, status, printed, output, log) in cases {
+        let mut files = MemoryFiles::new(alloc, vec![in alloc; failing_call]?);
+        files.insert("i", FIVE.as_bytes())?;
+        files.insert("log", FIVE_OVER_11.as_bytes())?;
+        files.insert("right", FIVE_AT_12.as_bytes())?;
+        let mut out = MemorySink::new(alloc, vec![in alloc; failing_put]?);
+        let words = words_of(alloc, line)?;
+        assert_eq!(rt; run(alloc, words.as_slice(), &mut files, &mut out), status);
+        assert!(rt; out.content() == printed.as_bytes());
+        assert!(rt; holds(files.get("o"), output));
+        assert!(rt; holds(files.get("l"), log));
+    }
+    Ok(())
+}
