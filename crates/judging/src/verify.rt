@@ -19,7 +19,10 @@ pub struct Verify<'a> {
 
 impl<'a> Command<'a> for Verify<'a> {
     ghost course = { λ v. verify (record {
-        capacity = v.capacity; input = v.input.now; layout = v.layout.now }) };
+      capacity = v.capacity;
+      input = v.input.now;
+      layout = v.layout.now;
+    }) };
 
     fn conclude<F: Files>(&self, alloc: Global, files: &mut F) -> Result<Prepared<'a>, NoMemory> {
         let table = match open_input(alloc, files, self.input)? {

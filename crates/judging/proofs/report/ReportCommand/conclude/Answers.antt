@@ -1,10 +1,10 @@
 use Rattle.std.proofs.Common.{refl, ◌^◌}
-use Rattle.run_status.specs.declared.status.Status.TheVariants as status
-use Rattle.run_course.specs.Course.{Concludes, Ends, says, shows}
+use Rattle.run_course.specs.Course.{Concludes, shows}
 use Rattle.run_course.proofs.Silently.{silently, comes_by}
 use Rattle.readings.specs.Judging.{judged}
 use Rattle.readings.proofs.Opening.{no_input}
 use Rattle.readings.proofs.JudgedLayouts.{not_judged, then_judged}
+use Rattle.dsa_model.proofs.LayoutFaults.{layout_exactly}
 use Rattle.judging.specs.Judging.{ShowsLayout, report}
 use Rattle.judging.proofs.report.ReportCommand.conclude.Goals as goal
 
@@ -29,3 +29,31 @@ returns-in-NoLayout-clause-comes g c =
     (2 ^ 60) (λ t I offsets. Concludes (ShowsLayout t I offsets)) c.in-Table.table found.instance
     (rw c.in-Table.is at c.in_ok-table.ensures.input) found.parsed c.in_ok-table.ensures.files
     c.in_ok-table.ensures.counts c.in-NoLayout.status found.judged)
+
+pub report-requires : goal.report-requires
+report-requires g c =
+    let found = rw c.in-Layout.is at c.in_ok-judged.ensures.judged in (
+      found.instance,
+      found.parsed,
+      rw c.as_slice.ensures.value
+          ((layout_exactly found.instance (2 ^ 60) c.in-Layout.offsets.items).0 found.judged.legal),
+    )
+
+pub returns-clause-comes : goal.returns-clause-comes
+returns-clause-comes g c =
+    let found = rw c.in-Layout.is at c.in_ok-judged.ensures.judged in
+    comes_by (g.F.Files.seen c.args.files.now) (g.F.Files.seen c.read_judged_layout.new.files)
+    (report (record { input = c.args.self.now.input.now; layout = c.args.self.now.layout.now }))
+    c.shown.result (shows c.in_ok-text.text.items) c.shown.ensures
+    (then_judged (g.F.Files.seen c.args.files.now) (g.F.Files.seen c.open_input.new.files)
+    (g.F.Files.seen c.read_judged_layout.new.files) c.args.self.now.input.now c.args.self.now.layout.now
+    (2 ^ 60) (λ t I offsets. Concludes (ShowsLayout t I offsets)) c.in-Table.table found.instance
+    (rw c.in-Table.is at c.in_ok-table.ensures.input) found.parsed c.in_ok-table.ensures.files
+    c.in_ok-table.ensures.counts c.in-Layout.offsets.items found.judged (shows c.in_ok-text.text.items) (
+      tt,
+      record {
+        text = c.in_ok-text.text.items;
+        its_text = rw c.as_slice.ensures.value at (c.in_ok-text.ensures.text found.instance found.parsed);
+        shown = refl;
+      },
+    ))

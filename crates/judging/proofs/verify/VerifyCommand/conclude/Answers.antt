@@ -1,7 +1,7 @@
 use Rattle.std.proofs.Common.{refl}
 use Rattle.run_status.specs.declared.status.Status.TheVariants as status
-use Rattle.run_course.specs.Course.{Concludes, Ends, says, shows}
-use Rattle.run_course.proofs.Silently.{silently, comes_by}
+use Rattle.run_course.specs.Course.{Ends, says}
+use Rattle.run_course.proofs.Silently.{silently}
 use Rattle.readings.specs.Judging.{judged}
 use Rattle.readings.proofs.Opening.{no_input}
 use Rattle.readings.proofs.JudgedLayouts.{not_judged, then_judged}
