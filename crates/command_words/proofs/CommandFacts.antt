@@ -60,6 +60,12 @@ least_options = refl
 a_layout_is_a_file : is_file option.Layout ≡ true
 a_layout_is_a_file = refl
 
+an_input_is_a_file : is_file option.Input ≡ true
+an_input_is_a_file = refl
+
+an_output_is_a_file : is_file option.Output ≡ true
+an_output_is_a_file = refl
+
 a_count_is_no_file : is_file option.Count ≡ false
 a_count_is_no_file = refl
 
