@@ -1,96 +1,62 @@
--- Commands of the code, names of files and limits of numbers, and what the definitions say of them.
-use Rattle.std.proofs.Common.{◌≡◌, Bor, [], ◌∷◌, Some, None, codes, refl, lit≤, true, false, arith}
-use Rattle.command_words.specs.Options.{Word, is_file, needed_by, optional_for, options_of}
-use Rattle.command_words.specs.Pairs.{missing_fault, pair_value, pairs_of, value_of}
-use Rattle.command_words.specs.Commands.{Bounds, IsWithinLimit, Least, Refute, Report, Solve, Trial, Trim, Verify, command_value, names_of}
-use Rattle.command_words.specs.declared.command.Command.TheVariants as written
+-- The table of commands, pairs of words, and what they give an option.
+use Rattle.std.proofs.Common.{◌≡◌, Bor, List, [], ◌∷◌, map, filter, Some, None, codes, refl, true, false}
+use Rattle.command_words.specs.Options.{Word, is_file, option_word}
+use Rattle.command_words.specs.Forms.{files_of, form_of, form_value, option_of, options_of, verb_of, verbs}
+use Rattle.command_words.specs.Pairs.{missing_fault, number_at, number_given, pair_value, pairs_of, value_of, word_at}
+use Rattle.command_words.specs.Requests.{names_of}
+use Rattle.command_words.specs.declared.option.OptionName.{OptionName}
 use Rattle.command_words.specs.declared.option.OptionName.TheVariants as option
 use Rattle.command_words.specs.declared.verb.Verb.TheVariants as verb
 use Rattle.command_words.specs.declared.fault.UsageFault.TheVariants as fault
 
--- ---- commands of the code, and the names of their files
-module _ (i o l a : Bor Word) where
-  a_solve : command_value (written.Solve 12 i o l (Some 6)) ≡ Solve 12 i.now o.now l.now (Some 6)
-  a_solve = refl
+-- ---- the table
 
-  a_least : command_value (written.Least i o l None) ≡ Least i.now o.now l.now None
-  a_least = refl
+-- each command is found by its word
+each_word : map (λ v. verb_of (form_of v).word) verbs ≡ map Some verbs
+each_word = refl
 
-  a_verify : command_value (written.Verify 8 i a) ≡ Verify 8 i.now a.now
-  a_verify = refl
+-- each option that names a file is of a file that is read or written
+each_file : map (λ v. filter is_file (options_of v)) verbs ≡ map files_of verbs
+each_file = refl
 
-  a_refute : command_value (written.Refute i l) ≡ Refute i.now l.now
-  a_refute = refl
+-- each option of each command is found by its word
+each_option : map (λ v. map (λ o. option_of v (option_word o)) (options_of v)) verbs
+    ≡ map (λ v. map Some (options_of v)) verbs
+each_option = refl
 
-  a_trim : command_value (written.Trim i l o) ≡ Trim i.now l.now o.now
-  a_trim = refl
+no_command : verb_of (codes "Solve") ≡ None
+no_command = refl
 
-  a_bounds : command_value (written.Bounds i) ≡ Bounds i.now
-  a_bounds = refl
+trim_writes_its_output : (form_of verb.Trim).writes ≡ option.Output ∷ []
+trim_writes_its_output = refl
 
-  a_report : command_value (written.Report i a) ≡ Report i.now a.now
-  a_report = refl
+solve_writes_both : (form_of verb.Solve).writes ≡ option.Output ∷ option.Log ∷ []
+solve_writes_both = refl
 
-  a_trial : command_value (written.Trial 1 2 1000) ≡ Trial 1 2 1000
-  a_trial = refl
+report_reads_both : (form_of verb.Report).reads ≡ option.Input ∷ option.Layout ∷ []
+report_reads_both = refl
 
-  a_pair : pair_value (record { option = i; value = Some o }) ≡ record { option = i.now; value = Some o.now }
-  a_pair = refl
+verify_writes_nothing : (form_of verb.Verify).writes ≡ []
+verify_writes_nothing = refl
 
-  half_a_pair : pair_value (record { option = i; value = None }) ≡ record { option = i.now; value = None }
-  half_a_pair = refl
+missed_by_trim : (form_of verb.Trim).needed ≡ option.Input ∷ option.Log ∷ option.Output ∷ []
+missed_by_trim = refl
 
-module _ (i o l a : Word) where
-  least_names : names_of (Least i o l (Some 6)) ≡ i ∷ o ∷ l ∷ []
-  least_names = refl
+missed_by_least : (form_of verb.Least).needed ≡ option.Input ∷ option.Output ∷ option.Log ∷ []
+missed_by_least = refl
 
-  verify_names : names_of (Verify 8 i a) ≡ i ∷ a ∷ []
-  verify_names = refl
+report_needs_all : (form_of verb.Report).optional ≡ []
+report_needs_all = refl
 
-  refute_names : names_of (Refute i l) ≡ i ∷ l ∷ []
-  refute_names = refl
+solve_goes_without_steps : (form_of verb.Solve).optional ≡ option.Steps ∷ []
+solve_goes_without_steps = refl
 
-  trim_names : names_of (Trim i l o) ≡ i ∷ l ∷ o ∷ []
-  trim_names = refl
+trial_options : options_of verb.Trial ≡ option.Seed ∷ option.Count ∷ option.Steps ∷ []
+trial_options = refl
 
-  bounds_names : names_of (Bounds i) ≡ i ∷ []
-  bounds_names = refl
+least_options : options_of verb.Least ≡ option.Input ∷ option.Output ∷ option.Log ∷ option.Steps ∷ []
+least_options = refl
 
-  report_names : names_of (Report i a) ≡ i ∷ a ∷ []
-  report_names = refl
-
-  -- ---- limits
-  capacity_past_the_limit : IsWithinLimit (Solve 1152921504606846977 i o l None) → ⊥
-  capacity_past_the_limit h = let k = h.0 in omega arith
-
-  steps_past_the_limit : IsWithinLimit (Solve 12 i o l (Some 1152921504606846977)) → ⊥
-  steps_past_the_limit h = let k = h.1 in omega arith
-
-  steps_of_least_at_the_limit : IsWithinLimit (Least i o l (Some 1152921504606846976))
-  steps_of_least_at_the_limit = lit≤ tt
-
-  steps_of_least_past_the_limit : IsWithinLimit (Least i o l (Some 1152921504606846977)) → ⊥
-  steps_of_least_past_the_limit h = omega (arith, h)
-
-  no_steps_pass_no_limit : IsWithinLimit (Least i o l None)
-  no_steps_pass_no_limit = tt
-
-  judged_past_the_limit : IsWithinLimit (Verify 1152921504606846977 i a) → ⊥
-  judged_past_the_limit h = omega (arith, h)
-
-trial_at_the_limit : IsWithinLimit (Trial 1152921504606846976 1152921504606846976 1152921504606846976)
-trial_at_the_limit = (lit≤ tt, lit≤ tt, lit≤ tt)
-
-seed_past_the_limit : IsWithinLimit (Trial 1152921504606846977 1 1) → ⊥
-seed_past_the_limit h = let k = h.0 in omega arith
-
-count_past_the_limit : IsWithinLimit (Trial 1 1152921504606846977 1) → ⊥
-count_past_the_limit h = let k = h.1 in omega arith
-
-steps_of_trial_past_the_limit : IsWithinLimit (Trial 1 1 1152921504606846977) → ⊥
-steps_of_trial_past_the_limit h = let k = h.2 in omega arith
-
--- ---- options
 a_layout_is_a_file : is_file option.Layout ≡ true
 a_layout_is_a_file = refl
 
@@ -103,23 +69,69 @@ an_output_is_a_file = refl
 a_count_is_no_file : is_file option.Count ≡ false
 a_count_is_no_file = refl
 
-missed_by_trim : needed_by verb.Trim ≡ option.Input ∷ option.Log ∷ option.Output ∷ []
-missed_by_trim = refl
+-- ---- forms and pairs of the code
+module _ (i o : Bor Word) (r n : Bor (List OptionName)) where
+  a_form : form_value (record { word = i; needed = r; optional = n; reads = r; writes = n })
+      ≡ record { word = i.now; needed = r.now; optional = n.now; reads = r.now; writes = n.now }
+  a_form = refl
 
-missed_by_least : needed_by verb.Least ≡ option.Input ∷ option.Output ∷ option.Log ∷ []
-missed_by_least = refl
+  a_pair : pair_value (record { option = i; value = Some o }) ≡ record { option = i.now; value = Some o.now }
+  a_pair = refl
 
-report_needs_all : optional_for verb.Report ≡ []
-report_needs_all = refl
+  half_a_pair : pair_value (record { option = i; value = None }) ≡ record { option = i.now; value = None }
+  half_a_pair = refl
 
-solve_goes_without_steps : optional_for verb.Solve ≡ option.Steps ∷ []
-solve_goes_without_steps = refl
+-- ---- names of files
+module _ (i o l a : Word) where
+  solve_names : names_of (record {
+    verb = verb.Solve;
+    pairs = pairs_of (codes "--log" ∷ l ∷ codes "--output" ∷ o ∷ codes "--input" ∷ i ∷ []);
+  })
+      ≡ i ∷ o ∷ l ∷ []
+  solve_names = refl
 
-trial_options : options_of verb.Trial ≡ option.Seed ∷ option.Count ∷ option.Steps ∷ []
-trial_options = refl
+  least_names : names_of (record {
+    verb = verb.Least;
+    pairs = pairs_of (codes "--log" ∷ l ∷ codes "--output" ∷ o ∷ codes "--input" ∷ i ∷ []);
+  })
+      ≡ i ∷ o ∷ l ∷ []
+  least_names = refl
 
-least_options : options_of verb.Least ≡ option.Input ∷ option.Output ∷ option.Log ∷ option.Steps ∷ []
-least_options = refl
+  verify_names : names_of (record {
+    verb = verb.Verify;
+    pairs = pairs_of (codes "--layout" ∷ a ∷ codes "--input" ∷ i ∷ []);
+  })
+      ≡ i ∷ a ∷ []
+  verify_names = refl
+
+  refute_names : names_of (record {
+    verb = verb.Refute;
+    pairs = pairs_of (codes "--log" ∷ l ∷ codes "--input" ∷ i ∷ []);
+  })
+      ≡ i ∷ l ∷ []
+  refute_names = refl
+
+  trim_names : names_of (record {
+    verb = verb.Trim;
+    pairs = pairs_of (codes "--output" ∷ o ∷ codes "--log" ∷ l ∷ codes "--input" ∷ i ∷ []);
+  })
+      ≡ i ∷ l ∷ o ∷ []
+  trim_names = refl
+
+  bounds_names : names_of (record { verb = verb.Bounds; pairs = pairs_of (codes "--input" ∷ i ∷ []) }) ≡ i ∷ []
+  bounds_names = refl
+
+  report_names : names_of (record {
+    verb = verb.Report;
+    pairs = pairs_of (codes "--layout" ∷ a ∷ codes "--input" ∷ i ∷ []);
+  })
+      ≡ i ∷ a ∷ []
+  report_names = refl
+
+  trial_names : names_of (record { verb = verb.Trial; pairs = pairs_of (codes "--seed" ∷ i ∷ []) }) ≡ []
+  trial_names = refl
+
+-- ---- what the pairs give an option
 
 -- the first of two pairs with one word gives the value
 first_value : value_of
@@ -128,6 +140,20 @@ first_value = refl
 
 no_value_of_the_other : value_of (pairs_of (codes "--log" ∷ codes "--input" ∷ [])) option.Input ≡ None
 no_value_of_the_other = refl
+
+no_word : word_at (pairs_of (codes "--log" ∷ [])) option.Log ≡ []
+no_word = refl
+
+number_at_the_limit : number_given (pairs_of (codes "--steps" ∷ codes "1152921504606846976" ∷ [])) option.Steps
+    ≡ Some 1152921504606846976
+number_at_the_limit = refl
+
+number_past_the_limit : number_given (pairs_of (codes "--steps" ∷ codes "1152921504606846977" ∷ [])) option.Steps
+    ≡ None
+number_past_the_limit = refl
+
+no_number : number_at (pairs_of (codes "--seed" ∷ codes "1" ∷ [])) option.Count ≡ 0
+no_number = refl
 
 output_is_missed_first : missing_fault verb.Least (pairs_of (codes "--input" ∷ codes "i" ∷ []))
     ≡ Some (fault.MissingOption option.Output)

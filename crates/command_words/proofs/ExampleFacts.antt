@@ -1,11 +1,16 @@
 -- Command lines, and what the definitions say of them.
-use Rattle.std.proofs.Common.{◌≡◌, true, false, List, [], ◌∷◌, ◌++◌, Some, None, Ok, Err, codes, refl, lit≤}
-use Rattle.command_words.specs.Options.{Word, is_bad, option_of}
-use Rattle.command_words.specs.Pairs.{has_equal, pairs_of, place_after}
-use Rattle.command_words.specs.Commands.{Bounds, IsWithinLimit, Least, Refute, Report, Solve, Trial, Trim, Verify, command_of, names_of}
+use Rattle.std.proofs.Common.{◌≡◌, true, false, List, [], ◌∷◌, ◌++◌, Some, None, Err, MatchResult, codes, refl}
+use Rattle.command_words.specs.Options.{Word, is_bad}
+use Rattle.command_words.specs.Forms.{option_of}
+use Rattle.command_words.specs.Pairs.{has_equal, number_at, number_given, pairs_of, place_after}
+use Rattle.command_words.specs.Requests.{Request, names_of, request_of}
 use Rattle.command_words.specs.declared.option.OptionName.TheVariants as option
 use Rattle.command_words.specs.declared.verb.Verb.TheVariants as verb
 use Rattle.command_words.specs.declared.fault.UsageFault.TheVariants as fault
+
+-- the words ask for a command, of which this holds
+abbrev Asks : List Word → (Request → Type 0) → Type 0
+Asks words holds = MatchResult (request_of words) holds (λ _. ⊥)
 
 -- ---- values
 
@@ -66,23 +71,23 @@ none_equal = refl
 
 -- ---- command lines
 
-no_words : command_of [] ≡ Err fault.NoCommand
+no_words : request_of [] ≡ Err fault.NoCommand
 no_words = refl
 
-no_such_command : command_of (codes "plan" ∷ []) ≡ Err fault.UnknownCommand
+no_such_command : request_of (codes "plan" ∷ []) ≡ Err fault.UnknownCommand
 no_such_command = refl
 
-no_such_option : command_of (codes "bounds" ∷ codes "--log" ∷ codes "l" ∷ []) ≡ Err (fault.UnknownOption 1)
+no_such_option : request_of (codes "bounds" ∷ codes "--log" ∷ codes "l" ∷ []) ≡ Err (fault.UnknownOption 1)
 no_such_option = refl
 
-no_value : command_of (codes "bounds" ∷ codes "--input" ∷ []) ≡ Err (fault.MissingValue 1)
+no_value : request_of (codes "bounds" ∷ codes "--input" ∷ []) ≡ Err (fault.MissingValue 1)
 no_value = refl
 
-twice : command_of (codes "bounds" ∷ codes "--input" ∷ codes "i" ∷ codes "--input" ∷ codes "i" ∷ [])
+twice : request_of (codes "bounds" ∷ codes "--input" ∷ codes "i" ∷ codes "--input" ∷ codes "i" ∷ [])
     ≡ Err (fault.RepeatedOption 3)
 twice = refl
 
-twice_before_no_value : command_of (codes "bounds" ∷ codes "--input" ∷ codes "i" ∷ codes "--input" ∷ [])
+twice_before_no_value : request_of (codes "bounds" ∷ codes "--input" ∷ codes "i" ∷ codes "--input" ∷ [])
     ≡ Err (fault.RepeatedOption 3)
 twice_before_no_value = refl
 
@@ -92,117 +97,142 @@ solve_words capacity input output log =
     codes "solve" ∷ codes "--capacity" ∷ capacity ∷ codes "--input" ∷ input ∷ codes "--output" ∷ output
     ∷ codes "--log" ∷ log ∷ []
 
-capacity_too_great : command_of (solve_words (codes "1152921504606846977") (codes "i") (codes "o") (codes "l"))
+capacity_too_great : request_of (solve_words (codes "1152921504606846977") (codes "i") (codes "o") (codes "l"))
     ≡ Err (fault.BadValue 1)
 unfolding solve_words
 capacity_too_great = refl
 
-empty_log : command_of (solve_words (codes "12") (codes "i") (codes "o") []) ≡ Err (fault.BadValue 7)
+empty_log : request_of (solve_words (codes "12") (codes "i") (codes "o") []) ≡ Err (fault.BadValue 7)
 unfolding solve_words
 empty_log = refl
 
-log_over_the_input : command_of (solve_words (codes "12") (codes "i") (codes "o") (codes "i")) ≡ Err fault.SameName
+log_over_the_input : request_of (solve_words (codes "12") (codes "i") (codes "o") (codes "i")) ≡ Err fault.SameName
 unfolding solve_words
 log_over_the_input = refl
 
-log_over_the_output : command_of (solve_words (codes "12") (codes "i") (codes "o") (codes "o")) ≡ Err fault.SameName
+log_over_the_output : request_of (solve_words (codes "12") (codes "i") (codes "o") (codes "o")) ≡ Err fault.SameName
 unfolding solve_words
 log_over_the_output = refl
 
-solve : command_of (solve_words (codes "012") (codes "i") (codes "o") (codes "l"))
-    ≡ Ok (Solve 12 (codes "i") (codes "o") (codes "l") None)
+solve : Asks (solve_words (codes "012") (codes "i") (codes "o") (codes "l")) (λ r.
+    (r.verb ≡ verb.Solve) × (number_at r.pairs option.Capacity ≡ 12) × (number_given r.pairs option.Steps ≡ None)
+    × (names_of r ≡ codes "i" ∷ codes "o" ∷ codes "l" ∷ []))
 unfolding solve_words
-solve = refl
+solve = (refl, refl, refl, refl)
 
-solve_with_steps : command_of
+solve_with_steps : Asks
     (solve_words (codes "12") (codes "i") (codes "o") (codes "l") ++ codes "--steps" ∷ codes "6" ∷ [])
-    ≡ Ok (Solve 12 (codes "i") (codes "o") (codes "l") (Some 6))
+    (λ r. (r.verb ≡ verb.Solve) × (number_given r.pairs option.Steps ≡ Some 6)
+    × (names_of r ≡ codes "i" ∷ codes "o" ∷ codes "l" ∷ []))
 unfolding solve_words
-solve_with_steps = refl
+solve_with_steps = (refl, refl, refl)
 
-steps_of_solve_twice : command_of
+steps_of_solve_twice : request_of
     (solve_words (codes "12") (codes "i") (codes "o") (codes "l")
     ++ codes "--steps" ∷ codes "6" ∷ codes "--steps" ∷ codes "6" ∷ [])
     ≡ Err (fault.RepeatedOption 11)
 unfolding solve_words
 steps_of_solve_twice = refl
 
-too_many_steps : command_of
+too_many_steps : request_of
     (solve_words (codes "12") (codes "i") (codes "o") (codes "l")
     ++ codes "--steps" ∷ codes "1152921504606846977" ∷ [])
     ≡ Err (fault.BadValue 9)
 unfolding solve_words
 too_many_steps = refl
 
-solve_names : names_of (Solve 12 (codes "i") (codes "o") (codes "l") (Some 6))
-    ≡ codes "i" ∷ codes "o" ∷ codes "l" ∷ []
-solve_names = refl
-
-greatest_steps : IsWithinLimit (Solve 12 (codes "i") (codes "o") (codes "l") (Some 1152921504606846976))
-greatest_steps = (lit≤ tt, lit≤ tt)
+greatest_steps : Asks
+    (solve_words (codes "12") (codes "i") (codes "o") (codes "l")
+    ++ codes "--steps" ∷ codes "1152921504606846976" ∷ [])
+    (λ r. number_given r.pairs option.Steps ≡ Some 1152921504606846976)
+unfolding solve_words
+greatest_steps = refl
 
 -- the words of `least` with these values
 least_words : (input output log : Word) → List Word
 least_words input output log =
     codes "least" ∷ codes "--input" ∷ input ∷ codes "--output" ∷ output ∷ codes "--log" ∷ log ∷ []
 
-least : command_of (least_words (codes "i") (codes "o") (codes "l"))
-    ≡ Ok (Least (codes "i") (codes "o") (codes "l") None)
+least : Asks (least_words (codes "i") (codes "o") (codes "l")) (λ r.
+    (r.verb ≡ verb.Least) × (number_given r.pairs option.Steps ≡ None)
+    × (names_of r ≡ codes "i" ∷ codes "o" ∷ codes "l" ∷ []))
 unfolding least_words
-least = refl
+least = (refl, refl, refl)
 
-least_with_no_step : command_of (least_words (codes "i") (codes "o") (codes "l") ++ codes "--steps" ∷ codes "0" ∷ [])
-    ≡ Ok (Least (codes "i") (codes "o") (codes "l") (Some 0))
+least_with_no_step : Asks
+    (least_words (codes "i") (codes "o") (codes "l") ++ codes "--steps" ∷ codes "0" ∷ [])
+    (λ r. (r.verb ≡ verb.Least) × (number_given r.pairs option.Steps ≡ Some 0))
 unfolding least_words
-least_with_no_step = refl
+least_with_no_step = (refl, refl)
 
-least_without_the_steps : command_of (least_words (codes "i") (codes "o") (codes "l") ++ codes "--steps" ∷ [])
+too_many_steps_of_least : request_of
+    (least_words (codes "i") (codes "o") (codes "l") ++ codes "--steps" ∷ codes "1152921504606846977" ∷ [])
+    ≡ Err (fault.BadValue 7)
+unfolding least_words
+too_many_steps_of_least = refl
+
+least_without_the_steps : request_of (least_words (codes "i") (codes "o") (codes "l") ++ codes "--steps" ∷ [])
     ≡ Err (fault.MissingValue 7)
 unfolding least_words
 least_without_the_steps = refl
 
-least_over_the_input : command_of (least_words (codes "i") (codes "i") (codes "l")) ≡ Err fault.SameName
+least_over_the_input : request_of (least_words (codes "i") (codes "i") (codes "l")) ≡ Err fault.SameName
 unfolding least_words
 least_over_the_input = refl
 
-no_capacity_of_least : command_of (codes "least" ∷ codes "--capacity" ∷ codes "12" ∷ []) ≡ Err (fault.UnknownOption 1)
+no_capacity_of_least : request_of (codes "least" ∷ codes "--capacity" ∷ codes "12" ∷ []) ≡ Err (fault.UnknownOption 1)
 no_capacity_of_least = refl
 
-greatest_capacity : IsWithinLimit (Verify 1152921504606846976 (codes "i") (codes "a"))
-greatest_capacity = lit≤ tt
+-- the words of `verify` with these values
+verify_words : (capacity input layout : Word) → List Word
+verify_words capacity input layout =
+    codes "verify" ∷ codes "--layout" ∷ layout ∷ codes "--input" ∷ input ∷ codes "--capacity" ∷ capacity ∷ []
 
-no_log : command_of (codes "refute" ∷ codes "--input" ∷ codes "i" ∷ []) ≡ Err (fault.MissingOption option.Log)
+greatest_capacity : Asks (verify_words (codes "1152921504606846976") (codes "i") (codes "a")) (λ r.
+    number_at r.pairs option.Capacity ≡ 1152921504606846976)
+unfolding verify_words
+greatest_capacity = refl
+
+judged_past_the_limit : request_of (verify_words (codes "1152921504606846977") (codes "i") (codes "a"))
+    ≡ Err (fault.BadValue 5)
+unfolding verify_words
+judged_past_the_limit = refl
+
+no_log : request_of (codes "refute" ∷ codes "--input" ∷ codes "i" ∷ []) ≡ Err (fault.MissingOption option.Log)
 no_log = refl
 
-nothing_given : command_of (codes "verify" ∷ []) ≡ Err (fault.MissingOption option.Capacity)
+nothing_given : request_of (codes "verify" ∷ []) ≡ Err (fault.MissingOption option.Capacity)
 nothing_given = refl
 
-another_order : command_of
-    (codes "verify" ∷ codes "--layout" ∷ codes "a" ∷ codes "--input" ∷ codes "i" ∷ codes "--capacity" ∷ codes "8" ∷ [])
-    ≡ Ok (Verify 8 (codes "i") (codes "a"))
-another_order = refl
+another_order : Asks (verify_words (codes "8") (codes "i") (codes "a")) (λ r.
+    (r.verb ≡ verb.Verify) × (number_at r.pairs option.Capacity ≡ 8) × (names_of r ≡ codes "i" ∷ codes "a" ∷ []))
+unfolding verify_words
+another_order = (refl, refl, refl)
 
-a_value_like_an_option : command_of (codes "refute" ∷ codes "--input" ∷ codes "--log" ∷ codes "--log" ∷ codes "l" ∷ [])
-    ≡ Ok (Refute (codes "--log") (codes "l"))
-a_value_like_an_option = refl
+a_value_like_an_option : Asks
+    (codes "refute" ∷ codes "--input" ∷ codes "--log" ∷ codes "--log" ∷ codes "l" ∷ [])
+    (λ r. (r.verb ≡ verb.Refute) × (names_of r ≡ codes "--log" ∷ codes "l" ∷ []))
+a_value_like_an_option = (refl, refl)
 
-bounds : command_of (codes "bounds" ∷ codes "--input" ∷ codes "i" ∷ []) ≡ Ok (Bounds (codes "i"))
-bounds = refl
+bounds : Asks (codes "bounds" ∷ codes "--input" ∷ codes "i" ∷ []) (λ r.
+    (r.verb ≡ verb.Bounds) × (names_of r ≡ codes "i" ∷ []))
+bounds = (refl, refl)
 
 -- the words of `trim` with these values
 trim_words : (input log output : Word) → List Word
 trim_words input log output =
     codes "trim" ∷ codes "--input" ∷ input ∷ codes "--log" ∷ log ∷ codes "--output" ∷ output ∷ []
 
-trim : command_of (trim_words (codes "i") (codes "l") (codes "o")) ≡ Ok (Trim (codes "i") (codes "l") (codes "o"))
+trim : Asks (trim_words (codes "i") (codes "l") (codes "o")) (λ r.
+    (r.verb ≡ verb.Trim) × (names_of r ≡ codes "i" ∷ codes "l" ∷ codes "o" ∷ []))
 unfolding trim_words
-trim = refl
+trim = (refl, refl)
 
-trim_over_the_log : command_of (trim_words (codes "i") (codes "l") (codes "l")) ≡ Err fault.SameName
+trim_over_the_log : request_of (trim_words (codes "i") (codes "l") (codes "l")) ≡ Err fault.SameName
 unfolding trim_words
 trim_over_the_log = refl
 
-no_output_of_trim : command_of (codes "trim" ∷ codes "--log" ∷ codes "l" ∷ codes "--input" ∷ codes "i" ∷ [])
+no_output_of_trim : request_of (codes "trim" ∷ codes "--log" ∷ codes "l" ∷ codes "--input" ∷ codes "i" ∷ [])
     ≡ Err (fault.MissingOption option.Output)
 no_output_of_trim = refl
 
@@ -210,11 +240,12 @@ no_output_of_trim = refl
 report_words : (input layout : Word) → List Word
 report_words input layout = codes "report" ∷ codes "--input" ∷ input ∷ codes "--layout" ∷ layout ∷ []
 
-report : command_of (report_words (codes "i") (codes "a")) ≡ Ok (Report (codes "i") (codes "a"))
+report : Asks (report_words (codes "i") (codes "a")) (λ r.
+    (r.verb ≡ verb.Report) × (names_of r ≡ codes "i" ∷ codes "a" ∷ []))
 unfolding report_words
-report = refl
+report = (refl, refl)
 
-report_of_the_input : command_of (report_words (codes "i") (codes "i")) ≡ Err fault.SameName
+report_of_the_input : request_of (report_words (codes "i") (codes "i")) ≡ Err fault.SameName
 unfolding report_words
 report_of_the_input = refl
 
@@ -222,25 +253,42 @@ report_of_the_input = refl
 trial_words : (seed count : Word) → List Word
 trial_words seed count = codes "trial" ∷ codes "--seed" ∷ seed ∷ codes "--count" ∷ count ∷ []
 
-trial : command_of (trial_words (codes "1") (codes "2") ++ codes "--steps" ∷ codes "1000" ∷ [])
-    ≡ Ok (Trial 1 2 1000)
+trial : Asks (trial_words (codes "1") (codes "2") ++ codes "--steps" ∷ codes "1000" ∷ []) (λ r.
+    (r.verb ≡ verb.Trial) × (number_at r.pairs option.Seed ≡ 1) × (number_at r.pairs option.Count ≡ 2)
+    × (number_at r.pairs option.Steps ≡ 1000) × (names_of r ≡ []))
 unfolding trial_words
-trial = refl
+trial = (refl, refl, refl, refl, refl)
 
-trial_names : names_of (Trial 1 1 1) ≡ []
-trial_names = refl
+trial_at_the_limit : Asks
+    (trial_words (codes "1152921504606846976") (codes "1152921504606846976")
+    ++ codes "--steps" ∷ codes "1152921504606846976" ∷ [])
+    (λ r. (number_at r.pairs option.Seed ≡ 1152921504606846976)
+    × (number_at r.pairs option.Count ≡ 1152921504606846976)
+    × (number_at r.pairs option.Steps ≡ 1152921504606846976))
+unfolding trial_words
+trial_at_the_limit = (refl, refl, refl)
 
-no_steps_of_trial : command_of (trial_words (codes "1") (codes "2")) ≡ Err (fault.MissingOption option.Steps)
+count_too_great : request_of (trial_words (codes "1") (codes "1152921504606846977")) ≡ Err (fault.BadValue 3)
+unfolding trial_words
+count_too_great = refl
+
+too_many_steps_of_trial : request_of
+    (trial_words (codes "1") (codes "2") ++ codes "--steps" ∷ codes "1152921504606846977" ∷ [])
+    ≡ Err (fault.BadValue 5)
+unfolding trial_words
+too_many_steps_of_trial = refl
+
+no_steps_of_trial : request_of (trial_words (codes "1") (codes "2")) ≡ Err (fault.MissingOption option.Steps)
 unfolding trial_words
 no_steps_of_trial = refl
 
-nothing_given_to_trial : command_of (codes "trial" ∷ []) ≡ Err (fault.MissingOption option.Seed)
+nothing_given_to_trial : request_of (codes "trial" ∷ []) ≡ Err (fault.MissingOption option.Seed)
 nothing_given_to_trial = refl
 
-seed_too_great : command_of (trial_words (codes "1152921504606846977") (codes "2")) ≡ Err (fault.BadValue 1)
+seed_too_great : request_of (trial_words (codes "1152921504606846977") (codes "2")) ≡ Err (fault.BadValue 1)
 unfolding trial_words
 seed_too_great = refl
 
-count_of_a_sign : command_of (trial_words (codes "1") (codes "-2")) ≡ Err (fault.BadValue 3)
+count_of_a_sign : request_of (trial_words (codes "1") (codes "-2")) ≡ Err (fault.BadValue 3)
 unfolding trial_words
 count_of_a_sign = refl

@@ -1,3 +1,5 @@
 mod CommandFacts
 mod ExampleFacts
+pub mod NameLemmas
 pub mod PairLemmas
+pub mod RequestLemmas

@@ -1,4 +1,5 @@
 pub mod Options
+pub mod Forms
 pub mod Pairs
-pub mod Commands
+pub mod Requests
 pub mod FaultTexts

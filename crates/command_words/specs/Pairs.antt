@@ -5,7 +5,8 @@ use Rattle.std.specs.Option.{option_or, option_and_then}
 use Rattle.std.specs.Str.{bytes_eq}
 use Rattle.dsa_terms.specs.Firsts.{when, first_fault}
 use Rattle.dsa_model.specs.Numbers.{written_number}
-use Rattle.command_words.specs.Options.{Word, number_limit, option_word, needed_by, option_of, is_bad}
+use Rattle.command_words.specs.Options.{Word, number_limit, option_word, is_bad}
+use Rattle.command_words.specs.Forms.{form_of, option_of}
 use Rattle.command_words.specs.declared.pair.Pair as written
 use Rattle.command_words.specs.declared.option.OptionName.{OptionName}
 use Rattle.command_words.specs.declared.verb.Verb.{Verb}
@@ -58,7 +59,7 @@ value_of pairs option =
 -- the first option that the command needs and the pairs don't give
 abbrev pub missing_fault : Verb → List Pair → Option UsageFault
 missing_fault verb pairs =
-    option_map fault.MissingOption (find (λ o. not (is_some (value_of pairs o))) (needed_by verb))
+    option_map fault.MissingOption (find (λ o. not (is_some (value_of pairs o))) (form_of verb).needed)
 
 -- two of the words are equal
 abbrev pub has_equal : List Word → Bool

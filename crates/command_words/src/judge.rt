@@ -1,13 +1,12 @@
 //! The first fault of pairs of words.
 
 ghost use Rattle.std.specs.Prelude.{◌≡◌, ◌<◌, ◌≤◌, ◌^◌, [], map, take, length, string_bytes, find, not, is_some};
-ghost use Rattle.command_words.specs.Options.{needed_by};
+ghost use Rattle.command_words.specs.Forms.{form_of};
 ghost use Rattle.command_words.specs.Pairs.{pairs_of, pair_value, place_after, pair_fault, pairs_fault, value_of};
 
 use crate::pair::{Pair, has_option, split_pair, value_of};
 use crate::value::is_bad;
-use crate::verb::Verb;
-use crate::{OptionName, UsageFault};
+use crate::{OptionName, UsageFault, Verb};
 
 /// The place of the first word of the pair that so many others come before, or 4294967295 where it
 /// is greater.
@@ -60,9 +59,10 @@ pub(crate) fn pairs_fault(verb: Verb, words: &[String]) -> Option<UsageFault>
 /// The first option that the command needs and the pairs don't give.
 pub(crate) fn first_missing(verb: Verb, words: &[String]) -> Option<OptionName>
     ensures { let pairs = pairs_of (map string_bytes words.now) in
-        result ≡ find (λ o. not (is_some (value_of pairs o))) (needed_by verb) }
+        result ≡ find (λ o. not (is_some (value_of pairs o))) (form_of verb).needed }
 {
-    verb.needed()
+    verb.form()
+        .needed
         .iter()
         .copied()
         .find(|option| value_of(words, *option).is_none())

@@ -2,19 +2,22 @@
 //! no command.
 #![tactic(auto)]
 
-mod command;
 mod fault;
 mod fault_text;
+mod form;
 mod judge;
+mod names;
 mod option;
 mod pair;
 mod read;
+mod request;
 #[cfg(test)]
 mod tests;
 mod value;
 mod verb;
 
-pub use command::Command;
 pub use fault::UsageFault;
 pub use option::OptionName;
 pub use read::read_words;
+pub use request::Request;
+pub use verb::Verb;

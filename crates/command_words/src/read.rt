@@ -1,31 +1,22 @@
 //! The words, read.
 
-ghost use Rattle.std.specs.Prelude.{◌≡◌, [], false, map, string_bytes, MatchResult, IfOk, Ok, Err};
+ghost use Rattle.std.specs.Prelude.{◌≡◌, false, map, string_bytes, MatchResult, IfOk, Ok, Err};
 ghost use Rattle.command_words.specs.Pairs.{has_equal};
-ghost use Rattle.command_words.specs.Commands.{command_of, command_value, names_of, IsWithinLimit};
+ghost use Rattle.command_words.specs.Requests.{request_of, names_of};
 
-use crate::command::{command_with, has_same_name};
 use crate::judge::{first_missing, pairs_fault};
-use crate::verb::Verb;
-use crate::{Command, UsageFault};
+use crate::names::has_same_name;
+use crate::{Request, UsageFault, Verb};
 
 /// The command that the words ask for, or their first fault, in the order of `UsageFault`. The
-/// words are those after the program's name: the command, then its options, in any order, each once
-/// and followed by its value. A value may look like an option. The commands, each with the options
-/// that it needs, are `solve --capacity C --input I --output O --log L`,
-/// `least --input I --output O --log L`, `verify --capacity C --input I --layout A`,
-/// `refute --input I --log L`, `trim --input I --log L --output O`, `bounds --input I`,
-/// `report --input I --layout A` and `trial --seed S --count N --steps K`; `solve` and `least` may
-/// have `--steps K` too. C is a capacity in bytes, S a seed, N a count of buffers and K a budget in
-/// units, each a number of 1 to 20 digits that is at most 2^60; the others are names of files, not
-/// empty, no two of them equal.
-pub fn read_words(words: &[String]) -> Result<Command<'_>, UsageFault>
+/// words are those after the program's name: the command, then its options as `Verb` has them, in
+/// any order, each once and followed by its value. A value may look like an option. A number has 1
+/// to 20 digits and is at most 2^60; names of files are not empty, and no two of them are equal.
+pub fn read_words(words: &[String]) -> Result<Request<'_>, UsageFault>
     ensures value { MatchResult result
-        (λ command. command_of (map string_bytes words.now) ≡ Ok (command_value command))
-        (λ fault. command_of (map string_bytes words.now) ≡ Err fault) }
-    ensures within { IfOk result (λ command. IsWithinLimit (command_value command)) }
-    ensures legal { IfOk result (λ command. has_equal (names_of (command_value command)) ≡ false) }
-    ensures none { words.now ≡ [] → result ≡ Err UsageFault.NoCommand }
+        (λ r. request_of (map string_bytes words.now) ≡ Ok r)
+        (λ f. request_of (map string_bytes words.now) ≡ Err f) }
+    ensures apart { IfOk result (λ r. has_equal (names_of r) ≡ false) }
 {
     let Some((name, words)) = words.split_first() else {
         return Err(UsageFault::NoCommand);
@@ -39,9 +30,8 @@ pub fn read_words(words: &[String]) -> Result<Command<'_>, UsageFault>
     if let Some(option) = first_missing(verb, words) {
         return Err(UsageFault::MissingOption { option });
     }
-    let command = command_with(verb, words);
-    if has_same_name(&command) {
+    if has_same_name(verb, words) {
         return Err(UsageFault::SameName);
     }
-    Ok(command)
+    Ok(Request::new(verb, words))
 }

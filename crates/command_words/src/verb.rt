@@ -1,21 +1,33 @@
-//! The names of the commands, and the options that each needs and takes.
+//! The commands.
 
-ghost use Rattle.std.specs.Prelude.{◌≡◌, find};
-ghost use Rattle.std.specs.Str.{bytes_eq};
-ghost use Rattle.command_words.specs.Options.{verb_word, verbs, needed_by, optional_for, option_of};
+ghost use Rattle.std.specs.Prelude.{◌≡◌};
+ghost use Rattle.command_words.specs.Forms.{option_of, verb_of};
 
 use crate::OptionName;
 
-/// A command's name.
+/// A command. C is a capacity in bytes, S a seed, N a count of buffers and K a budget in units,
+/// each a claim that is opened; the others are names of files.
 #[derive(Clone, Copy, Debug, PartialEq, Eq)]
-pub(crate) enum Verb {
+pub enum Verb {
+    /// `solve --capacity C --input I --output O --log L`, and `--steps K` where it is given: lay
+    /// the buffers out within the capacity, or prove that they do not fit.
     Solve,
+    /// `least --input I --output O --log L`, and `--steps K` where it is given: lay the buffers out
+    /// within the least capacity, and prove that they do not fit in less.
     Least,
+    /// `verify --capacity C --input I --layout A`: judge a layout at the capacity.
     Verify,
+    /// `refute --input I --log L`: check a log that claims that the buffers do not fit.
     Refute,
+    /// `trim --input I --log L --output O`: write the log without the lines that its end does not
+    /// need.
     Trim,
+    /// `bounds --input I`: print the facts of the instance.
     Bounds,
+    /// `report --input I --layout A`: print the layout at the instance's peak.
     Report,
+    /// `trial --seed S --count N --steps K`: make an instance of so many buffers from the seed, and
+    /// look for its least capacity within the budget.
     Trial,
 }
 
@@ -32,68 +44,21 @@ const VERBS: [Verb; 8] = [
 ];
 
 impl Verb {
-    /// The word of the command.
-    fn word(self) -> &'static str
-        ensures { result.now ≡ verb_word self }
-    {
-        match self {
-            Verb::Solve => "solve",
-            Verb::Least => "least",
-            Verb::Verify => "verify",
-            Verb::Refute => "refute",
-            Verb::Trim => "trim",
-            Verb::Bounds => "bounds",
-            Verb::Report => "report",
-            Verb::Trial => "trial",
-        }
-    }
-
-    /// The options that the command needs, in the order in which they are missed.
-    pub(crate) fn needed(self) -> &'static [OptionName]
-        ensures { result.now ≡ needed_by self }
-    {
-        match self {
-            Verb::Solve => &[
-                OptionName::Capacity,
-                OptionName::Input,
-                OptionName::Output,
-                OptionName::Log,
-            ],
-            Verb::Least => &[OptionName::Input, OptionName::Output, OptionName::Log],
-            Verb::Verify => &[OptionName::Capacity, OptionName::Input, OptionName::Layout],
-            Verb::Refute => &[OptionName::Input, OptionName::Log],
-            Verb::Trim => &[OptionName::Input, OptionName::Log, OptionName::Output],
-            Verb::Bounds => &[OptionName::Input],
-            Verb::Report => &[OptionName::Input, OptionName::Layout],
-            Verb::Trial => &[OptionName::Seed, OptionName::Count, OptionName::Steps],
-        }
-    }
-
-    /// The options that the command can go without.
-    fn optional(self) -> &'static [OptionName]
-        ensures { result.now ≡ optional_for self }
-    {
-        match self {
-            Verb::Solve | Verb::Least => &[OptionName::Steps],
-            Verb::Verify | Verb::Refute | Verb::Trim | Verb::Bounds | Verb::Report | Verb::Trial =>
-                &[],
-        }
-    }
-
     /// The command that has this word.
     pub(crate) fn of(word: &str) -> Option<Verb>
-        ensures { result ≡ find (λ v. bytes_eq (verb_word v) word.now) verbs }
+        ensures { result ≡ verb_of word.now }
     {
-        VERBS.iter().copied().find(|verb| verb.word() == word)
+        VERBS.iter().copied().find(|verb| verb.form().word == word)
     }
 
     /// The option of the command that has this word.
     pub(crate) fn option_of(self, word: &str) -> Option<OptionName>
         ensures { result ≡ option_of self word.now }
     {
-        self.needed()
+        let form = self.form();
+        form.needed
             .iter()
-            .chain(self.optional().iter())
+            .chain(form.optional.iter())
             .copied()
             .find(|option| option.word() == word)
     }

@@ -32,3 +32,8 @@ comes_spoken old new (Reads role name most next) o (inr read) = comes_spoken old
 pub comes_by : (old new : FilesSeen) (course : Course) (p : Prepared) (o : Outcome) → outcome_of p ≡ o →
     Comes old new course o → Comes old new course (outcome_of p)
 comes_by old new course p o is comes = subst (λ o. Comes old new course o) (sym is) comes
+
+pub concluded : (old new : FilesSeen) (course : Course) (o : Outcome) (r : Result Prepared NoMemory) →
+    IfOk r (λ p. outcome_of p ≡ o) → Comes old new course o → IfOk r (λ p. Comes old new course (outcome_of p))
+concluded old new course o (Ok p) is comes = subst (λ o. Comes old new course o) (sym is) comes
+concluded old new course o (Err e) is comes = is

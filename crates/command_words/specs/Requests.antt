@@ -1,0 +1,38 @@
+-- What the words of a command line ask for, or their first fault.
+use Rattle.std.specs.Prelude.{List, [], ◌∷◌, map, Option, Some, None, Result, Ok, Err}
+use Rattle.std.specs.Option.{option_map_or}
+use Rattle.dsa_terms.specs.Firsts.{when, first_fault}
+use Rattle.command_words.specs.Options.{Word}
+use Rattle.command_words.specs.Forms.{files_of, verb_of}
+use Rattle.command_words.specs.Pairs.{Pair, pairs_of, pairs_fault, missing_fault, has_equal, word_at}
+use Rattle.command_words.specs.declared.verb.Verb.{Verb}
+use Rattle.command_words.specs.declared.fault.UsageFault.{UsageFault}
+use Rattle.command_words.specs.declared.fault.UsageFault.TheVariants as fault
+
+-- a command with the pairs of its options and their values
+pub record Request : Type 0 where
+  pub verb : Verb
+  pub pairs : List Pair
+
+-- the names of its files
+abbrev pub names_of : Request → List Word
+names_of r = map (word_at r.pairs) (files_of r.verb)
+
+-- its first fault: in a pair, then an option that is missing, then two equal names
+abbrev pub request_fault : Request → Option UsageFault
+request_fault r = first_fault (
+    pairs_fault r.verb [] r.pairs
+    ∷ missing_fault r.verb r.pairs
+    ∷ when (has_equal (names_of r)) fault.SameName
+    ∷ [])
+
+-- the request of that command with these pairs, or its first fault
+abbrev pub request_or_fault : Option Verb → List Pair → Result Request UsageFault
+request_or_fault None pairs = Err fault.UnknownCommand
+request_or_fault (Some verb) pairs =
+    let r : Request = record { verb = verb; pairs = pairs } in option_map_or Err (request_fault r) (Ok r)
+
+-- the command that words ask for, or their first fault
+abbrev pub request_of : List Word → Result Request UsageFault
+request_of [] = Err fault.NoCommand
+request_of (word ∷ words) = request_or_fault (verb_of word) (pairs_of words)
