@@ -1,0 +1,37 @@
+-- How the command goes that plans by size class.
+use Rattle.std.specs.Prelude.{◌≡◌, ◌≤◌, ℕ, List, [], ◌∷◌, Option, Some, None}
+use Rattle.dsa_terms.specs.Buffers.{Instance}
+use Rattle.dsa_terms.specs.Layouts.{IsLayout, IsLeast}
+use Rattle.csv_instance.specs.Records.{Record}
+use Rattle.size_classes.specs.Plain.{IsPlain, first_rough}
+use Rattle.size_classes.specs.Plans.{AllOf, IsPeakLoad, class_height, class_plan, power_height}
+use Rattle.command_words.specs.Options.{Word}
+use Rattle.run_status.specs.declared.status.Status.TheVariants.{Classed, NotPlain}
+use Rattle.run_course.specs.Course.{Course, Outcome, Concludes, Ends, says, writes}
+use Rattle.readings.specs.Input.{opened}
+use Rattle.writings.specs.Writings.{layout_file}
+
+-- the words of `classes`
+pub record Classes : Type 0 where
+  pub input : Word
+  pub output : Word
+
+-- the plan by size class is written, a layout at its height, which is at most the sum of two to the power of each class
+-- times its count; where all sizes are equal it is the least capacity, and the load of the peak
+pub record PlansByClass (c : Classes) (table : List Record) (I : Instance) (o : Outcome) : Type 0 where
+  pub load : ℕ
+  pub plain : IsPlain I
+  pub peak : IsPeakLoad I load
+  pub layout : IsLayout I (class_height I) (class_plan I)
+  pub powers : class_height I ≤ power_height I
+  pub least : (size : ℕ) → AllOf I size → IsLeast I (class_height I) × (class_height I ≡ load)
+  pub written : o ≡ writes (layout_file c.output table (class_plan I) ∷ []) (Classed (class_height I) load)
+
+-- what is concluded of an instance whose first buffer that is not plain is this, if there is one
+abbrev pub Plans : Option ℕ → Classes → List Record → Instance → Outcome → Type 0
+Plans (Some b) c table I o = o ≡ says (NotPlain b)
+Plans None c table I o = PlansByClass c table I o
+
+-- how `classes` goes
+abbrev pub classes : Classes → Course
+classes c = opened c.input (λ table I. Concludes (Plans (first_rough I) c table I))

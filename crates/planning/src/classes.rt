@@ -1,0 +1,62 @@
+//! `classes`: a plan by size class.
+
+ghost use Rattle.std.specs.Prelude.{◌≡◌, ◌+◌, IfOk, length};
+ghost use Rattle.run_course.specs.Prepares.{outcome_of};
+ghost use Rattle.size_classes.specs.Plain.{first_rough};
+ghost use Rattle.planning.specs.Planning.{Plans, classes};
+ghost use Rattle.planning.specs.Words.{classes_of};
+
+use csv_instance::Table;
+use dsa_model::{Fail, Instance, NoMemory};
+use dsa_outside::Files;
+use readings::{Input, open_input};
+use run_course::{Command, Prepared, one_write, silent};
+use run_status::Status;
+use std::alloc::Global;
+use writings::layout_file;
+
+/// Writes the plan by size class of the input's instance to the output.
+#[derive(Clone, Copy)]
+pub struct Classes<'a> {
+    pub input: &'a str,
+    pub output: &'a str,
+}
+
+/// What is written and told of the table's instance.
+fn planned<'a>(
+    alloc: Global,
+    words: &Classes<'a>,
+    table: &Table,
+    instance: &Instance,
+) -> Result<Prepared<'a>, NoMemory>
+    requires count { length table.now ≡ length instance.now + 1 }
+    ensures { IfOk result (λ p. Plans (first_rough instance.now) (classes_of words.now)
+        table.now instance.now (outcome_of p)) }
+{
+    let plan = match size_classes::classes(alloc, instance) {
+        Ok(plan) => plan,
+        Err(Fail::Fault(rough)) => {
+            let buffer = rough.buffer;
+            return silent(alloc, Status::NotPlain { buffer });
+        }
+        Err(Fail::NoMemory) => return Err(NoMemory),
+    };
+    let file = layout_file(alloc, table, plan.offsets.as_slice(), words.output)?;
+    let status = Status::Classed {
+        height: plan.height,
+        load: plan.load,
+    };
+    one_write(alloc, file, status)
+}
+
+impl<'a> Command<'a> for Classes<'a> {
+    ghost course = { λ c. classes (classes_of c) };
+
+    fn conclude<F: Files>(&self, alloc: Global, files: &mut F) -> Result<Prepared<'a>, NoMemory> {
+        let table = match open_input(alloc, files, self.input)? {
+            Input::Table(table) => table,
+            Input::Missing(status) => return silent(alloc, status),
+        };
+        planned(alloc, self, &table, table.instance())
+    }
+}

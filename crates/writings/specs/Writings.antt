@@ -1,0 +1,22 @@
+-- The files that commands write.
+use Rattle.std.specs.Prelude.{ℕ, List}
+use Rattle.dsa_terms.specs.Logs.{Log}
+use Rattle.csv_instance.specs.Records.{Record}
+use Rattle.csv_instance.specs.Layout.{layout_text}
+use Rattle.log_text.specs.Faults.{IsTextOf}
+use Rattle.log_text.specs.Text.{log_text, raw_log_of}
+use Rattle.command_words.specs.Options.{Word}
+use Rattle.run_status.specs.declared.status.Role.TheVariants as role
+use Rattle.run_course.specs.Course.{Write}
+
+-- the layout of these offsets, for the output
+abbrev pub layout_file : Word → List Record → List ℕ → Write
+layout_file output table offsets = record { role = role.Output; name = output; bytes = layout_text table offsets }
+
+-- the log, for its file
+abbrev pub log_file : Word → Log → Write
+log_file name log = record { role = role.Log; name = name; bytes = log_text log }
+
+-- the text of the log reads back
+abbrev pub ReadsBack : Log → Type 0
+ReadsBack log = IsTextOf (log_text log) (raw_log_of log)
