@@ -21,7 +21,10 @@ pub struct Trim<'a> {
 
 impl<'a> Command<'a> for Trim<'a> {
     ghost course = { λ t. trim (record {
-        input = t.input.now; log = t.log.now; output = t.output.now }) };
+      input = t.input.now;
+      log = t.log.now;
+      output = t.output.now;
+    }) };
 
     fn conclude<F: Files>(&self, alloc: Global, files: &mut F) -> Result<Prepared<'a>, NoMemory> {
         let table = match open_input(alloc, files, self.input)? {
