@@ -1,0 +1,15 @@
+mod PlainLemmas
+mod TurnLemmas
+mod SlotLemmas
+mod SlotsAreLeast
+mod PoolLemmas
+mod Holding
+mod Turning
+mod SlotLoop
+mod CountLemmas
+mod Powers
+mod SizeLemmas
+mod PlanLemmas
+mod RowLemmas
+mod EqualSizes
+mod ExampleFacts
