@@ -1,0 +1,6 @@
+pub mod Concluding
+pub mod Decided
+mod BelowFacts
+mod FiveFacts
+mod SolveFacts
+mod LeastFacts

@@ -72,9 +72,13 @@ pub record LeavesOpen (s : Solve) (table : List Record) (I : Instance) (o : Outc
   pub readable : ReadsBack refutation
   pub written : o ≡ writes (layout_file s.output table (best_start I) ∷ log_file s.log refutation ∷ []) (Open low high)
 
+-- what `solve` concludes of the instance of a table
+abbrev pub Solves : Solve → List Record → Instance → Outcome → Type 0
+Solves s table I o = LaysOut s table I o ⊎ Refutes s I o ⊎ LeavesOpen s table I o
+
 -- how `solve` goes
 abbrev pub solve : Solve → Course
-solve s = opened s.input (λ table I. Concludes (λ o. LaysOut s table I o ⊎ Refutes s I o ⊎ LeavesOpen s table I o))
+solve s = opened s.input (λ table I. Concludes (Solves s table I))
 
 -- the words of `least`
 pub record LeastOf : Type 0 where
@@ -123,6 +127,10 @@ pub record LeavesLeastOpen (l : LeastOf) (table : List Record) (I : Instance) (o
   pub readable : ReadsBack refutation
   pub written : o ≡ writes (layout_file l.output table offsets ∷ log_file l.log refutation ∷ []) (Open low high)
 
+-- what `least` concludes of the instance of a table
+abbrev pub Finds : LeastOf → List Record → Instance → Outcome → Type 0
+Finds l table I o = FindsLeast l table I o ⊎ LeavesLeastOpen l table I o
+
 -- how `least` goes
 abbrev pub least : LeastOf → Course
-least l = opened l.input (λ table I. Concludes (λ o. FindsLeast l table I o ⊎ LeavesLeastOpen l table I o))
+least l = opened l.input (λ table I. Concludes (Finds l table I))

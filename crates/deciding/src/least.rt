@@ -1,14 +1,18 @@
 //! `least`: the least capacity that has a layout.
 
-ghost use Rattle.deciding.specs.Deciding.{least};
+ghost use Rattle.std.specs.Prelude.{◌≡◌, ◌+◌, IfOk, length};
+ghost use Rattle.run_course.specs.Prepares.{outcome_of};
+ghost use Rattle.deciding.specs.Deciding.{Finds, least};
+ghost use Rattle.deciding.specs.Words.{least_of};
 
-use crate::written::{layout_file, log_file};
-use dsa_model::NoMemory;
+use crate::written::both_files;
+use csv_instance::Table;
+use dsa_model::{Instance, NoMemory};
 use dsa_outside::Files;
 use min_capacity::Least as Found;
 use planner::least_capacity;
 use readings::{Input, open_input};
-use run_course::{Command, Prepared, one_write, silent, two_writes};
+use run_course::{Command, Prepared, silent};
 use run_status::Status;
 use std::alloc::Global;
 
@@ -22,36 +26,41 @@ pub struct Least<'a> {
     pub steps: Option<u64>,
 }
 
+/// What is written and told of the table's instance.
+fn found<'a>(
+    alloc: Global,
+    words: &Least<'a>,
+    table: &Table,
+    instance: &Instance,
+) -> Result<Prepared<'a>, NoMemory>
+    requires count { length table.now ≡ length instance.now + 1 }
+    ensures { IfOk result (λ p. Finds (least_of words.now) table.now instance.now (outcome_of p)) }
+{
+    match least_capacity(alloc, instance, words.steps)? {
+        Found::Exact(bracket) => {
+            let status = Status::Least {
+                capacity: bracket.high,
+            };
+            both_files(alloc, table, &bracket, words.output, words.log, status)
+        }
+        Found::Open(bracket) => {
+            let status = Status::Open {
+                low: bracket.low,
+                high: bracket.high,
+            };
+            both_files(alloc, table, &bracket, words.output, words.log, status)
+        }
+    }
+}
+
 impl<'a> Command<'a> for Least<'a> {
-    ghost course = { λ l. least (record {
-        input = l.input.now; output = l.output.now; log = l.log.now; steps = l.steps }) };
+    ghost course = { λ l. least (least_of l) };
 
     fn conclude<F: Files>(&self, alloc: Global, files: &mut F) -> Result<Prepared<'a>, NoMemory> {
         let table = match open_input(alloc, files, self.input)? {
             Input::Table(table) => table,
             Input::Missing(status) => return silent(alloc, status),
         };
-        let found = least_capacity(alloc, table.instance(), self.steps)?;
-        let (bracket, status) = match &found {
-            Found::Exact(bracket) => {
-                let capacity = bracket.high;
-                (bracket, Status::Least { capacity })
-            }
-            Found::Open(bracket) => {
-                let status = Status::Open {
-                    low: bracket.low,
-                    high: bracket.high,
-                };
-                (bracket, status)
-            }
-        };
-        let layout = layout_file(alloc, &table, bracket.layout.as_slice(), self.output)?;
-        match &bracket.log {
-            Some(refutation) => {
-                let log = log_file(alloc, refutation, self.log)?;
-                two_writes(alloc, layout, log, status)
-            }
-            None => one_write(alloc, layout, status),
-        }
+        found(alloc, self, &table, table.instance())
     }
 }

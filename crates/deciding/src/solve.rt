@@ -1,15 +1,18 @@
 //! `solve`: a layout within a capacity, or a log by which there is none.
 
-ghost use Rattle.std.specs.Prelude.{◌≤◌};
+ghost use Rattle.std.specs.Prelude.{◌≡◌, ◌+◌, ◌≤◌, IfOk, length};
 ghost use Rattle.command_words.specs.Options.{number_limit};
-ghost use Rattle.deciding.specs.Deciding.{solve};
+ghost use Rattle.run_course.specs.Prepares.{outcome_of};
+ghost use Rattle.deciding.specs.Deciding.{Solves, solve};
+ghost use Rattle.deciding.specs.Words.{solve_of};
 
-use crate::written::{layout_file, log_file};
-use dsa_model::NoMemory;
+use crate::written::{both_files, layout_file, log_file};
+use csv_instance::Table;
+use dsa_model::{Instance, NoMemory};
 use dsa_outside::Files;
 use planner::{Decision, plan};
 use readings::{Input, open_input};
-use run_course::{Command, Prepared, one_write, silent, two_writes};
+use run_course::{Command, Prepared, one_write, silent};
 use run_status::Status;
 use std::alloc::Global;
 
@@ -24,10 +27,41 @@ pub struct Solve<'a> {
     pub steps: Option<u64>,
 }
 
+/// What is written and told of the table's instance.
+fn solved<'a>(
+    alloc: Global,
+    words: &Solve<'a>,
+    table: &Table,
+    instance: &Instance,
+) -> Result<Prepared<'a>, NoMemory>
+    requires capacity { words.now.capacity ≤ number_limit }
+    requires count { length table.now ≡ length instance.now + 1 }
+    ensures { IfOk result (λ p.
+        Solves (solve_of words.now) table.now instance.now (outcome_of p)) }
+{
+    let _count = instance.len();
+    let capacity = words.capacity;
+    match plan(alloc, instance, capacity, words.steps)? {
+        Decision::Layout(offsets) => {
+            let file = layout_file(alloc, table, offsets.as_slice(), words.output)?;
+            one_write(alloc, file, Status::Feasible { capacity })
+        }
+        Decision::Refuted(refutation) => {
+            let file = log_file(alloc, &refutation, words.log)?;
+            one_write(alloc, file, Status::Infeasible { capacity })
+        }
+        Decision::Open(bracket) => {
+            let status = Status::Open {
+                low: bracket.low,
+                high: bracket.high,
+            };
+            both_files(alloc, table, &bracket, words.output, words.log, status)
+        }
+    }
+}
+
 impl<'a> Command<'a> for Solve<'a> {
-    ghost course = { λ s. solve (record {
-        capacity = s.capacity; input = s.input.now; output = s.output.now; log = s.log.now;
-        steps = s.steps }) };
+    ghost course = { λ s. solve (solve_of s) };
 
     ghost is_asked = { λ s. s.capacity ≤ number_limit };
 
@@ -36,30 +70,6 @@ impl<'a> Command<'a> for Solve<'a> {
             Input::Table(table) => table,
             Input::Missing(status) => return silent(alloc, status),
         };
-        let instance = table.instance();
-        let _count = instance.len();
-        let capacity = self.capacity;
-        match plan(alloc, instance, capacity, self.steps)? {
-            Decision::Layout(offsets) => {
-                let file = layout_file(alloc, &table, offsets.as_slice(), self.output)?;
-                one_write(alloc, file, Status::Feasible { capacity })
-            }
-            Decision::Refuted(refutation) => {
-                let file = log_file(alloc, &refutation, self.log)?;
-                one_write(alloc, file, Status::Infeasible { capacity })
-            }
-            Decision::Open(bracket) => {
-                let Some(refutation) = &bracket.log else {
-                    unreachable!()
-                };
-                let layout = layout_file(alloc, &table, bracket.layout.as_slice(), self.output)?;
-                let log = log_file(alloc, refutation, self.log)?;
-                let status = Status::Open {
-                    low: bracket.low,
-                    high: bracket.high,
-                };
-                two_writes(alloc, layout, log, status)
-            }
-        }
+        solved(alloc, self, &table, table.instance())
     }
 }

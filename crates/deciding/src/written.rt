@@ -1,15 +1,17 @@
 //! Files that are to be written.
 
-ghost use Rattle.std.specs.Prelude.{◌≡◌, ◌+◌, IfOk, length};
-ghost use Rattle.run_course.specs.Prepares.{write_of};
-ghost use Rattle.deciding.specs.Deciding.{ReadsBack, layout_file, log_file};
+ghost use Rattle.std.specs.Prelude.{◌≡◌, ◌∷◌, ◌+◌, IfOk, length};
+ghost use Rattle.run_course.specs.Course.{writes};
+ghost use Rattle.run_course.specs.Prepares.{outcome_of, write_of};
+ghost use Rattle.deciding.specs.Deciding.{AllReadBack, ReadsBack, layout_file, log_file, log_files};
 
 use csv_instance::{Table, write_layout};
 use dsa_model::NoMemory;
 use log_text::write_log;
+use min_capacity::Bracket;
 use refute_log::ClosedLog;
-use run_course::Writing;
-use run_status::Role;
+use run_course::{Prepared, Writing, one_write, two_writes};
+use run_status::{Role, Status};
 use std::alloc::Global;
 
 /// The layout of these offsets (in bytes), for the output.
@@ -43,4 +45,30 @@ pub(crate) fn log_file<'a>(
         name,
         bytes: write_log(alloc, log)?,
     })
+}
+
+/// The bracket's layout for the output and its log, where there is one, for the log's file, and the
+/// status that is told once they are written.
+pub(crate) fn both_files<'a>(
+    alloc: Global,
+    table: &Table,
+    bracket: &Bracket,
+    output: &'a str,
+    log: &'a str,
+    status: Status,
+) -> Result<Prepared<'a>, NoMemory>
+    requires { length table.now ≡ length bracket.now.layout.items + 1 }
+    ensures files { IfOk result (λ p. outcome_of p ≡ writes
+        (layout_file output.now table.now bracket.now.layout.items
+        ∷ log_files log.now bracket.now.log) status) }
+    ensures readable { IfOk result (λ _. AllReadBack bracket.now.log) }
+{
+    let layout = layout_file(alloc, table, bracket.layout.as_slice(), output)?;
+    match &bracket.log {
+        Some(refutation) => {
+            let refuted = log_file(alloc, refutation, log)?;
+            two_writes(alloc, layout, refuted, status)
+        }
+        None => one_write(alloc, layout, status),
+    }
 }

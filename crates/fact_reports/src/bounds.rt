@@ -1,8 +1,11 @@
 //! `bounds`: the facts of an instance.
 
-ghost use Rattle.fact_reports.specs.Reporting.{bounds};
+ghost use Rattle.std.specs.Prelude.{IfOk};
+ghost use Rattle.run_course.specs.Prepares.{outcome_of};
+ghost use Rattle.fact_reports.specs.Reporting.{ShowsFacts, bounds};
+ghost use Rattle.fact_reports.specs.Words.{bounds_of};
 
-use dsa_model::NoMemory;
+use dsa_model::{Instance, NoMemory};
 use dsa_outside::Files;
 use layout_report::bounds_report;
 use planner::facts_of;
@@ -16,16 +19,23 @@ pub struct Bounds<'a> {
     pub input: &'a str,
 }
 
+/// The report of an instance's facts.
+fn facts_report<'a>(alloc: Global, instance: &Instance) -> Result<Prepared<'a>, NoMemory>
+    ensures { IfOk result (λ p. ShowsFacts instance.now (outcome_of p)) }
+{
+    let facts = facts_of(alloc, instance)?;
+    let text = bounds_report(alloc, &facts)?;
+    Ok(shown(text))
+}
+
 impl<'a> Command<'a> for Bounds<'a> {
-    ghost course = { λ b. bounds (record { input = b.input.now }) };
+    ghost course = { λ b. bounds (bounds_of b) };
 
     fn conclude<F: Files>(&self, alloc: Global, files: &mut F) -> Result<Prepared<'a>, NoMemory> {
         let table = match open_input(alloc, files, self.input)? {
             Input::Table(table) => table,
             Input::Missing(status) => return silent(alloc, status),
         };
-        let facts = facts_of(alloc, table.instance())?;
-        let text = bounds_report(alloc, &facts)?;
-        Ok(shown(text))
+        facts_report(alloc, table.instance())
     }
 }

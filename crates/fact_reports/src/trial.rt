@@ -1,13 +1,15 @@
 //! `trial`: a made instance, and what is found of it.
 
-ghost use Rattle.std.specs.Prelude.{◌≡◌, ◌<◌, ◌≤◌, ◌++◌, IfOk};
+ghost use Rattle.std.specs.Prelude.{◌≡◌, ◌<◌, ◌≤◌, ◌++◌, IfOk, Ok};
 ghost use Rattle.dsa_model.specs.Fails.{UnlessNoMemory};
 ghost use Rattle.csv_instance.specs.Records.{table_of};
-ghost use Rattle.csv_instance.specs.Parse.{buffer_limit};
+ghost use Rattle.csv_instance.specs.Parse.{buffer_limit, parse};
 ghost use Rattle.layout_report.specs.Facts.{bounds_text};
 ghost use Rattle.make_instance.specs.Made.{made_text};
 ghost use Rattle.run_status.specs.Lines.{line};
-ghost use Rattle.fact_reports.specs.Reporting.{IsVerdict, trial};
+ghost use Rattle.run_course.specs.Prepares.{outcome_of};
+ghost use Rattle.fact_reports.specs.Reporting.{IsVerdict, ShowsTrial, trial};
+ghost use Rattle.fact_reports.specs.Words.{trial_of};
 
 use csv_instance::{Table, read_instance};
 use dsa_model::{Fail, Instance, NoMemory};
@@ -68,22 +70,30 @@ pub struct Trial {
     pub steps: u64,
 }
 
+/// What is shown of the made instance.
+fn tried<'a>(
+    alloc: Global,
+    words: &Trial,
+    instance: &Instance,
+) -> Result<Prepared<'a>, NoMemory>
+    requires made { parse (table_of (made_text words.now.seed words.now.count)) ≡ Ok instance.now }
+    ensures { IfOk result (λ p. ShowsTrial (trial_of words.now) (outcome_of p)) }
+{
+    let facts = facts_of(alloc, instance)?;
+    let verdict = verdict(alloc, instance, words.steps)?;
+    let text = trial_report(alloc, &facts, verdict)?;
+    Ok(shown(text))
+}
+
 impl<'a> Command<'a> for Trial {
-    ghost course = { λ t. trial (record { seed = t.seed; count = t.count; steps = t.steps }) };
+    ghost course = { λ t. trial (trial_of t) };
 
     fn conclude<F: Files>(&self, alloc: Global, _files: &mut F) -> Result<Prepared<'a>, NoMemory> {
-        let table = match made_table(alloc, self.seed, self.count) {
-            Ok(table) => table,
-            Err(Fail::Fault(_)) => {
-                let count = self.count;
-                return silent(alloc, Status::TooMany { count });
-            }
-            Err(Fail::NoMemory) => return Err(NoMemory),
-        };
-        let instance = table.instance();
-        let facts = facts_of(alloc, instance)?;
-        let verdict = verdict(alloc, instance, self.steps)?;
-        let text = trial_report(alloc, &facts, verdict)?;
-        Ok(shown(text))
+        let count = self.count;
+        match made_table(alloc, self.seed, count) {
+            Ok(table) => tried(alloc, self, table.instance()),
+            Err(Fail::Fault(_)) => silent(alloc, Status::TooMany { count }),
+            Err(Fail::NoMemory) => Err(NoMemory),
+        }
     }
 }

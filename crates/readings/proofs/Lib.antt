@@ -1,4 +1,5 @@
 pub mod Opening
+pub mod AfterInput
 pub mod JudgedLayouts
 pub mod CheckedLogs
 mod Faulty

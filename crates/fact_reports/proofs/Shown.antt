@@ -1,0 +1,41 @@
+-- Reports that are shown, as what the courses come to.
+use Rattle.std.proofs.Common.{◌≡◌, ◌<◌, ◌≤◌, ◌++◌, ℕ, List, Ok, Err, Result, IfOk, Bool, true, false, nat_lt, refl, sym, subst, ap, ◌∙◌}
+use Rattle.std.proofs.lemmas.Bool.Decides.{nat_tests}
+use Rattle.dsa_terms.specs.Buffers.{Instance}
+use Rattle.dsa_model.specs.declared.fail.NoMemory.{NoMemory}
+use Rattle.csv_instance.specs.Parse.{buffer_limit}
+use Rattle.dsa_outside.specs.Seen.{FilesSeen}
+use Rattle.run_status.specs.Spoken.{IsSpoken}
+use Rattle.run_status.specs.declared.status.Status.TheVariants.{TooMany}
+use Rattle.run_course.specs.Course.{Comes, Concludes, Outcome, says}
+use Rattle.run_course.specs.Prepares.{outcome_of}
+use Rattle.run_course.specs.declared.prepared.Prepared.{Prepared}
+use Rattle.fact_reports.specs.Reporting.{ShowsFacts, ShowsTrial, Trial, trial, unless_many}
+
+pub facts_spoken : (I : Instance) (o : Outcome) → ShowsFacts I o → IsSpoken o.status
+facts_spoken I o h = subst (λ (o : Outcome). IsSpoken o.status) (sym h.shown) tt
+
+trial_spoken : (t : Trial) (o : Outcome) → ShowsTrial t o → IsSpoken o.status
+trial_spoken t o h = subst (λ (o : Outcome). IsSpoken o.status) (sym h.shown) tt
+
+some_many : (count : ℕ) → buffer_limit < count → nat_lt buffer_limit count ≡ true
+some_many count lt = grind (nat_tests, lt)
+
+not_many : (count : ℕ) → count ≤ buffer_limit → nat_lt buffer_limit count ≡ false
+not_many count le = grind (nat_tests, le)
+
+-- a trial of few buffers is shown
+pub tried : (old new : FilesSeen) (t : Trial) (r : Result Prepared NoMemory) → t.count ≤ buffer_limit →
+    IfOk r (λ p. ShowsTrial t (outcome_of p)) → IfOk r (λ p. Comes old new (trial t) (outcome_of p))
+tried old new t (Ok p) few shows =
+    subst (λ (many : Bool). Comes old new (unless_many many t.count (Concludes (ShowsTrial t))) (outcome_of p))
+    (sym (not_many t.count few)) (trial_spoken t (outcome_of p) shows, shows)
+tried old new t (Err e) few shows = tt
+
+-- a trial of too many is not
+pub too_many : (old new : FilesSeen) (t : Trial) (r : Result Prepared NoMemory) → buffer_limit < t.count →
+    IfOk r (λ p. outcome_of p ≡ says (TooMany t.count)) → IfOk r (λ p. Comes old new (trial t) (outcome_of p))
+too_many old new t (Ok p) many is =
+    subst (λ (b : Bool). Comes old new (unless_many b t.count (Concludes (ShowsTrial t))) (outcome_of p))
+    (sym (some_many t.count many)) (subst (λ (o : Outcome). IsSpoken o.status) (sym is) tt, is)
+too_many old new t (Err e) many is = tt

@@ -1,0 +1,37 @@
+-- What comes of a command that reads the input alone.
+use Rattle.std.proofs.Common.{◌≡◌, List, Result, Ok, Err, IfOk}
+use Rattle.dsa_terms.specs.Buffers.{Instance}
+use Rattle.dsa_model.specs.declared.fail.NoMemory.{NoMemory}
+use Rattle.csv_instance.specs.Records.{Record}
+use Rattle.csv_instance.specs.Parse.{parse}
+use Rattle.command_words.specs.Options.{Word}
+use Rattle.dsa_outside.specs.Faults.{NoneFell}
+use Rattle.dsa_outside.specs.Seen.{FilesSeen}
+use Rattle.run_status.specs.Spoken.{IsSpoken}
+use Rattle.run_status.specs.declared.status.Status.{Status}
+use Rattle.run_course.specs.Course.{Course, Concludes, Comes, Outcome, says}
+use Rattle.run_course.specs.Prepares.{outcome_of}
+use Rattle.run_course.specs.declared.prepared.Prepared.{Prepared}
+use Rattle.run_course.proofs.Silently.{silently}
+use Rattle.readings.specs.Input.{opened}
+use Rattle.readings.specs.Opens.{IsInput}
+use Rattle.readings.proofs.Opening.{IsMissing, no_input, with_input}
+
+-- the input gives no instance, and its status is all that is said
+pub missing : (old new : FilesSeen) (name : Word) (s : Status) (next : List Record → Instance → Course)
+    (r : Result Prepared NoMemory) → IsMissing old new name s → IfOk r (λ p. outcome_of p ≡ says s) →
+    IfOk r (λ p. Comes old new (opened name next) (outcome_of p))
+missing old new name s next r none said =
+    silently old new (opened name next) s r said (no_input old new name s next none)
+
+-- the input gives an instance, and this is concluded of it
+pub concluded : (old new : FilesSeen) (name : Word) (table : List Record) (J : Instance)
+    (allowed : List Record → Instance → Outcome → Type 0) → ((I : Instance) × IsInput old name table I) →
+    parse table ≡ Ok J → new.held ≡ old.held → NoneFell old.faults new.faults →
+    ((o : Outcome) → allowed table J o → IsSpoken o.status) →
+    (r : Result Prepared NoMemory) → IfOk r (λ p. allowed table J (outcome_of p)) →
+    IfOk r (λ p. Comes old new (opened name (λ t I. Concludes (allowed t I))) (outcome_of p))
+concluded old new name table J allowed given parsed same none spoken (Ok p) holds =
+    with_input old new new name table J (λ t I. Concludes (allowed t I)) given parsed same none (outcome_of p)
+    (spoken (outcome_of p) holds, holds)
+concluded old new name table J allowed given parsed same none spoken (Err e) holds = tt
