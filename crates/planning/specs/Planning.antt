@@ -1,5 +1,5 @@
 -- How the command goes that plans by size class.
-use Rattle.std.specs.Prelude.{◌≡◌, ◌≤◌, ℕ, List, [], ◌∷◌, Option, Some, None}
+use Rattle.std.specs.Prelude.{◌≡◌, ◌≤◌, ◌⊎◌, ℕ, List, [], ◌∷◌, Some}
 use Rattle.dsa_terms.specs.Buffers.{Instance}
 use Rattle.dsa_terms.specs.Layouts.{IsLayout, IsLeast}
 use Rattle.csv_instance.specs.Records.{Record}
@@ -7,7 +7,7 @@ use Rattle.size_classes.specs.Plain.{IsPlain, first_rough}
 use Rattle.size_classes.specs.Plans.{AllOf, IsPeakLoad, class_height, class_plan, power_height}
 use Rattle.command_words.specs.Options.{Word}
 use Rattle.run_status.specs.declared.status.Status.TheVariants.{Classed, NotPlain}
-use Rattle.run_course.specs.Course.{Course, Outcome, Concludes, Ends, says, writes}
+use Rattle.run_course.specs.Course.{Course, Outcome, Concludes, says, writes}
 use Rattle.readings.specs.Input.{opened}
 use Rattle.writings.specs.Writings.{layout_file}
 
@@ -27,11 +27,16 @@ pub record PlansByClass (c : Classes) (table : List Record) (I : Instance) (o : 
   pub least : (size : ℕ) → AllOf I size → IsLeast I (class_height I) × (class_height I ≡ load)
   pub written : o ≡ writes (layout_file c.output table (class_plan I) ∷ []) (Classed (class_height I) load)
 
--- what is concluded of an instance whose first buffer that is not plain is this, if there is one
-abbrev pub Plans : Option ℕ → Classes → List Record → Instance → Outcome → Type 0
-Plans (Some b) c table I o = o ≡ says (NotPlain b)
-Plans None c table I o = PlansByClass c table I o
+-- the instance is not plain, for this buffer first
+pub record RefusesRough (I : Instance) (o : Outcome) : Type 0 where
+  pub buffer : ℕ
+  pub rough : first_rough I ≡ Some buffer
+  pub told : o ≡ says (NotPlain buffer)
+
+-- what `classes` concludes of the instance of a table
+abbrev pub Plans : Classes → List Record → Instance → Outcome → Type 0
+Plans c table I o = PlansByClass c table I o ⊎ RefusesRough I o
 
 -- how `classes` goes
 abbrev pub classes : Classes → Course
-classes c = opened c.input (λ table I. Concludes (Plans (first_rough I) c table I))
+classes c = opened c.input (λ table I. Concludes (Plans c table I))

@@ -2,7 +2,6 @@
 
 ghost use Rattle.std.specs.Prelude.{◌≡◌, ◌+◌, IfOk, length};
 ghost use Rattle.run_course.specs.Prepares.{outcome_of};
-ghost use Rattle.size_classes.specs.Plain.{first_rough};
 ghost use Rattle.planning.specs.Planning.{Plans, classes};
 ghost use Rattle.planning.specs.Words.{classes_of};
 
@@ -30,8 +29,8 @@ fn planned<'a>(
     instance: &Instance,
 ) -> Result<Prepared<'a>, NoMemory>
     requires count { length table.now ≡ length instance.now + 1 }
-    ensures { IfOk result (λ p. Plans (first_rough instance.now) (classes_of words.now)
-        table.now instance.now (outcome_of p)) }
+    ensures { IfOk result (λ p.
+        Plans (classes_of words.now) table.now instance.now (outcome_of p)) }
 {
     let plan = match size_classes::classes(alloc, instance) {
         Ok(plan) => plan,
