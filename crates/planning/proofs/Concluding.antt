@@ -1,14 +1,17 @@
 -- From what is prepared to what is concluded.
-use Rattle.std.proofs.Common.{◌≡◌, ◌⊎◌, inl, inr, ℕ, List, [], ◌∷◌, Result, Ok, Err, IfOk, Some, sym, subst, ap, ◌∙◌}
+use Rattle.std.proofs.Common.{◌≡◌, ◌≤◌, ◌⊎◌, inl, inr, ℕ, List, [], ◌∷◌, Result, Ok, Err, IfOk, Some, sym, subst, ap, ◌∙◌}
 use Rattle.dsa_terms.specs.Buffers.{Instance}
 use Rattle.dsa_model.specs.declared.fail.NoMemory.{NoMemory}
 use Rattle.csv_instance.specs.Records.{Record}
-use Rattle.size_classes.specs.Plain.{first_rough}
+use Rattle.dsa_terms.specs.Layouts.{IsLayout, IsLeast}
+use Rattle.size_classes.specs.Plain.{IsPlain, first_rough}
+use Rattle.size_classes.specs.Plans.{AllOf, IsPeakLoad, class_height, class_plan, power_height}
 use Rattle.run_status.specs.Spoken.{IsSpoken}
 use Rattle.run_status.specs.declared.status.Status.TheVariants.{Classed, NotPlain}
-use Rattle.run_course.specs.Course.{Outcome, says, writes}
+use Rattle.run_course.specs.Course.{Outcome, Write, says, writes}
 use Rattle.run_course.specs.Prepares.{outcome_of}
 use Rattle.run_course.specs.declared.prepared.Prepared.{Prepared}
+use Rattle.writings.specs.Writings.{layout_file}
 use Rattle.planning.specs.Planning.{Classes, Plans, PlansByClass}
 
 pub plans_spoken : (c : Classes) (table : List Record) (I : Instance) (o : Outcome) → Plans c table I o →
@@ -23,8 +26,31 @@ pub refused : (c : Classes) (table : List Record) (I : Instance) (b : ℕ) (r : 
 refused c table I b (Ok p) rough told = inr (record { buffer = b; rough = rough; told = told })
 refused c table I b (Err e) rough told = tt
 
--- this is written, and so the plan is
-pub told : (P : Outcome → Type 0) (o : Outcome) (r : Result Prepared NoMemory) → IfOk r (λ p. outcome_of p ≡ o) →
-    P o → IfOk r (λ p. P (outcome_of p))
-told P o (Ok p) is holds = subst P (sym is) holds
-told P o (Err e) is holds = tt
+-- the plan is written
+module _ (c : Classes) (table : List Record) (I : Instance) (f : Write) (offsets : List ℕ) (height load : ℕ)
+    (its_file : f ≡ layout_file c.output table offsets) (its_plan : offsets ≡ class_plan I)
+    (its_height : height ≡ class_height I) (peak : IsPeakLoad I load) (plain : IsPlain I)
+    (layout : IsLayout I height offsets) (powers : height ≤ power_height I)
+    (least : (size : ℕ) → AllOf I size → IsLeast I height × (height ≡ load)) where
+  plan_is : writes (f ∷ []) (Classed height load)
+      ≡ writes (layout_file c.output table (class_plan I) ∷ []) (Classed (class_height I) load)
+  plan_is =
+      ap (λ (f : Write). writes (f ∷ []) (Classed height load)) its_file
+      ∙ ap (λ (xs : List ℕ). writes (layout_file c.output table xs ∷ []) (Classed height load)) its_plan
+      ∙ ap (λ h. writes (layout_file c.output table (class_plan I) ∷ []) (Classed h load)) its_height
+
+  pub planned : (r : Result Prepared NoMemory) →
+      IfOk r (λ p. outcome_of p ≡ writes (f ∷ []) (Classed height load)) →
+      IfOk r (λ p. Plans c table I (outcome_of p))
+  planned (Ok p) is = inl (record {
+    load = load;
+    plain = plain;
+    peak = peak;
+    layout = subst (λ h. IsLayout I h (class_plan I)) its_height
+        (subst (λ (xs : List ℕ). IsLayout I height xs) its_plan layout);
+    powers = subst (λ h. h ≤ power_height I) its_height powers;
+    least = λ size all.
+        let l = least size all in (subst (λ h. IsLeast I h) its_height l.0, sym its_height ∙ l.1);
+    written = is ∙ plan_is;
+  })
+  planned (Err e) is = tt

@@ -19,7 +19,7 @@ returns-clause-comes g c =
     concluded (g.F.Files.seen c.args.files.now) (g.F.Files.seen c.open_input.new.files) c.args.self.now.input.now
     c.in-Table.table c.instance.result.now
     (λ (t : List Record) (I : Instance).
-      Plans (record { input = c.args.self.now.input.now; output = c.args.self.now.output.now }) t I)
+    Plans (record { input = c.args.self.now.input.now; output = c.args.self.now.output.now }) t I)
     (rw c.in-Table.is at c.in_ok-table.ensures.input) c.instance.ensures.parsed c.in_ok-table.ensures.files
     c.in_ok-table.ensures.counts
     (plans_spoken (record { input = c.args.self.now.input.now; output = c.args.self.now.output.now }) c.in-Table.table
