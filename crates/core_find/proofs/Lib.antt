@@ -1,0 +1,9 @@
+pub mod Some
+pub mod Left
+pub mod Removed
+pub mod Looked
+pub mod LeftOut
+pub mod Steps
+pub mod Named
+mod ExampleFacts
+mod FoundFacts

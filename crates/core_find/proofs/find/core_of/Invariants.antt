@@ -1,0 +1,8 @@
+use Rattle.core_find.specs.Looking.{IsLooking, ahead}
+use Rattle.core_find.proofs.find.core_of.Given as goal
+
+abbrev pub invariant-loop-asker : goal.invariant-loop-asker
+invariant-loop-asker g l = IsLooking l.instance l.capacity l.looking
+
+abbrev pub decreases-loop-asker : goal.decreases-loop-asker
+decreases-loop-asker g l = ahead l.looking

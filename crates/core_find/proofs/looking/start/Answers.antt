@@ -1,0 +1,29 @@
+use Rattle.std.proofs.Common.{◌∙◌, ap, refl, sym}
+use Rattle.dsa_terms.specs.Claims.{Rises}
+use Rattle.dsa_terms.proofs.Ranges.{rises-range}
+use Rattle.dsa_model.specs.Chosen.{some_of}
+use Rattle.core_find.proofs.Named.{ends_in_range, found_names}
+use Rattle.core_find.proofs.Some.{some_of_all}
+use Rattle.core_find.proofs.Steps.{at_first}
+use Rattle.core_find.proofs.looking.start.Goals as goal
+
+pub named_by-requires : goal.named_by-requires
+named_by-requires c =
+    let I = c.args.instance.now in
+    let members = c.in_ok-members.members.items in
+    ends_in_range I I members _ c.args.log (sym (ap (some_of I) c.in_ok-members.ensures ∙ some_of_all I))
+    c.deref.ensures.value c.requires
+
+pub returns : goal.returns
+returns c =
+    let I = c.args.instance.now in
+    let members = c.in_ok-members.members.items in
+    let rises : Rises members = rw c.in_ok-members.ensures (rises-range _ 0) in
+    let found = found_names I I c.args.log.capacity members _ c.in_ok-named.named.items c.args.log
+    (sym (ap (some_of I) c.in_ok-members.ensures ∙ some_of_all I)) c.deref.ensures.value rises
+    c.len-count.ensures.buffers c.requires refl c.in_ok-named.ensures in
+    record {
+      looked = at_first I c.args.log.capacity members c.new.result.items c.in_ok-members.ensures c.new.ensures.items;
+      names = found.0;
+      log_of = found.1;
+    }

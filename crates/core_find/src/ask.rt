@@ -1,0 +1,26 @@
+//! What is asked of an instance at a capacity.
+
+ghost use Rattle.std.specs.Prelude.{◌^◌, ◌≤◌, IfOk};
+ghost use Rattle.core_find.specs.Found.{IsAnswer};
+
+use dsa_model::{Instance, NoMemory};
+use refute_log::ClosedLog;
+use std::alloc::Global;
+
+/// An answer.
+#[derive(Drop)]
+pub enum Asked {
+    /// Offsets in bytes, one for each buffer in order: a layout at the capacity.
+    Layout(Vec<u64>),
+    /// A log that is accepted at the capacity, so no layout fits.
+    Refuted(ClosedLog),
+}
+
+/// What decides capacities of any instance, each to its end. Nothing is said of it after a call.
+pub trait Ask {
+    /// A layout of the instance at the capacity in bytes, which is at most 2^60, or an accepted log
+    /// at it.
+    fn ask(&mut self, alloc: Global, instance: &Instance, capacity: u64) -> Result<Asked, NoMemory>
+        requires { capacity ≤ 2 ^ 60 }
+        ensures right { IfOk result (IsAnswer instance.now capacity) };
+}

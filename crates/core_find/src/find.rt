@@ -1,0 +1,69 @@
+//! The search for a core.
+
+ghost use Rattle.std.specs.Prelude.{◌≡◌, ◌^◌, ◌≤◌, IfOk};
+ghost use Rattle.dsa_terms.specs.Logs.{IsAccepted};
+ghost use Rattle.core_find.specs.Found.{IsExplained, IsFound};
+
+use crate::looking::{Looking, log_of, look_on, refutes, start};
+use crate::{Ask, Asked, Core, Found};
+use dsa_model::{Instance, NoMemory};
+use refute_log::ClosedLog;
+use std::alloc::Global;
+
+/// The core of an instance that does not fit at the capacity, by this log. Each buffer in order of
+/// number is dropped where the others that remain do not fit, and kept where they do.
+fn core_of<A: Ask>(
+    alloc: Global,
+    instance: &Instance,
+    capacity: u64,
+    asker: &mut A,
+    log: ClosedLog,
+) -> Result<Core, NoMemory>
+    requires limit { capacity ≤ 2 ^ 60 }
+    requires accepted { IsAccepted instance.now log }
+    requires at { log.capacity ≡ capacity }
+    ensures { IfOk result (IsExplained instance.now capacity) }
+{
+    refutes(instance);
+    let mut looking = start(alloc, instance, log)?;
+    while looking.rests.len() < looking.members.len() {
+        looking = look_on(alloc, instance, capacity, asker, looking)?;
+    }
+    let Looking {
+        members,
+        rests,
+        log,
+        ..
+    } = looking;
+    let log = log_of(alloc, instance, capacity, asker, &members, log)?;
+    Ok(Core {
+        members,
+        log,
+        rests,
+    })
+}
+
+/// Whether the buffers fit at the capacity in bytes, which is at most 2^60: a layout, or the core
+/// of those that do not fit. The core is what is left where each buffer in order of number is
+/// dropped if the others that remain do not fit.
+///
+/// The asker is asked of the instance, and then of each buffer that the end of the last log names
+/// whether the others fit; and once more of the core, where a buffer was dropped without asking
+/// since the last log. So it is asked at most once more than there are buffers.
+pub fn find_core<A: Ask>(
+    alloc: Global,
+    instance: &Instance,
+    capacity: u64,
+    asker: &mut A,
+) -> Result<Found, NoMemory>
+    requires { capacity ≤ 2 ^ 60 }
+    ensures found { IfOk result (IsFound instance.now capacity) }
+{
+    match asker.ask(alloc, instance, capacity)? {
+        Asked::Layout(offsets) => Ok(Found::Fits(offsets)),
+        Asked::Refuted(log) => {
+            let core = core_of(alloc, instance, capacity, asker, log)?;
+            Ok(Found::Core(core))
+        }
+    }
+}

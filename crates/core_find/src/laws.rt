@@ -1,0 +1,39 @@
+//! Laws of irreducible sets that do not fit.
+
+ghost use Rattle.std.specs.Prelude.{◌≡◌, ◌<◌, ℕ, List, length};
+ghost use Rattle.dsa_terms.specs.Buffers.{Instance, IsInstance};
+ghost use Rattle.dsa_terms.specs.Claims.{IsIn, Rises};
+ghost use Rattle.dsa_terms.specs.Layouts.{IsFeasible, IsInfeasible};
+ghost use Rattle.dsa_model.specs.Chosen.{some_of};
+ghost use Rattle.core_find.specs.Cores.{AreAmong, IsCore, without};
+
+/// Where some buffers do not fit, no more of them do.
+pub fn more_fit_no_better()
+    ensures some { (I : Instance) (C : ℕ) (ks ms : List ℕ) → Rises ks → AreAmong ks ms →
+        IsInfeasible (some_of I ks) C → IsInfeasible (some_of I ms) C }
+    ensures all { (I : Instance) (C : ℕ) (ks : List ℕ) → Rises ks →
+        ((b : ℕ) → IsIn b ks → b < length I) →
+        IsInfeasible (some_of I ks) C → IsInfeasible I C }
+{}
+
+/// The members of a core do not fit, and without any one of them the others do, and so does each
+/// set of them that lacks one.
+pub fn core_is_irreducible()
+    ensures members { (I : Instance) (C : ℕ) (members : List ℕ) → IsCore I C members →
+        Rises members × ((b : ℕ) → IsIn b members → b < length I) }
+    ensures infeasible { (I : Instance) (C : ℕ) (members : List ℕ) → IsCore I C members →
+        IsInfeasible (some_of I members) C }
+    ensures rest { (I : Instance) (C b : ℕ) (members : List ℕ) → IsCore I C members →
+        IsIn b members → IsFeasible (some_of I (without b members)) C }
+    ensures irreducible { (I : Instance) (C b : ℕ) (members ks : List ℕ) → IsCore I C members →
+        Rises ks → AreAmong ks members → IsIn b members → (IsIn b ks → ⊥) →
+        IsFeasible (some_of I ks) C }
+{}
+
+/// Buffers that do not fit have one core, and there is no second.
+pub fn core_is_one()
+    ensures some { (I : Instance) (C : ℕ) → IsInstance I → IsInfeasible I C →
+        (members : List ℕ) × IsCore I C members }
+    ensures one { (I : Instance) (C : ℕ) (members others : List ℕ) → IsCore I C members →
+        IsCore I C others → members ≡ others }
+{}

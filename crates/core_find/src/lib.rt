@@ -1,0 +1,19 @@
+//! Why buffers do not fit: an irreducible set of them, with a layout for the others of each of its
+//! members.
+#![tactic(auto)]
+
+mod ask;
+mod find;
+mod found;
+mod laws;
+mod looking;
+mod members;
+mod rests;
+#[cfg(test)]
+mod tests;
+
+pub use ask::{Ask, Asked};
+pub use find::find_core;
+pub use found::{Core, Found};
+pub use laws::{core_is_irreducible, core_is_one, more_fit_no_better};
+pub use members::sub_instance;
