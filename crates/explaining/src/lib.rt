@@ -1,0 +1,7 @@
+//! The command that says why buffers do not fit: `core`.
+#![tactic(auto)]
+
+mod asking;
+mod core;
+
+pub use core::Core;
