@@ -52,7 +52,7 @@ fn explained<'a>(
         bytes: write_rows(alloc, table, core.members.as_slice())?,
     };
     let log = log_file(alloc, &core.log, words.log)?;
-    let members = core.members.len() as u64;
+    let members = core.members.len() as u32;
     two_writes(alloc, rows, log, Status::Core { members })
 }
 
