@@ -12,6 +12,7 @@ pub mod Stepping
 pub mod ExampleFacts
 pub mod ExampleLeastFacts
 pub mod StepFacts
+pub mod ShortageFacts
 mod AnswerFacts
 mod BracketFacts
 mod StartFacts

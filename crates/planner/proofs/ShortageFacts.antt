@@ -1,5 +1,5 @@
 -- Steps that are too few, and steps that are enough, for two buffers of which the starts come to 5 and the bound to 4.
-use Rattle.std.proofs.Common.{◌≡◌, ◌+◌, ◌/◌, ℕ, [], ◌∷◌, refl, sym, lit<, lit≤, arith}
+use Rattle.std.proofs.Common.{◌≡◌, ◌+◌, ◌/◌, ◌≤◌, ℕ, refl, sym, lit<, lit≤, arith}
 use Rattle.dsa_terms.specs.Bounds.{lower_bound}
 use Rattle.dsa_terms.specs.Buffers.{buffer, do_share, have_same_moments, is_live, some_before}
 use Rattle.dsa_terms.specs.Claims.{child, step, up}
