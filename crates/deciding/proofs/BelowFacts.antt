@@ -1,6 +1,6 @@
 -- Two buffers whose best start ends at 5, and whose lower bound and least capacity are 4: the table, and the files that
 -- are written of them.
-use Rattle.std.proofs.Common.{◌≡◌, ◌<◌, ℕ, inl, inr, List, [], ◌∷◌, Ok, codes, refl, sym, subst, lit<, lit≤, arith}
+use Rattle.std.proofs.Common.{◌≡◌, ◌<◌, ℕ, inl, inr, List, [], ◌∷◌, Ok, codes, refl, subst, lit<, lit≤, arith}
 use Rattle.std.proofs.lemmas.List.Elements.{All-cons, All-nil}
 use Rattle.std.specs.Fmt.{digits}
 use Rattle.csv.specs.Writing.{escaped, fields_text, is_blank}

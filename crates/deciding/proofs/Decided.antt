@@ -1,5 +1,5 @@
 -- What is decided of a capacity, and of the least one, as it is written.
-use Rattle.std.proofs.Common.{◌≡◌, ℕ, List, [], ◌∷◌, Option, Some, None, refl, ap, ◌∙◌, subst, inl, inr, sym}
+use Rattle.std.proofs.Common.{ℕ, List, ◌∷◌, Option, refl, ap, ◌∙◌, subst, inl, inr, sym}
 use Rattle.dsa_terms.specs.Buffers.{Instance}
 use Rattle.dsa_terms.specs.Logs.{Log}
 use Rattle.dsa_terms.specs.Starts.{best_start}
@@ -11,7 +11,7 @@ use Rattle.planner.specs.Openings.{StaysOpen, IsSpentAt}
 use Rattle.run_status.specs.Spoken.{IsSpoken}
 use Rattle.run_status.specs.declared.status.Status.TheVariants.{Least, Open}
 use Rattle.run_course.specs.Course.{Outcome, writes}
-use Rattle.deciding.specs.Deciding.{AllReadBack, Finds, FindsLeast, LeavesLeastOpen, LeavesOpen, LeastOf, Solve, Solves, layout_file, log_file, log_files}
+use Rattle.deciding.specs.Deciding.{AllReadBack, Finds, FindsLeast, LeavesLeastOpen, LeavesOpen, LeastOf, Solve, Solves, layout_file, log_files}
 
 -- a capacity is left open
 pub leaves_open : (s : Solve) (table : List Record) (I : Instance) (b : Bracket) → IsSpentAt I s.capacity s.steps b →

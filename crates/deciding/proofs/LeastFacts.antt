@@ -1,10 +1,8 @@
 -- What `least` concludes of two buffers whose best start ends at 5, and whose lower bound and least capacity are 4, and
 -- of no buffers.
-use Rattle.std.proofs.Common.{◌≡◌, ◌+◌, ◌≤◌, ℕ, List, inl, inr, [], ◌∷◌, Option, Some, None, refl, sym, ap, ap₂, ◌∙◌, subst, codes, lit<, lit≤, arith}
-use Rattle.dsa_terms.specs.Buffers.{is_live}
+use Rattle.std.proofs.Common.{◌≡◌, ℕ, List, inl, inr, [], ◌∷◌, Option, Some, None, refl, sym, ap, ap₂, subst, codes, lit≤, arith}
 use Rattle.dsa_terms.specs.Fits.{best_fit, first_fit}
 use Rattle.dsa_terms.specs.Layouts.{IsLayout}
-use Rattle.dsa_terms.specs.Logs.{Log}
 use Rattle.dsa_terms.specs.Orders.{orders}
 use Rattle.dsa_terms.specs.Parts.{is_cut, last_cut, part_of, parts, searched}
 use Rattle.dsa_terms.specs.Plans.{layout_height, plan}
@@ -21,7 +19,7 @@ use Rattle.planner.proofs.StepFacts.{four_is_least, laid_at_4}
 use Rattle.run_status.specs.declared.status.Role.TheVariants as role
 use Rattle.run_status.specs.declared.status.Status.TheVariants.{Least, Open}
 use Rattle.run_course.specs.Course.{Outcome, Write, writes}
-use Rattle.deciding.specs.Deciding.{AllReadBack, Finds, FindsLeast, LeastOf, LeavesLeastOpen, layout_file, log_file, log_files}
+use Rattle.deciding.specs.Deciding.{AllReadBack, Finds, FindsLeast, LeastOf, LeavesLeastOpen, log_files}
 use Rattle.deciding.proofs.BelowFacts.{below_rows, four_to_five, low_file, low_text, start_file, start_text, three_by_bound, three_file, three_log, three_reads, three_refutes, three_text}
 
 abbrev words : Option ℕ → LeastOf

@@ -1,5 +1,5 @@
 -- What `solve` concludes of two buffers whose best start ends at 5, and whose lower bound and least capacity are 4.
-use Rattle.std.proofs.Common.{◌≡◌, ◌≤◌, ℕ, List, length, inl, inr, [], ◌∷◌, Option, Some, None, refl, sym, ap, ap₂, ◌∙◌, subst, codes, lit<, lit≤, arith}
+use Rattle.std.proofs.Common.{◌≡◌, ℕ, List, length, map, inl, inr, [], ◌∷◌, Option, Some, None, refl, sym, ap, ap₂, ◌∙◌, subst, codes, lit≤, arith}
 use Rattle.dsa_terms.specs.Bounds.{counted, highest_stack, lower_bound, moduli, moments, rounded_size, stack}
 use Rattle.dsa_terms.specs.Buffers.{buffer, is_live}
 use Rattle.dsa_terms.specs.Logs.{Log}
@@ -11,7 +11,7 @@ use Rattle.planner.proofs.ShortageFacts.{four_of_four, short_of_four_steps}
 use Rattle.planner.proofs.StepFacts.{laid_at_4, none_within_4}
 use Rattle.run_status.specs.declared.status.Role.TheVariants as role
 use Rattle.run_status.specs.declared.status.Status.TheVariants.{Feasible, Infeasible, Open}
-use Rattle.run_course.specs.Course.{Outcome, Write, says, writes}
+use Rattle.run_course.specs.Course.{Outcome, Write, writes}
 use Rattle.deciding.specs.Deciding.{LaysOut, LeavesOpen, Refutes, Solve, Solves, layout_file, log_file}
 use Rattle.deciding.proofs.BelowFacts.{below_rows, four_to_five, low_file, low_text, start_file, start_text, three_by_bound, three_file, three_log, three_reads, three_refutes, three_text}
 
@@ -65,10 +65,14 @@ not_refuted_at_2 o h is =
     let e = h.refuted.its_capacity in
     omega (arith, c, e)
 
+roles_differ : role.Output ∷ [] ≡ role.Log ∷ [] → ⊥
+roles_differ e = absurd cc
+
 -- the log goes to its own file
 not_to_the_output : (o : Outcome) → Refutes (words 3 None) small_below o →
     o ≡ writes (to_output three_file ∷ []) (Infeasible 3) → ⊥
-not_to_the_output o h is = let e = ap (λ (o : Outcome). o.writes) (sym is ∙ h.written) in absurd cc
+not_to_the_output o h is =
+    roles_differ (ap (λ (o : Outcome). map (λ (w : Write). w.role) o.writes) (sym is ∙ h.written))
 
 -- four steps are too few for a log of five lines
 evens_bound : lower_bound evens ≡ 4

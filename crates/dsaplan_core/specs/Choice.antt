@@ -2,18 +2,16 @@
 -- plan; a log is without waste; where a number of steps is given, a layout that no start gives comes only where it is
 -- 1 or more, and a log at a capacity that the lower bound leaves open has no more lines; 'open' comes only where the
 -- steps may be too few.
-use Rattle.std.specs.Prelude.{◌≡◌, ◌-◌, ◌≤◌, ◌<◌, ◌↔◌, ℕ, List, [], length, IsSome, Option, Some, None}
+use Rattle.std.specs.Prelude.{◌≡◌, ◌-◌, ◌≤◌, ◌↔◌, ℕ, List, [], length, IsSome, Option, Some, None}
 use Rattle.dsa_terms.specs.Bounds.{lower_bound}
 use Rattle.dsa_terms.specs.Buffers.{Instance}
 use Rattle.dsa_terms.specs.Lean.{IsLean}
 use Rattle.dsa_terms.specs.Logs.{Log}
-use Rattle.dsa_terms.specs.Plans.{layout_height}
 use Rattle.dsa_terms.specs.Starts.{planned}
 use Rattle.dsa_outside.specs.Held.{file_at}
 use Rattle.dsa_outside.specs.Seen.{FilesSeen}
 use Rattle.csv_instance.specs.Layout.{layout_text}
 use Rattle.log_text.specs.Text.{log_text}
-use Rattle.planner.specs.Decides.{IsBoundLog}
 use Rattle.planner.specs.FirstStart.{start_within}
 use Rattle.planner.specs.Openings.{AreGiven}
 use Rattle.planner.specs.Shortage.{IsShortOfHunt, IsShortOfWork}

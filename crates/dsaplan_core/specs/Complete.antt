@@ -1,16 +1,20 @@
 -- Which answers a run may give where nothing outside it goes wrong.
-use Rattle.std.specs.Prelude.{◌≡◌, ℕ, ◌≤◌, ◌<◌, List, Ok}
+use Rattle.std.specs.Prelude.{◌≡◌, ℕ, ◌≤◌, ◌<◌, List, Some, Ok}
 use Rattle.dsa_terms.specs.Buffers.{Instance}
 use Rattle.dsa_terms.specs.Claims.{IsIn}
 use Rattle.dsa_terms.specs.Layouts.{IsFeasible, IsInfeasible, IsLeast}
+use Rattle.dsa_terms.specs.Logs.{Log, IsAccepted}
+use Rattle.dsa_outside.specs.Held.{file_at}
 use Rattle.dsa_outside.specs.Seen.{FilesSeen, SinkSeen}
 use Rattle.dsa_model.specs.Counts.{Rose}
 use Rattle.csv_instance.specs.Records.{file_limit, table_of}
 use Rattle.csv_instance.specs.Parse.{parse, buffer_limit}
+use Rattle.log_text.specs.Faults.{IsTextOf}
+use Rattle.log_text.specs.Text.{log_text, raw_log_of}
 use Rattle.command_words.specs.Options.{Word}
 use Rattle.command_words.specs.Forms.{form_of}
 use Rattle.command_words.specs.Pairs.{Pair, number_at, word_at}
-use Rattle.command_words.specs.Requests.{Request, names_of, request_of}
+use Rattle.command_words.specs.Requests.{Request, names_of}
 use Rattle.command_words.specs.declared.option.OptionName.{OptionName}
 use Rattle.command_words.specs.declared.option.OptionName.TheVariants as option
 use Rattle.command_words.specs.declared.verb.Verb.{Verb}
@@ -32,9 +36,21 @@ pub record HoldsInstance (I : Instance) (files : FilesSeen) (name : Word) : Type
   pub parsed : parse (table_of file.bytes) ≡ Ok I
 
 -- each file that the command reads is readable, and its input, if it has one, is this instance
-pub record IsReady (files : FilesSeen) (r : Request) (I : Instance) : Type 0 where
-  pub files : (o : OptionName) → IsIn o (form_of r.verb).reads → IsReadable files (word_at r.pairs o) (limit_of o)
-  pub input : IsIn option.Input (form_of r.verb).reads → HoldsInstance I files (word_at r.pairs option.Input)
+pub record IsReady (seen : FilesSeen) (r : Request) (I : Instance) : Type 0 where
+  pub files : (o : OptionName) → IsIn o (form_of r.verb).reads → IsReadable seen (word_at r.pairs o) (limit_of o)
+  pub input : IsIn option.Input (form_of r.verb).reads → HoldsInstance I seen (word_at r.pairs option.Input)
+
+-- the name holds the text of this log, which is accepted for the instance
+pub record HoldsLog (I : Instance) (log : Log) (files : FilesSeen) (name : Word) : Type 0 where
+  pub held : file_at files.held name ≡ Some (log_text log)
+  pub text : IsTextOf (log_text log) (raw_log_of log)
+  pub accepted : IsAccepted I log
+
+-- the status says that a log is accepted at the capacity, or that memory ran out
+abbrev pub IsAcceptedAt : ℕ → Status → Type 0
+IsAcceptedAt C (status.Accepted D) = D ≡ C
+IsAcceptedAt C status.NoMemory = Unit {0}
+IsAcceptedAt C s = ⊥
 
 -- no call on a name of the command has failed, and the sink has not
 pub record IsUndisturbed (r : Request) (old new : FilesSeen) (before after : SinkSeen) : Type 0 where

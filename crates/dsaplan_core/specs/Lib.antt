@@ -2,3 +2,6 @@ pub mod Courses
 pub mod Theorem
 pub mod Choice
 pub mod Complete
+pub mod Lost
+pub mod Refused
+pub mod Shown

@@ -2,8 +2,10 @@
 #![tactic(auto)]
 
 mod entry;
+mod laws;
 mod misuse;
 
 pub use command_words::{OptionName, UsageFault};
 pub use entry::run;
+pub use laws::{checks, lost, print_fault, refused, shown};
 pub use run_status::{LogCause, Role, Status, WrongCause};

@@ -1,6 +1,6 @@
 -- The words of a command that the program holds.
 use Rattle.explaining.specs.Explaining as words
-use Rattle.explaining.specs.declared.core.Core.{Core}
+use Rattle.explaining.specs.declared.explain.Core.{Core}
 
 -- the words of `core`
 abbrev pub core_of : Core → words.Core

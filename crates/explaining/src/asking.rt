@@ -9,6 +9,7 @@ use planner::{Decision, plan};
 use std::alloc::Global;
 
 /// The planner without a number of steps.
+#[derive(Drop)]
 pub(crate) struct Planner;
 
 impl Ask for Planner {

@@ -2,6 +2,6 @@
 #![tactic(auto)]
 
 mod asking;
-mod core;
+mod explain;
 
-pub use core::Core;
+pub use explain::Core;

@@ -1,13 +1,11 @@
 -- A class has as many slots as it has members that are live at one moment, at most.
-use Rattle.std.proofs.Common.{◌≡◌, ◌≢◌, ℕ, ◌+◌, ◌<◌, ◌≤◌, inl, inr, Bool, true, false, ◌==◌, List, [], ◌∷◌, length, map, refl, sym, subst, ◌∙◌, arith}
-use Rattle.std.proofs.lemmas.Bool.Decides.{nat_tests}
+use Rattle.std.proofs.Common.{◌≡◌, ◌≢◌, ℕ, ◌+◌, ◌<◌, ◌≤◌, inl, inr, true, false, ◌==◌, List, [], ◌∷◌, length, map, refl, arith}
 use Rattle.std.specs.List.{AllByRecursion, IsDistinct, list_any}
 use Rattle.std.proofs.lemmas.List.{length-map}
 use Rattle.std.proofs.lemmas.Map.Steps.{length-le_from_distinct_below}
 use Rattle.dsa_terms.specs.Buffers.{Instance, buffer, is_live, IsInstance}
 use Rattle.dsa_terms.specs.Bounds.{moments}
 use Rattle.dsa_terms.specs.Claims.{IsIn, Rises}
-use Rattle.dsa_terms.specs.Logs.{greatest}
 use Rattle.dsa_terms.proofs.Lists.{any_gives, from_filter, from_map, greatest_under, into_map}
 use Rattle.dsa_terms.proofs.NumberTests.{apart, equal}
 use Rattle.dsa_terms.proofs.Ranges.{rises-filter_numbers}
@@ -24,7 +22,8 @@ distinct-map f (x ∷ xs) r h = (
   distinct-map f xs r.1 (λ b c i j. h b c (inr i) (inr j)),
 )
   where
-    others : (ys : List ℕ) → ((y : ℕ) → IsIn y ys → f x ≢ f y) → AllByRecursion (λ (y : ℕ). (f x == y) ≡ false) (map f ys)
+    others : (ys : List ℕ) → ((y : ℕ) → IsIn y ys → f x ≢ f y) →
+        AllByRecursion (λ (y : ℕ). (f x == y) ≡ false) (map f ys)
     others [] g = tt
     others (y ∷ ys) g = (apart (f x) (f y) (g y (inl refl)), others ys (λ z i. g z (inr i)))
 

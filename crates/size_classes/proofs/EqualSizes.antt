@@ -1,5 +1,5 @@
 -- Where all sizes are equal, the plan by size class is at the greatest load.
-use Rattle.std.proofs.Common.{◌≡◌, ◌≢◌, ℕ, zero, suc, ◌-◌, ◌*◌, ◌%◌, ◌<◌, ◌≤◌, ◌⊎◌, inl, inr, Bool, true, false, cond, ◌==◌, ◌&&◌, List, [], ◌∷◌, filter, length, map, sum_by, refl, sym, ap, ◌∙◌, arith, mul-le-mul_left, mul-suc}
+use Rattle.std.proofs.Common.{◌≡◌, ◌≢◌, ℕ, zero, suc, ◌-◌, ◌*◌, ◌%◌, ◌≤◌, ◌⊎◌, inl, inr, Bool, true, false, cond, ◌==◌, ◌&&◌, List, [], ◌∷◌, filter, length, map, sum_by, refl, sym, ap, ◌∙◌, arith, mul-le-mul_left, mul-suc}
 use Rattle.std.proofs.Math.Nat.{mul-le-mul_right, mul-zero, zero-mul}
 use Rattle.std.proofs.lemmas.List.Sums.{sum_by-cons}
 use Rattle.dsa_terms.specs.Buffers.{Instance, buffer, is_live, IsInstance}
@@ -121,7 +121,8 @@ one_is_load I size h = go (greatest_is (map (λ t. length (live_among I (in_clas
         IsReachedByLoad I (of_class I (class_of size))
     go (inl z) = inl (rw (z, mul-zero (width I (class_of size))) (omega arith))
     go (inr i) =
-        let r = from_map (λ t. length (live_among I (in_class I (class_of size)) t)) (moments I) (count I (class_of size)) i in
+        let r = from_map (λ t. length (live_among I (in_class I (class_of size)) t)) (moments I)
+        (count I (class_of size)) i in
         let e = r.2 in
         let few = live_are_counted I (class_of size) r.0 in
         let m : width I (class_of size) * count I (class_of size) ≤ width I (class_of size) * length (counted I r.0 1) =

@@ -1,5 +1,5 @@
 -- An instance of which no buffer is rough is plain.
-use Rattle.std.proofs.Common.{◌≡◌, ◌≤◌, ◌<◌, ◌∙◌, ℕ, ◌+◌, inl, inr, Bool, true, false, not, ◌||◌, cond, List, [], ◌∷◌, length, nat_lt, position, Option, Some, None, refl, sym, ap, arith}
+use Rattle.std.proofs.Common.{◌≡◌, ◌≤◌, ◌<◌, ◌∙◌, ℕ, ◌+◌, inl, inr, Bool, true, false, not, cond, List, [], ◌∷◌, length, nat_lt, Some, None, refl, sym, ap, arith}
 use Rattle.std.proofs.lemmas.Iterator.Adapters.{position_from-zero}
 use Rattle.std.proofs.lemmas.List.Sums.{position_or_len_is}
 use Rattle.std.specs.List.{position_from, position_or_len}
@@ -9,7 +9,7 @@ use Rattle.dsa_terms.specs.Parts.{is_empty}
 use Rattle.dsa_terms.proofs.Moments.{or_false}
 use Rattle.dsa_terms.proofs.NumberTests.{is_below, not_below, not_less}
 use Rattle.dsa_terms.proofs.Places.{in_at}
-use Rattle.size_classes.specs.Plain.{first_rough, HasNoGaps, IsPlain, is_rough}
+use Rattle.size_classes.specs.Plain.{first_rough, IsPlain, is_rough}
 
 none_passes : (p : Buffer → Bool) (i : ℕ) (xs : List Buffer) (x : Buffer) → position_from p i xs ≡ None → IsIn x xs →
     p x ≡ false

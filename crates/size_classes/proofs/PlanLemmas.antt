@@ -157,8 +157,10 @@ plan_is_layout I s p = record {
     both b c t lb lc ne x y (inl lt) = inl (below_class b c lb lt)
     both b c t lb lc ne x y (inr (inl lt)) = inr (below_class c b lc lt)
     both b c t lb lc ne x y (inr (inr e)) =
-        subst (λ (k : ℕ). IsApart (buffer I b) (offset_in I (class_of (buffer I b).size) b) (buffer I c) (offset_in I k c)) e
-        (in_one (class_of (buffer I b).size) b c t (own b lb) (into_class I (class_of (buffer I b).size) c lc (sym e)) ne x y
+        subst (λ (k : ℕ). IsApart (buffer I b) (offset_in I (class_of (buffer I b).size) b) (buffer I c)
+        (offset_in I k c)) e
+        (in_one (class_of (buffer I b).size) b c t (own b lb)
+        (into_class I (class_of (buffer I b).size) c lc (sym e)) ne x y
         (three (slot_of I (in_class I (class_of (buffer I b).size)) b)
         (slot_of I (in_class I (class_of (buffer I b).size)) c)))
 

@@ -1,5 +1,5 @@
 -- Ordered sets as pools of slots: what their first key and one more key come to.
-use Rattle.std.proofs.Common.{◌≡◌, ◌≢◌, ◌↔◌, ℕ, ◌+◌, ◌<◌, ◌≤◌, ◌⊎◌, inl, inr, Bool, true, false, cond, ◌==◌, nat_lt, List, [], ◌∷◌, length, slice_get, Option, Some, None, IsSome, IfSome, refl, sym, subst, arith, nat_cmp}
+use Rattle.std.proofs.Common.{◌≡◌, ◌≢◌, ℕ, ◌+◌, ◌<◌, ◌≤◌, ◌⊎◌, inl, inr, Bool, true, false, cond, ◌==◌, nat_lt, List, [], ◌∷◌, length, slice_get, Option, Some, None, IsSome, IfSome, refl, sym, subst, arith, nat_cmp}
 use Rattle.std.proofs.lemmas.Bool.Decides.{nat_tests}
 use Rattle.std.specs.BTreeMap.Range.{IsLeBy, IsLtBy}
 use Rattle.std.specs.BTreeSet.{insert_key}
@@ -127,7 +127,10 @@ releasing_more moment end slot count old busy rest free more le e grown h = reco
   pool = pool_released end slot count busy rest free more e grown h.pool;
   count = h.count;
   chosen = λ x i. h.chosen x (rw e (inr i));
-  back = λ x i. elim (h.back x i) [ inl j ↦ left x (rw e at j) | inr q ↦ inr (q.0, rw grown (kept_key nat_cmp free slot x.1 q.1)) ];
+  back = λ x i. elim (h.back x i) [
+    | inl j ↦ left x (rw e at j)
+    | inr q ↦ inr (q.0, rw grown (kept_key nat_cmp free slot x.1 q.1))
+  ];
   kept = λ s i. rw grown (kept_key nat_cmp free slot s (h.kept s i));
   came = λ s i. elim (from_key nat_cmp free slot s (rw grown at i)) [
     | inl j ↦ h.came s j
@@ -264,7 +267,10 @@ taken end slot old mid busy out same grown = record {
     by_one = out.by_one;
   };
   busy = λ e. (
-    (λ i. elim (from_key pair_cmp mid.busy (end, slot) e (rw grown at i)) [ inl j ↦ inl (rw same at j) | inr q ↦ inr q ]),
+    (λ i. elim (from_key pair_cmp mid.busy (end, slot) e (rw grown at i)) [
+      | inl j ↦ inl (rw same at j)
+      | inr q ↦ inr q
+    ]),
     (λ i. rw grown (elim i [
       | inl j ↦ kept_key pair_cmp mid.busy (end, slot) e (rw same j)
       | inr q ↦ rw q (own_key pair_cmp mid.busy (end, slot) exact_pair)

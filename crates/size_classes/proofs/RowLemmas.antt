@@ -1,6 +1,6 @@
 -- Rows of slots: how far they reach, and the offsets in them.
-use Rattle.std.proofs.Common.{◌≡◌, ◌≢◌, ℕ, zero, suc, ◌+◌, ◌-◌, ◌*◌, ◌^◌, ◌<◌, ◌≤◌, ◌⊎◌, inl, inr, Bool, true, false, ◌==◌, List, [], ◌∷◌, length, map, slice_index, slice_index_or, slice_set, refl, sym, ap, ◌∙◌, subst, arith, add-one, mul-le-mul_left}
-use Rattle.std.proofs.Math.Nat.{mul-le-mul, mul-zero, pow-succ'}
+use Rattle.std.proofs.Common.{◌≡◌, ℕ, zero, suc, ◌+◌, ◌-◌, ◌*◌, ◌^◌, ◌<◌, ◌≤◌, ◌⊎◌, inl, inr, Bool, true, false, ◌==◌, List, length, map, slice_index, slice_index_or, slice_set, refl, sym, ap, ◌∙◌, arith, add-one, mul-le-mul_left}
+use Rattle.std.proofs.Math.Nat.{mul-le-mul, pow-succ'}
 use Rattle.std.proofs.Math.Pow.{pow_mono}
 use Rattle.std.proofs.lemmas.List.{get_or-map, get_or-set_other, get_or-set_same, length-map, length-set}
 use Rattle.std.proofs.lemmas.List.FromFn.{fill_by_all, length-range_with_len}
@@ -9,7 +9,7 @@ use Rattle.dsa_terms.specs.Buffers.{Instance, buffer, is_live, IsInstance}
 use Rattle.dsa_terms.specs.Bounds.{moments}
 use Rattle.dsa_terms.specs.Claims.{IsIn}
 use Rattle.dsa_terms.specs.Parts.{numbers}
-use Rattle.dsa_terms.proofs.Lists.{from_map, greatest_under, into_map, length-filter_le}
+use Rattle.dsa_terms.proofs.Lists.{from_map, greatest_under, length-filter_le}
 use Rattle.dsa_terms.proofs.NumberTests.{differ, equal}
 use Rattle.dsa_terms.proofs.Places.{all_from_in, any_default, in_at, place_of}
 use Rattle.dsa_terms.proofs.Ranges.{below}
@@ -18,7 +18,7 @@ use Rattle.dsa_model.proofs.Instances.{sound_buffer}
 use Rattle.size_classes.specs.Classes.{class_of, count, in_class, last_class, widest, width}
 use Rattle.size_classes.specs.Plain.{IsPlain}
 use Rattle.size_classes.specs.Plans.{AreSetBelow, class_height, class_offset, class_plan, offset_in, start_of}
-use Rattle.size_classes.specs.Slots.{AreMembers, live_among, most_live, slot_count, slot_of}
+use Rattle.size_classes.specs.Slots.{live_among, most_live, slot_count, slot_of}
 use Rattle.size_classes.proofs.CountLemmas.{count_is, under_count}
 use Rattle.size_classes.proofs.PlanLemmas.{class_members, from_class, into_class, under_last, width_under}
 use Rattle.size_classes.proofs.SizeLemmas.{class_limit}

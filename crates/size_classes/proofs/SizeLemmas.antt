@@ -1,5 +1,5 @@
 -- Classes of sizes as they are computed, and lists that are gone through once.
-use Rattle.std.proofs.Common.{◌≡◌, ℕ, ◌+◌, ◌-◌, ◌*◌, ◌^◌, ◌<◌, ◌≤◌, inl, inr, Bool, true, false, cond, ◌==◌, List, [], ◌∷◌, ◌++◌, length, map, filter, take, drop, max, slice_index_or, refl, sym, ap, ◌∙◌, arith, add-one, drop-cons}
+use Rattle.std.proofs.Common.{◌≡◌, ℕ, ◌+◌, ◌-◌, ◌*◌, ◌^◌, ◌<◌, ◌≤◌, inl, inr, cond, ◌==◌, List, [], ◌∷◌, ◌++◌, length, map, filter, drop, max, refl, sym, ap, ◌∙◌, arith, add-one}
 use Rattle.std.proofs.Math.Nat.{pow-succ'}
 use Rattle.std.proofs.Math.Pow.{pow_mono}
 use Rattle.std.proofs.lemmas.List.{drop_all}
@@ -17,7 +17,8 @@ pub class_is_zero : (size : ℕ) → size ≤ 1 → 0 ≡ class_of size
 class_is_zero size le = let k = class_least size 0 (omega arith) in omega arith
 
 pub class_is_next : (size r : ℕ) → 1 < size → 2 ^ r ≤ size - 1 → size - 1 < 2 * 2 ^ r → r + 1 ≡ class_of size
-class_is_next size r lt low high = close (class_least size (r + 1) (rw add-one (rw (pow-succ' 2 r) (omega arith)))) above
+class_is_next size r lt low high = close
+    (class_least size (r + 1) (rw add-one (rw (pow-succ' 2 r) (omega arith)))) above
   where
     above : r < class_of size
     above = elim (below_or_from r (class_of size)) [
@@ -33,7 +34,8 @@ class_limit size le = class_least size 40 le
 
 -- ---- the buffers of a class
 numbers_more : (n : ℕ) → numbers (n + 1) ≡ numbers n ++ n ∷ []
-numbers_more n = sym (map_id (numbers (n + 1))) ∙ map-range_with_len_more (λ k. k) 0 n n (omega arith) ∙ rw (map_id (numbers n)) refl
+numbers_more n = sym (map_id (numbers (n + 1))) ∙ map-range_with_len_more (λ k. k) 0 n n (omega arith)
+    ∙ rw (map_id (numbers n)) refl
   where
     map_id : (xs : List ℕ) → map (λ k. k) xs ≡ xs
     map_id [] = refl
@@ -47,7 +49,8 @@ pub class_more : (I : Instance) (k n c size : ℕ) (x : Buffer) (members more : 
     c ≡ class_of size → c ≡ k → more ≡ members ++ n ∷ [] → members ≡ class_below I k n → more ≡ class_below I k (n + 1)
 class_more I k n c size x members more e f g same_class grown h =
     grown ∙ rw (h, numbers_more n, filter-append (λ b. class_of (buffer I b).size == k) (numbers n) (n ∷ []))
-    (ap (λ (xs : List ℕ). class_below I k n ++ xs) (sym (ap (λ t. cond t (n ∷ []) []) (same (class_of (buffer I n).size) k is))))
+    (ap (λ (xs : List ℕ). class_below I k n ++ xs)
+    (sym (ap (λ t. cond t (n ∷ []) []) (same (class_of (buffer I n).size) k is))))
   where
     is : class_of (buffer I n).size ≡ k
     is = sym (g ∙ ap class_of (f ∙ ap (λ (b : Buffer). b.size) e)) ∙ same_class
@@ -56,7 +59,8 @@ pub class_skip : (I : Instance) (k n c size : ℕ) (x : Buffer) (members : List 
     c ≡ class_of size → (c ≡ k → ⊥) → members ≡ class_below I k n → members ≡ class_below I k (n + 1)
 class_skip I k n c size x members e f g other h =
     h ∙ rw (numbers_more n, filter-append (λ b. class_of (buffer I b).size == k) (numbers n) (n ∷ []))
-    (sym (ap (λ t. class_below I k n ++ cond t (n ∷ []) []) (apart (class_of (buffer I n).size) k (λ q. other (is ∙ q))) ∙ nil (class_below I k n)))
+    (sym (ap (λ t. class_below I k n ++ cond t (n ∷ []) [])
+    (apart (class_of (buffer I n).size) k (λ q. other (is ∙ q))) ∙ nil (class_below I k n)))
   where
     is : c ≡ class_of (buffer I n).size
     is = g ∙ ap class_of (f ∙ ap (λ (b : Buffer). b.size) e)

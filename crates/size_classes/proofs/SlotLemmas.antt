@@ -7,7 +7,7 @@ use Rattle.std.proofs.lemmas.List.Sums.{fails_before_first, passes_at_first, pre
 use Rattle.std.specs.List.{list_any}
 use Rattle.dsa_terms.specs.Buffers.{Buffer, Instance, buffer, is_live, is_within, IsInstance, IsLive, no_buffer}
 use Rattle.dsa_terms.specs.Bounds.{moments}
-use Rattle.dsa_terms.specs.Claims.{buffers_of, Entry, IsIn, number_of, Rises}
+use Rattle.dsa_terms.specs.Claims.{buffers_of, Entry, IsIn, number_of}
 use Rattle.dsa_terms.specs.Logs.{greatest}
 use Rattle.dsa_terms.specs.Orders.{IsOrdered, rises_by}
 use Rattle.dsa_terms.specs.Parts.{has, numbers}
@@ -93,7 +93,8 @@ entry_of_number (e ∷ es) b i = go (entry_of_number es b) (e.0 == b) refl i
     go ih false q (inr k) = inr (ih k)
 
 -- ---- what is held
-pub held_has : (I : Instance) (b c : ℕ) (es : List Entry) → IsIn c (buffers_of es) → (buffer I b).lower < (buffer I c).upper →
+pub held_has : (I : Instance) (b c : ℕ) (es : List Entry) → IsIn c (buffers_of es) →
+    (buffer I b).lower < (buffer I c).upper →
     IsIn (number_of es c) (held I b es)
 unfolding held
 held_has I b c es i lt =
@@ -101,7 +102,8 @@ held_has I b c es i lt =
     (into_filter (λ e. nat_lt (buffer I b).lower (buffer I e.0).upper) es (c, number_of es c) (entry_of_number es c i)
     (is_below (buffer I b).lower (buffer I c).upper lt))
 
-fewer_pass : (p : Entry → Bool) (q : ℕ → Bool) (es : List Entry) → ((e : Entry) → IsIn e es → p e ≡ true → q e.0 ≡ true) →
+fewer_pass : (p : Entry → Bool) (q : ℕ → Bool) (es : List Entry) →
+    ((e : Entry) → IsIn e es → p e ≡ true → q e.0 ≡ true) →
     length (filter p es) ≤ length (filter q (buffers_of es))
 fewer_pass p q [] h = omega arith
 fewer_pass p q (e ∷ es) h = go (fewer_pass p q es (λ f i. h f (inr i))) (p e) (q e.0) refl refl
@@ -185,7 +187,8 @@ colour_one I M es b following r h = record {
     -- an earlier one with the same slot has ended
     ended : (c : ℕ) → IsIn c (buffers_of es) → number_of es c ≡ slot → (buffer I c).upper ≤ (buffer I b).lower
     ended c i e = elim (below_or_from (buffer I b).lower (buffer I c).upper) [
-      | inl lt ↦ absurd (free_is_free (held I b es) (subst (λ (s : ℕ). IsIn s (held I b es)) e (held_has I b c es i lt)))
+      | inl lt ↦ absurd (free_is_free (held I b es)
+          (subst (λ (s : ℕ). IsIn s (held I b es)) e (held_has I b c es i lt)))
       | inr le ↦ le
     ]
 
@@ -213,7 +216,8 @@ colour_one I M es b following r h = record {
     one c (inl i) = rw (old c i) (h.few c i)
     one c (inr q) = rw (q, new) slot_is_few
 
-all_coloured : (I : Instance) (M : ℕ) (order following : List ℕ) (es : List Entry) → order ≡ buffers_of es ++ following →
+all_coloured : (I : Instance) (M : ℕ) (order following : List ℕ) (es : List Entry) →
+    order ≡ buffers_of es ++ following →
     IsReady I M order → IsColoured I M es →
     IsColoured I M (slotted I following es) × (buffers_of (slotted I following es) ≡ order)
 all_coloured I M order [] es e r h = (h, sym (e ∙ append-nil (buffers_of es)))
@@ -248,7 +252,8 @@ ready I members s m = record {
   no_gaps = λ b i. (m.each b (back b i)).1;
   lasting = λ b i. lasts I b s (m.each b (back b i)).0;
   most = λ b i. let k = live_under_most I members b s (m.each b (back b i)).0 in
-      let e = ordered_counts (λ c. is_live (buffer I c) (buffer I b).lower) (rises_by (λ (b : Buffer). b.lower) I) members in
+      let e = ordered_counts (λ c. is_live (buffer I c) (buffer I b).lower)
+      (rises_by (λ (b : Buffer). b.lower) I) members in
       omega arith;
 }
   where

@@ -27,7 +27,8 @@ buffers_of_slotted : (I : Instance) (xs : List ℕ) (es : List Entry) →
 buffers_of_slotted I [] es = sym (append-nil (buffers_of es))
 buffers_of_slotted I (x ∷ xs) es =
     buffers_of_slotted I xs (with_slot I es x)
-    ∙ rw (map-append (λ (e : Entry). e.0) es ((x, least_free (held I x es)) ∷ [])) (append_assoc (buffers_of es) (x ∷ []) xs)
+    ∙ rw (map-append (λ (e : Entry). e.0) es ((x, least_free (held I x es)) ∷ []))
+    (append_assoc (buffers_of es) (x ∷ []) xs)
 
 split_at : {X : Type 0} (xs : List X) (i : ℕ) (d : X) → i < length xs →
     xs ≡ take i xs ++ slice_index_or xs i d ∷ drop (suc i) xs
@@ -42,7 +43,8 @@ number_of-push (e ∷ es) b s k ne = ap (cond (e.0 == k) e.1) (number_of-push es
 
 set_is : (es : List Entry) (n b s : ℕ) → b < n → (IsIn b (buffers_of es) → ⊥) →
     slice_set (map (number_of es) (numbers n)) b s ≡ map (number_of (es ++ (b, s) ∷ [])) (numbers n)
-set_is es n b s lt fresh = fill_by_all (number_of (es ++ (b, s) ∷ [])) (slice_set (map (number_of es) (numbers n)) b s) n 0
+set_is es n b s lt fresh = fill_by_all (number_of (es ++ (b, s) ∷ []))
+    (slice_set (map (number_of es) (numbers n)) b s) n 0
     (length-set (map (number_of es) (numbers n)) b s ∙ length-map-range_with_len (number_of es) 0 n)
     (λ k kn. at k kn (b == k) refl)
   where
@@ -168,23 +170,27 @@ are_turns I members turns m e = rw e (record {
   ordered = ordered_is_ordered (rises_by (λ (b : Buffer). b.lower) I) members (turn_is_order I) m.rises;
   in_range = λ b i. (m.each b (from_ordered_by (rises_by (λ (b : Buffer). b.lower) I) members b i)).0;
   few = (let l = ordered_length (rises_by (λ (b : Buffer). b.lower) I) members in
-      let k = rises_few 0 (length I) members (omega arith) m.rises (λ x i. (omega arith, (m.each x i).0)) in omega arith);
+      let k = rises_few 0 (length I) members (omega arith) m.rises
+      (λ x i. (omega arith, (m.each x i).0)) in omega arith);
 })
 
 -- ---- the slot of a member by its number
-pub slot_read : (I : Instance) (members turns numbered : List ℕ) (b s d : ℕ) → b < length I → turns ≡ in_turn I members →
+pub slot_read : (I : Instance) (members turns numbered : List ℕ) (b s d : ℕ) → b < length I →
+    turns ≡ in_turn I members →
     numbered ≡ map (number_of (slotted I turns [])) (numbers (length I)) → s ≡ slice_index_or numbered b d →
     s ≡ slot_of I members b
 unfolding slot_of
 slot_read I members turns numbered b s d lt e is at =
-    at ∙ rw (is, e) (get_or-map-range_with_len (number_of (slotted I (in_turn I members) [])) 0 (length I) b b d lt (omega arith))
+    at ∙ rw (is, e) (get_or-map-range_with_len (number_of (slotted I (in_turn I members) []))
+    0 (length I) b b d lt (omega arith))
 
 pub slots_more : (I : Instance) (members : List ℕ) (i b d s : ℕ) (slots more : List ℕ) → i < length members →
     b ≡ slice_index_or members i d → s ≡ slot_of I members b → more ≡ slots ++ s ∷ [] →
     slots ≡ map (slot_of I members) (take i members) → more ≡ map (slot_of I members) (take (i + 1) members)
 slots_more I members i b d s slots more lt at is grown h =
     grown ∙ rw (h, is, at)
-    (sym (rw (take_more members i d lt) (map-append (slot_of I members) (take i members) (slice_index_or members i d ∷ []))))
+    (sym (rw (take_more members i d lt)
+    (map-append (slot_of I members) (take i members) (slice_index_or members i d ∷ []))))
 
 pub numbered_length : (I : Instance) (es : List Entry) (numbered : List ℕ) →
     numbered ≡ map (number_of es) (numbers (length I)) → length numbered ≡ length I

@@ -36,7 +36,8 @@ held_by I b s es i =
     let q = from_filter (λ e. nat_lt (buffer I b).lower (buffer I e.0).upper) es r.0 r.1 in
     (r.0, q.0, less (buffer I b).lower (buffer I r.0.0).upper q.1, sym r.2)
 
-exact_one : (I : Instance) (es : List Entry) (b : ℕ) (following : List ℕ) → IsInTurn I (buffers_of es ++ b ∷ following) →
+exact_one : (I : Instance) (es : List Entry) (b : ℕ) (following : List ℕ) →
+    IsInTurn I (buffers_of es ++ b ∷ following) →
     IsExact I es → IsExact I (with_slot I es b)
 exact_one I es b following r h = record {
   own = λ e i. own e (from_append es ((b, slot) ∷ []) e i);

@@ -6,7 +6,7 @@ use Rattle.std.specs.List.Sorted.{IsPermutation, IsSorted}
 use Rattle.std.specs.Ordering.{is_lt, ordering_then}
 use Rattle.std.specs.declared.cmp.Ordering.TheVariants.{Equal, Greater, Less}
 use Rattle.std.proofs.lemmas.List.{map-append, take_more}
-use Rattle.std.proofs.lemmas.List.Sorted.{IsPermutation-map, IsPermutation-sym, length_permutation}
+use Rattle.std.proofs.lemmas.List.Sorted.{IsPermutation-map, IsPermutation-sym}
 use Rattle.std.proofs.lemmas.Map.Keys.{IsDistinct-IsPermutation}
 use Rattle.dsa_terms.specs.Buffers.{Buffer, Instance, buffer}
 use Rattle.dsa_terms.specs.Claims.{IsIn, Rises}
@@ -128,14 +128,15 @@ pub keyed_more : (I : Instance) (members : List ℕ) (i b d k : ℕ) (x : Buffer
     i < length members → b ≡ slice_index_or members i d → x ≡ buffer I b → k ≡ x.lower → more ≡ keys ++ (k, b) ∷ [] →
     keys ≡ map (keyed I) (take i members) → more ≡ map (keyed I) (take (i + 1) members)
 keyed_more I members i b d k x keys more lt at e f grown h =
-    grown ∙ rw (h, f, e, at) (sym (rw (take_more members i d lt) (map-append (keyed I) (take i members) (slice_index_or members i d ∷ []))))
+    grown ∙ rw (h, f, e, at) (sym (rw (take_more members i d lt)
+    (map-append (keyed I) (take i members) (slice_index_or members i d ∷ []))))
 
 pub sorted_is : (I : Instance) (members : List ℕ) (keys sorted : List (ℕ × ℕ)) → Rises members →
     keys ≡ map (keyed I) members → IsPermutation keys sorted → IsSorted pair_cmp sorted →
     map (λ (k : ℕ × ℕ). k.1) sorted ≡ in_turn I members
 sorted_is I members keys sorted rise is moved up =
-    one_order (rises_by (λ (b : Buffer). b.lower) I) (map (λ (k : ℕ × ℕ). k.1) sorted) (in_turn I members) (turn_is_order I)
-    (ordered_from I sorted (record { each = each; climbs = climbs; distinct = distinct }))
+    one_order (rises_by (λ (b : Buffer). b.lower) I) (map (λ (k : ℕ × ℕ). k.1) sorted) (in_turn I members)
+    (turn_is_order I) (ordered_from I sorted (record { each = each; climbs = climbs; distinct = distinct }))
     (ordered_is_ordered (rises_by (λ (b : Buffer). b.lower) I) members (turn_is_order I) rise)
     (λ b. (
       (λ i. (ordered_members (rises_by (λ (b : Buffer). b.lower) I) members b).1 (back b i)),
@@ -154,7 +155,8 @@ sorted_is I members keys sorted rise is moved up =
 
     each : (k : ℕ × ℕ) → IsIn k sorted → k.0 ≡ (buffer I k.1).lower
     each k i =
-        let r = from_map (keyed I) members k (rw is at (in_permutation sorted keys k (IsPermutation-sym keys sorted moved) i)) in
+        let r = from_map (keyed I) members k
+        (rw is at (in_permutation sorted keys k (IsPermutation-sym keys sorted moved) i)) in
         rw r.2 refl
 
     climbs : (i j : ℕ) (d : ℕ × ℕ) → j ≡ i + 1 → j < length sorted →

@@ -14,8 +14,8 @@ use std::alloc::{AllocError, Global};
 /// 0 for the others.
 fn numbered_slots(alloc: Global, instance: &Instance, turns: &[u32]) -> Result<Vec<u32>, AllocError>
     requires { AreTurns instance.now turns.now }
-    ensures { IfOk result (λ slots.
-        slots.items ≡ map (number_of (slotted instance.now turns.now [])) (numbers (length instance.now))) }
+    ensures { IfOk result (λ slots. let taken = slotted instance.now turns.now [] in
+        slots.items ≡ map (number_of taken) (numbers (length instance.now))) }
 {
     let mut slots = vec![in alloc; 0u32; instance.len() as usize]?;
     let mut pool = Pool::new(alloc);

@@ -21,8 +21,8 @@ pub fn class_is_least()
     ensures least { (size k : ℕ) → size ≤ 2 ^ k → class_of size ≤ k }
 {}
 
-/// Each member has the least slot that no member holds that is taken before it and lasts longer than
-/// its lower.
+/// Each member has the least slot that no member holds that is taken before it and has its upper
+/// above its lower.
 pub fn slots_are_least()
     ensures { (I : Instance) (members : List ℕ) → Rises members →
         IsSlotting I members (slot_of I members) }

@@ -9,6 +9,8 @@ mod plan;
 mod pool;
 mod rows;
 mod sizes;
+#[cfg(test)]
+mod tests;
 mod turns;
 
 pub use colouring::slots;

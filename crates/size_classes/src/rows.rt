@@ -25,8 +25,8 @@ fn slot_count(slots: &[u32]) -> u64
 /// Gives each buffer of the class its offset, its slot of a row that begins at `start`; tells where
 /// the row ends. All in bytes.
 ///
-/// The caller owes a plain instance of at most 2^12 buffers, a class of at most 40, that the classes below it end at
-/// `start`, and that their buffers have their offsets.
+/// The caller owes a plain instance of at most 2^12 buffers, a class of at most 40, that the
+/// classes below it end at `start`, and that their buffers have their offsets.
 pub(crate) fn fill_row(
     alloc: Global,
     instance: &Instance,

@@ -1,4 +1,4 @@
-use Rattle.std.proofs.Common.{◌≡◌, ◌≤◌}
+use Rattle.std.proofs.Common.{◌≡◌}
 use Rattle.size_classes.specs.Plans.{AreSetBelow, start_of}
 use Rattle.size_classes.proofs.plan.place.Given as goal
 

@@ -5,7 +5,7 @@ use Rattle.run_course.specs.Course.{Concludes}
 use Rattle.readings.proofs.AfterInput.{concluded, missing}
 use Rattle.explaining.specs.Explaining.{ExplainsOrFits}
 use Rattle.explaining.proofs.Concluding.{explains_spoken}
-use Rattle.explaining.proofs.core.CoreCommand.conclude.Goals as goal
+use Rattle.explaining.proofs.explain.CoreCommand.conclude.Goals as goal
 
 pub returns-in-Missing-clause-comes : goal.returns-in-Missing-clause-comes
 returns-in-Missing-clause-comes g c =

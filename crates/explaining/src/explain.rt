@@ -42,7 +42,8 @@ fn explained<'a>(
         ExplainsOrFits (core_of words.now) table.now instance.now (outcome_of p)) }
 {
     let capacity = words.capacity;
-    let core = match find_core(alloc, instance, capacity, &mut Planner)? {
+    let mut planner = Planner;
+    let core = match find_core(alloc, instance, capacity, &mut planner)? {
         Found::Fits(_) => return silent(alloc, Status::NoCore { capacity }),
         Found::Core(core) => core,
     };

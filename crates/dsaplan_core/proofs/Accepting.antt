@@ -1,0 +1,83 @@
+-- A log's file that holds the text of an accepted log is accepted.
+use Rattle.std.proofs.Common.{◌≡◌, ◌++◌, [], ℕ, List, Ok, Err, refl, sym, ap, ◌∙◌, subst, inl, inr}
+use Rattle.dsa_terms.specs.Buffers.{Instance}
+use Rattle.dsa_terms.specs.Logs.{Log}
+use Rattle.dsa_model.specs.declared.fail.Fail.TheVariants.{Fault}
+use Rattle.dsa_outside.specs.Seen.{FilesSeen, SinkSeen}
+use Rattle.log_text.specs.Faults.{IsTextOf}
+use Rattle.log_text.specs.Text.{log_text, raw_log_of}
+use Rattle.log_text.specs.declared.raw.RawLog.{RawLog}
+use Rattle.log_text.proofs.FirstFault.{text_has_no_fault}
+use Rattle.log_text.proofs.Unique.{log_split}
+use Rattle.log_check.proofs.AcceptedLogs.{faulty_is_not_accepted}
+use Rattle.command_words.specs.Options.{Word}
+use Rattle.command_words.specs.Pairs.{Pair, word_at}
+use Rattle.command_words.specs.Requests.{Request, request_of}
+use Rattle.command_words.specs.declared.option.OptionName.TheVariants as option
+use Rattle.command_words.specs.declared.verb.Verb.TheVariants as verb
+use Rattle.run_status.specs.declared.status.Status.{Status}
+use Rattle.run_status.specs.declared.status.Status.TheVariants as status
+use Rattle.run_course.specs.Course.{Comes, Outcome, says}
+use Rattle.run_course.specs.Answers.{Answers}
+use Rattle.readings.specs.Checking.{checked, log_limit}
+use Rattle.readings.specs.GivenLogs.{HoldsAccepted, HoldsNoText, HoldsNoRefutation}
+use Rattle.dsaplan_core.specs.Courses.{course, course_with}
+use Rattle.dsaplan_core.specs.Complete.{HoldsLog, IsAcceptedAt, IsReady, IsUndisturbed}
+use Rattle.dsaplan_core.proofs.Answered.{answered, words_give}
+use Rattle.dsaplan_core.proofs.Concluded.{not_broken}
+use Rattle.dsaplan_core.proofs.Served.{checked_served, opened_served, same_bytes}
+
+-- a text is that of one log
+same_raw : (bytes : List ℕ) (r s : RawLog) → IsTextOf bytes r → IsTextOf bytes s → r ≡ s
+same_raw bytes r s one two = (log_split r s [] [] (ap (λ t. t ++ []) (sym one.text ∙ two.text))).0
+
+module _ (old : FilesSeen) (name : Word) (I : Instance) (g : Log) (holds : HoldsLog I g old name) where
+  at_capacity : (log : Log) → HoldsAccepted old name I log → log.capacity ≡ g.capacity
+  at_capacity log read =
+      let same = same_bytes old name log_limit read.bytes (log_text g) holds.held read.whole in
+      let raws = same_raw (log_text g) (raw_log_of log) (raw_log_of g)
+      (subst (λ b. IsTextOf b (raw_log_of log)) same read.text) holds.text in
+      ap (λ (r : RawLog). r.capacity) raws
+
+  is_text : (s : Status) → HoldsNoText old name s → ⊥
+  is_text s read =
+      let same = same_bytes old name log_limit read.bytes (log_text g) holds.held read.whole in
+      text_has_no_fault read.bytes read.fault (raw_log_of g)
+      (read.refused) (subst (λ b. IsTextOf b (raw_log_of g)) (sym same) holds.text)
+
+  is_accepted : (s : Status) → HoldsNoRefutation old name I s → ⊥
+  is_accepted s read =
+      let same = same_bytes old name log_limit read.bytes (log_text g) holds.held read.whole in
+      let raws = same_raw (log_text g) read.raw (raw_log_of g) (subst (λ b. IsTextOf b read.raw) same read.text)
+      holds.text in
+      faulty_is_not_accepted I read.raw (Err (Fault read.fault)) tt read.refused g (sym raws) holds.accepted
+
+module _ (words : List Word) (old new : FilesSeen) (before after : SinkSeen) (pairs : List Pair) (I : Instance) (g : Log)
+    (is : request_of words ≡ Ok (record { verb = verb.Refute; pairs = pairs }))
+    (ready : IsReady old (record { verb = verb.Refute; pairs = pairs }) I)
+    (calm : IsUndisturbed (record { verb = verb.Refute; pairs = pairs }) old new before after)
+    (holds : HoldsLog I g old (word_at pairs option.Log)) where
+  abbrev request : Request
+  request = record { verb = verb.Refute; pairs = pairs }
+
+  abbrev P : Outcome → Type 0
+  P o = IsAcceptedAt g.capacity o.status
+
+  refuted : (o : Outcome) → Comes old new (course_with verb.Refute pairs) o → P o
+  refuted = opened_served old new before after I request ready calm (inl refl) P
+      (λ table J. checked (word_at pairs option.Log) J (λ log. says (status.Accepted log.capacity)))
+      (λ table. checked_served old new before after I request ready calm (inr (inl refl)) P
+      (λ log. says (status.Accepted log.capacity))
+      (λ fault read. absurd (is_text old (word_at pairs option.Log) I g holds _ read))
+      (λ fault read. absurd (is_accepted old (word_at pairs option.Log) I g holds _ read))
+      (λ log read. at_capacity old (word_at pairs option.Log) I g holds log read))
+
+  -- the answer is that it is accepted at its capacity, or memory runs out
+  pub accepts : (s : Status) → Answers (course words) old new before after s → IsAcceptedAt g.capacity s
+  accepts = answered (course words) old new before after (IsAcceptedAt g.capacity)
+      (λ o comes files. words_give old new words P (λ fault bad. absurd cc)
+      (λ s asked o comes.
+        let same : s ≡ request = (let a = is in let b = asked in cc) in
+        refuted o (subst (λ (s : Request). Comes old new (course_with s.verb s.pairs) o) same comes)) o comes)
+      (λ role o comes left. absurd (not_broken old new before after I words request is ready calm role o comes left))
+      (λ rose. absurd (calm.sink rose)) tt

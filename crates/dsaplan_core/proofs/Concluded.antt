@@ -1,0 +1,142 @@
+-- What a run answers where nothing outside it goes wrong.
+use Rattle.std.proofs.Common.{◌≡◌, ◌^◌, List, Ok, refl, sym, subst, inl, inr}
+use Rattle.dsa_terms.specs.Buffers.{Instance}
+use Rattle.dsa_outside.specs.Seen.{FilesSeen, SinkSeen}
+use Rattle.dsa_model.specs.Counts.{Rose}
+use Rattle.csv_instance.specs.Records.{Record}
+use Rattle.command_words.specs.Options.{Word}
+use Rattle.command_words.specs.Pairs.{Pair, number_at, word_at}
+use Rattle.command_words.specs.Requests.{Request, request_of}
+use Rattle.command_words.specs.declared.option.OptionName.TheVariants as option
+use Rattle.command_words.specs.declared.verb.Verb.{Verb}
+use Rattle.command_words.specs.declared.verb.Verb.TheVariants as verb
+use Rattle.run_status.specs.declared.status.Status.{Status}
+use Rattle.run_status.specs.declared.status.Status.TheVariants as status
+use Rattle.run_status.specs.declared.status.Role.{Role}
+use Rattle.run_course.specs.Course.{Comes, Concludes, Ends, Outcome, says}
+use Rattle.run_course.specs.Answers.{Answers, AreBroken}
+use Rattle.readings.specs.Judging.{judged}
+use Rattle.readings.specs.Checking.{checked}
+use Rattle.judging.specs.Judging.{ShowsLayout}
+use Rattle.checking.specs.Checking.{trimming}
+use Rattle.fact_reports.specs.Reporting.{ShowsFacts}
+use Rattle.deciding.specs.Deciding.{Finds, Solves}
+use Rattle.dsaplan_core.specs.Courses.{course, course_with, least_of, solve_of, trial_of}
+use Rattle.dsaplan_core.specs.Choice.{MayStayOpen}
+use Rattle.dsaplan_core.specs.Complete.{IsConcluded, IsReady, IsUndisturbed}
+use Rattle.dsaplan_core.specs.Lost.{IsOwnWrite, option_of_role}
+use Rattle.dsaplan_core.proofs.Answered.{answered, words_give}
+use Rattle.dsaplan_core.proofs.Gives.{trial_gives}
+use Rattle.dsaplan_core.proofs.Headline.{one_own, promised}
+use Rattle.dsaplan_core.proofs.Promises.{AreOwn}
+use Rattle.dsaplan_core.proofs.Requests.{write_named}
+use Rattle.dsaplan_core.proofs.Served.{checked_served, judged_served, opened_served}
+
+memory : (v : Verb) (pairs : List Pair) (I : Instance) → IsConcluded v pairs I status.NoMemory
+memory verb.Solve pairs I = tt
+memory verb.Least pairs I = tt
+memory verb.Verify pairs I = tt
+memory verb.Refute pairs I = tt
+memory verb.Trim pairs I = tt
+memory verb.Bounds pairs I = tt
+memory verb.Report pairs I = tt
+memory verb.Trial pairs I = tt
+
+solved : (pairs : List Pair) (table : List Record) (J : Instance) (o : Outcome) → Solves (solve_of pairs) table J o →
+    IsConcluded verb.Solve pairs J o.status
+solved pairs table J o (inl lays) =
+    subst (λ (o : Outcome). IsConcluded verb.Solve pairs J o.status) (sym lays.written) (refl, (lays.offsets, lays.layout))
+solved pairs table J o (inr (inl none)) =
+    subst (λ (o : Outcome). IsConcluded verb.Solve pairs J o.status) (sym none.written) (refl, none.refuted.infeasible)
+solved pairs table J o (inr (inr left)) =
+    subst (λ (o : Outcome). IsConcluded verb.Solve pairs J o.status) (sym left.written)
+    (subst (λ k. MayStayOpen verb.Solve pairs k J left.low left.high) (sym left.given) left.short)
+
+found : (pairs : List Pair) (table : List Record) (J : Instance) (o : Outcome) → Finds (least_of pairs) table J o →
+    IsConcluded verb.Least pairs J o.status
+found pairs table J o (inl finds) =
+    subst (λ (o : Outcome). IsConcluded verb.Least pairs J o.status) (sym finds.written) finds.least
+found pairs table J o (inr left) =
+    subst (λ (o : Outcome). IsConcluded verb.Least pairs J o.status) (sym left.written)
+    (subst (λ k. MayStayOpen verb.Least pairs k J left.low left.high) (sym left.given) left.short)
+
+module _ (old new : FilesSeen) (before after : SinkSeen) (I : Instance) where
+  -- a request whose files are readable and are not disturbed
+  abbrev IsServed : Request → Type 0
+  IsServed r = IsReady old r I × IsUndisturbed r old new before after
+
+  abbrev IsDone : Verb → List Pair → Outcome → Type 0
+  IsDone v pairs o = IsConcluded v pairs I o.status
+
+  done : (v : Verb) (pairs : List Pair) → IsServed (record { verb = v; pairs = pairs }) → (o : Outcome) →
+      Comes old new (course_with v pairs) o → IsDone v pairs o
+  done verb.Solve pairs (ready, calm) =
+      opened_served old new before after I (record { verb = verb.Solve; pairs = pairs }) ready calm (inl refl)
+      (IsDone verb.Solve pairs)
+      (λ table J. Concludes (Solves (solve_of pairs) table J)) (λ table o comes. solved pairs table I o comes.1)
+  done verb.Least pairs (ready, calm) =
+      opened_served old new before after I (record { verb = verb.Least; pairs = pairs }) ready calm (inl refl)
+      (IsDone verb.Least pairs)
+      (λ table J. Concludes (Finds (least_of pairs) table J))
+      (λ table o comes. found pairs table I o comes.1)
+  done verb.Verify pairs (ready, calm) =
+      let r : Request = record { verb = verb.Verify; pairs = pairs } in
+      let capacity = number_at pairs option.Capacity in
+      opened_served old new before after I r ready calm (inl refl) (IsDone verb.Verify pairs)
+      (λ table J. judged (word_at pairs option.Layout) table J capacity (λ offsets. Ends (says status.Right)))
+      (λ table. judged_served old new before after I r ready calm (inr (inl refl)) (IsDone verb.Verify pairs)
+      table capacity (λ offsets. Ends (says status.Right)) (λ cause. tt)
+      (λ offsets o comes. subst (IsDone verb.Verify pairs) (sym comes.1) tt))
+  done verb.Refute pairs (ready, calm) =
+      let r : Request = record { verb = verb.Refute; pairs = pairs } in
+      opened_served old new before after I r ready calm (inl refl) (IsDone verb.Refute pairs)
+      (λ table J. checked (word_at pairs option.Log) J (λ log. says (status.Accepted log.capacity)))
+      (λ table. checked_served old new before after I r ready calm (inr (inl refl)) (IsDone verb.Refute pairs)
+      (λ log. says (status.Accepted log.capacity)) (λ fault bad. tt) (λ fault bad. tt) (λ log holds. tt))
+  done verb.Trim pairs (ready, calm) =
+      let r : Request = record { verb = verb.Trim; pairs = pairs } in
+      opened_served old new before after I r ready calm (inl refl) (IsDone verb.Trim pairs)
+      (λ table J. checked (word_at pairs option.Log) J (trimming (word_at pairs option.Output)))
+      (λ table. checked_served old new before after I r ready calm (inr (inl refl)) (IsDone verb.Trim pairs)
+      (trimming (word_at pairs option.Output)) (λ fault bad. tt) (λ fault bad. tt) (λ log holds. tt))
+  done verb.Bounds pairs (ready, calm) =
+      opened_served old new before after I (record { verb = verb.Bounds; pairs = pairs }) ready calm (inl refl)
+      (IsDone verb.Bounds pairs) (λ table J. Concludes (ShowsFacts J))
+      (λ table o comes. subst (IsDone verb.Bounds pairs) (sym comes.1.shown) tt)
+  done verb.Report pairs (ready, calm) =
+      let r : Request = record { verb = verb.Report; pairs = pairs } in
+      opened_served old new before after I r ready calm (inl refl) (IsDone verb.Report pairs)
+      (λ table J. judged (word_at pairs option.Layout) table J (2 ^ 60)
+      (λ offsets. Concludes (ShowsLayout table J offsets)))
+      (λ table. judged_served old new before after I r ready calm (inr (inl refl)) (IsDone verb.Report pairs)
+      table (2 ^ 60) (λ offsets. Concludes (ShowsLayout table I offsets)) (λ cause. tt)
+      (λ offsets o comes. subst (IsDone verb.Report pairs) (sym comes.1.shown) tt))
+  done verb.Trial pairs (ready, calm) = trial_gives old new (IsDone verb.Trial pairs) (trial_of pairs)
+      (λ many. (refl, many)) (λ few o shows. subst (IsDone verb.Trial pairs) (sym shows.shown) few)
+
+  module _ (words : List Word) (r : Request) (is : request_of words ≡ Ok r) (ready : IsReady old r I)
+      (calm : IsUndisturbed r old new before after) where
+    pub not_broken : (role : Role) (o : Outcome) → Comes old new (course words) o → AreBroken old new o.writes role → ⊥
+    not_broken role = words_give old new words (λ o. AreBroken old new o.writes role → ⊥)
+        (λ fault bad left. absurd cc)
+        (λ s asked o comes left.
+          let same : s ≡ r = (let a = is in let b = asked in cc) in
+          let own = one_own s left.made left.lost left.rest
+          (subst (AreOwn s) left.order (promised words old new s.verb s.pairs asked o comes).1) in
+          let mine : IsOwnWrite r left.lost = subst (λ (s : Request). IsOwnWrite s left.lost) same own in
+          let rose = subst (λ n. Rose (old.faults n) (new.faults n)) mine.1 left.rose in
+          calm.files (word_at r.pairs (option_of_role left.lost.role))
+          (write_named r (option_of_role left.lost.role) mine.0) rose)
+
+    own_outcome : (o : Outcome) → Comes old new (course words) o → IsConcluded r.verb r.pairs I o.status
+    own_outcome = words_give old new words (λ o. IsConcluded r.verb r.pairs I o.status) (λ fault bad. absurd cc)
+        (λ s asked o comes.
+          let same : s ≡ r = (let a = is in let b = asked in cc) in
+          done r.verb r.pairs (ready, calm) o
+          (subst (λ (s : Request). Comes old new (course_with s.verb s.pairs) o) same comes))
+
+    -- the command is concluded, or memory ran out
+    pub concluded : (s : Status) → Answers (course words) old new before after s → IsConcluded r.verb r.pairs I s
+    concluded = answered (course words) old new before after (IsConcluded r.verb r.pairs I)
+        (λ o comes files. own_outcome o comes) (λ role o comes left. absurd (not_broken role o comes left))
+        (λ rose. absurd (calm.sink rose)) (memory r.verb r.pairs I)

@@ -1,0 +1,16 @@
+mod Gives
+mod Answered
+mod Requests
+mod Held
+mod ParsedInstances
+mod TrimmedTexts
+mod Promises
+mod Refusals
+mod Solving
+mod Finding
+mod Read
+mod Reported
+mod Headline
+mod Served
+mod Concluded
+mod Accepting

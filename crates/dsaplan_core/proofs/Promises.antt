@@ -1,0 +1,40 @@
+-- What a run promises of each outcome of its command.
+use Rattle.std.proofs.Common.{◌≡◌, List, [], ◌∷◌, Ok}
+use Rattle.dsa_terms.specs.Buffers.{Instance}
+use Rattle.dsa_outside.specs.Seen.{FilesSeen}
+use Rattle.csv_instance.specs.Records.{Record}
+use Rattle.command_words.specs.Options.{Word}
+use Rattle.command_words.specs.Pairs.{word_at}
+use Rattle.command_words.specs.Requests.{Request, request_of}
+use Rattle.command_words.specs.declared.option.OptionName.TheVariants as option
+use Rattle.run_course.specs.Course.{Outcome, Write}
+use Rattle.run_course.specs.Answers.{with_writes}
+use Rattle.readings.specs.Opens.{IsInput}
+use Rattle.dsaplan_core.specs.Theorem.{Asked, Headline}
+use Rattle.dsaplan_core.specs.Choice.{Choice}
+use Rattle.dsaplan_core.specs.Lost.{Blames, IsOwnWrite}
+use Rattle.dsaplan_core.specs.Shown.{Tells}
+
+-- all writes are of files that the command writes
+abbrev pub AreOwn : Request → List Write → Type 0
+AreOwn r [] = Unit {0}
+AreOwn r (w ∷ ws) = IsOwnWrite r w × AreOwn r ws
+
+-- what is promised once the outcome is written; its writes are of files that the command writes
+abbrev pub Promises : List Word → FilesSeen → FilesSeen → Request → Outcome → Type 0
+Promises words old new r o = (new.held ≡ with_writes old.held o.writes →
+    Headline words old new o.status × Choice words old new o.status × Tells words old new o.status o.text
+    × Blames words old new o.status)
+    × AreOwn r o.writes
+
+-- what the words ask for, with the instance of the input
+abbrev pub asked : (words : List Word) (old : FilesSeen) (r : Request) → request_of words ≡ Ok r →
+    (table : List Record) (I : Instance) → IsInput old (word_at r.pairs option.Input) table I → Asked words old
+asked words old r is table I input = record {
+  verb = r.verb;
+  pairs = r.pairs;
+  table = table;
+  instance = I;
+  words_ask = is;
+  input = input;
+}

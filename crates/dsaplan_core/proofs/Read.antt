@@ -1,0 +1,111 @@
+-- What the commands promise that judge a layout file or check a log's file.
+use Rattle.std.proofs.Common.{◌≡◌, ◌^◌, ℕ, List, Ok, refl, sym, subst, inl, inr}
+use Rattle.dsa_terms.specs.Logs.{Log}
+use Rattle.dsa_search_laws.proofs.Logs.{accepted_is_infeasible}
+use Rattle.dsa_trim_laws.proofs.Trims.{trimmed_is_accepted}
+use Rattle.dsa_model.proofs.LayoutFaults.{layout_exactly}
+use Rattle.readings.specs.GivenLayouts.{GivesLayout}
+use Rattle.readings.specs.GivenLogs.{HoldsAccepted}
+use Rattle.readings.specs.Judging.{judged}
+use Rattle.readings.specs.Checking.{checked}
+use Rattle.judging.specs.Judging.{ShowsLayout}
+use Rattle.checking.specs.Checking.{trimming}
+use Rattle.dsa_outside.specs.Seen.{FilesSeen}
+use Rattle.command_words.specs.Options.{Word}
+use Rattle.command_words.specs.Pairs.{Pair, word_at, number_at}
+use Rattle.command_words.specs.Requests.{Request, request_of}
+use Rattle.command_words.specs.declared.option.OptionName.TheVariants as option
+use Rattle.command_words.specs.declared.verb.Verb.{Verb}
+use Rattle.command_words.specs.declared.verb.Verb.TheVariants as verb
+use Rattle.run_status.specs.declared.status.Status.TheVariants as status
+use Rattle.run_course.specs.Course.{Comes, Concludes, Ends, Outcome, says}
+use Rattle.dsaplan_core.specs.Courses.{course_with}
+use Rattle.dsaplan_core.specs.Theorem.{Asked}
+use Rattle.dsaplan_core.proofs.Promises.{Promises, asked}
+use Rattle.dsaplan_core.proofs.Refusals.{checked_promises, judged_promises, opened_promises}
+use Rattle.dsaplan_core.specs.Theorem.{GivesLayoutAt, GivesLog}
+use Rattle.dsaplan_core.proofs.ParsedInstances.{parsed_is_instance}
+use Rattle.dsaplan_core.proofs.TrimmedTexts.{trimmed_reads_back}
+
+module _ (words : List Word) (old new : FilesSeen) where
+  abbrev gives_layout : (a : Asked words old) (C : ℕ) (offsets : List ℕ) →
+      GivesLayout old (word_at a.pairs option.Layout) a.table a.instance C offsets → GivesLayoutAt a C
+  gives_layout a C offsets gives = record {
+    bytes = gives.bytes;
+    offsets = offsets;
+    whole = gives.whole;
+    parsed = gives.parsed;
+    layout = (layout_exactly a.instance C offsets).0 gives.legal;
+  }
+
+  gives_log : (a : Asked words old) (log : Log) → HoldsAccepted old (word_at a.pairs option.Log) a.instance log →
+      GivesLog a log
+  gives_log a log holds = record {
+    bytes = holds.bytes;
+    whole = holds.whole;
+    text = holds.text;
+    accepted = holds.accepted;
+    infeasible = accepted_is_infeasible a.instance log (parsed_is_instance a.table a.instance a.input.parsed)
+        holds.accepted;
+  }
+
+  module _ (pairs : List Pair) where
+    abbrev r : Verb → Request
+    r v = record { verb = v; pairs = pairs }
+
+    pub verify_promises : request_of words ≡ Ok (r verb.Verify) → (o : Outcome) →
+        Comes old new (course_with verb.Verify pairs) o → Promises words old new (r verb.Verify) o
+    verify_promises is =
+        let layout = word_at pairs option.Layout in
+        let capacity = number_at pairs option.Capacity in
+        opened_promises words old new (r verb.Verify) (word_at pairs option.Input)
+        (λ table I. judged layout table I capacity (λ offsets. Ends (says status.Right)))
+        (λ table I input. judged_promises words old new (r verb.Verify) layout table I capacity
+        (λ offsets. Ends (says status.Right))
+        (λ offsets gives o comes. subst (Promises words old new (r verb.Verify)) (sym comes.1) (λ files.
+          let a = asked words old (r verb.Verify) is table I input in
+          ((a, refl, gives_layout a capacity offsets gives, files), tt, tt, tt), tt)))
+
+    pub report_promises : request_of words ≡ Ok (r verb.Report) → (o : Outcome) →
+        Comes old new (course_with verb.Report pairs) o → Promises words old new (r verb.Report) o
+    report_promises is =
+        let layout = word_at pairs option.Layout in
+        opened_promises words old new (r verb.Report) (word_at pairs option.Input)
+        (λ table I. judged layout table I (2 ^ 60) (λ offsets. Concludes (ShowsLayout table I offsets)))
+        (λ table I input. judged_promises words old new (r verb.Report) layout table I (2 ^ 60)
+        (λ offsets. Concludes (ShowsLayout table I offsets))
+        (λ offsets gives o comes. subst (Promises words old new (r verb.Report)) (sym comes.1.shown) (λ files.
+          let a = asked words old (r verb.Report) is table I input in
+          (tt, tt, (files, inr (inl (a, record {
+            command = refl;
+            given = gives_layout a (2 ^ 60) offsets gives;
+            its_text = comes.1.its_text;
+          }))), tt), tt)))
+
+    pub refute_promises : request_of words ≡ Ok (r verb.Refute) → (o : Outcome) →
+        Comes old new (course_with verb.Refute pairs) o → Promises words old new (r verb.Refute) o
+    refute_promises is =
+        let name = word_at pairs option.Log in
+        opened_promises words old new (r verb.Refute) (word_at pairs option.Input)
+        (λ table I. checked name I (λ log. says (status.Accepted log.capacity)))
+        (λ table I input. checked_promises words old new (r verb.Refute) name I
+        (λ log. says (status.Accepted log.capacity))
+        (λ log holds. (λ files.
+          let a = asked words old (r verb.Refute) is table I input in
+          ((a, refl, (log, gives_log a log holds, refl), files), tt, tt, tt), tt)))
+
+    pub trim_promises : request_of words ≡ Ok (r verb.Trim) → (o : Outcome) →
+        Comes old new (course_with verb.Trim pairs) o → Promises words old new (r verb.Trim) o
+    trim_promises is =
+        let name = word_at pairs option.Log in
+        let output = word_at pairs option.Output in
+        opened_promises words old new (r verb.Trim) (word_at pairs option.Input)
+        (λ table I. checked name I (trimming output))
+        (λ table I input. checked_promises words old new (r verb.Trim) name I (trimming output)
+        (λ log holds. (λ files.
+          let a = asked words old (r verb.Trim) is table I input in
+          ((a, refl, (log, gives_log a log holds, refl, refl, record {
+            accepted = trimmed_is_accepted I log holds.accepted;
+            readable = trimmed_reads_back I log holds.bytes holds.accepted holds.text;
+            files = files;
+          })), tt, tt, tt), ((inl refl, refl), tt))))

@@ -1,0 +1,51 @@
+-- What the commands promise that print the facts of an instance.
+use Rattle.std.proofs.Common.{◌≡◌, List, Ok, refl, sym, subst, inl, inr}
+use Rattle.fact_reports.specs.Reporting.{ShowsFacts}
+use Rattle.dsa_outside.specs.Seen.{FilesSeen}
+use Rattle.command_words.specs.Options.{Word}
+use Rattle.command_words.specs.Pairs.{Pair, word_at}
+use Rattle.command_words.specs.Requests.{Request, request_of}
+use Rattle.command_words.specs.declared.option.OptionName.TheVariants as option
+use Rattle.command_words.specs.declared.verb.Verb.{Verb}
+use Rattle.command_words.specs.declared.verb.Verb.TheVariants as verb
+use Rattle.run_course.specs.Course.{Comes, Concludes, Outcome}
+use Rattle.dsaplan_core.specs.Courses.{course_with}
+use Rattle.dsaplan_core.proofs.Promises.{Promises, asked}
+use Rattle.dsaplan_core.proofs.Gives.{trial_gives}
+use Rattle.dsaplan_core.proofs.Refusals.{opened_promises}
+use Rattle.dsaplan_core.specs.Courses.{trial_of}
+
+module _ (words : List Word) (old new : FilesSeen) (pairs : List Pair) where
+  abbrev r : Verb → Request
+  r v = record { verb = v; pairs = pairs }
+
+  pub bounds_promises : request_of words ≡ Ok (r verb.Bounds) → (o : Outcome) →
+      Comes old new (course_with verb.Bounds pairs) o → Promises words old new (r verb.Bounds) o
+  bounds_promises is = opened_promises words old new (r verb.Bounds) (word_at pairs option.Input)
+      (λ table I. Concludes (ShowsFacts I))
+      (λ table I input o comes. subst (Promises words old new (r verb.Bounds)) (sym comes.1.shown) (λ files.
+        let a = asked words old (r verb.Bounds) is table I input in
+        (tt, tt, (files, inl (a, record {
+          command = refl;
+          facts = comes.1.facts;
+          true_facts = comes.1.true_facts;
+          its_text = refl;
+        })), tt), tt))
+
+  pub trial_promises : request_of words ≡ Ok (r verb.Trial) → (o : Outcome) →
+      Comes old new (course_with verb.Trial pairs) o → Promises words old new (r verb.Trial) o
+  trial_promises is = trial_gives old new (Promises words old new (r verb.Trial)) (trial_of pairs)
+      (λ many. (λ files. (tt, tt, tt, tt), tt))
+      (λ few o shows. subst (Promises words old new (r verb.Trial)) (sym shows.shown)
+      (λ files. (tt, tt, (files, inr (inr (record {
+        pairs = pairs;
+        instance = shows.instance;
+        facts = shows.facts;
+        verdict = shows.verdict;
+        asked = is;
+        few = few;
+        made = shows.made;
+        true_facts = shows.true_facts;
+        true_verdict = shows.true_verdict;
+        its_text = refl;
+      }))), tt), tt))

@@ -1,0 +1,91 @@
+-- The names of a request: they are of its files, and differ from each other.
+use Rattle.std.proofs.Common.{◌≡◌, ◌≢◌, Bool, true, false, List, [], ◌∷◌, ◌++◌, map, Option, None, Some, Ok, Err, bytes_eq, refl, ap, subst, inl, inr}
+use Rattle.std.specs.Option.{option_map_or}
+use Rattle.std.proofs.lemmas.Slice.Eq.{bytes_eq-Decides}
+use Rattle.dsa_terms.specs.Claims.{IsIn}
+use Rattle.dsa_terms.specs.Firsts.{when, first_fault}
+use Rattle.dsa_terms.proofs.Moments.{or_false}
+use Rattle.command_words.specs.Options.{Word}
+use Rattle.command_words.specs.Forms.{form_of, verb_of}
+use Rattle.command_words.specs.Pairs.{Pair, has_equal, pairs_of, word_at}
+use Rattle.command_words.specs.Requests.{Request, names_of, request_fault, request_of, request_or_fault}
+use Rattle.command_words.specs.declared.option.OptionName.{OptionName}
+use Rattle.command_words.specs.declared.option.OptionName.TheVariants as option
+use Rattle.command_words.specs.declared.verb.Verb.{Verb}
+use Rattle.command_words.specs.declared.verb.Verb.TheVariants as verb
+use Rattle.command_words.specs.declared.fault.UsageFault.{UsageFault}
+use Rattle.command_words.specs.declared.fault.UsageFault.TheVariants as fault
+
+-- ---- names that differ
+-- no fault comes before a request
+no_fault : (o : Option UsageFault) (a r : Request) → option_map_or Err o (Ok a) ≡ Ok r → (o ≡ None) × (a ≡ r)
+no_fault None a r is = (refl, cc)
+no_fault (Some f) a r is = absurd cc
+
+-- where none of three comes, the test of the last does not hold
+not_last : (p m : Option UsageFault) (b : Bool) (f : UsageFault) → first_fault (p ∷ m ∷ when b f ∷ []) ≡ None →
+    b ≡ false
+not_last (Some p) m b f is = absurd cc
+not_last None (Some m) b f is = absurd cc
+not_last None None true f is = absurd cc
+not_last None None false f is = refl
+
+with_verb : (v : Option Verb) (pairs : List Pair) (r : Request) → request_or_fault v pairs ≡ Ok r →
+    has_equal (names_of r) ≡ false
+with_verb None pairs r is = absurd cc
+with_verb (Some v) pairs r is =
+    let a : Request = record { verb = v; pairs = pairs } in
+    let parts = no_fault (request_fault a) a r is in
+    subst (λ (x : Request). has_equal (names_of x) ≡ false) parts.1
+    (not_last _ _ (has_equal (names_of a)) fault.SameName parts.0)
+
+-- no two files of a request have equal names
+pub names_differ : (words : List Word) (r : Request) → request_of words ≡ Ok r → has_equal (names_of r) ≡ false
+names_differ [] r is = absurd cc
+names_differ (word ∷ words) r is = with_verb (verb_of word) (pairs_of words) r is
+
+last_two : (input output log : Word) → has_equal (input ∷ output ∷ log ∷ []) ≡ false → output ≢ log
+last_two input output log is same =
+    let rest = (or_false _ (has_equal (output ∷ log ∷ [])) is).1 in
+    let one = (or_false (bytes_eq output log) false (or_false _ (has_equal (log ∷ [])) rest).0).0 in
+    let other = (bytes_eq-Decides output log).1 same in
+    cc
+
+-- the output and the log of a command that writes both have different names
+pub solve_apart : (words : List Word) (pairs : List Pair) →
+    request_of words ≡ Ok (record { verb = verb.Solve; pairs = pairs }) →
+    word_at pairs option.Output ≢ word_at pairs option.Log
+solve_apart words pairs is = last_two (word_at pairs option.Input) (word_at pairs option.Output) (word_at pairs option.Log)
+    (names_differ words (record { verb = verb.Solve; pairs = pairs }) is)
+
+pub least_apart : (words : List Word) (pairs : List Pair) →
+    request_of words ≡ Ok (record { verb = verb.Least; pairs = pairs }) →
+    word_at pairs option.Output ≢ word_at pairs option.Log
+least_apart words pairs is = last_two (word_at pairs option.Input) (word_at pairs option.Output) (word_at pairs option.Log)
+    (names_differ words (record { verb = verb.Least; pairs = pairs }) is)
+
+-- ---- names of files
+in_front : {X : Type 0} (x : X) (xs ys : List X) → IsIn x xs → IsIn x (xs ++ ys)
+in_front x [] ys is = absurd is
+in_front x (y ∷ xs) ys (inl same) = inl same
+in_front x (y ∷ xs) ys (inr is) = inr (in_front x xs ys is)
+
+in_back : {X : Type 0} (x : X) (xs ys : List X) → IsIn x ys → IsIn x (xs ++ ys)
+in_back x [] ys is = is
+in_back x (y ∷ xs) ys is = inr (in_back x xs ys is)
+
+in_map : {X Y : Type 0} (f : X → Y) (x : X) (xs : List X) → IsIn x xs → IsIn (f x) (map f xs)
+in_map f x [] is = absurd is
+in_map f x (y ∷ xs) (inl same) = inl (ap f same)
+in_map f x (y ∷ xs) (inr is) = inr (in_map f x xs is)
+
+-- a file that the command reads has a name of the request
+pub read_named : (r : Request) (o : OptionName) → IsIn o (form_of r.verb).reads → IsIn (word_at r.pairs o) (names_of r)
+read_named r o is = in_map (word_at r.pairs) o ((form_of r.verb).reads ++ (form_of r.verb).writes)
+    (in_front o (form_of r.verb).reads (form_of r.verb).writes is)
+
+-- a file that the command writes has one too
+pub write_named : (r : Request) (o : OptionName) → IsIn o (form_of r.verb).writes →
+    IsIn (word_at r.pairs o) (names_of r)
+write_named r o is = in_map (word_at r.pairs) o ((form_of r.verb).reads ++ (form_of r.verb).writes)
+    (in_back o (form_of r.verb).reads (form_of r.verb).writes is)

@@ -1,0 +1,51 @@
+-- What is left where a file could not be written.
+use Rattle.std.specs.Prelude.{◌≡◌, ◌∷◌, ◌++◌, List, Ok}
+use Rattle.dsa_terms.specs.Claims.{IsIn}
+use Rattle.dsa_outside.specs.Held.{without_file}
+use Rattle.dsa_outside.specs.Seen.{FilesSeen}
+use Rattle.dsa_model.specs.Counts.{Rose}
+use Rattle.command_words.specs.Options.{Word}
+use Rattle.command_words.specs.Forms.{form_of}
+use Rattle.command_words.specs.Pairs.{word_at}
+use Rattle.command_words.specs.Requests.{Request, request_of}
+use Rattle.command_words.specs.declared.option.OptionName.{OptionName}
+use Rattle.command_words.specs.declared.option.OptionName.TheVariants as option
+use Rattle.run_status.specs.declared.status.Status.{Status}
+use Rattle.run_status.specs.declared.status.Status.TheVariants.{WriteFault}
+use Rattle.run_status.specs.declared.status.Role.{Role}
+use Rattle.run_status.specs.declared.status.Role.TheVariants as role
+use Rattle.run_course.specs.Course.{Comes, Outcome, Write}
+use Rattle.run_course.specs.Answers.{with_writes}
+use Rattle.dsaplan_core.specs.Courses.{course_with}
+
+-- the option that names the file of the role
+abbrev pub option_of_role : Role → OptionName
+option_of_role role.Input = option.Input
+option_of_role role.Layout = option.Layout
+option_of_role role.Log = option.Log
+option_of_role role.Output = option.Output
+
+-- the write is of a file that the command writes, under the name that the words give it
+abbrev pub IsOwnWrite : Request → Write → Type 0
+IsOwnWrite r w = IsIn (option_of_role w.role) (form_of r.verb).writes × (w.name ≡ word_at r.pairs (option_of_role w.role))
+
+-- the command came to an outcome whose writes were made up to that of the role, which failed: the number of its own
+-- name rose, nothing is known of what that file holds, and all others hold what the writes before it leave
+pub record LosesFile (words : List Word) (old new : FilesSeen) (role : Role) : Type 0 where
+  pub request : Request
+  pub outcome : Outcome
+  pub made : List Write
+  pub lost : Write
+  pub rest : List Write
+  pub asked : request_of words ≡ Ok request
+  pub comes : Comes old new (course_with request.verb request.pairs) outcome
+  pub order : outcome.writes ≡ made ++ (lost ∷ rest)
+  pub its_role : lost.role ≡ role
+  pub own : IsOwnWrite request lost
+  pub rose : Rose (old.faults lost.name) (new.faults lost.name)
+  pub others : without_file new.held lost.name ≡ without_file (with_writes old.held made) lost.name
+
+-- which write a status blames
+abbrev pub Blames : List Word → FilesSeen → FilesSeen → Status → Type 0
+Blames words old new (WriteFault role) = LosesFile words old new role
+Blames words old new status = Unit {0}
