@@ -3,9 +3,9 @@ use Rattle.std.specs.Prelude.{List, [], ◌∷◌, ◌++◌, codes, Option, find
 use Rattle.std.specs.Str.{bytes_eq}
 use Rattle.command_words.specs.Options.{Word, option_word}
 use Rattle.command_words.specs.declared.option.OptionName.{OptionName}
-use Rattle.command_words.specs.declared.option.OptionName.TheVariants.{Capacity, Input, Output, Log, Layout, Trace, Steps, Seed, Count}
+use Rattle.command_words.specs.declared.option.OptionName.TheVariants.{Capacity, Input, Output, Log, Layout, Steps, Seed, Count}
 use Rattle.command_words.specs.declared.verb.Verb.{Verb}
-use Rattle.command_words.specs.declared.verb.Verb.TheVariants.{Solve, Least, Verify, Refute, Trim, Bounds, Report, Trial, Import, Classes, Core, Draw}
+use Rattle.command_words.specs.declared.verb.Verb.TheVariants.{Solve, Least, Verify, Refute, Trim, Bounds, Report, Trial, Classes, Core}
 use Rattle.command_words.specs.declared.form.Form as written
 
 -- the words of a command: its own; the options that it needs, in the order in which they are missed; those that it can
@@ -19,7 +19,7 @@ pub record Form : Type 0 where
 
 -- the commands that there are
 abbrev pub verbs : List Verb
-verbs = Solve ∷ Least ∷ Verify ∷ Refute ∷ Trim ∷ Bounds ∷ Report ∷ Trial ∷ Import ∷ Classes ∷ Core ∷ Draw ∷ []
+verbs = Solve ∷ Least ∷ Verify ∷ Refute ∷ Trim ∷ Bounds ∷ Report ∷ Trial ∷ Classes ∷ Core ∷ []
 
 -- the form of each command
 abbrev pub form_of : Verb → Form
@@ -79,13 +79,6 @@ form_of Trial = record {
   reads = [];
   writes = [];
 }
-form_of Import = record {
-  word = codes "import";
-  needed = Trace ∷ Output ∷ [];
-  optional = [];
-  reads = Trace ∷ [];
-  writes = Output ∷ [];
-}
 form_of Classes = record {
   word = codes "classes";
   needed = Input ∷ Output ∷ [];
@@ -99,13 +92,6 @@ form_of Core = record {
   optional = [];
   reads = Input ∷ [];
   writes = Output ∷ Log ∷ [];
-}
-form_of Draw = record {
-  word = codes "draw";
-  needed = Input ∷ Layout ∷ Output ∷ [];
-  optional = [];
-  reads = Input ∷ Layout ∷ [];
-  writes = Output ∷ [];
 }
 
 -- what the code's form stands for

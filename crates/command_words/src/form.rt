@@ -25,7 +25,7 @@ impl Verb {
     pub(crate) fn form(self) -> Form
         ensures { form_value result ≡ form_of self }
     {
-        use OptionName::{Capacity, Count, Input, Layout, Log, Output, Seed, Steps, Trace};
+        use OptionName::{Capacity, Count, Input, Layout, Log, Output, Seed, Steps};
         match self {
             Verb::Solve => Form {
                 word: "solve",
@@ -83,13 +83,6 @@ impl Verb {
                 reads: &[],
                 writes: &[],
             },
-            Verb::Import => Form {
-                word: "import",
-                needed: &[Trace, Output],
-                optional: &[],
-                reads: &[Trace],
-                writes: &[Output],
-            },
             Verb::Classes => Form {
                 word: "classes",
                 needed: &[Input, Output],
@@ -103,13 +96,6 @@ impl Verb {
                 optional: &[],
                 reads: &[Input],
                 writes: &[Output, Log],
-            },
-            Verb::Draw => Form {
-                word: "draw",
-                needed: &[Input, Layout, Output],
-                optional: &[],
-                reads: &[Input, Layout],
-                writes: &[Output],
             },
         }
     }

@@ -16,8 +16,6 @@ pub enum OptionName {
     Log,
     /// `--layout`: the name of a layout file.
     Layout,
-    /// `--trace`: the name of a trace.
-    Trace,
     /// `--steps`: a budget in units, each a claim that is opened.
     Steps,
     /// `--seed`: the seed of a made instance.
@@ -37,7 +35,6 @@ impl OptionName {
             OptionName::Output => "--output",
             OptionName::Log => "--log",
             OptionName::Layout => "--layout",
-            OptionName::Trace => "--trace",
             OptionName::Steps => "--steps",
             OptionName::Seed => "--seed",
             OptionName::Count => "--count",
@@ -52,8 +49,7 @@ impl OptionName {
             OptionName::Input
             | OptionName::Output
             | OptionName::Log
-            | OptionName::Layout
-            | OptionName::Trace => true,
+            | OptionName::Layout => true,
             OptionName::Capacity | OptionName::Steps | OptionName::Seed | OptionName::Count => {
                 false
             }

@@ -29,19 +29,15 @@ pub enum Verb {
     /// `trial --seed S --count N --steps K`: make an instance of so many buffers from the seed, and
     /// look for its least capacity within the budget.
     Trial,
-    /// `import --trace T --output O`: make an instance of a recorded run of allocations.
-    Import,
     /// `classes --input I --output O`: write a plan by size class.
     Classes,
     /// `core --capacity C --input I --output O --log L`: write an irreducible set of buffers that
     /// do not fit within the capacity.
     Core,
-    /// `draw --input I --layout A --output P`: write a picture of a layout.
-    Draw,
 }
 
 /// The commands that there are.
-const VERBS: [Verb; 12] = [
+const VERBS: [Verb; 10] = [
     Verb::Solve,
     Verb::Least,
     Verb::Verify,
@@ -50,10 +46,8 @@ const VERBS: [Verb; 12] = [
     Verb::Bounds,
     Verb::Report,
     Verb::Trial,
-    Verb::Import,
     Verb::Classes,
     Verb::Core,
-    Verb::Draw,
 ];
 
 impl Verb {
