@@ -65,9 +65,9 @@ wrong_code : code_of (status.Wrong (wrong.Layout (layout.Above 3))) ≡ 1
 wrong_code = refl
 
 -- ---- neither
-open : line (status.Open 4 5) ≡ codes "open 4 5\n"
+stays_open : line (status.Open 4 5) ≡ codes "open 4 5\n"
 unfolding digits
-open = refl
+stays_open = refl
 
 open_code : code_of (status.Open 4 5) ≡ 2
 open_code = refl
