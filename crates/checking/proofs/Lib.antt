@@ -1,1 +1,2 @@
 mod TrimmedLogs
+mod ExampleFacts

@@ -3,3 +3,4 @@ mod ExampleFacts
 pub mod NameLemmas
 pub mod PairLemmas
 pub mod RequestLemmas
+mod TextFacts

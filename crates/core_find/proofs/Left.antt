@@ -89,7 +89,8 @@ rest_fits I C b (x ∷ xs) kept ms r (inr h) i = elim (rest_fits I C b xs (kept 
         ]
 
     last : IsIn b (x ∷ []) → IsFeasible (some_of I (without b ms)) C
-    last (inl e) = fewer_fit I C (without b ms) (kept ++ xs) (rises-filter_numbers (λ c. not (c == b)) ms r) (others e) h.0
+    last (inl e) =
+        fewer_fit I C (without b ms) (kept ++ xs) (rises-filter_numbers (λ c. not (c == b)) ms r) (others e) h.0
     last (inr z) = absurd z
 
 -- ---- the core

@@ -40,4 +40,5 @@ pub all_left_out : (old new : List (List ℕ)) (place n : ℕ) → length old �
 all_left_out old new place n end h =
     ext_get_or [] new (map (λ (rest : List ℕ). remove rest (place - 1)) old) (h.count ∙ sym (length-map old _))
     (λ k lt. let there : k < length old = rw (← h.count) lt in
-    h.done k (omega (arith, end, there)) ∙ sym (get_or-map (λ (rest : List ℕ). remove rest (place - 1)) old k [] [] there))
+    h.done k (omega (arith, end, there))
+    ∙ sym (get_or-map (λ (rest : List ℕ). remove rest (place - 1)) old k [] [] there))

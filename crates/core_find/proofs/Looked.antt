@@ -90,7 +90,8 @@ drop_next I C members fewer rests less place lt few none is h = rw is record {
           some_removed I (remove members k) (place - 1) earlier,
           get_or-map (λ (rest : List ℕ). remove rest (place - 1)) rests k [] [] there,
         )
-        (removed_layout (some_of I (remove members k)) C (place - 1) (slice_index_or rests k []) within (h.rests.each k lk))
+        (removed_layout (some_of I (remove members k)) C (place - 1) (slice_index_or rests k []) within
+        (h.rests.each k lk))
 
     rest : (ms : List ℕ) → IsLeft I C (take place fewer) (drop place fewer) ms →
         IsLeft I C (take place members) (drop (place + 1) members) ms

@@ -103,7 +103,8 @@ about (m ∷ ms) zero lt = refl
 about (m ∷ ms) (suc p) lt = ap (λ (xs : List ℕ). m ∷ xs) (about ms p (omega arith))
 
 pub rises_removed : (ms : List ℕ) (p : ℕ) → p < length ms → Rises ms → Rises (remove ms p)
-rises_removed ms p lt r = rises_without (take p ms) (drop (suc p) ms) (slice_index_or ms p 0) (subst Rises (about ms p lt) r)
+rises_removed ms p lt r =
+    rises_without (take p ms) (drop (suc p) ms) (slice_index_or ms p 0) (subst Rises (about ms p lt) r)
 
 pub all_removed : {X : Type 0} (P : X → Type 0) (xs : List X) (p : ℕ) → p < length xs → All P xs → All P (remove xs p)
 all_removed P xs p lt all k d lk =

@@ -31,7 +31,8 @@ at_place k (m ∷ ms) i = go (at_place k ms) (m == k) refl i
     go ih false e (inl q) = absurd (differ m k e (sym q))
     go ih false e (inr j) = let r = ih j in ((let lt = r.0 in omega arith), r.1)
 
-pub rises_at : (ks : List ℕ) (i j : ℕ) → Rises ks → i < j → j < length ks → slice_index_or ks i 0 < slice_index_or ks j 0
+pub rises_at : (ks : List ℕ) (i j : ℕ) → Rises ks → i < j → j < length ks →
+    slice_index_or ks i 0 < slice_index_or ks j 0
 rises_at [] i j r lt within = absurd (omega arith)
 rises_at (k ∷ ks) i zero r lt within = absurd (omega arith)
 rises_at (k ∷ ks) zero (suc j) r lt within = r.0 (slice_index_or ks j 0) (in_at ks j 0 (omega arith))
@@ -160,7 +161,8 @@ all_from J [] a h = refl
 all_from J (b ∷ I) a h =
     let first : slice_index_or J (a + 0) no_buffer ≡ b = h 0 (omega arith) in
     let here : slice_index_or J a no_buffer ≡ b = rw (plus_zero a) at first in
-    rw here (ap (λ (xs : List Buffer). b ∷ xs) (all_from J I (a + 1) (λ i lt. rw (plus_one a i) (h (suc i) (omega arith)))))
+    rw here (ap (λ (xs : List Buffer). b ∷ xs) (all_from J I (a + 1)
+    (λ i lt. rw (plus_one a i) (h (suc i) (omega arith)))))
   where
     plus_zero : (a : ℕ) → a + 0 ≡ a
     plus_zero a = omega arith

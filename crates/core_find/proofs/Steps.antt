@@ -53,8 +53,8 @@ left_items v old new f is e =
     with_items_is v new (sym (length-map new (λ (w : Vec ℕ). w.items)) ∙ ap length e ∙ length-map (rests_of old) f
     ∙ length-map old (λ (w : Vec ℕ). w.items) ∙ ap length is ∙ sym v.ok.0)
 
-pub drop_looked : (I : Instance) (C : ℕ) (members fewer : List ℕ) (v : Vec (Vec ℕ)) (old new : List (Vec ℕ)) (place : ℕ) →
-    place ≡ length v.items → length v.items < length members → fewer ≡ remove members place →
+pub drop_looked : (I : Instance) (C : ℕ) (members fewer : List ℕ) (v : Vec (Vec ℕ)) (old new : List (Vec ℕ))
+    (place : ℕ) → place ≡ length v.items → length v.items < length members → fewer ≡ remove members place →
     IsInfeasible (some_of I fewer) C → old ≡ v.items →
     rests_of new ≡ map (λ (rest : List ℕ). remove rest (place - 1)) (rests_of old) →
     IsLooked I C members (rests_of v.items) (length v.items) →

@@ -31,6 +31,7 @@ fn stacked(alloc: Global, instance: &Instance) -> Result<Vec<u64>, NoMemory> {
 fn over_all(alloc: Global, instance: &Instance) -> Result<Line, NoMemory>
     ensures { IfOk result (λ line. IsWithin (line_value line)) }
 {
+    let _count = instance.len();
     let members = all_members(alloc, instance)?;
     let claim = Claim::whole(alloc, &members)?;
     Ok(Line::Over {
@@ -80,8 +81,9 @@ impl Ask for Stacker {
     }
 }
 
-/// What is found of buffers of these sizes, all live at moment 0.
-fn found(alloc: Global, sizes: &[u64], capacity: u64) -> Result<Found, NoMemory>
+/// The members of the core of buffers of these sizes, all live at moment 0, and none where they
+/// fit.
+fn core_members(alloc: Global, sizes: &[u64], capacity: u64) -> Result<Vec<u32>, NoMemory>
     requires { capacity ≤ 2 ^ 60 }
 {
     let mut instance = Instance::new(alloc);
@@ -93,29 +95,23 @@ fn found(alloc: Global, sizes: &[u64], capacity: u64) -> Result<Found, NoMemory>
             instance.push(buffer)?;
         }
     }
-    find_core(alloc, &instance, capacity, &mut Stacker)
+    match find_core(alloc, &instance, capacity, &mut Stacker)? {
+        Found::Fits(_offsets) => Ok(Vec::new(alloc)),
+        Found::Core(core) => Ok(core.members),
+    }
 }
 
 #[test]
 fn buffers_are_dropped_in_order_while_the_others_do_not_fit(rt: HostRuntime) {
     let alloc = rt.alloc();
-    let rows: [([u64; 4], u64, &[u32]); 3] = [
+    let rows: [([u64; 4], u64, &[u32]); 4] = [
+        ([4, 4, 4, 4], 16, &[]),
         ([4, 4, 4, 4], 11, &[1, 2, 3]),
         ([9, 1, 1, 1], 8, &[0]),
         ([1, 3, 5, 3], 7, &[2, 3]),
     ];
-    for (sizes, capacity, members) in rows {
-        match found(alloc, &sizes, capacity) {
-            Ok(Found::Core(core)) => {
-                assert_eq!(rt; core.members.as_slice(), members);
-                assert_eq!(rt; core.log.count() as usize, members.len());
-                assert_eq!(rt; core.rests.len(), members.len());
-            }
-            _ => assert!(rt; false, "no core at {capacity}"),
-        }
-    }
-    match found(alloc, &[4, 4, 4], 12) {
-        Ok(Found::Fits(offsets)) => assert_eq!(rt; offsets.as_slice(), [0, 4, 8].as_slice()),
-        _ => assert!(rt; false, "no layout"),
+    for (sizes, capacity, want) in rows {
+        let members = core_members(alloc, &sizes, capacity).expect(&rt, "memory");
+        assert_eq!(rt; members.as_slice(), want, "at {capacity}");
     }
 }

@@ -19,3 +19,4 @@ pub mod OffsetRows
 pub mod SomeRows
 pub mod SomeBack
 mod KeptFacts
+mod TextFacts

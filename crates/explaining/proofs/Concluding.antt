@@ -1,15 +1,22 @@
 -- From what is prepared to what is concluded.
-use Rattle.std.proofs.Common.{◌≡◌, ◌⊎◌, inl, inr, ℕ, List, Result, Ok, Err, IfOk, sym, subst}
+use Rattle.std.proofs.Common.{◌≡◌, ◌⊎◌, inl, inr, ℕ, List, [], ◌∷◌, length, ap, ◌∙◌, Result, Ok, Err, IfOk, sym, subst}
 use Rattle.dsa_terms.specs.Buffers.{Instance}
 use Rattle.dsa_terms.specs.Layouts.{IsFeasible}
+use Rattle.dsa_terms.specs.Logs.{IsAccepted, Log}
+use Rattle.dsa_model.specs.Chosen.{some_of}
 use Rattle.dsa_model.specs.declared.fail.NoMemory.{NoMemory}
-use Rattle.csv_instance.specs.Records.{Record}
+use Rattle.csv_instance.specs.Records.{Record, table_of}
+use Rattle.csv_instance.specs.Chosen.{chosen_text}
+use Rattle.csv_instance.specs.Parse.{parse}
+use Rattle.core_find.specs.Cores.{IsCore}
+use Rattle.core_find.proofs.Left.{core_does_not_fit, core_rest_fits}
 use Rattle.run_status.specs.Spoken.{IsSpoken}
 use Rattle.run_status.specs.declared.status.Status.TheVariants as status
-use Rattle.run_course.specs.Course.{Outcome, says}
+use Rattle.run_course.specs.Course.{Outcome, Write, says, writes}
 use Rattle.run_course.specs.Prepares.{outcome_of}
 use Rattle.run_course.specs.declared.prepared.Prepared.{Prepared}
-use Rattle.explaining.specs.Explaining.{Core, ExplainsOrFits}
+use Rattle.writings.specs.Writings.{ReadsBack, log_file}
+use Rattle.explaining.specs.Explaining.{Core, ExplainsOrFits, rows_file}
 
 pub explains_spoken : (k : Core) (table : List Record) (I : Instance) (o : Outcome) → ExplainsOrFits k table I o →
     IsSpoken o.status
@@ -22,3 +29,28 @@ pub fit : (k : Core) (table : List Record) (I : Instance) (r : Result Prepared N
     IfOk r (λ p. ExplainsOrFits k table I (outcome_of p))
 fit k table I (Ok p) feasible told = inr (record { feasible = feasible; told = told })
 fit k table I (Err e) feasible told = tt
+
+-- the core is written
+module _ (k : Core) (table : List Record) (I : Instance) (members : List ℕ) (refutation : Log) (rows log : Write)
+    (core : IsCore I k.capacity members) (accepted : IsAccepted (some_of I members) refutation)
+    (its_capacity : refutation.capacity ≡ k.capacity)
+    (parsed : parse (table_of (chosen_text table members)) ≡ Ok (some_of I members)) (readable : ReadsBack refutation)
+    (its_rows : rows ≡ rows_file k.output table members) (its_log : log ≡ log_file k.log refutation) where
+  pub explains : (r : Result Prepared NoMemory) →
+      IfOk r (λ p. outcome_of p ≡ writes (rows ∷ log ∷ []) (status.Core (length members))) →
+      IfOk r (λ p. ExplainsOrFits k table I (outcome_of p))
+  explains (Ok p) is = inl (record {
+    members = members;
+    refutation = refutation;
+    core = core;
+    parsed = parsed;
+    accepted = accepted;
+    its_capacity = its_capacity;
+    infeasible = core_does_not_fit I k.capacity members core;
+    rests = λ b among. core_rest_fits I k.capacity b members core among;
+    readable = readable;
+    written = is
+        ∙ ap (λ (w : Write). writes (w ∷ log ∷ []) (status.Core (length members))) its_rows
+        ∙ ap (λ (w : Write). writes (rows_file k.output table members ∷ w ∷ []) (status.Core (length members))) its_log;
+  })
+  explains (Err e) is = tt

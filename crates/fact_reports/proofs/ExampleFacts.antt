@@ -1,8 +1,8 @@
 -- The reports of two buffers whose best start ends at 5, and whose lower bound and least capacity are 4; and trials.
-use Rattle.std.proofs.Common.{◌≡◌, ◌+◌, ◌≤◌, ℕ, zero, suc, inl, inr, List, [], ◌∷◌, ◌++◌, Option, Some, None, Ok, codes, refl, sym, ap, ◌∙◌, lit≤, arith}
+use Rattle.std.proofs.Common.{◌≡◌, ◌+◌, ◌≤◌, ℕ, zero, suc, inl, inr, [], ◌∷◌, ◌++◌, Some, None, codes, refl, sym, ap, lit≤, arith}
 use Rattle.std.specs.Fmt.{digits}
-use Rattle.dsa_terms.specs.Bounds.{bound_modulus, counted, highest_stack, lower_bound, moduli, moments, rounded_size, stack, stack_log}
-use Rattle.dsa_terms.specs.Buffers.{buffer, is_live}
+use Rattle.dsa_terms.specs.Bounds.{stack_log}
+use Rattle.dsa_terms.specs.Buffers.{buffer, do_share, is_live, some_before}
 use Rattle.dsa_terms.specs.Fits.{best_fit, first_fit}
 use Rattle.dsa_terms.specs.Layouts.{IsLayout}
 use Rattle.dsa_terms.specs.Orders.{orders}
@@ -14,11 +14,9 @@ use Rattle.dsa_terms.proofs.Examples.{plain, small_below}
 use Rattle.dsa_model.proofs.Live.{not_live_after}
 use Rattle.dsa_outside.specs.Seen.{FilesSeen}
 use Rattle.csv_instance.specs.Parse.{parse}
-use Rattle.csv_instance.specs.Records.{table_of}
 use Rattle.layout_report.specs.Facts.{bounds_text}
 use Rattle.layout_report.specs.declared.facts.Facts.{Facts}
 use Rattle.load_profile.specs.LoadProfile.{IsPeakOf}
-use Rattle.make_instance.specs.Made.{made_text}
 use Rattle.make_instance.proofs.TextLemmas.{table-read}
 use Rattle.planner.specs.InstanceFacts.{AreFactsOf}
 use Rattle.planner.specs.LeastCapacity.{IsLayoutWithin}
@@ -58,7 +56,7 @@ abbrev below_facts : Facts
 below_facts = record { buffers = 2; peak = Some (0, 4); parts = 1; bound = 4; modulus = 1; best = 5 }
 
 one_part : AreFactsOf small_below below_facts
-unfolding parts part_of last_cut is_cut
+unfolding parts part_of last_cut is_cut do_share some_before is_live buffer
 one_part = record {
   buffers = refl;
   peak = below_peak;

@@ -1,7 +1,10 @@
 -- Reports that are shown, as what the courses come to.
-use Rattle.std.proofs.Common.{◌≡◌, ◌<◌, ◌≤◌, ◌++◌, ℕ, List, Ok, Err, Result, IfOk, Bool, true, false, nat_lt, refl, sym, subst, ap, ◌∙◌}
+use Rattle.std.proofs.Common.{◌≡◌, ◌<◌, ◌≤◌, ℕ, Ok, Err, Result, IfOk, Bool, true, false, nat_lt, sym, subst, arith}
 use Rattle.std.proofs.lemmas.Bool.Decides.{nat_tests}
 use Rattle.dsa_terms.specs.Buffers.{Instance}
+use Rattle.dsa_model.specs.Fails.{IfFault, UnlessNoMemory}
+use Rattle.dsa_model.specs.declared.fail.Fail.{Fail}
+use Rattle.dsa_model.specs.declared.fail.Fail.TheVariants.{Fault}
 use Rattle.dsa_model.specs.declared.fail.NoMemory.{NoMemory}
 use Rattle.csv_instance.specs.Parse.{buffer_limit}
 use Rattle.dsa_outside.specs.Seen.{FilesSeen}
@@ -12,6 +15,13 @@ use Rattle.run_course.specs.Prepares.{outcome_of}
 use Rattle.run_course.specs.declared.prepared.Prepared.{Prepared}
 use Rattle.fact_reports.specs.Reporting.{ShowsFacts, ShowsTrial, Trial, trial, unless_many}
 
+-- what a clause says of the fault that came
+pub fault_gives : {T E : Type 0} (P : T → Type 0) (Q : E → Type 0) (r : Result T (Fail E)) (f : Fail E) (e : E) →
+    r ≡ Err f → f ≡ Fault e → UnlessNoMemory r P Q → Q e
+fault_gives P Q r f e is f_is said =
+    subst (λ x. IfFault Q x) f_is (subst (λ x. UnlessNoMemory x P Q) is said)
+
+-- each report is spoken
 pub facts_spoken : (I : Instance) (o : Outcome) → ShowsFacts I o → IsSpoken o.status
 facts_spoken I o h = subst (λ (o : Outcome). IsSpoken o.status) (sym h.shown) tt
 
@@ -19,10 +29,10 @@ trial_spoken : (t : Trial) (o : Outcome) → ShowsTrial t o → IsSpoken o.statu
 trial_spoken t o h = subst (λ (o : Outcome). IsSpoken o.status) (sym h.shown) tt
 
 some_many : (count : ℕ) → buffer_limit < count → nat_lt buffer_limit count ≡ true
-some_many count lt = grind (nat_tests, lt)
+some_many count lt = grind (arith, nat_tests, lt)
 
 not_many : (count : ℕ) → count ≤ buffer_limit → nat_lt buffer_limit count ≡ false
-not_many count le = grind (nat_tests, le)
+not_many count le = grind (arith, nat_tests, le)
 
 -- a trial of few buffers is shown
 pub tried : (old new : FilesSeen) (t : Trial) (r : Result Prepared NoMemory) → t.count ≤ buffer_limit →

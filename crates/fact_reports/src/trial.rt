@@ -71,11 +71,7 @@ pub struct Trial {
 }
 
 /// What is shown of the made instance.
-fn tried<'a>(
-    alloc: Global,
-    words: &Trial,
-    instance: &Instance,
-) -> Result<Prepared<'a>, NoMemory>
+fn tried<'a>(alloc: Global, words: &Trial, instance: &Instance) -> Result<Prepared<'a>, NoMemory>
     requires made { parse (table_of (made_text words.now.seed words.now.count)) ≡ Ok instance.now }
     ensures { IfOk result (λ p. ShowsTrial (trial_of words.now) (outcome_of p)) }
 {

@@ -7,3 +7,4 @@ pub mod AcceptedLogs
 pub mod Ends
 mod ExampleFacts
 mod TakenFacts
+mod TextFacts

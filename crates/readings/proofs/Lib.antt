@@ -3,3 +3,5 @@ pub mod AfterInput
 pub mod JudgedLayouts
 pub mod CheckedLogs
 mod Faulty
+pub mod ExampleFacts
+mod LogFacts

@@ -3,3 +3,4 @@ mod TwoWrites
 mod Performing
 pub mod Silently
 pub mod Concluding
+mod ExampleFacts

@@ -17,8 +17,16 @@ returns g c =
     let h = c.loop-asker.invariant.looked in
     let none = subst (λ D. IsInfeasible I D) c.requires.at (c.refutes.ensures c.args.log c.requires.accepted) in
     let end : length at.members.items ≤ length at.rests.items =
-    omega (arith, c.loop-asker-test.false, c.len.ensures, c.len-in-loop-asker.ensures, at.rests.ok.0, at.members.ok.0) in
-    let all = all_looked I c.args.capacity at.members.items (rests_of at.rests.items) (length at.rests.items) end none h in
+    omega (
+      arith,
+      c.loop-asker-test.false,
+      c.len.ensures,
+      c.len-in-loop-asker.ensures,
+      at.rests.ok.0,
+      at.members.ok.0,
+    ) in
+    let all = all_looked I c.args.capacity at.members.items (rests_of at.rests.items) (length at.rests.items) end none
+    h in
     let log = rw c.deref.ensures.value at c.in_ok-log.ensures in
     record {
       core = all.0;

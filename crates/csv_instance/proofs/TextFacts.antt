@@ -1,0 +1,47 @@
+-- What is printed of the faults of instance files and layout files.
+use Rattle.std.proofs.Common.{◌≡◌, codes, refl}
+use Rattle.std.specs.Fmt.{digits}
+use Rattle.dsa_model.specs.declared.buffer_fault.BufferFault.TheVariants as buffer
+use Rattle.csv_instance.specs.FaultTexts.{instance_text, offsets_text, row_fault_text}
+use Rattle.csv_instance.specs.declared.columns.Column.TheVariants as column
+use Rattle.csv_instance.specs.declared.fault.InstanceFault.TheVariants as instance
+use Rattle.csv_instance.specs.declared.fault.OffsetsFault.TheVariants as offsets
+
+-- ---- instance files
+a_row : row_fault_text 12 (codes "zero size") ≡ codes "row 12 zero size"
+unfolding digits
+a_row = refl
+
+no_header : instance_text instance.NoHeader ≡ codes "no header"
+no_header = refl
+
+duplicate_column : instance_text (instance.DuplicateColumn column.Lower) ≡ codes "duplicate column lower"
+duplicate_column = refl
+
+missing_column : instance_text (instance.MissingColumn column.Size) ≡ codes "missing column size"
+missing_column = refl
+
+duplicate_id : instance_text (instance.DuplicateId 4 1) ≡ codes "row 4 duplicate id 1"
+unfolding digits
+duplicate_id = refl
+
+bad_number : instance_text (instance.BadNumber 0 column.Upper) ≡ codes "row 0 bad number upper"
+unfolding digits
+bad_number = refl
+
+bad_buffer : instance_text (instance.BadBuffer 3 buffer.ZeroSize) ≡ codes "row 3 zero size"
+unfolding digits
+bad_buffer = refl
+
+-- ---- layout files
+unknown_id : offsets_text (offsets.UnknownId 2) ≡ codes "row 2 unknown id"
+unfolding digits
+unknown_id = refl
+
+bad_offset : offsets_text (offsets.BadNumber 0) ≡ codes "row 0 bad number offset"
+unfolding digits
+bad_offset = refl
+
+missing_id : offsets_text (offsets.MissingId 5) ≡ codes "missing id 5"
+unfolding digits
+missing_id = refl

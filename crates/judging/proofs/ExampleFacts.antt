@@ -1,0 +1,41 @@
+-- Two buffers that are both live at 4: at 0 and 2 they overlap, at 0 and 4 they are a layout within 8 bytes.
+use Rattle.std.proofs.Common.{◌≡◌, ◌∙◌, ℕ, ◌<◌, List, Some, codes, refl, slice_index, ap, lit<, arith}
+use Rattle.std.specs.FinMap.{empty, insert}
+use Rattle.dsa_outside.specs.Held.{FileMap, file_at}
+use Rattle.dsa_outside.specs.Seen.{FilesSeen}
+use Rattle.dsa_outside.proofs.Lookups.{file_at-with_file, file_at-with_other}
+use Rattle.dsa_model.specs.declared.layout.LayoutFault.TheVariants as layout
+use Rattle.run_status.specs.declared.status.Status.TheVariants as status
+use Rattle.run_status.specs.declared.status.WrongCause.TheVariants as wrong
+use Rattle.run_course.specs.Course.{Comes, says}
+use Rattle.readings.proofs.ExampleFacts.{high_file, judges_layout, judges_overlap, low_file, opens_two, two_file}
+use Rattle.judging.specs.Judging.{Verify, verify}
+
+-- the input stands in the file i, and the layout in the file a
+abbrev input : FileMap
+input = insert empty (codes "i") two_file
+
+abbrev files : List ℕ → FilesSeen
+files layout = record { held = Some (insert input (codes "a") layout); faults = λ name. 0 }
+
+abbrev within : ℕ → Verify
+within capacity = record { capacity = capacity; input = codes "i"; layout = codes "a" }
+
+i_is_not_a : codes "i" ≡ codes "a" → ⊥
+i_is_not_a e = omega (arith, ap (λ (bytes : List ℕ). slice_index bytes 0) e)
+
+reads_input : (bytes : List ℕ) → file_at (files bytes).held (codes "i") ≡ Some two_file
+reads_input bytes = file_at-with_other (Some input) (codes "a") bytes (codes "i") i_is_not_a
+    ∙ file_at-with_file (Some empty) (codes "i") two_file refl
+
+reads_layout : (bytes : List ℕ) → file_at (files bytes).held (codes "a") ≡ Some bytes
+reads_layout bytes = file_at-with_file (Some input) (codes "a") bytes refl
+
+overlap_at_10 : (new : FilesSeen) → Comes (files low_file) new (verify (within 10))
+    (says (status.Wrong (wrong.Layout (layout.Overlap 0 1 4))))
+overlap_at_10 new = opens_two (files low_file) new (codes "i") _ _ (reads_input low_file)
+    (judges_overlap (files low_file) new (codes "a") _ (reads_layout low_file))
+
+right_at_8 : (new : FilesSeen) → Comes (files high_file) new (verify (within 8)) (says status.Right)
+right_at_8 new = opens_two (files high_file) new (codes "i") _ _ (reads_input high_file)
+    (judges_layout (files high_file) new (codes "a") _ _ (reads_layout high_file) (tt, refl))

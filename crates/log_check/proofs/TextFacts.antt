@@ -1,0 +1,26 @@
+-- What is printed of the faults of a log.
+use Rattle.std.proofs.Common.{◌≡◌, codes, refl}
+use Rattle.std.specs.Fmt.{digits}
+use Rattle.refute_log.specs.declared.reason.Reason.TheVariants as reason
+use Rattle.log_check.specs.FaultTexts.{check_text, count_text, end_fault_text, illegal_text}
+use Rattle.log_check.specs.declared.fault.CheckFault.TheVariants as check
+
+counts : count_text 3 4 ≡ codes "count 3 4"
+unfolding digits
+counts = refl
+
+illegal : illegal_text 6 (codes "not over") ≡ codes "line 6 not over"
+unfolding digits
+illegal = refl
+
+a_bound : end_fault_text 6 2 ≡ codes "end 6 bound 2"
+unfolding digits
+a_bound = refl
+
+illegal_line : check_text (check.Illegal 6 (reason.NotTwin 2)) ≡ codes "line 6 not twin 2"
+unfolding digits
+illegal_line = refl
+
+end_range : check_text (check.EndRange 6) ≡ codes "end 6"
+unfolding digits
+end_range = refl
