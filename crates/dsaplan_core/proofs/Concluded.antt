@@ -20,8 +20,10 @@ use Rattle.readings.specs.Checking.{checked}
 use Rattle.judging.specs.Judging.{ShowsLayout}
 use Rattle.checking.specs.Checking.{trimming}
 use Rattle.fact_reports.specs.Reporting.{ShowsFacts}
+use Rattle.planning.specs.Planning.{Plans}
+use Rattle.explaining.specs.Explaining.{ExplainsOrFits}
 use Rattle.deciding.specs.Deciding.{Finds, Solves}
-use Rattle.dsaplan_core.specs.Courses.{course, course_with, least_of, solve_of, trial_of}
+use Rattle.dsaplan_core.specs.Courses.{classes_of, core_of, course, course_with, least_of, solve_of, trial_of}
 use Rattle.dsaplan_core.specs.Choice.{MayStayOpen}
 use Rattle.dsaplan_core.specs.Complete.{IsConcluded, IsReady, IsUndisturbed}
 use Rattle.dsaplan_core.specs.Lost.{IsOwnWrite, option_of_role}
@@ -41,6 +43,8 @@ memory verb.Trim pairs I = tt
 memory verb.Bounds pairs I = tt
 memory verb.Report pairs I = tt
 memory verb.Trial pairs I = tt
+memory verb.Classes pairs I = tt
+memory verb.Core pairs I = tt
 
 solved : (pairs : List Pair) (table : List Record) (J : Instance) (o : Outcome) → Solves (solve_of pairs) table J o →
     IsConcluded verb.Solve pairs J o.status
@@ -59,6 +63,20 @@ found pairs table J o (inl finds) =
 found pairs table J o (inr left) =
     subst (λ (o : Outcome). IsConcluded verb.Least pairs J o.status) (sym left.written)
     (subst (λ k. MayStayOpen verb.Least pairs k J left.low left.high) (sym left.given) left.short)
+
+planned : (pairs : List Pair) (table : List Record) (J : Instance) (o : Outcome) → Plans (classes_of pairs) table J o →
+    IsConcluded verb.Classes pairs J o.status
+planned pairs table J o (inl plan) =
+    subst (λ (o : Outcome). IsConcluded verb.Classes pairs J o.status) (sym plan.written) plan.plain
+planned pairs table J o (inr rough) =
+    subst (λ (o : Outcome). IsConcluded verb.Classes pairs J o.status) (sym rough.told) rough.rough
+
+explained : (pairs : List Pair) (table : List Record) (J : Instance) (o : Outcome) →
+    ExplainsOrFits (core_of pairs) table J o → IsConcluded verb.Core pairs J o.status
+explained pairs table J o (inl core) =
+    subst (λ (o : Outcome). IsConcluded verb.Core pairs J o.status) (sym core.written) core.core.infeasible
+explained pairs table J o (inr fits) =
+    subst (λ (o : Outcome). IsConcluded verb.Core pairs J o.status) (sym fits.told) (refl, fits.feasible)
 
 module _ (old new : FilesSeen) (before after : SinkSeen) (I : Instance) where
   -- a request whose files are readable and are not disturbed
@@ -111,6 +129,15 @@ module _ (old new : FilesSeen) (before after : SinkSeen) (I : Instance) where
       (λ table. judged_served old new before after I r ready calm (inr (inl refl)) (IsDone verb.Report pairs)
       table (2 ^ 60) (λ offsets. Concludes (ShowsLayout table I offsets)) (λ cause. tt)
       (λ offsets o comes. subst (IsDone verb.Report pairs) (sym comes.1.shown) tt))
+  done verb.Classes pairs (ready, calm) =
+      opened_served old new before after I (record { verb = verb.Classes; pairs = pairs }) ready calm (inl refl)
+      (IsDone verb.Classes pairs)
+      (λ table J. Concludes (Plans (classes_of pairs) table J)) (λ table o comes. planned pairs table I o comes.1)
+  done verb.Core pairs (ready, calm) =
+      opened_served old new before after I (record { verb = verb.Core; pairs = pairs }) ready calm (inl refl)
+      (IsDone verb.Core pairs)
+      (λ table J. Concludes (ExplainsOrFits (core_of pairs) table J))
+      (λ table o comes. explained pairs table I o comes.1)
   done verb.Trial pairs (ready, calm) = trial_gives old new (IsDone verb.Trial pairs) (trial_of pairs)
       (λ many. (refl, many)) (λ few o shows. subst (IsDone verb.Trial pairs) (sym shows.shown) few)
 

@@ -14,3 +14,4 @@ mod Headline
 mod Served
 mod Concluded
 mod Accepting
+mod Explained

@@ -11,6 +11,7 @@ use Rattle.csv_instance.specs.Records.{file_limit, table_of}
 use Rattle.csv_instance.specs.Parse.{parse, buffer_limit}
 use Rattle.log_text.specs.Faults.{IsTextOf}
 use Rattle.log_text.specs.Text.{log_text, raw_log_of}
+use Rattle.size_classes.specs.Plain.{IsPlain, first_rough}
 use Rattle.command_words.specs.Options.{Word}
 use Rattle.command_words.specs.Forms.{form_of}
 use Rattle.command_words.specs.Pairs.{Pair, number_at, word_at}
@@ -58,7 +59,8 @@ pub record IsUndisturbed (r : Request) (old new : FilesSeen) (before after : Sin
   pub sink : ¬ Rose before.faults after.faults
 
 -- the statuses that conclude a command on an instance: a layout where there is one and a refutation where there is
--- none, the least capacity, or neither where the command's steps are too few; or memory ran out
+-- none, the least capacity, or neither where the command's steps are too few; a plan where all buffers are plain, a core
+-- where they do not fit; or memory ran out
 abbrev pub IsConcluded : Verb → List Pair → Instance → Status → Type 0
 IsConcluded verb.Solve pairs I (status.Feasible C) = (C ≡ number_at pairs option.Capacity) × IsFeasible I C
 IsConcluded verb.Solve pairs I (status.Infeasible C) = (C ≡ number_at pairs option.Capacity) × IsInfeasible I C
@@ -77,5 +79,9 @@ IsConcluded verb.Report pairs I (status.Wrong cause) = Unit {0}
 IsConcluded verb.Trial pairs I status.Shown = number_at pairs option.Count ≤ buffer_limit
 IsConcluded verb.Trial pairs I (status.TooMany n) =
     (n ≡ number_at pairs option.Count) × (buffer_limit < number_at pairs option.Count)
+IsConcluded verb.Classes pairs I (status.Classed height load) = IsPlain I
+IsConcluded verb.Classes pairs I (status.NotPlain b) = first_rough I ≡ Some b
+IsConcluded verb.Core pairs I (status.Core count) = IsInfeasible I (number_at pairs option.Capacity)
+IsConcluded verb.Core pairs I (status.NoCore C) = (C ≡ number_at pairs option.Capacity) × IsFeasible I C
 IsConcluded verb pairs I status.NoMemory = Unit {0}
 IsConcluded verb pairs I status = ⊥

@@ -12,6 +12,8 @@ use Rattle.run_course.specs.Course.{Course, Ends, says}
 use Rattle.judging.specs.Judging.{Report, Verify, report, verify}
 use Rattle.checking.specs.Checking.{Refute, Trim, refute, trim}
 use Rattle.fact_reports.specs.Reporting.{Bounds, Trial, bounds, trial}
+use Rattle.planning.specs.Planning.{Classes, classes}
+use Rattle.explaining.specs.Explaining.{Core, core}
 use Rattle.deciding.specs.Deciding.{LeastOf, Solve, least, solve}
 
 -- what the pairs ask of each command
@@ -62,6 +64,17 @@ trial_of pairs = record {
   steps = number_at pairs option.Steps;
 }
 
+abbrev pub classes_of : List Pair → Classes
+classes_of pairs = record { input = word_at pairs option.Input; output = word_at pairs option.Output }
+
+abbrev pub core_of : List Pair → Core
+core_of pairs = record {
+  capacity = number_at pairs option.Capacity;
+  input = word_at pairs option.Input;
+  output = word_at pairs option.Output;
+  log = word_at pairs option.Log;
+}
+
 -- how a command goes
 abbrev pub course_with : Verb → List Pair → Course
 course_with verb.Solve pairs = solve (solve_of pairs)
@@ -72,6 +85,8 @@ course_with verb.Trim pairs = trim (trim_of pairs)
 course_with verb.Bounds pairs = bounds (bounds_of pairs)
 course_with verb.Report pairs = report (report_of pairs)
 course_with verb.Trial pairs = trial (trial_of pairs)
+course_with verb.Classes pairs = classes (classes_of pairs)
+course_with verb.Core pairs = core (core_of pairs)
 
 -- how words go: as their command, or their first fault is told
 abbrev pub course_or_fault : Result Request UsageFault → Course

@@ -1,19 +1,27 @@
 -- The promise of a run in few words. The layout that is written with 'feasible', 'least C' or 'open L H' is aligned,
 -- within its capacity and free of overlap at every moment; with 'infeasible', 'least C' or 'open L H' the written log,
 -- at C - 1 or L - 1 unless C or L is zero, is accepted, and an accepted log means that no layout fits. With 'right' the
--- layout file gives a layout, and with 'accepted' and 'trimmed' the log's file is an accepted log.
+-- layout file gives a layout, and with 'accepted' and 'trimmed' the log's file is an accepted log. 'classes' writes a
+-- plan by size class, and 'core' an irreducible set of buffers that do not fit.
 use Rattle.std.specs.Prelude.{◌≡◌, ◌-◌, ◌≤◌, ◌<◌, ℕ, List, length, IsSome, Some, Ok}
 use Rattle.dsa_terms.specs.Buffers.{Instance}
-use Rattle.dsa_terms.specs.Layouts.{IsLayout, IsInfeasible, IsLeast}
+use Rattle.dsa_terms.specs.Claims.{IsIn}
+use Rattle.dsa_terms.specs.Layouts.{IsFeasible, IsLayout, IsInfeasible, IsLeast}
 use Rattle.dsa_terms.specs.Logs.{Log, IsAccepted}
 use Rattle.dsa_terms.specs.Trims.{trimmed}
 use Rattle.dsa_outside.specs.Held.{file_at, with_file}
 use Rattle.dsa_outside.specs.Seen.{FilesSeen}
 use Rattle.csv_instance.specs.Records.{Record, file_limit, table_of}
+use Rattle.csv_instance.specs.Chosen.{chosen_text}
 use Rattle.csv_instance.specs.Layout.{layout_text}
+use Rattle.csv_instance.specs.Parse.{parse}
 use Rattle.csv_instance.specs.Offsets.{ids_of, parsed_offsets}
 use Rattle.log_text.specs.Faults.{IsTextOf}
 use Rattle.log_text.specs.Text.{log_text, raw_log_of}
+use Rattle.dsa_model.specs.Chosen.{some_of}
+use Rattle.core_find.specs.Cores.{IsCore, without}
+use Rattle.size_classes.specs.Plain.{first_rough}
+use Rattle.size_classes.specs.Plans.{AllOf, IsPeakLoad, class_height, class_plan, power_height}
 use Rattle.command_words.specs.Options.{Word}
 use Rattle.command_words.specs.Pairs.{Pair, number_at, word_at}
 use Rattle.command_words.specs.Requests.{request_of}
@@ -73,6 +81,35 @@ pub record HoldsTrimmed {words : List Word} {old : FilesSeen} (a : Asked words o
   pub readable : IsTextOf (log_text (trimmed log)) (raw_log_of (trimmed log))
   pub files : new.held ≡ with_file old.held (word_at a.pairs option.Output) (log_text (trimmed log))
 
+-- the output holds the text of the plan by size class, a layout at its height, which is at most the sum of two to the
+-- power of each class times its count; where all sizes are equal it is the least capacity, and the load of the peak
+pub record HoldsClassPlan {words : List Word} {old : FilesSeen} (a : Asked words old) (new : FilesSeen)
+    (height load : ℕ) : Type 0 where
+  pub its_height : class_height a.instance ≡ height
+  pub peak : IsPeakLoad a.instance load
+  pub layout : IsLayout a.instance height (class_plan a.instance)
+  pub powers : height ≤ power_height a.instance
+  pub least : (size : ℕ) → AllOf a.instance size → IsLeast a.instance height × (height ≡ load)
+  pub files : new.held
+      ≡ with_file old.held (word_at a.pairs option.Output) (layout_text a.table (class_plan a.instance))
+
+-- the output holds the rows of the core of the instance at the capacity, an instance of these buffers alone, and the
+-- log's file the text of a log that is accepted for them, so they do not fit; without any one of them the others do
+pub record HoldsCore {words : List Word} {old : FilesSeen} (a : Asked words old) (new : FilesSeen) (C count : ℕ) :
+    Type 0 where
+  pub members : List ℕ
+  pub refutation : Log
+  pub its_count : length members ≡ count
+  pub core : IsCore a.instance C members
+  pub parsed : parse (table_of (chosen_text a.table members)) ≡ Ok (some_of a.instance members)
+  pub accepted : IsAccepted (some_of a.instance members) refutation
+  pub its_capacity : refutation.capacity ≡ C
+  pub infeasible : IsInfeasible (some_of a.instance members) C
+  pub rests : (b : ℕ) → IsIn b members → IsFeasible (some_of a.instance (without b members)) C
+  pub readable : IsTextOf (log_text refutation) (raw_log_of refutation)
+  pub files : new.held ≡ with_file (with_file old.held (word_at a.pairs option.Output) (chosen_text a.table members))
+      (word_at a.pairs option.Log) (log_text refutation)
+
 -- what the status promises of the files
 abbrev pub Headline : List Word → FilesSeen → FilesSeen → Status → Type 0
 Headline words old new (status.Feasible C) = (a : Asked words old) × (a.verb ≡ verb.Solve)
@@ -90,4 +127,12 @@ Headline words old new (status.Accepted C) = (a : Asked words old) × (a.verb �
 Headline words old new (status.Trimmed before after) = (a : Asked words old) × (a.verb ≡ verb.Trim)
     × ((log : Log) × GivesLog a log × (length log.lines ≡ before) × (length (trimmed log).lines ≡ after)
     × HoldsTrimmed a new log)
+Headline words old new (status.Classed height load) = (a : Asked words old) × (a.verb ≡ verb.Classes)
+    × HoldsClassPlan a new height load
+Headline words old new (status.NotPlain b) = (a : Asked words old) × (a.verb ≡ verb.Classes)
+    × (first_rough a.instance ≡ Some b) × (new.held ≡ old.held)
+Headline words old new (status.Core count) = (a : Asked words old) × (a.verb ≡ verb.Core)
+    × HoldsCore a new (number_at a.pairs option.Capacity) count
+Headline words old new (status.NoCore C) = (a : Asked words old) × (a.verb ≡ verb.Core)
+    × (number_at a.pairs option.Capacity ≡ C) × IsFeasible a.instance C × (new.held ≡ old.held)
 Headline words old new status = Unit {0}

@@ -14,8 +14,10 @@ use checking::{Refute, Trim};
 use command_words::{OptionName, Request, Verb, read_words};
 use deciding::{Least, Solve};
 use dsa_outside::{Files, Sink};
+use explaining::Core;
 use fact_reports::{Bounds, Trial};
 use judging::{Report, Verify};
+use planning::Classes;
 use run_course::perform;
 use run_status::Status;
 use std::alloc::Global;
@@ -71,6 +73,16 @@ fn answer<F: Files, S: Sink>(
         }
         Verb::Bounds => perform(alloc, &Bounds { input }, files, out),
         Verb::Report => perform(alloc, &Report { input, layout }, files, out),
+        Verb::Classes => perform(alloc, &Classes { input, output }, files, out),
+        Verb::Core => {
+            let core = Core {
+                capacity,
+                input,
+                output,
+                log,
+            };
+            perform(alloc, &core, files, out)
+        }
         Verb::Trial => {
             let trial = Trial {
                 seed: request.number(OptionName::Seed),

@@ -1,0 +1,87 @@
+-- What `classes` and `core` promise.
+use Rattle.std.proofs.Common.{◌≡◌, List, Ok, refl, sym, subst, inl, inr}
+use Rattle.dsa_terms.specs.Buffers.{Instance}
+use Rattle.dsa_outside.specs.Seen.{FilesSeen}
+use Rattle.csv_instance.specs.Records.{Record}
+use Rattle.command_words.specs.Options.{Word}
+use Rattle.command_words.specs.Pairs.{Pair, word_at}
+use Rattle.command_words.specs.Requests.{Request, request_of}
+use Rattle.command_words.specs.declared.option.OptionName.TheVariants as option
+use Rattle.command_words.specs.declared.verb.Verb.{Verb}
+use Rattle.command_words.specs.declared.verb.Verb.TheVariants as verb
+use Rattle.run_course.specs.Course.{Comes, Concludes, Outcome}
+use Rattle.readings.specs.Opens.{IsInput}
+use Rattle.planning.specs.Planning.{Plans}
+use Rattle.explaining.specs.Explaining.{ExplainsOrFits}
+use Rattle.dsaplan_core.specs.Courses.{classes_of, core_of, course_with}
+use Rattle.dsaplan_core.proofs.Promises.{Promises, asked}
+use Rattle.dsaplan_core.proofs.Refusals.{opened_promises}
+
+module _ (words : List Word) (old new : FilesSeen) (pairs : List Pair) where
+  abbrev r : Verb → Request
+  r v = record { verb = v; pairs = pairs }
+
+  plans : (is : request_of words ≡ Ok (r verb.Classes)) (table : List Record) (I : Instance) →
+      IsInput old (word_at pairs option.Input) table I → (o : Outcome) → Plans (classes_of pairs) table I o →
+      Promises words old new (r verb.Classes) o
+  plans is table I input o (inl plan) = subst (Promises words old new (r verb.Classes)) (sym plan.written) (
+    λ files. (
+      (asked words old (r verb.Classes) is table I input, refl, record {
+        its_height = refl;
+        peak = plan.peak;
+        layout = plan.layout;
+        powers = plan.powers;
+        least = plan.least;
+        files = files;
+      }),
+      tt,
+      tt,
+      tt,
+    ),
+    ((inl refl, refl), tt),
+  )
+  plans is table I input o (inr rough) = subst (Promises words old new (r verb.Classes)) (sym rough.told) (
+    λ files. ((asked words old (r verb.Classes) is table I input, refl, rough.rough, files), tt, tt, tt),
+    tt,
+  )
+
+  explains : (is : request_of words ≡ Ok (r verb.Core)) (table : List Record) (I : Instance) →
+      IsInput old (word_at pairs option.Input) table I → (o : Outcome) → ExplainsOrFits (core_of pairs) table I o →
+      Promises words old new (r verb.Core) o
+  explains is table I input o (inl core) = subst (Promises words old new (r verb.Core)) (sym core.written) (
+    λ files. (
+      (asked words old (r verb.Core) is table I input, refl, record {
+        members = core.members;
+        refutation = core.refutation;
+        its_count = refl;
+        core = core.core;
+        parsed = core.parsed;
+        accepted = core.accepted;
+        its_capacity = core.its_capacity;
+        infeasible = core.infeasible;
+        rests = core.rests;
+        readable = core.readable;
+        files = files;
+      }),
+      tt,
+      tt,
+      tt,
+    ),
+    ((inl refl, refl), ((inr (inl refl), refl), tt)),
+  )
+  explains is table I input o (inr fits) = subst (Promises words old new (r verb.Core)) (sym fits.told) (
+    λ files. ((asked words old (r verb.Core) is table I input, refl, refl, fits.feasible, files), tt, tt, tt),
+    tt,
+  )
+
+  pub classes_promises : request_of words ≡ Ok (r verb.Classes) → (o : Outcome) →
+      Comes old new (course_with verb.Classes pairs) o → Promises words old new (r verb.Classes) o
+  classes_promises is = opened_promises words old new (r verb.Classes) (word_at pairs option.Input)
+      (λ table I. Concludes (Plans (classes_of pairs) table I))
+      (λ table I input o comes. plans is table I input o comes.1)
+
+  pub core_promises : request_of words ≡ Ok (r verb.Core) → (o : Outcome) →
+      Comes old new (course_with verb.Core pairs) o → Promises words old new (r verb.Core) o
+  core_promises is = opened_promises words old new (r verb.Core) (word_at pairs option.Input)
+      (λ table I. Concludes (ExplainsOrFits (core_of pairs) table I))
+      (λ table I input o comes. explains is table I input o comes.1)
