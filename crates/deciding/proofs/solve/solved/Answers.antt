@@ -4,7 +4,8 @@ use Rattle.planner.proofs.Stepping.{layout_given, no_start}
 use Rattle.run_status.specs.declared.status.Status.TheVariants.{Feasible, Infeasible, Open}
 use Rattle.run_course.specs.Course.{writes}
 use Rattle.run_course.specs.Prepares.{write_of}
-use Rattle.deciding.specs.Deciding.{AllReadBack, Solves, layout_file, log_file, log_files}
+use Rattle.deciding.specs.Deciding.{AllReadBack, Solves, log_files}
+use Rattle.writings.specs.Writings.{layout_file, log_file}
 use Rattle.deciding.specs.Words.{solve_of}
 use Rattle.deciding.proofs.Concluding.{told, told_by, with_files}
 use Rattle.deciding.proofs.Decided.{leaves_open}
