@@ -33,11 +33,7 @@ pub fn layout_file<'a>(
 }
 
 /// The log, for its file.
-pub fn log_file<'a>(
-    alloc: Global,
-    log: &ClosedLog,
-    name: &'a str,
-) -> Result<Writing<'a>, NoMemory>
+pub fn log_file<'a>(alloc: Global, log: &ClosedLog, name: &'a str) -> Result<Writing<'a>, NoMemory>
     ensures file { IfOk result (λ file. write_of file ≡ log_file name.now log.now) }
     ensures readable { IfOk result (λ _. ReadsBack log.now) }
 {
