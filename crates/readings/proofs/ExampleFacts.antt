@@ -20,7 +20,7 @@ use Rattle.run_status.specs.declared.status.Status.TheVariants as status
 use Rattle.run_status.specs.declared.status.WrongCause.TheVariants as wrong
 use Rattle.run_course.specs.Course.{Comes, Course, Ends, Outcome, says}
 use Rattle.readings.specs.Input.{instance_or_fault, opened}
-use Rattle.readings.specs.Judging.{judged, offsets_or_fault}
+use Rattle.readings.specs.Judging.{judged, layout_or_fault, offsets_or_fault}
 
 -- ---- inputs
 abbrev five_file : List ℕ
@@ -123,23 +123,36 @@ above_7 : layout_fault two 7 (0 ∷ 4 ∷ []) ≡ Some (layout.Above 1)
 unfolding buffer is_live some_before faults.first_unaligned faults.first_above
 above_7 = refl
 
+abbrev pub overlaps : Outcome
+overlaps = says (status.Wrong (wrong.Layout (layout.Overlap 0 1 4)))
+
 pub judges_overlap : (old new : FilesSeen) (name : Word) (next : List ℕ → Course) →
     file_at old.held name ≡ Some low_file →
-    Comes old new (judged name two_rows two 10 next) (says (status.Wrong (wrong.Layout (layout.Overlap 0 1 4))))
-judges_overlap old new name next held = inr (
-  low_file,
-  record { held = λ told. held; short = lit≤ tt },
-  rw low_offsets (rw overlap_at_4 (tt, refl)),
-)
+    Comes old new (judged name two_rows two 10 next) overlaps
+judges_overlap old new name next held =
+    inr (
+      low_file,
+      record { held = λ told. held; short = lit≤ tt },
+      subst (λ course. Comes old new course overlaps) (sym same) (tt, refl),
+    )
+  where
+    same : offsets_or_fault (parsed_offsets (ids_of two_rows) (table_of low_file)) two 10 next ≡ Ends overlaps
+    same = ap (λ r. offsets_or_fault r two 10 next) low_offsets
+        ∙ ap (λ fault. layout_or_fault fault (next (0 ∷ 2 ∷ []))) overlap_at_4
 
 pub judges_layout : (old new : FilesSeen) (name : Word) (next : List ℕ → Course) (o : Outcome) →
     file_at old.held name ≡ Some high_file → Comes old new (next (0 ∷ 4 ∷ [])) o →
     Comes old new (judged name two_rows two 8 next) o
-judges_layout old new name next o held comes = inr (
-  high_file,
-  record { held = λ told. held; short = lit≤ tt },
-  rw high_offsets (rw apart_at_8 comes),
-)
+judges_layout old new name next o held comes =
+    inr (
+      high_file,
+      record { held = λ told. held; short = lit≤ tt },
+      subst (λ course. Comes old new course o) (sym same) comes,
+    )
+  where
+    same : offsets_or_fault (parsed_offsets (ids_of two_rows) (table_of high_file)) two 8 next ≡ next (0 ∷ 4 ∷ [])
+    same = ap (λ r. offsets_or_fault r two 8 next) high_offsets
+        ∙ ap (λ fault. layout_or_fault fault (next (0 ∷ 4 ∷ []))) apart_at_8
 
 missing_id : (next : List ℕ → Course) → offsets_or_fault (Err (offsets.MissingId 1)) two 8 next
     ≡ Ends (says (status.Wrong (wrong.Offsets (offsets.MissingId 1))))

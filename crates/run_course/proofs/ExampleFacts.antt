@@ -71,7 +71,7 @@ too_long = inl (
 no_other_file : (old new : FilesSeen) → Comes old new copy (says (status.ReadFault role.Log)) → ⊥
 no_other_file old new (inl (inl (e, unread), ended)) = absurd cc
 no_other_file old new (inl (inr (e, long), ended)) = absurd cc
-no_other_file old new (inr (bytes, whole, (spoken, e))) = absurd cc
+no_other_file old new (inr (bytes, whole, (spoken, e))) = let k = ap (λ (o : Outcome). o.status) e in absurd cc
 
 served : IsServed (told before) (told before) copy
 served = (
