@@ -27,7 +27,7 @@ use Rattle.csv_instance.proofs.IdLemmas.{all_none}
 use Rattle.csv_instance.proofs.LayoutLaw.{good}
 use Rattle.csv_instance.proofs.Mark.{no_mark}
 use Rattle.csv_instance.proofs.ReadBack.{AllReadBack, text-read}
-use Rattle.csv_instance.proofs.SomeRows.{some_parse}
+use Rattle.csv_instance.proofs.SomeRows.{parsed, some_parse}
 use Rattle.csv_instance.proofs.TableLemmas.{parse-good}
 
 -- ---- the text row by row
@@ -82,10 +82,6 @@ has_columns header e =
     (not_false _ missing.0, not_false _ later.0)
 
 -- ---- the text reads back
-parsed : {F B : Type 0} (o : Option F) (x : B) (b : B) → option_map_or Err o (Ok x) ≡ Ok b → o ≡ None
-parsed None x b e = refl
-parsed (Some f) x b e = cc e
-
 faultless : (header : Record) (rows : List Record) (I : List Buffer) → parse (header ∷ rows) ≡ Ok I →
     (header_fault header ≡ None) × (rows_fault header [] rows ≡ None)
 faultless header rows I e =
@@ -113,7 +109,8 @@ pub chosen_back : (table : List Record) (I : List Buffer) (members : List ℕ) �
 chosen_back [] I members e all = cc e
 chosen_back (header ∷ rows) I members e all =
     let none = faultless header rows I e in
-    read_chosen header rows members none.0 none.1 (λ b i. let lt = below_count (header ∷ rows) members all b i in omega arith)
+    read_chosen header rows members none.0 none.1
+    (λ b i. let lt = below_count (header ∷ rows) members all b i in omega arith)
 
 pub chosen_parse : (table : List Record) (I : List Buffer) (members : List ℕ) → parse table ≡ Ok I → Rises members →
     All (λ b. b + 1 < length table) members → parse (table_of (chosen_text table members)) ≡ Ok (some_of I members)

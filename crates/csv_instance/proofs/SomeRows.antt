@@ -139,7 +139,8 @@ same_each f g [] h = refl
 same_each f g (k ∷ ks) h = rw (h k (inl refl)) (ap (λ ys. g k ∷ ys) (same_each f g ks (λ j i. h j (inr i))))
 
 thinned : (rows : List Record) (a : ℕ) (ks : List ℕ) → Rises ks →
-    ((k : ℕ) → IsIn k ks → (a ≤ k) × (k < a + length rows)) → IsThinned (map (λ k. slice_index_or rows (k - a) []) ks) rows
+    ((k : ℕ) → IsIn k ks → (a ≤ k) × (k < a + length rows)) →
+    IsThinned (map (λ k. slice_index_or rows (k - a) []) ks) rows
 thinned rows a [] r h = tt
 thinned [] a (k ∷ ks) r h = absurd (let q = h k (inl refl) in omega (arith, q.0, q.1))
 thinned (y ∷ ys) a (k ∷ ks) r h = go (cases a k (h k (inl refl)).0)
@@ -183,17 +184,19 @@ at_row : (f : Record → Buffer) (rows : List Record) (k : ℕ) → k < length r
 unfolding buffer
 at_row f rows k lt = get_or-map f rows k [] no_buffer lt
 
-map-map_some : (header : Record) (rows : List Record) (members : List ℕ) → ((b : ℕ) → IsIn b members → b < length rows) →
+map-map_some : (header : Record) (rows : List Record) (members : List ℕ) →
+    ((b : ℕ) → IsIn b members → b < length rows) →
     map (row_buffer header) (rows_at rows members) ≡ some_of (map (row_buffer header) rows) members
 map-map_some header rows [] h = refl
 map-map_some header rows (k ∷ ks) h =
     rw (one k (h k (inl refl))) (ap (λ (bs : List Buffer). buffer (map (row_buffer header) rows) k ∷ bs)
     (map-map_some header rows ks (λ j i. h j (inr i))))
   where
-    one : (k : ℕ) → k < length rows → row_buffer header (slice_index_or rows k []) ≡ buffer (map (row_buffer header) rows) k
+    one : (k : ℕ) → k < length rows →
+        row_buffer header (slice_index_or rows k []) ≡ buffer (map (row_buffer header) rows) k
     one k lt = sym (at_row (row_buffer header) rows k lt)
 
-parsed : {F B : Type 0} (o : Option F) (x : B) (b : B) → option_map_or Err o (Ok x) ≡ Ok b → o ≡ None
+pub parsed : {F B : Type 0} (o : Option F) (x : B) (b : B) → option_map_or Err o (Ok x) ≡ Ok b → o ≡ None
 parsed None x b e = refl
 parsed (Some f) x b e = cc e
 
@@ -201,7 +204,8 @@ pub some_parse : (header : Record) (rows : List Record) (I : List Buffer) (membe
     parse (header ∷ rows) ≡ Ok I → Rises members → ((b : ℕ) → IsIn b members → b < length I) →
     parse (header ∷ rows_at rows members) ≡ Ok (some_of I members)
 some_parse header rows I members e r h =
-    let none = parsed (option_or (header_fault header) (rows_fault header [] rows)) (map (row_buffer header) rows) I e in
+    let none = parsed (option_or (header_fault header) (rows_fault header [] rows))
+    (map (row_buffer header) rows) I e in
     let both = neither (header_fault header) (rows_fault header [] rows) none in
     let is : map (row_buffer header) rows ≡ I = (let q : parse (header ∷ rows) ≡ Ok (map (row_buffer header) rows) =
     parse-good header rows both.0 both.1 in cc) in

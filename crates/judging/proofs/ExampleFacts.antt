@@ -1,14 +1,17 @@
 -- Two buffers that are both live at 4: at 0 and 2 they overlap, at 0 and 4 they are a layout within 8 bytes.
-use Rattle.std.proofs.Common.{◌≡◌, ◌∙◌, ℕ, ◌<◌, List, Some, codes, refl, slice_index, ap, lit<, arith}
+use Rattle.std.proofs.Common.{◌≡◌, ◌∙◌, ℕ, List, Some, codes, refl, slice_index, ap, arith}
 use Rattle.std.specs.FinMap.{empty, insert}
 use Rattle.dsa_outside.specs.Held.{FileMap, file_at}
 use Rattle.dsa_outside.specs.Seen.{FilesSeen}
 use Rattle.dsa_outside.proofs.Lookups.{file_at-with_file, file_at-with_other}
+use Rattle.dsa_terms.specs.Buffers.{Instance}
 use Rattle.dsa_model.specs.declared.layout.LayoutFault.TheVariants as layout
+use Rattle.csv_instance.specs.Records.{Record}
 use Rattle.run_status.specs.declared.status.Status.TheVariants as status
 use Rattle.run_status.specs.declared.status.WrongCause.TheVariants as wrong
-use Rattle.run_course.specs.Course.{Comes, says}
-use Rattle.readings.proofs.ExampleFacts.{high_file, judges_layout, judges_overlap, low_file, opens_two, two_file}
+use Rattle.run_course.specs.Course.{Comes, Course, Ends, says}
+use Rattle.readings.specs.Judging.{judged}
+use Rattle.readings.proofs.ExampleFacts.{high_file, judges_layout, judges_overlap, low_file, opens_two, overlaps, two_file}
 use Rattle.judging.specs.Judging.{Verify, verify}
 
 -- the input stands in the file i, and the layout in the file a
@@ -16,7 +19,7 @@ abbrev input : FileMap
 input = insert empty (codes "i") two_file
 
 abbrev files : List ℕ → FilesSeen
-files layout = record { held = Some (insert input (codes "a") layout); faults = λ name. 0 }
+files bytes = record { held = Some (insert input (codes "a") bytes); faults = λ name. 0 }
 
 abbrev within : ℕ → Verify
 within capacity = record { capacity = capacity; input = codes "i"; layout = codes "a" }
@@ -31,11 +34,19 @@ reads_input bytes = file_at-with_other (Some input) (codes "a") bytes (codes "i"
 reads_layout : (bytes : List ℕ) → file_at (files bytes).held (codes "a") ≡ Some bytes
 reads_layout bytes = file_at-with_file (Some input) (codes "a") bytes refl
 
+abbrev right : List ℕ → Course
+right offsets = Ends (says status.Right)
+
+abbrev goes_on : ℕ → List Record → Instance → Course
+goes_on capacity table I = judged (codes "a") table I capacity right
+
 overlap_at_10 : (new : FilesSeen) → Comes (files low_file) new (verify (within 10))
     (says (status.Wrong (wrong.Layout (layout.Overlap 0 1 4))))
-overlap_at_10 new = opens_two (files low_file) new (codes "i") _ _ (reads_input low_file)
-    (judges_overlap (files low_file) new (codes "a") _ (reads_layout low_file))
+overlap_at_10 new =
+    opens_two (files low_file) new (codes "i") (goes_on 10) overlaps (reads_input low_file)
+    (judges_overlap (files low_file) new (codes "a") right (reads_layout low_file))
 
 right_at_8 : (new : FilesSeen) → Comes (files high_file) new (verify (within 8)) (says status.Right)
-right_at_8 new = opens_two (files high_file) new (codes "i") _ _ (reads_input high_file)
-    (judges_layout (files high_file) new (codes "a") _ _ (reads_layout high_file) (tt, refl))
+right_at_8 new =
+    opens_two (files high_file) new (codes "i") (goes_on 8) (says status.Right) (reads_input high_file)
+    (judges_layout (files high_file) new (codes "a") right (says status.Right) (reads_layout high_file) (tt, refl))

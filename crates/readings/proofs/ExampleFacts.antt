@@ -3,7 +3,6 @@ use Rattle.std.proofs.Common.{◌≡◌, ◌∙◌, ℕ, List, [], ◌∷◌, So
 use Rattle.csv.specs.Machine.{next_record}
 use Rattle.csv.specs.Reading.{records_from, strip_bom}
 use Rattle.dsa_terms.specs.Buffers.{Instance, buffer, is_live, some_before}
-use Rattle.dsa_terms.specs.Logs.{Log}
 use Rattle.dsa_terms.proofs.Examples.{five, plain}
 use Rattle.dsa_model.specs.Buffer.{is_ever_live}
 use Rattle.dsa_model.specs.LayoutFaults.{layout_fault}
@@ -21,7 +20,7 @@ use Rattle.run_status.specs.declared.status.Status.TheVariants as status
 use Rattle.run_status.specs.declared.status.WrongCause.TheVariants as wrong
 use Rattle.run_course.specs.Course.{Comes, Course, Ends, Outcome, says}
 use Rattle.readings.specs.Input.{instance_or_fault, opened}
-use Rattle.readings.specs.Judging.{judged, offsets_or_fault}
+use Rattle.readings.specs.Judging.{judged, layout_or_fault, offsets_or_fault}
 
 -- ---- inputs
 abbrev five_file : List ℕ
@@ -67,18 +66,22 @@ two_rows =
 abbrev pub two : Instance
 two = plain 0 5 4 1 ∷ plain 4 8 4 1 ∷ []
 
-two_reads : table_of two_file ≡ two_rows
+pub two_reads : table_of two_file ≡ two_rows
 unfolding strip_bom records_from next_record
 two_reads = refl
 
-two_parse : parse two_rows ≡ Ok two
+pub two_parse : parse two_rows ≡ Ok two
 unfolding is_live some_before is_ever_live
 two_parse = refl
 
 pub opens_two : (old new : FilesSeen) (name : Word) (next : List Record → Instance → Course) (o : Outcome) →
     file_at old.held name ≡ Some two_file → Comes old new (next two_rows two) o → Comes old new (opened name next) o
 opens_two old new name next o held comes =
-    inr (two_file, record { held = λ told. held; short = lit≤ tt }, subst (λ course. Comes old new course o) (sym same) comes)
+    inr (
+      two_file,
+      record { held = λ told. held; short = lit≤ tt },
+      subst (λ course. Comes old new course o) (sym same) comes,
+    )
   where
     same : instance_or_fault (parse (table_of two_file)) (next (table_of two_file)) ≡ next two_rows two
     same = ap (λ table. instance_or_fault (parse table) (next table)) two_reads
@@ -91,24 +94,27 @@ low_file = codes "id,offset\nY,2\nX,0\n"
 abbrev pub high_file : List ℕ
 high_file = codes "id,offset\nY,4\nX,0\n"
 
-low_offsets : parsed_offsets (ids_of two_rows) (table_of low_file) ≡ Ok (0 ∷ 2 ∷ [])
+abbrev pub short_file : List ℕ
+short_file = codes "id,offset\nX,0\n"
+
+pub low_offsets : parsed_offsets (ids_of two_rows) (table_of low_file) ≡ Ok (0 ∷ 2 ∷ [])
 unfolding strip_bom records_from next_record
 low_offsets = refl
 
-high_offsets : parsed_offsets (ids_of two_rows) (table_of high_file) ≡ Ok (0 ∷ 4 ∷ [])
+pub high_offsets : parsed_offsets (ids_of two_rows) (table_of high_file) ≡ Ok (0 ∷ 4 ∷ [])
 unfolding strip_bom records_from next_record
 high_offsets = refl
 
-without_y : parsed_offsets (ids_of two_rows) (table_of (codes "id,offset\nX,0\n")) ≡ Err (offsets.MissingId 1)
+pub without_y : parsed_offsets (ids_of two_rows) (table_of short_file) ≡ Err (offsets.MissingId 1)
 unfolding strip_bom records_from next_record
 without_y = refl
 
-overlap_at_4 : layout_fault two 10 (0 ∷ 2 ∷ []) ≡ Some (layout.Overlap 0 1 4)
+pub overlap_at_4 : layout_fault two 10 (0 ∷ 2 ∷ []) ≡ Some (layout.Overlap 0 1 4)
 unfolding buffer is_live some_before faults.first_unaligned faults.first_above faults.first_overlap
     faults.overlap_after faults.overlap
 overlap_at_4 = refl
 
-apart_at_8 : layout_fault two 8 (0 ∷ 4 ∷ []) ≡ None
+pub apart_at_8 : layout_fault two 8 (0 ∷ 4 ∷ []) ≡ None
 unfolding buffer is_live some_before faults.first_unaligned faults.first_above faults.first_overlap
     faults.overlap_after faults.overlap
 apart_at_8 = refl
@@ -117,23 +123,36 @@ above_7 : layout_fault two 7 (0 ∷ 4 ∷ []) ≡ Some (layout.Above 1)
 unfolding buffer is_live some_before faults.first_unaligned faults.first_above
 above_7 = refl
 
+abbrev pub overlaps : Outcome
+overlaps = says (status.Wrong (wrong.Layout (layout.Overlap 0 1 4)))
+
 pub judges_overlap : (old new : FilesSeen) (name : Word) (next : List ℕ → Course) →
     file_at old.held name ≡ Some low_file →
-    Comes old new (judged name two_rows two 10 next) (says (status.Wrong (wrong.Layout (layout.Overlap 0 1 4))))
-judges_overlap old new name next held = inr (
-  low_file,
-  record { held = λ told. held; short = lit≤ tt },
-  rw low_offsets (rw overlap_at_4 (tt, refl)),
-)
+    Comes old new (judged name two_rows two 10 next) overlaps
+judges_overlap old new name next held =
+    inr (
+      low_file,
+      record { held = λ told. held; short = lit≤ tt },
+      subst (λ course. Comes old new course overlaps) (sym same) (tt, refl),
+    )
+  where
+    same : offsets_or_fault (parsed_offsets (ids_of two_rows) (table_of low_file)) two 10 next ≡ Ends overlaps
+    same = ap (λ r. offsets_or_fault r two 10 next) low_offsets
+        ∙ ap (λ fault. layout_or_fault fault (next (0 ∷ 2 ∷ []))) overlap_at_4
 
 pub judges_layout : (old new : FilesSeen) (name : Word) (next : List ℕ → Course) (o : Outcome) →
     file_at old.held name ≡ Some high_file → Comes old new (next (0 ∷ 4 ∷ [])) o →
     Comes old new (judged name two_rows two 8 next) o
-judges_layout old new name next o held comes = inr (
-  high_file,
-  record { held = λ told. held; short = lit≤ tt },
-  rw high_offsets (rw apart_at_8 comes),
-)
+judges_layout old new name next o held comes =
+    inr (
+      high_file,
+      record { held = λ told. held; short = lit≤ tt },
+      subst (λ course. Comes old new course o) (sym same) comes,
+    )
+  where
+    same : offsets_or_fault (parsed_offsets (ids_of two_rows) (table_of high_file)) two 8 next ≡ next (0 ∷ 4 ∷ [])
+    same = ap (λ r. offsets_or_fault r two 8 next) high_offsets
+        ∙ ap (λ fault. layout_or_fault fault (next (0 ∷ 4 ∷ []))) apart_at_8
 
 missing_id : (next : List ℕ → Course) → offsets_or_fault (Err (offsets.MissingId 1)) two 8 next
     ≡ Ends (says (status.Wrong (wrong.Offsets (offsets.MissingId 1))))

@@ -4,4 +4,5 @@ pub mod JudgedLayouts
 pub mod CheckedLogs
 mod Faulty
 pub mod ExampleFacts
-mod LogFacts
+pub mod LogFacts
+mod GivenFacts

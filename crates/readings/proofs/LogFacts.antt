@@ -18,18 +18,18 @@ use Rattle.run_course.specs.Course.{Outcome, says}
 use Rattle.readings.specs.Checking.{Checks}
 
 -- the first line of the sample log, one byte too low
-abbrev forged : RawLog
+abbrev pub forged : RawLog
 forged = record { count = 3; capacity = 4; lines = raw_line.Over 0 2 1 ((2, 3) ∷ []) ∷ []; end = 0 }
 
-too_low : check_fault evens forged ≡ Some (check.Illegal 0 reason.NotOver)
+pub too_low : check_fault evens forged ≡ Some (check.Illegal 0 reason.NotOver)
 unfolding is_stacked rounded rounding up is_live buffer
 too_low = refl
 
-no_header : IsFirstFault [] text.NotLog
+pub no_header : IsFirstFault [] text.NotLog
 no_header version count capacity rest h = let e = h.text in cc
 
 module _ (bytes : List ℕ) (accepted : Log → Outcome) where
-  pub sample_goes_on : IsAccepted evens sample → IsTextOf bytes (raw_log_of sample) →
+  sample_goes_on : IsAccepted evens sample → IsTextOf bytes (raw_log_of sample) →
       Checks evens bytes accepted (accepted sample)
   sample_goes_on legal is = Checks.is_accepted sample is legal refl
 

@@ -1,14 +1,14 @@
 -- A small course, and what a run on it leaves: it reads the file i, of at most two bytes, and copies them to o and to l.
-use Rattle.std.proofs.Common.{◌≡◌, ℕ, List, [], ◌∷◌, Option, Some, None, inl, inr, cond, codes, refl, sym, ap, lit<, lit≤, arith, rules}
+use Rattle.std.proofs.Common.{◌≡◌, ℕ, List, [], ◌∷◌, Some, None, inl, inr, cond, codes, refl, ap, lit<, lit≤, arith, rules}
 use Rattle.std.specs.FinMap.{empty, gets, insert}
 use Rattle.std.specs.Str.{bytes_eq}
-use Rattle.dsa_outside.specs.Held.{FileMap, file_at, without_file}
+use Rattle.dsa_outside.specs.Held.{FileMap, file_at}
 use Rattle.dsa_outside.specs.Seen.{FilesSeen, SinkSeen}
 use Rattle.dsa_outside.proofs.FileMaps.{remove-insert}
 use Rattle.dsa_outside.proofs.Lookups.{file_at-with_file}
 use Rattle.run_status.specs.declared.status.Role.TheVariants as role
 use Rattle.run_status.specs.declared.status.Status.TheVariants as status
-use Rattle.run_course.specs.Answers.{Answers, AreBroken, IsCutShort, Leaves}
+use Rattle.run_course.specs.Answers.{Answers, AreBroken, IsCutShort, Leaves, Tells}
 use Rattle.run_course.specs.Complete.{ConcludesOn, IsServed}
 use Rattle.run_course.specs.Course.{Comes, Course, Ends, Outcome, Reads, Write, says, writes}
 
@@ -69,15 +69,14 @@ too_long = inl (
 )
 
 no_other_file : (old new : FilesSeen) → Comes old new copy (says (status.ReadFault role.Log)) → ⊥
-no_other_file old new (inl (inl (e, unread), told)) = absurd cc
-no_other_file old new (inl (inr (e, long), told)) = absurd cc
-no_other_file old new (inr (bytes, whole, spoken, e)) = absurd cc
+no_other_file old new (inl (inl (e, unread), ended)) = absurd cc
+no_other_file old new (inl (inr (e, long), ended)) = absurd cc
+no_other_file old new (inr (bytes, whole, (spoken, e))) = let k = ap (λ (o : Outcome). o.status) e in absurd cc
 
 served : IsServed (told before) (told before) copy
 served = (
   λ rose. omega (arith, rose),
-  record { bytes = codes "ab"; held = reads_i (codes "ab"); short = lit≤ tt },
-  tt,
+  (record { bytes = codes "ab"; held = reads_i (codes "ab"); short = lit≤ tt }, tt),
 )
 
 concludes : ConcludesOn (told before) copy (copied (codes "ab"))
@@ -105,26 +104,25 @@ not_broken : (files : FileMap) (writes : List Write) → AreBroken (told before)
 not_broken files writes h = omega (arith, h.rose)
 
 -- ---- printing
-answers_right : Answers copy (told before) (told after) (sink (codes "x") 0) (sink (codes "xright\n") 0) status.Right
-answers_right = record {
-  text = codes "right\n";
-  tells = record {
-    outcome = copied (codes "ab");
-    lost = None;
-    comes = comes_to_copies (told after);
-    files = refl;
-    its_status = refl;
-    its_text = refl;
-  };
-  printed = refl;
+tells_right : Tells copy (told before) (told after) status.Right (codes "right\n")
+tells_right = record {
+  outcome = copied (codes "ab");
+  lost = None;
+  comes = comes_to_copies (told after);
+  files = refl;
+  its_status = refl;
+  its_text = refl;
 }
+
+answers_right : Answers copy (told before) (told after) (sink (codes "x") 0) (sink (codes "xright\n") 0) status.Right
+answers_right = record { text = codes "right\n"; tells = tells_right; printed = refl }
 
 -- the sink takes three bytes, and fails
 half_printed : Answers copy (told before) (told after) (sink [] 0) (sink (codes "rig") 1) status.PrintFault
 half_printed = record {
   status = status.Right;
   text = codes "right\n";
-  tells = answers_right.tells;
+  tells = tells_right;
   rose = inl (lit< tt);
   taken = 3;
   prefix = refl;

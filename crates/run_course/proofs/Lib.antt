@@ -4,3 +4,4 @@ mod Performing
 pub mod Silently
 pub mod Concluding
 mod ExampleFacts
+mod PreparedFacts
