@@ -46,10 +46,7 @@ impl OptionName {
         ensures { result ≡ is_file self.now }
     {
         match self {
-            OptionName::Input
-            | OptionName::Output
-            | OptionName::Log
-            | OptionName::Layout => true,
+            OptionName::Input | OptionName::Output | OptionName::Log | OptionName::Layout => true,
             OptionName::Capacity | OptionName::Steps | OptionName::Seed | OptionName::Count => {
                 false
             }
