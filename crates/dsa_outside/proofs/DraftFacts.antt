@@ -87,9 +87,9 @@ long_name : short_of (replicate 249 111) ≡ []
 long_name = refl
 
 -- a link under it that holds 'a' leads to 'd/a', and one that holds '/a' there
-link_in_its_folder : linked_from path (97 ∷ []) false ≡ 100 ∷ 47 ∷ 97 ∷ []
+link_in_its_folder : linked_from path (97 ∷ []) ≡ 100 ∷ 47 ∷ 97 ∷ []
 unfolding path_parent split_last_component rsplit_once trim_trailing
 link_in_its_folder = refl
 
-link_from_the_root : linked_from path (47 ∷ 97 ∷ []) true ≡ 47 ∷ 97 ∷ []
+link_from_the_root : linked_from path (47 ∷ 97 ∷ []) ≡ 47 ∷ 97 ∷ []
 link_from_the_root = refl

@@ -1,11 +1,11 @@
 -- Paths as texts: their folder, the name in it, and the file that is made beside that name.
-use Rattle.std.specs.Prelude.{ℕ, List, [], ◌∷◌, ◌++◌, length, Bool, nat_eq, nat_le, if◌then◌else◌}
+use Rattle.std.specs.Prelude.{ℕ, List, [], ◌∷◌, ◌++◌, length, ◌==◌, nat_le, slice_index, if◌then◌else◌}
 use Rattle.std.specs.Option.{unwrap_or}
 use Rattle.std.specs.Path.{slash, dot, path_parent, path_file_name}
 
 -- a folder, with a slash after it; the folder of a mere name is the empty text, and stays
 abbrev pub slashed : List ℕ → List ℕ
-slashed folder = if nat_eq (length folder) 0 then [] else folder ++ slash ∷ []
+slashed folder = if length folder == 0 then [] else folder ++ slash ∷ []
 
 -- the folder of a path, ready for a name to follow
 abbrev pub folder_of : List ℕ → List ℕ
@@ -23,6 +23,6 @@ short_of last = if nat_le (length last) 248 then last else []
 abbrev pub part_of : List ℕ → List ℕ → List ℕ
 part_of path ending = folder_of path ++ dot ∷ short_of (last_of path) ++ ending
 
--- where a link leads that holds this text: from its folder, or from the root
-abbrev pub linked_from : List ℕ → List ℕ → Bool → List ℕ
-linked_from path text is_absolute = (if is_absolute then [] else folder_of path) ++ text
+-- where a link leads that holds this text: from the root where it begins with a slash, else from the link's folder
+abbrev pub linked_from : List ℕ → List ℕ → List ℕ
+linked_from path text = if slice_index text 0 == slash then text else folder_of path ++ text

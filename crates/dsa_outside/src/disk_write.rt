@@ -1,5 +1,8 @@
 //! How a file of the system is written: a regular one is replaced whole, any other in place.
 
+ghost use Rattle.std.specs.Prelude.{◌≡◌, ◌↔◌, ◌⊎◌, IsTrue};
+ghost use Rattle.std.specs.Fs.{IsFile, file_type};
+
 use crate::draft::replace;
 use crate::part::Part;
 use crate::paths::{PathText, linked_path, path_text};
@@ -62,7 +65,7 @@ fn write_over<'a, R: std::rt::Files<File = File>>(
     bytes: &[u8],
 ) -> io::Result<()> {
     let old = file.metadata()?;
-    if !old.is_file() {
+    if is_special(&old) {
         return write_in_place(file, bytes);
     }
     match Part::begin(rt, target, Some(old)) {
@@ -75,8 +78,18 @@ fn write_over<'a, R: std::rt::Files<File = File>>(
     }
 }
 
+// Whether a file is a device, a pipe or the like, which no other file can replace.
+fn is_special(file: &Metadata) -> bool
+    ensures { IsTrue result ↔ ¬ IsFile (file_type file.now) }
+{
+    !file.is_file()
+}
+
 // Whether this error of making a file tells that the folder takes none by that name.
-fn takes_no_file(kind: ErrorKind) -> bool {
+fn takes_no_file(kind: ErrorKind) -> bool
+    ensures { IsTrue result ↔ ((kind ≡ ErrorKind.PermissionDenied)
+        ⊎ (kind ≡ ErrorKind.ReadOnlyFilesystem) ⊎ (kind ≡ ErrorKind.InvalidFilename)) }
+{
     matches!(
         kind,
         ErrorKind::PermissionDenied | ErrorKind::ReadOnlyFilesystem | ErrorKind::InvalidFilename
@@ -94,8 +107,8 @@ fn write_in_place(mut file: File, bytes: &[u8]) -> io::Result<()> {
     close(file)
 }
 
-// The path to which links lead from a name, or none where a link is one of the system's own, which
-// leads to an open file and not to a name.
+// The path to which links lead from a name, or none where no path is known: a link of the system's
+// own leads to an open file, and another one may lead to a name that is no text.
 fn target_of<R: std::rt::Files<File = File>>(
     rt: &R,
     alloc: Global,
@@ -108,13 +121,25 @@ fn target_of<R: std::rt::Files<File = File>>(
                 if is_of_system(rt, &link) {
                     return Ok(None);
                 }
-                let text = rt.read_link(alloc, path.as_str())?;
-                path = linked_path(path.as_str(), text.as_path().as_str())?;
+                match linked_from(rt, alloc, path.as_str()) {
+                    Ok(next) => path = next,
+                    Err(e) if e.kind() == ErrorKind::InvalidFilename => return Ok(None),
+                    Err(e) => return Err(e),
+                }
             }
             _ => return Ok(Some(path)),
         }
     }
     Err(ErrorKind::FilesystemLoop.into())
+}
+
+fn linked_from<R: std::rt::Files<File = File>>(
+    rt: &R,
+    alloc: Global,
+    path: &str,
+) -> io::Result<PathText> {
+    let text = rt.read_link(alloc, path)?;
+    linked_path(path, text.as_path().as_str())
 }
 
 fn is_of_system<R: std::rt::Files<File = File>>(rt: &R, link: &Metadata) -> bool {

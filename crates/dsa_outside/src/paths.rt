@@ -44,8 +44,7 @@ pub(crate) fn part_path(path: &str, ending: &str) -> io::Result<PathText>
 /// Where a link under this path leads, by the text that it holds. `InvalidFilename`: the path is
 /// too long.
 pub(crate) fn linked_path(path: &str, text: &str) -> io::Result<PathText>
-    ensures { IfOk result (λ linked.
-        (is_absolute : _) × (linked.bytes ≡ linked_from path.now text.now is_absolute)) }
+    ensures { IfOk result (λ linked. linked.bytes ≡ linked_from path.now text.now) }
 {
     let mut linked = PathText::new();
     if !text.starts_with('/') {
