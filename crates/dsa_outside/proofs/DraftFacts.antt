@@ -1,5 +1,5 @@
 -- Worked drafts and paths.
-use Rattle.std.proofs.Common.{◌≡◌, ℕ, true, false, List, [], ◌∷◌, ◌++◌, None, Some, refl, replicate, length}
+use Rattle.std.proofs.Common.{◌≡◌, ℕ, true, false, List, [], ◌∷◌, None, Some, refl, replicate}
 use Rattle.dsa_outside.specs.Drafts.{DraftState, IsReady, with_rights, written, synced, closed, renamed, removed, name_of}
 use Rattle.std.specs.Path.{path_parent, path_file_name, split_last_component, rsplit_once, trim_trailing}
 use Rattle.dsa_outside.specs.Paths.{slashed, folder_of, last_of, short_of, part_of, linked_from}
