@@ -1,3 +1,4 @@
+mod DraftFacts
 pub mod ExampleFacts
 pub mod FileMaps
 pub mod Lookups

@@ -1,8 +1,8 @@
 -- What a loop that writes piece by piece has done.
-use Rattle.std.proofs.Common.{◌≡◌, ℕ, ◌-◌, List, ◌++◌, Option, Result, Ok, Err, IsErr, length, take, drop, sym, ap, ◌∙◌, subst, append_assoc, take-append-drop}
+use Rattle.std.proofs.Common.{◌≡◌, ℕ, ◌-◌, List, ◌++◌, Option, length, take, drop, sym, ap, ◌∙◌, subst, append_assoc, take-append-drop}
 use Rattle.std.proofs.lemmas.List.{take_rest}
 use Rattle.std.proofs.Math.Seq.{take-append_seam}
-use Rattle.std.specs.Io.KnownBytes.{Appends, WriteAppends}
+use Rattle.std.specs.Io.KnownBytes.{Appends, Keeps}
 use Rattle.std.proofs.KnownBytes.{Appends-trans, Appends-kept}
 
 -- the front of `all` has been written, and the rest is left
@@ -21,17 +21,10 @@ pub takes_more : (all rest : List ℕ) (n : ℕ) (old mid new : Option (List ℕ
 takes_more all rest n old mid new (done, split, appended) more =
     (done ++ take n rest, moves_front all done rest n split, Appends-trans old mid new done (take n rest) appended more)
 
--- a call that took n bytes has written them
-pub takes_some : {E : Type 0} (buf : List ℕ) (r : Result ℕ E) (n : ℕ) (mid new : Option (List ℕ))
-    → WriteAppends mid new r buf → r ≡ Ok n → Appends mid new (take n buf)
-takes_some buf r n mid new more is = let P : Result ℕ _ → Type 0 = λ s. WriteAppends mid new s buf in subst P is more
-
 -- a call that failed has taken nothing
-pub takes_none : {E : Type 0} (all rest buf : List ℕ) (r : Result ℕ E) (old mid new : Option (List ℕ))
-    → HasWritten all rest old mid → WriteAppends mid new r buf → IsErr r → HasWritten all rest old new
-takes_none all rest buf (Ok n) old mid new written more failed = absurd (cc)
-takes_none all rest buf (Err e) old mid new (done, split, appended) kept failed =
-    (done, split, Appends-kept old mid new done appended kept)
+pub keeps : (all rest : List ℕ) (old mid new : Option (List ℕ)) → HasWritten all rest old mid → Keeps mid new
+    → HasWritten all rest old new
+keeps all rest old mid new (done, split, appended) kept = (done, split, Appends-kept old mid new done appended kept)
 
 -- what has been written is the front of all the bytes
 pub written_prefix : (all rest : List ℕ) (old new : Option (List ℕ)) → HasWritten all rest old new

@@ -3,10 +3,12 @@
 ghost use Rattle.std.specs.Prelude.{◌≡◌, ◌≤◌, None, IfOk, OnOk, IsErrOf, length};
 ghost use Rattle.dsa_model.specs.Counts.{one_more};
 
-use crate::transfer::{counted, read_up_to, write_whole};
+use crate::disk_write::write_file;
+use crate::transfer::{counted, read_up_to};
 use crate::{FileFault, Files};
 use std::alloc::Global;
 use std::fs;
+use std::fs::File;
 
 /// The files of the system, by path, with a count of the calls of the system that failed. The count
 /// is every name's number of faults. It stays at 2^64 - 1 once it is there. Nothing is told of what
@@ -32,7 +34,7 @@ impl<'a, R: std::rt::Files> DiskFiles<'a, R> {
     }
 }
 
-impl<'a, R: std::rt::Files> Files for DiskFiles<'a, R> {
+impl<'a, R: std::rt::Files<File = File>> Files for DiskFiles<'a, R> {
     ghost seen = { λ files. record { held = None; faults = λ _. files.faults } };
 
     fn read(&mut self, name: &str, most: u64) -> Result<Vec<u8>, FileFault>
@@ -54,7 +56,7 @@ impl<'a, R: std::rt::Files> Files for DiskFiles<'a, R> {
         ensures unchanged { OnOk result (self.new.faults ≡ self.old.faults) }
         ensures counts { self.old.faults ≤ self.new.faults }
     {
-        let mut file = counted(&mut self.faults, fs::create(self.rt, name))?;
-        Ok(write_whole(&mut file, bytes, &mut self.faults)?)
+        let written = write_file(self.rt, self.alloc, name, bytes);
+        Ok(counted(&mut self.faults, written)?)
     }
 }

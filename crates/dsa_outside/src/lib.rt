@@ -6,10 +6,16 @@
 
 mod calls;
 mod disk_files;
+mod disk_write;
+mod draft;
 mod fault;
 mod files;
 mod memory_files;
 mod memory_sink;
+mod part;
+mod paths;
+#[cfg(test)]
+mod replaced;
 mod sink;
 mod sound_files;
 mod sound_sink;

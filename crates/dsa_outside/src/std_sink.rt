@@ -3,7 +3,7 @@
 ghost use Rattle.std.specs.Prelude.{◌≡◌, ◌≤◌, None, OnOk, IsErrOf};
 ghost use Rattle.dsa_model.specs.Counts.{one_more};
 
-use crate::transfer::write_whole;
+use crate::transfer::{counted, write_whole};
 use crate::{Sink, SinkFault};
 use std::io;
 
@@ -34,6 +34,7 @@ impl<'a, R: Print> Sink for StdSink<'a, R> {
         ensures unchanged { OnOk result (self.new.faults ≡ self.old.faults) }
         ensures count { self.old.faults ≤ self.new.faults }
     {
-        Ok(write_whole(&mut io::writer(self.rt), bytes, &mut self.faults)?)
+        let put = write_whole(&mut io::writer(self.rt), bytes);
+        Ok(counted(&mut self.faults, put)?)
     }
 }

@@ -6,8 +6,10 @@ ghost use Rattle.dsa_model.specs.Counts.{one_more};
 
 use crate::{FileFault, SinkFault};
 use std::alloc::Global;
+use std::fs::File;
 use std::io;
 use std::io::{Read, Write};
+use std::os::fd::IntoRawFd;
 
 /// The most bytes of one read, in bytes.
 const PIECE: usize = 65536;
@@ -85,27 +87,27 @@ pub(crate) fn read_up_to<F: Read>(
 }
 
 /// Writes all the bytes. A call that takes none of them is a failure.
-pub(crate) fn write_whole<W: Write>(
-    writer: &mut W,
-    bytes: &[u8],
-    faults: &mut u64,
-) -> Result<(), Failed>
+pub(crate) fn write_whole<W: Write>(writer: &mut W, bytes: &[u8]) -> io::Result<()>
     ensures bytes { OnOk result
         (Appends (W.contents writer.old) (W.contents writer.new) bytes.now) }
     ensures prefix { OnErr result ((count : ℕ) ×
         Appends (W.contents writer.old) (W.contents writer.new) (take count bytes.now)) }
-    ensures failed { OnErr result (faults.new ≡ one_more faults.old) }
-    ensures unchanged { OnOk result (faults.new ≡ faults.old) }
-    ensures later { faults.old ≤ faults.new }
 {
     let mut rest = bytes;
     while !rest.is_empty() {
-        let taken = counted(faults, writer.write(rest))?;
+        let taken = writer.write(rest)?;
         if taken == 0 {
-            *faults = faults.saturating_add(1);
-            return Err(Failed);
+            return Err(io::ErrorKind::WriteZero.into());
         }
         rest = &rest[taken..];
+    }
+    Ok(())
+}
+
+/// Closes a file. Its error may be one of an earlier write.
+pub(crate) fn close(file: File) -> io::Result<()> {
+    if libc::close(file.into_raw_fd()) < 0 {
+        return Err(io::ErrorKind::Other.into());
     }
     Ok(())
 }
