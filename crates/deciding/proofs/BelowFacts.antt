@@ -23,7 +23,7 @@ use Rattle.planner.specs.Decides.{IsBoundLog, LeavesNoLayout}
 use Rattle.planner.specs.Openings.{StaysOpen}
 use Rattle.planner.proofs.ExampleLeastFacts.{below_log, four_is_open}
 use Rattle.planner.proofs.StepFacts.{refuted_at_3}
-use Rattle.deciding.specs.Deciding.{ReadsBack}
+use Rattle.writings.specs.Writings.{ReadsBack}
 
 abbrev pub below_rows : List Record
 below_rows =

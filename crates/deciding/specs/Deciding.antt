@@ -6,9 +6,6 @@ use Rattle.dsa_terms.specs.Layouts.{IsLayout, IsLeast}
 use Rattle.dsa_terms.specs.Logs.{Log}
 use Rattle.dsa_terms.specs.Starts.{best_start, planned}
 use Rattle.csv_instance.specs.Records.{Record}
-use Rattle.csv_instance.specs.Layout.{layout_text}
-use Rattle.log_text.specs.Faults.{IsTextOf}
-use Rattle.log_text.specs.Text.{log_text, raw_log_of}
 use Rattle.planner.specs.Decides.{IsBoundLog, LeavesNoLayout}
 use Rattle.planner.specs.FirstStart.{start_within}
 use Rattle.planner.specs.LeastCapacity.{AreWithinSteps, RefutesBelow}
@@ -16,21 +13,9 @@ use Rattle.planner.specs.Openings.{AreGiven, StaysOpen}
 use Rattle.planner.specs.Shortage.{IsShortOfHunt, IsShortOfWork}
 use Rattle.command_words.specs.Options.{Word}
 use Rattle.run_status.specs.declared.status.Status.TheVariants.{Feasible, Infeasible, Least, Open}
-use Rattle.run_status.specs.declared.status.Role.TheVariants as role
 use Rattle.run_course.specs.Course.{Course, Outcome, Concludes, Write, writes}
 use Rattle.readings.specs.Input.{opened}
-
--- the layout of these offsets, for the output
-abbrev pub layout_file : Word → List Record → List ℕ → Write
-layout_file output table offsets = record { role = role.Output; name = output; bytes = layout_text table offsets }
-
--- the log, for its file
-abbrev pub log_file : Word → Log → Write
-log_file name log = record { role = role.Log; name = name; bytes = log_text log }
-
--- the text of the log reads back
-abbrev pub ReadsBack : Log → Type 0
-ReadsBack log = IsTextOf (log_text log) (raw_log_of log)
+use Rattle.writings.specs.Writings.{ReadsBack, layout_file, log_file}
 
 -- the words of `solve`: the capacity is in bytes, and the steps, where a number is given, are units
 pub record Solve : Type 0 where

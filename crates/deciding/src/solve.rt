@@ -6,7 +6,7 @@ ghost use Rattle.run_course.specs.Prepares.{outcome_of};
 ghost use Rattle.deciding.specs.Deciding.{Solves, solve};
 ghost use Rattle.deciding.specs.Words.{solve_of};
 
-use crate::written::{both_files, layout_file, log_file};
+use crate::written::both_files;
 use csv_instance::Table;
 use dsa_model::{Instance, NoMemory};
 use dsa_outside::Files;
@@ -15,6 +15,7 @@ use readings::{Input, open_input};
 use run_course::{Command, Prepared, one_write, silent};
 use run_status::Status;
 use std::alloc::Global;
+use writings::{layout_file, log_file};
 
 /// Decides the capacity (in bytes, at most 2^60) for the instance of the input, within the steps
 /// where a number is given, and writes the layout or the log, or both where the steps run out.
