@@ -11,8 +11,8 @@ use Rattle.planner.specs.Openings.{StaysOpen, IsSpentAt}
 use Rattle.run_status.specs.Spoken.{IsSpoken}
 use Rattle.run_status.specs.declared.status.Status.TheVariants.{Least, Open}
 use Rattle.run_course.specs.Course.{Outcome, writes}
-use Rattle.deciding.specs.Deciding.{AllReadBack, Finds, FindsLeast, LeavesLeastOpen, LeavesOpen, LeastOf, Solve, Solves, log_files}
 use Rattle.writings.specs.Writings.{layout_file}
+use Rattle.deciding.specs.Deciding.{AllReadBack, Finds, FindsLeast, LeavesLeastOpen, LeavesOpen, LeastOf, Solve, Solves, log_files}
 
 -- a capacity is left open
 pub leaves_open : (s : Solve) (table : List Record) (I : Instance) (b : Bracket) → IsSpentAt I s.capacity s.steps b →

@@ -12,8 +12,8 @@ use Rattle.planner.proofs.StepFacts.{laid_at_4, none_within_4}
 use Rattle.run_status.specs.declared.status.Role.TheVariants as role
 use Rattle.run_status.specs.declared.status.Status.TheVariants.{Feasible, Infeasible, Open}
 use Rattle.run_course.specs.Course.{Outcome, Write, writes}
-use Rattle.deciding.specs.Deciding.{LaysOut, LeavesOpen, Refutes, Solve, Solves}
 use Rattle.writings.specs.Writings.{layout_file, log_file}
+use Rattle.deciding.specs.Deciding.{LaysOut, LeavesOpen, Refutes, Solve, Solves}
 use Rattle.deciding.proofs.BelowFacts.{below_rows, four_to_five, low_file, low_text, start_file, start_text, three_by_bound, three_file, three_log, three_reads, three_refutes, three_text}
 
 -- the words name a capacity and steps; the output goes to o, the log to l

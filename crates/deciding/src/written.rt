@@ -1,10 +1,10 @@
-//! Files that are to be written.
+//! The files of a bracket.
 
 ghost use Rattle.std.specs.Prelude.{◌≡◌, ◌∷◌, ◌+◌, IfOk, length};
 ghost use Rattle.run_course.specs.Course.{writes};
 ghost use Rattle.run_course.specs.Prepares.{outcome_of};
+ghost use Rattle.writings.specs.Writings.{layout_file};
 ghost use Rattle.deciding.specs.Deciding.{AllReadBack, log_files};
-ghost use Rattle.writings.specs.Writings.{layout_file, log_file};
 
 use csv_instance::Table;
 use dsa_model::NoMemory;

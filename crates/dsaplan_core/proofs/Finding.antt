@@ -7,8 +7,8 @@ use Rattle.csv_instance.specs.Layout.{layout_text}
 use Rattle.log_text.specs.Text.{log_text}
 use Rattle.planner.specs.LeastCapacity.{AreWithinSteps, RefutesBelow}
 use Rattle.planner.proofs.Stepping.{layout_took, log_took}
-use Rattle.deciding.specs.Deciding.{AllReadBack, Finds, LeavesLeastOpen, log_files}
 use Rattle.writings.specs.Writings.{layout_file}
+use Rattle.deciding.specs.Deciding.{AllReadBack, Finds, LeavesLeastOpen, log_files}
 use Rattle.dsa_terms.specs.Buffers.{Instance}
 use Rattle.dsa_outside.specs.Seen.{FilesSeen}
 use Rattle.csv_instance.specs.Records.{Record}

@@ -1,8 +1,8 @@
 use Rattle.std.proofs.Common.{◌∷◌, inl, inr}
 use Rattle.run_status.specs.declared.status.Status.TheVariants.{Least, Open}
 use Rattle.run_course.specs.Course.{writes}
-use Rattle.deciding.specs.Deciding.{AllReadBack, Finds, log_files}
 use Rattle.writings.specs.Writings.{layout_file}
+use Rattle.deciding.specs.Deciding.{AllReadBack, Finds, log_files}
 use Rattle.deciding.specs.Words.{least_of}
 use Rattle.deciding.proofs.Concluding.{told_by}
 use Rattle.deciding.proofs.Decided.{finds_least, leaves_least_open}

@@ -4,8 +4,8 @@ use Rattle.planner.proofs.Stepping.{layout_given, no_start}
 use Rattle.run_status.specs.declared.status.Status.TheVariants.{Feasible, Infeasible, Open}
 use Rattle.run_course.specs.Course.{writes}
 use Rattle.run_course.specs.Prepares.{write_of}
-use Rattle.deciding.specs.Deciding.{AllReadBack, Solves, log_files}
 use Rattle.writings.specs.Writings.{layout_file, log_file}
+use Rattle.deciding.specs.Deciding.{AllReadBack, Solves, log_files}
 use Rattle.deciding.specs.Words.{solve_of}
 use Rattle.deciding.proofs.Concluding.{told, told_by, with_files}
 use Rattle.deciding.proofs.Decided.{leaves_open}
@@ -20,7 +20,7 @@ returns-in_ok-file-in-Layout c =
     let answer = rw c.in-Layout.is at c.in_ok-offsets.ensures.value in
     let file = subst
     (λ (o : List ℕ). write_of c.in_ok-file-in-Layout.file ≡ layout_file words.output table o)
-    c.as_slice.ensures.value c.in_ok-file-in-Layout.ensures in
+    c.as_slice.ensures.value c.in_ok-file-in-Layout.ensures.file in
     told (Solves words table I) (writes (layout_file words.output table offsets ∷ []) (Feasible words.capacity))
     c.one_write.result
     (with_files (write_of c.in_ok-file-in-Layout.file) (layout_file words.output table offsets) [] []
