@@ -1,0 +1,13 @@
+pub mod Events
+pub mod Splits
+pub mod Words
+pub mod Holders
+pub mod FoundLemmas
+pub mod TraceLemmas
+pub mod ReadLemmas
+pub mod EndLemmas
+pub mod Imported
+pub mod Parses
+pub mod Accepted
+pub mod ShortText
+mod ExampleFacts
