@@ -1,6 +1,7 @@
 -- The ends of what lines hold, from the last line on.
 use Rattle.std.proofs.Math.Seq.{drop-cons}
-use Rattle.std.proofs.Common.{add-one, ◌≡◌, ◌∙◌, ◌+◌, ◌<◌, ◌≤◌, ◌++◌, ◌∷◌, [], ℕ, ap, arith, Bool, cond, drop, false, get_or, length, List, map, nat_lt, None, not, Option, option_map, position, refl, reverse, Some, subst, sym, true, unwrap_or, zero, suc}
+use Rattle.std.proofs.lemmas.List.{get_or-map, length-map, reverse-append, reverse-reverse}
+use Rattle.std.proofs.Common.{add-one, ◌≡◌, ◌∙◌, ◌+◌, ◌-◌, ◌<◌, ◌≤◌, ◌++◌, ◌∷◌, [], ℕ, ap, arith, Bool, cond, drop, false, get_or, length, length-drop, List, map, nat_lt, None, not, Option, option_map, position, refl, reverse, Some, subst, sym, true, unwrap_or, zero, suc}
 use Rattle.std.proofs.lemmas.Iterator.Adapters.{position_from-zero}
 use Rattle.std.specs.Borrow.{Bor}
 use Rattle.std.specs.HashMap.{HashMap}
@@ -8,8 +9,10 @@ use Rattle.std.specs.List.{position_from, position_or_len}
 use Rattle.std.specs.Str.{bytes_eq}
 use Rattle.dsa_terms.proofs.NumberTests.{not_less}
 use Rattle.trace_import.specs.Found.{AreFrees, Entries, ends_from, found_for}
+use Rattle.trace_import.specs.Kept.{line_value}
 use Rattle.trace_import.specs.Requests.{id_of}
 use Rattle.trace_import.specs.Traces.{Alloc, Event, Free, end_of, frees, is_alloc}
+use Rattle.trace_import.specs.declared.line.Line.{Line}
 use Rattle.trace_import.proofs.Events.{first_within}
 use Rattle.trace_import.proofs.FoundLemmas.{Changes, found_after, turned}
 
@@ -79,20 +82,17 @@ module _ {S : Type 0} (old new : HashMap (Bor (List ℕ)) ℕ S) (line : ℕ) (e
     where
       go : (e : Event) → is_alloc e ≡ false → Changes old new (id_of e) (Some line) →
           found_for new.entries q ≡ option_map (λ k. line + k) (position (frees q) (e ∷ after))
-      go (Alloc id s a) no c = absurd cc
-      go (Free id) no c =
+      go (Alloc id s a) f c = absurd cc
+      go (Free id) f c =
           found_after old new id (Some line) c q
           ∙ ap (cond (bytes_eq id q) (Some line)) (h q)
           ∙ ap (λ (b : Bool). cond b (Some line) (option_map (λ k. line + 1 + k) (position (frees q) after))) (turned id q)
           ∙ sym (frees_next line q (Free id) after)
 
-  pub frees_kept : is_alloc e ≡ true → AreFrees old.entries line (e ∷ after)
-  frees_kept alloc q = go e alloc
-    where
-      go : (e : Event) → is_alloc e ≡ true →
-          found_for old.entries q ≡ option_map (λ k. line + k) (position (frees q) (e ∷ after))
-      go (Alloc id s a) yes' = h q ∙ sym (frees_next line q (Alloc id s a) after)
-      go (Free id) yes' = absurd cc
+pub frees_kept : (found : Entries) (line : ℕ) (e : Event) (after : List Event) → AreFrees found (line + 1) after →
+    is_alloc e ≡ true → AreFrees found line (e ∷ after)
+frees_kept found line (Alloc id s a) after h f q = h q ∙ sym (frees_next line q (Alloc id s a) after)
+frees_kept found line (Free id) after h f q = absurd cc
 
 pub ends_none : (es : List Event) (line : ℕ) (found : Entries) (ends : List ℕ) → line ≡ length es → found ≡ [] →
     ends ≡ [] → AreEnds es line found ends
@@ -119,7 +119,8 @@ pub ends_more : (es : List Event) (line : ℕ) (e : Event) (found : Entries) (en
 ends_more es line e found ends more end d f h is m =
     rw (m, h, is) record {
       frees = subst (AreFrees found line) (sym d) f;
-      ends = rw d refl;
+      ends = rw d (sym (reverse-append (end_of line (id_of e) (drop (line + 1) es) ∷ [])
+          (ends_from (line + 1) (drop (line + 1) es))));
     }
 
 -- ---- the end at a line
@@ -141,7 +142,8 @@ end_from line (x ∷ xs) (suc k) e end lt h q =
 pub end_at : (es : List Event) (k : ℕ) (e : Event) (end : ℕ) → k < length es → get_or es k e ≡ e →
     end ≡ get_or (ends_from 0 es) k end → end ≡ end_of k (id_of e) (drop (k + 1) es)
 end_at es k e end lt h q =
-    rw (add-one k) (end_from 0 es k e end lt h q ∙ ap (λ l. end_of l (id_of e) (drop (suc k) es)) (none_less k))
+    end_from 0 es k e end lt h q ∙ ap (λ l. end_of l (id_of e) (drop (suc k) es)) (none_less k)
+    ∙ ap (λ n. end_of k (id_of e) (drop n es)) (sym (add-one k))
   where
     none_less : (k : ℕ) → 0 + k ≡ k
     none_less k = omega arith
@@ -149,3 +151,62 @@ end_at es k e end lt h q =
 pub ends_counted : (line : ℕ) (es : List Event) → length (ends_from line es) ≡ length es
 ends_counted line [] = refl
 ends_counted line (x ∷ xs) = let k = ends_counted (line + 1) xs in omega arith
+
+-- ---- a turn of the loop
+module _ (lines : List Line) (place : ℕ) (line : Line) (some : 0 < place) (within : place ≤ length lines)
+    (at : line ≡ get_or lines (place - 1) line) where
+  abbrev es : List Event
+  es = map line_value lines
+
+  abbrev rest : List Event
+  rest = drop (place - 1 + 1) es
+
+  same_place : place ≡ place - 1 + 1
+  same_place = omega arith
+
+  pub line_left : drop (place - 1) es ≡ line_value line ∷ rest
+  line_left = drop_line es (place - 1) (line_value line)
+      (let k = length-map lines line_value in omega arith)
+      (get_or-map line_value lines (place - 1) line (line_value line) (omega arith) ∙ ap line_value (sym at))
+
+  end_is : (found : Entries) (id : List ℕ) (count : ℕ) → AreFrees found place (drop place es) → count ≡ length lines →
+      unwrap_or (found_for found id) count ≡ end_of (place - 1) id rest
+  end_is found id count h n =
+      end_found (place - 1) id rest count found (subst (λ k. AreFrees found k (drop k es)) same_place h)
+      (let k = length-map lines line_value in let d = length-drop (place - 1 + 1) es in omega arith)
+
+  pub turn_kept : (found : Entries) (ends more : List ℕ) (id : List ℕ) (end count : ℕ) → AreEnds es place found ends →
+      count ≡ length lines → is_alloc (line_value line) ≡ true → id ≡ id_of (line_value line) →
+      end ≡ unwrap_or (found_for found id) count → more ≡ ends ++ end ∷ [] → AreEnds es (place - 1) found more
+  turn_kept found ends more id end count h n alloc own e m =
+      ends_more es (place - 1) (line_value line) found ends more end line_left
+      (frees_kept found (place - 1) (line_value line) rest (subst (λ k. AreFrees found k (drop k es)) same_place h.frees)
+      alloc)
+      (subst (λ k. ends ≡ reverse (ends_from k (drop k es))) same_place h.ends)
+      (e ∙ end_is found id count h.frees n ∙ ap (λ i. end_of (place - 1) i rest) own) m
+
+  pub turn_freed : {S : Type 0} (old new : HashMap (Bor (List ℕ)) ℕ S) (ends more : List ℕ) (id key : List ℕ)
+      (end count : ℕ) → AreEnds es place old.entries ends → count ≡ length lines → is_alloc (line_value line) ≡ false →
+      id ≡ id_of (line_value line) → key ≡ id_of (line_value line) → Changes old new key (Some (place - 1)) →
+      end ≡ unwrap_or (found_for old.entries id) count → more ≡ ends ++ end ∷ [] →
+      AreEnds es (place - 1) new.entries more
+  turn_freed old new ends more id key end count h n free own same change e m =
+      ends_more es (place - 1) (line_value line) new.entries ends more end line_left
+      (frees_freed old new (place - 1) (line_value line) rest
+      (subst (λ k. AreFrees old.entries k (drop k es)) same_place h.frees) free
+      (subst (λ i. Changes old new i (Some (place - 1))) same change))
+      (subst (λ k. ends ≡ reverse (ends_from k (drop k es))) same_place h.ends)
+      (e ∙ end_is old.entries id count h.frees n ∙ ap (λ i. end_of (place - 1) i rest) own) m
+
+pub ends_all : (es : List Event) (line : ℕ) (found : Entries) (ends : List ℕ) → AreEnds es line found ends → line ≡ 0 →
+    reverse ends ≡ ends_from 0 es
+ends_all es line found ends h n =
+    ap reverse (h.ends ∙ ap (λ k. reverse (ends_from k (drop k es))) n) ∙ reverse-reverse (ends_from 0 es)
+
+pub not_freed : (b : Bool) → not b ≡ false → b ≡ true
+not_freed true h = refl
+not_freed false h = absurd cc
+
+pub is_freed : (b : Bool) → not b ≡ true → b ≡ false
+is_freed true h = absurd cc
+is_freed false h = refl
