@@ -1,5 +1,5 @@
 -- What traces come to on small texts.
-use Rattle.std.proofs.Common.{◌≡◌, [], ◌∷◌, codes, Some, None, Ok, Err, refl}
+use Rattle.std.proofs.Common.{◌≡◌, [], ◌∷◌, codes, Some, None, Ok, Err, refl, true, false}
 use Rattle.std.specs.Fmt.{digits}
 use Rattle.csv.specs.Machine.{next_record}
 use Rattle.csv.specs.Reading.{records_from, strip_bom}
@@ -17,6 +17,9 @@ use Rattle.dsa_terms.specs.Fits.{top, highest, neighbours, is_free, first_passin
 use Rattle.dsa_terms.specs.Orders.{falls_by, rises_by, orders}
 use Rattle.dsa_terms.specs.Starts.{starts, planned}
 use Rattle.dsa_terms.proofs.Examples.{plain}
+use Rattle.trace_import.specs.FaultTexts.{trace_fault_text}
+use Rattle.trace_import.specs.Found.{ends_from}
+use Rattle.trace_import.specs.Lines.{event_in, is_id}
 use Rattle.trace_import.specs.Traces.{Alloc, Free, Trace, imported}
 use Rattle.trace_import.specs.Faults.{holder, trace_of}
 use Rattle.trace_import.specs.ImportText.{import_text}
@@ -82,6 +85,55 @@ zero_size = refl
 great_alignment : trace_of (codes "alloc a 1099511627776 4294967297\n") ≡ Err (fault.BadAlignment 0)
 unfolding trace_of holder
 great_alignment = refl
+
+zero_alignment : trace_of (codes "alloc a 1 0\n") ≡ Err (fault.BadAlignment 0)
+unfolding trace_of holder
+zero_alignment = refl
+
+-- with several faults a line has the first, and a trace that of its first line that has one
+size_before_alignment : trace_of (codes "alloc a 0 0\nfree b\n") ≡ Err (fault.BadSize 0)
+unfolding trace_of holder
+size_before_alignment = refl
+
+numbers_before_held : trace_of (codes "alloc a 4 1\nalloc a 4 0\n") ≡ Err (fault.BadAlignment 1)
+unfolding trace_of holder
+numbers_before_held = refl
+
+-- ---- lines
+event_of_alloc : event_in (codes "alloc a 007 1") ≡ Some (Alloc (codes "a") 7 1)
+event_of_alloc = refl
+
+event_of_free : event_in (codes "free a,b") ≡ Some (Free (codes "a,b"))
+event_of_free = refl
+
+no_such_word : event_in (codes "Free a") ≡ None
+no_such_word = refl
+
+-- a space at the end is a fourth word, or a third
+space_at_the_end : event_in (codes "free a ") ≡ None
+space_at_the_end = refl
+
+-- an identifier has bytes of 33 to 126
+not_ids : (is_id [] ≡ false) × (is_id (127 ∷ []) ≡ false) × (is_id (codes "a\"~!") ≡ true)
+not_ids = (refl, refl, refl)
+
+-- ---- what is held
+holders : (holder twice (codes "a") ≡ Some 3) × (holder twice (codes "b") ≡ Some 1) × (holder twice (codes "c") ≡ None)
+unfolding holder
+holders = (refl, refl, refl)
+
+ends_of_twice : ends_from 0 twice ≡ 2 ∷ 4 ∷ 4 ∷ 4 ∷ []
+ends_of_twice = refl
+
+-- ---- texts of faults
+fault_texts : (trace_fault_text (fault.BadLine 7) ≡ codes "bad line 7")
+    × (trace_fault_text (fault.BadSize 0) ≡ codes "bad size 0")
+    × (trace_fault_text (fault.BadAlignment 12) ≡ codes "bad alignment 12")
+    × (trace_fault_text (fault.StillLive 3 1) ≡ codes "still live 3 1")
+    × (trace_fault_text (fault.NotLive 0) ≡ codes "not live 0")
+    × (trace_fault_text (fault.TooManyBuffers 512) ≡ codes "too many buffers 512")
+unfolding digits
+fault_texts = (refl, refl, refl, refl, refl, refl)
 
 -- ---- the instance: nothing is live at the line that frees it
 imported_twice : imported twice ≡ plain 0 2 4 1 ∷ plain 1 4 8 4 ∷ plain 3 4 2 1 ∷ []

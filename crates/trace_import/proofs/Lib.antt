@@ -6,6 +6,9 @@ pub mod FoundLemmas
 pub mod TraceLemmas
 pub mod ReadLemmas
 pub mod EndLemmas
+pub mod RowLemmas
+pub mod Held
+pub mod Refusals
 pub mod Imported
 pub mod Parses
 pub mod Accepted

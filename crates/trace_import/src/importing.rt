@@ -26,13 +26,24 @@ fn write_record(writer: &mut Writer<Vec<u8>>, fields: &[&[u8]]) -> Result<(), No
     }
 }
 
-/// Writes the names of the columns.
-fn write_header(writer: &mut Writer<Vec<u8>>) -> Result<(), NoMemory>
-    ensures { (text : List ℕ) → Wrote writer.old text → OnOk result
-        (Wrote writer.new (text ++ row_text default_writer import_header)) }
+/// A writer that has written the names of the columns.
+fn start(alloc: Global) -> Result<Writer<Vec<u8>>, NoMemory>
+    ensures { IfOk result (λ writer. Wrote writer (row_text default_writer import_header)) }
 {
-    let fields: [&[u8]; 6] = [b"id", b"lower", b"upper", b"size", b"alignment", b"name"];
-    write_record(writer, &fields)
+    let mut writer = WriterBuilder::new().from_writer(Vec::new(alloc));
+    let names: [&[u8]; 6] = [b"id", b"lower", b"upper", b"size", b"alignment", b"name"];
+    write_record(&mut writer, &names)?;
+    Ok(writer)
+}
+
+/// What a writer has written.
+fn finish(writer: Writer<Vec<u8>>) -> Result<Vec<u8>, NoMemory>
+    ensures { (text : List ℕ) → Wrote writer text → IfOk result (λ bytes. bytes.items ≡ text) }
+{
+    match writer.into_inner() {
+        Ok(bytes) => Ok(bytes),
+        Err(_) => Err(NoMemory),
+    }
 }
 
 /// Writes the row of an allocation, from its line to its end.
@@ -76,8 +87,7 @@ pub fn import(alloc: Global, trace: &Trace) -> Result<Vec<u8>, NoMemory>
 {
     let lines = trace.kept();
     let ends = ends(alloc, lines)?;
-    let mut writer = WriterBuilder::new().from_writer(Vec::new(alloc));
-    write_header(&mut writer)?;
+    let mut writer = start(alloc)?;
     for place in 0..lines.len() {
         if let Line::Alloc {
             id,
@@ -89,8 +99,5 @@ pub fn import(alloc: Global, trace: &Trace) -> Result<Vec<u8>, NoMemory>
             write_row(alloc, &mut writer, line, end, *size, *alignment, id.as_slice())?;
         }
     }
-    match writer.into_inner() {
-        Ok(text) => Ok(text),
-        Err(_) => Err(NoMemory),
-    }
+    finish(writer)
 }

@@ -9,7 +9,7 @@ ghost use Rattle.trace_import.specs.Found.{AreHolders};
 ghost use Rattle.trace_import.specs.Lines.{event_in};
 ghost use Rattle.trace_import.specs.Limits.{AreWithin, IsWithin};
 ghost use Rattle.trace_import.specs.Kept.{line_value};
-ghost use Rattle.trace_import.specs.Traces.{Alloc, Free, imported};
+ghost use Rattle.trace_import.specs.Traces.{Alloc, Free, IsTraced, imported};
 
 use crate::fault::TraceFault;
 use crate::line::Line;
@@ -174,6 +174,7 @@ impl Trace {
         ensures within { AreWithin self.now }
         ensures few { length (imported self.now) ≤ buffer_limit }
         ensures short { length self.now ≤ file_limit }
+        ensures traced { IsTraced self.now (imported self.now) }
     {
         self.lines.as_slice()
     }

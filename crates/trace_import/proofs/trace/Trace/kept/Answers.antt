@@ -3,6 +3,7 @@ use Rattle.csv_instance.specs.Records.{file_limit}
 use Rattle.trace_import.specs.Limits.{AreWithin}
 use Rattle.trace_import.specs.Traces.{is_alloc}
 use Rattle.trace_import.proofs.Accepted.{imported_count}
+use Rattle.trace_import.proofs.Imported.{imported_traced}
 use Rattle.trace_import.proofs.trace.Trace.kept.Goals as goal
 
 pub returns-clause-within : goal.returns-clause-within
@@ -18,3 +19,6 @@ returns-clause-few c =
 
 pub returns-clause-short : goal.returns-clause-short
 returns-clause-short c = subst (λ es. length es ≤ file_limit) c.self.view_is c.self.invariant.short
+
+pub returns-clause-traced : goal.returns-clause-traced
+returns-clause-traced c = imported_traced c.args.self.now
