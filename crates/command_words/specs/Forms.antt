@@ -3,9 +3,9 @@ use Rattle.std.specs.Prelude.{List, [], ◌∷◌, ◌++◌, codes, Option, find
 use Rattle.std.specs.Str.{bytes_eq}
 use Rattle.command_words.specs.Options.{Word, option_word}
 use Rattle.command_words.specs.declared.option.OptionName.{OptionName}
-use Rattle.command_words.specs.declared.option.OptionName.TheVariants.{Capacity, Input, Output, Log, Layout, Steps, Seed, Count}
+use Rattle.command_words.specs.declared.option.OptionName.TheVariants.{Capacity, Input, Output, Log, Layout, Trace, Steps, Seed, Count}
 use Rattle.command_words.specs.declared.verb.Verb.{Verb}
-use Rattle.command_words.specs.declared.verb.Verb.TheVariants.{Solve, Least, Verify, Refute, Trim, Bounds, Report, Trial, Classes, Core}
+use Rattle.command_words.specs.declared.verb.Verb.TheVariants.{Solve, Least, Verify, Refute, Trim, Bounds, Report, Trial, Import, Classes, Core}
 use Rattle.command_words.specs.declared.form.Form as written
 
 -- the words of a command: its own; the options that it needs, in the order in which they are missed; those that it can
@@ -19,7 +19,7 @@ pub record Form : Type 0 where
 
 -- the commands that there are
 abbrev pub verbs : List Verb
-verbs = Solve ∷ Least ∷ Verify ∷ Refute ∷ Trim ∷ Bounds ∷ Report ∷ Trial ∷ Classes ∷ Core ∷ []
+verbs = Solve ∷ Least ∷ Verify ∷ Refute ∷ Trim ∷ Bounds ∷ Report ∷ Trial ∷ Import ∷ Classes ∷ Core ∷ []
 
 -- the form of each command
 abbrev pub form_of : Verb → Form
@@ -78,6 +78,13 @@ form_of Trial = record {
   optional = [];
   reads = [];
   writes = [];
+}
+form_of Import = record {
+  word = codes "import";
+  needed = Trace ∷ Output ∷ [];
+  optional = [];
+  reads = Trace ∷ [];
+  writes = Output ∷ [];
 }
 form_of Classes = record {
   word = codes "classes";

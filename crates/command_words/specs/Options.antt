@@ -3,7 +3,7 @@ use Rattle.std.specs.Prelude.{ℕ, ◌^◌, Bool, true, false, not, List, codes,
 use Rattle.dsa_terms.specs.Parts.{is_empty}
 use Rattle.dsa_model.specs.Numbers.{written_number}
 use Rattle.command_words.specs.declared.option.OptionName.{OptionName}
-use Rattle.command_words.specs.declared.option.OptionName.TheVariants.{Capacity, Input, Output, Log, Layout, Steps, Seed, Count}
+use Rattle.command_words.specs.declared.option.OptionName.TheVariants.{Capacity, Input, Output, Log, Layout, Trace, Steps, Seed, Count}
 
 -- the bytes of a word
 abbrev pub Word : Type 0
@@ -20,6 +20,7 @@ option_word Input = codes "--input"
 option_word Output = codes "--output"
 option_word Log = codes "--log"
 option_word Layout = codes "--layout"
+option_word Trace = codes "--trace"
 option_word Steps = codes "--steps"
 option_word Seed = codes "--seed"
 option_word Count = codes "--count"
@@ -30,6 +31,7 @@ is_file Input = true
 is_file Output = true
 is_file Log = true
 is_file Layout = true
+is_file Trace = true
 is_file other = false
 
 -- a value that the option can't have: an empty name, or a word that writes no number where one is wanted

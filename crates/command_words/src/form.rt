@@ -25,7 +25,7 @@ impl Verb {
     pub(crate) fn form(self) -> Form
         ensures { form_value result ≡ form_of self }
     {
-        use OptionName::{Capacity, Count, Input, Layout, Log, Output, Seed, Steps};
+        use OptionName::{Capacity, Count, Input, Layout, Log, Output, Seed, Steps, Trace};
         match self {
             Verb::Solve => Form {
                 word: "solve",
@@ -82,6 +82,13 @@ impl Verb {
                 optional: &[],
                 reads: &[],
                 writes: &[],
+            },
+            Verb::Import => Form {
+                word: "import",
+                needed: &[Trace, Output],
+                optional: &[],
+                reads: &[Trace],
+                writes: &[Output],
             },
             Verb::Classes => Form {
                 word: "classes",

@@ -16,6 +16,8 @@ pub enum OptionName {
     Log,
     /// `--layout`: the name of a layout file.
     Layout,
+    /// `--trace`: the name of a trace.
+    Trace,
     /// `--steps`: a budget in units, each a claim that is opened.
     Steps,
     /// `--seed`: the seed of a made instance.
@@ -35,6 +37,7 @@ impl OptionName {
             OptionName::Output => "--output",
             OptionName::Log => "--log",
             OptionName::Layout => "--layout",
+            OptionName::Trace => "--trace",
             OptionName::Steps => "--steps",
             OptionName::Seed => "--seed",
             OptionName::Count => "--count",
@@ -46,7 +49,11 @@ impl OptionName {
         ensures { result ≡ is_file self.now }
     {
         match self {
-            OptionName::Input | OptionName::Output | OptionName::Log | OptionName::Layout => true,
+            OptionName::Input
+            | OptionName::Output
+            | OptionName::Log
+            | OptionName::Layout
+            | OptionName::Trace => true,
             OptionName::Capacity | OptionName::Steps | OptionName::Seed | OptionName::Count => {
                 false
             }

@@ -29,6 +29,8 @@ pub enum Verb {
     /// `trial --seed S --count N --steps K`: make an instance of so many buffers from the seed, and
     /// look for its least capacity within the budget.
     Trial,
+    /// `import --trace T --output O`: make an instance of a recorded run of allocations.
+    Import,
     /// `classes --input I --output O`: write a plan by size class.
     Classes,
     /// `core --capacity C --input I --output O --log L`: write an irreducible set of buffers that
@@ -37,7 +39,7 @@ pub enum Verb {
 }
 
 /// The commands that there are.
-const VERBS: [Verb; 10] = [
+const VERBS: [Verb; 11] = [
     Verb::Solve,
     Verb::Least,
     Verb::Verify,
@@ -46,6 +48,7 @@ const VERBS: [Verb; 10] = [
     Verb::Bounds,
     Verb::Report,
     Verb::Trial,
+    Verb::Import,
     Verb::Classes,
     Verb::Core,
 ];

@@ -1,9 +1,9 @@
 -- What a run answers where nothing outside it goes wrong.
-use Rattle.std.proofs.Common.{◌≡◌, ◌^◌, List, Ok, refl, sym, subst, inl, inr}
+use Rattle.std.proofs.Common.{◌≡◌, ◌^◌, List, Result, Ok, Err, refl, sym, subst, inl, inr}
 use Rattle.dsa_terms.specs.Buffers.{Instance}
 use Rattle.dsa_outside.specs.Seen.{FilesSeen, SinkSeen}
 use Rattle.dsa_model.specs.Counts.{Rose}
-use Rattle.csv_instance.specs.Records.{Record}
+use Rattle.csv_instance.specs.Records.{Record, file_limit}
 use Rattle.command_words.specs.Options.{Word}
 use Rattle.command_words.specs.Pairs.{Pair, number_at, word_at}
 use Rattle.command_words.specs.Requests.{Request, request_of}
@@ -13,6 +13,7 @@ use Rattle.command_words.specs.declared.verb.Verb.TheVariants as verb
 use Rattle.run_status.specs.declared.status.Status.{Status}
 use Rattle.run_status.specs.declared.status.Status.TheVariants as status
 use Rattle.run_status.specs.declared.status.Role.{Role}
+use Rattle.run_status.specs.declared.status.Role.TheVariants as role
 use Rattle.run_course.specs.Course.{Comes, Concludes, Ends, Outcome, says}
 use Rattle.run_course.specs.Answers.{Answers, AreBroken}
 use Rattle.readings.specs.Judging.{judged}
@@ -20,19 +21,24 @@ use Rattle.readings.specs.Checking.{checked}
 use Rattle.judging.specs.Judging.{ShowsLayout}
 use Rattle.checking.specs.Checking.{trimming}
 use Rattle.fact_reports.specs.Reporting.{ShowsFacts}
+use Rattle.trace_import.specs.Faults.{trace_of}
+use Rattle.trace_import.specs.Traces.{Trace}
+use Rattle.trace_import.specs.declared.fault.TraceFault.{TraceFault}
+use Rattle.importing.specs.Importing.{imports}
 use Rattle.planning.specs.Planning.{Plans}
 use Rattle.explaining.specs.Explaining.{ExplainsOrFits}
 use Rattle.deciding.specs.Deciding.{Finds, Solves}
-use Rattle.dsaplan_core.specs.Courses.{classes_of, core_of, course, course_with, least_of, solve_of, trial_of}
+use Rattle.dsaplan_core.specs.Courses.{classes_of, core_of, import_of, course, course_with, least_of, solve_of, trial_of}
 use Rattle.dsaplan_core.specs.Choice.{MayStayOpen}
 use Rattle.dsaplan_core.specs.Complete.{IsConcluded, IsReady, IsUndisturbed}
 use Rattle.dsaplan_core.specs.Lost.{IsOwnWrite, option_of_role}
 use Rattle.dsaplan_core.proofs.Answered.{answered, words_give}
+use Rattle.dsaplan_core.proofs.Gives as gives
 use Rattle.dsaplan_core.proofs.Gives.{trial_gives}
 use Rattle.dsaplan_core.proofs.Headline.{one_own, promised}
 use Rattle.dsaplan_core.proofs.Promises.{AreOwn}
 use Rattle.dsaplan_core.proofs.Requests.{write_named}
-use Rattle.dsaplan_core.proofs.Served.{checked_served, judged_served, opened_served}
+use Rattle.dsaplan_core.proofs.Served.{served, checked_served, judged_served, opened_served}
 
 memory : (v : Verb) (pairs : List Pair) (I : Instance) → IsConcluded v pairs I status.NoMemory
 memory verb.Solve pairs I = tt
@@ -43,6 +49,7 @@ memory verb.Trim pairs I = tt
 memory verb.Bounds pairs I = tt
 memory verb.Report pairs I = tt
 memory verb.Trial pairs I = tt
+memory verb.Import pairs I = tt
 memory verb.Classes pairs I = tt
 memory verb.Core pairs I = tt
 
@@ -77,6 +84,11 @@ explained pairs table J o (inl core) =
     subst (λ (o : Outcome). IsConcluded verb.Core pairs J o.status) (sym core.written) core.core.infeasible
 explained pairs table J o (inr fits) =
     subst (λ (o : Outcome). IsConcluded verb.Core pairs J o.status) (sym fits.told) (refl, fits.feasible)
+
+imports_conclude : (pairs : List Pair) (J : Instance) (r : Result Trace TraceFault) →
+    IsConcluded verb.Import pairs J (imports (import_of pairs) r).status
+imports_conclude pairs J (Ok trace) = tt
+imports_conclude pairs J (Err fault) = tt
 
 module _ (old new : FilesSeen) (before after : SinkSeen) (I : Instance) where
   -- a request whose files are readable and are not disturbed
@@ -129,6 +141,12 @@ module _ (old new : FilesSeen) (before after : SinkSeen) (I : Instance) where
       (λ table. judged_served old new before after I r ready calm (inr (inl refl)) (IsDone verb.Report pairs)
       table (2 ^ 60) (λ offsets. Concludes (ShowsLayout table I offsets)) (λ cause. tt)
       (λ offsets o comes. subst (IsDone verb.Report pairs) (sym comes.1.shown) tt))
+  done verb.Import pairs (ready, calm) o (inl failed) =
+      gives.unreadable old new (IsDone verb.Import pairs) role.Trace (word_at pairs option.Trace) file_limit
+      (served old new before after I (record { verb = verb.Import; pairs = pairs }) ready calm
+      (IsDone verb.Import pairs) role.Trace option.Trace (inl refl)) o failed.0 failed.1
+  done verb.Import pairs (ready, calm) o (inr (bytes, whole, comes)) =
+      subst (IsDone verb.Import pairs) (sym comes.1) (imports_conclude pairs I (trace_of bytes))
   done verb.Classes pairs (ready, calm) =
       opened_served old new before after I (record { verb = verb.Classes; pairs = pairs }) ready calm (inl refl)
       (IsDone verb.Classes pairs)

@@ -35,7 +35,7 @@ module _ (old new : FilesSeen) (P : Outcome → Type 0) where
   IfUnreadable role name most = (IsUnread old new name → P (says (status.ReadFault role)))
       × ((IsSome old.held → HoldsMore old name most) → P (says (status.TooLong role)))
 
-  unreadable : (role : Role) (name : Word) (most : ℕ) → IfUnreadable role name most → (o : Outcome) →
+  pub unreadable : (role : Role) (name : Word) (most : ℕ) → IfUnreadable role name most → (o : Outcome) →
       IsUnreadable old new role name most o.status → o ≡ says o.status → P o
   unreadable role name most holds o (inl failed) is = subst P (sym (is ∙ ap says failed.0)) (holds.0 failed.1)
   unreadable role name most holds o (inr long) is = subst P (sym (is ∙ ap says long.0)) (holds.1 long.1)

@@ -23,6 +23,7 @@ use Rattle.dsaplan_core.proofs.Promises.{AreOwn, Promises}
 use Rattle.dsaplan_core.proofs.Solving.{solve_promises}
 use Rattle.dsaplan_core.proofs.Finding.{least_promises}
 use Rattle.dsaplan_core.proofs.Read.{refute_promises, report_promises, trim_promises, verify_promises}
+use Rattle.dsaplan_core.proofs.Importing.{import_promises}
 use Rattle.dsaplan_core.proofs.Explained.{classes_promises, core_promises}
 use Rattle.dsaplan_core.proofs.Reported.{bounds_promises, trial_promises}
 
@@ -48,6 +49,7 @@ module _ (words : List Word) (old new : FilesSeen) where
   promised verb.Bounds pairs is o comes = bounds_promises words old new pairs is o comes
   promised verb.Report pairs is o comes = report_promises words old new pairs is o comes
   promised verb.Trial pairs is o comes = trial_promises words old new pairs is o comes
+  promised verb.Import pairs is o comes = import_promises words old new pairs is o comes
   promised verb.Classes pairs is o comes = classes_promises words old new pairs is o comes
   promised verb.Core pairs is o comes = core_promises words old new pairs is o comes
 

@@ -15,3 +15,4 @@ mod Served
 mod Concluded
 mod Accepting
 mod Explained
+mod Importing

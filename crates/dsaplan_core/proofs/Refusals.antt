@@ -22,7 +22,7 @@ module _ (words : List Word) (old new : FilesSeen) (r : Request) where
   abbrev P : Outcome → Type 0
   P = Promises words old new r
 
-  unreadable : (role : Role) (name : Word) (most : ℕ) → IfUnreadable old new P role name most
+  pub unreadable : (role : Role) (name : Word) (most : ℕ) → IfUnreadable old new P role name most
   unreadable role name most =
       (λ unread. (λ files. (tt, tt, tt, tt), tt), λ long. (λ files. (tt, tt, tt, tt), tt))
 

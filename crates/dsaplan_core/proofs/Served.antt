@@ -69,7 +69,7 @@ module _ (old new : FilesSeen) (before after : SinkSeen) (I : Instance) (r : Req
       (long (is_told old.held (word_at r.pairs o) there.bytes there.held))
 
   -- reading a file of the command whole does not fail
-  served : (P : Outcome → Type 0) (role : Role) (o : OptionName) → IsIn o (form_of r.verb).reads →
+  pub served : (P : Outcome → Type 0) (role : Role) (o : OptionName) → IsIn o (form_of r.verb).reads →
       IfUnreadable old new P role (word_at r.pairs o) (limit_of o)
   served P role o among = (λ unread. absurd (not_unread o among unread), λ long. absurd (not_long o among long))
 

@@ -79,6 +79,8 @@ IsConcluded verb.Report pairs I (status.Wrong cause) = Unit {0}
 IsConcluded verb.Trial pairs I status.Shown = number_at pairs option.Count ≤ buffer_limit
 IsConcluded verb.Trial pairs I (status.TooMany n) =
     (n ≡ number_at pairs option.Count) × (buffer_limit < number_at pairs option.Count)
+IsConcluded verb.Import pairs I (status.Imported count) = Unit {0}
+IsConcluded verb.Import pairs I (status.TraceRefused fault) = Unit {0}
 IsConcluded verb.Classes pairs I (status.Classed height load) = IsPlain I
 IsConcluded verb.Classes pairs I (status.NotPlain b) = first_rough I ≡ Some b
 IsConcluded verb.Core pairs I (status.Core count) = IsInfeasible I (number_at pairs option.Capacity)

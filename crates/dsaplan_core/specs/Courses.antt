@@ -12,6 +12,7 @@ use Rattle.run_course.specs.Course.{Course, Ends, says}
 use Rattle.judging.specs.Judging.{Report, Verify, report, verify}
 use Rattle.checking.specs.Checking.{Refute, Trim, refute, trim}
 use Rattle.fact_reports.specs.Reporting.{Bounds, Trial, bounds, trial}
+use Rattle.importing.specs.Importing.{Import, import_course}
 use Rattle.planning.specs.Planning.{Classes, classes}
 use Rattle.explaining.specs.Explaining.{Core, core}
 use Rattle.deciding.specs.Deciding.{LeastOf, Solve, least, solve}
@@ -64,6 +65,9 @@ trial_of pairs = record {
   steps = number_at pairs option.Steps;
 }
 
+abbrev pub import_of : List Pair → Import
+import_of pairs = record { trace = word_at pairs option.Trace; output = word_at pairs option.Output }
+
 abbrev pub classes_of : List Pair → Classes
 classes_of pairs = record { input = word_at pairs option.Input; output = word_at pairs option.Output }
 
@@ -85,6 +89,7 @@ course_with verb.Trim pairs = trim (trim_of pairs)
 course_with verb.Bounds pairs = bounds (bounds_of pairs)
 course_with verb.Report pairs = report (report_of pairs)
 course_with verb.Trial pairs = trial (trial_of pairs)
+course_with verb.Import pairs = import_course (import_of pairs)
 course_with verb.Classes pairs = classes (classes_of pairs)
 course_with verb.Core pairs = core (core_of pairs)
 

@@ -23,6 +23,7 @@ abbrev pub option_of_role : Role → OptionName
 option_of_role role.Input = option.Input
 option_of_role role.Layout = option.Layout
 option_of_role role.Log = option.Log
+option_of_role role.Trace = option.Trace
 option_of_role role.Output = option.Output
 
 -- the write is of a file that the command writes, under the name that the words give it

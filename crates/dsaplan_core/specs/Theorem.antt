@@ -3,7 +3,7 @@
 -- at C - 1 or L - 1 unless C or L is zero, is accepted, and an accepted log means that no layout fits. With 'right' the
 -- layout file gives a layout, and with 'accepted' and 'trimmed' the log's file is an accepted log. 'classes' writes a
 -- plan by size class, and 'core' an irreducible set of buffers that do not fit.
-use Rattle.std.specs.Prelude.{◌≡◌, ◌-◌, ◌≤◌, ◌<◌, ℕ, List, length, IsSome, Some, Ok}
+use Rattle.std.specs.Prelude.{◌≡◌, ◌-◌, ◌≤◌, ◌<◌, ℕ, List, length, IsSome, Some, Ok, Err}
 use Rattle.dsa_terms.specs.Buffers.{Instance}
 use Rattle.dsa_terms.specs.Claims.{IsIn}
 use Rattle.dsa_terms.specs.Layouts.{IsFeasible, IsLayout, IsInfeasible, IsLeast}
@@ -22,6 +22,10 @@ use Rattle.dsa_model.specs.Chosen.{some_of}
 use Rattle.core_find.specs.Cores.{IsCore, without}
 use Rattle.size_classes.specs.Plain.{first_rough}
 use Rattle.size_classes.specs.Plans.{AllOf, IsPeakLoad, class_height, class_plan, power_height}
+use Rattle.trace_import.specs.Faults.{trace_of}
+use Rattle.trace_import.specs.ImportText.{import_text}
+use Rattle.trace_import.specs.Traces.{IsTraced, Trace, imported}
+use Rattle.trace_import.specs.declared.fault.TraceFault.{TraceFault}
 use Rattle.command_words.specs.Options.{Word}
 use Rattle.command_words.specs.Pairs.{Pair, number_at, word_at}
 use Rattle.command_words.specs.Requests.{request_of}
@@ -110,6 +114,29 @@ pub record HoldsCore {words : List Word} {old : FilesSeen} (a : Asked words old)
   pub files : new.held ≡ with_file (with_file old.held (word_at a.pairs option.Output) (chosen_text a.table members))
       (word_at a.pairs option.Log) (log_text refutation)
 
+-- the words ask to import this trace, which the trace's file holds; the output holds the text of its instance, which at
+-- each moment has just the buffers that the trace holds after that line
+pub record HoldsImport (words : List Word) (old new : FilesSeen) (count : ℕ) : Type 0 where
+  pub pairs : List Pair
+  pub bytes : List ℕ
+  pub trace : Trace
+  pub words_ask : request_of words ≡ Ok (record { verb = verb.Import; pairs = pairs })
+  pub whole : IsWholeFile old (word_at pairs option.Trace) file_limit bytes
+  pub read : trace_of bytes ≡ Ok trace
+  pub its_count : length (imported trace) ≡ count
+  pub parsed : parse (table_of (import_text trace)) ≡ Ok (imported trace)
+  pub traced : IsTraced trace (imported trace)
+  pub files : new.held ≡ with_file old.held (word_at pairs option.Output) (import_text trace)
+
+-- the words ask to import a trace, and the bytes of its file are none, for their first fault
+pub record RefusesTrace (words : List Word) (old new : FilesSeen) (fault : TraceFault) : Type 0 where
+  pub pairs : List Pair
+  pub bytes : List ℕ
+  pub words_ask : request_of words ≡ Ok (record { verb = verb.Import; pairs = pairs })
+  pub whole : IsWholeFile old (word_at pairs option.Trace) file_limit bytes
+  pub refused : trace_of bytes ≡ Err fault
+  pub files : new.held ≡ old.held
+
 -- what the status promises of the files
 abbrev pub Headline : List Word → FilesSeen → FilesSeen → Status → Type 0
 Headline words old new (status.Feasible C) = (a : Asked words old) × (a.verb ≡ verb.Solve)
@@ -127,6 +154,8 @@ Headline words old new (status.Accepted C) = (a : Asked words old) × (a.verb �
 Headline words old new (status.Trimmed before after) = (a : Asked words old) × (a.verb ≡ verb.Trim)
     × ((log : Log) × GivesLog a log × (length log.lines ≡ before) × (length (trimmed log).lines ≡ after)
     × HoldsTrimmed a new log)
+Headline words old new (status.Imported count) = HoldsImport words old new count
+Headline words old new (status.TraceRefused fault) = RefusesTrace words old new fault
 Headline words old new (status.Classed height load) = (a : Asked words old) × (a.verb ≡ verb.Classes)
     × HoldsClassPlan a new height load
 Headline words old new (status.NotPlain b) = (a : Asked words old) × (a.verb ≡ verb.Classes)

@@ -16,6 +16,7 @@ use deciding::{Least, Solve};
 use dsa_outside::{Files, Sink};
 use explaining::Core;
 use fact_reports::{Bounds, Trial};
+use importing::Import;
 use judging::{Report, Verify};
 use planning::Classes;
 use run_course::perform;
@@ -73,6 +74,10 @@ fn answer<F: Files, S: Sink>(
         }
         Verb::Bounds => perform(alloc, &Bounds { input }, files, out),
         Verb::Report => perform(alloc, &Report { input, layout }, files, out),
+        Verb::Import => {
+            let trace = request.word(OptionName::Trace);
+            perform(alloc, &Import { trace, output }, files, out)
+        }
         Verb::Classes => perform(alloc, &Classes { input, output }, files, out),
         Verb::Core => {
             let core = Core {

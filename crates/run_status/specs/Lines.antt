@@ -13,12 +13,14 @@ use Rattle.csv_instance.specs.FaultTexts.{instance_text, offsets_text}
 use Rattle.dsa_model.specs.FaultTexts.{layout_fault_text}
 use Rattle.log_text.specs.FaultTexts.{text_fault_text}
 use Rattle.log_check.specs.FaultTexts.{check_text}
+use Rattle.trace_import.specs.FaultTexts.{trace_fault_text}
 
 -- the option that names a file of this role
 abbrev pub role_text : Role → List ℕ
 role_text role.Input = codes "--input"
 role_text role.Layout = codes "--layout"
 role_text role.Log = codes "--log"
+role_text role.Trace = codes "--trace"
 role_text role.Output = codes "--output"
 
 -- why a layout is wrong
@@ -43,6 +45,8 @@ line (status.Accepted capacity) = codes "accepted " ++ decimal capacity ++ codes
 line (status.LogRefused cause) = codes "refused " ++ refused_text cause ++ codes "\n"
 line (status.Trimmed before after) =
     codes "trimmed " ++ decimal before ++ codes " " ++ decimal after ++ codes "\n"
+line (status.Imported buffers) = codes "imported " ++ decimal buffers ++ codes "\n"
+line (status.TraceRefused fault) = codes "trace " ++ trace_fault_text fault ++ codes "\n"
 line (status.Classed height load) =
     codes "classes " ++ decimal height ++ codes " " ++ decimal load ++ codes "\n"
 line (status.NotPlain buffer) = codes "not plain " ++ decimal buffer ++ codes "\n"

@@ -15,6 +15,7 @@ fn role_word(role: Role) -> &'static str
         Role::Input => "--input",
         Role::Layout => "--layout",
         Role::Log => "--log",
+        Role::Trace => "--trace",
         Role::Output => "--output",
     }
 }
@@ -70,6 +71,11 @@ pub fn status_line(alloc: Global, status: Status) -> Result<String, NoMemory>
         Status::Least { capacity } => Ok(format!(in alloc; "least {capacity}\n")?),
         Status::Open { low, high } => open_line(alloc, low, high),
         Status::Trimmed { before, after } => trimmed_line(alloc, before, after),
+        Status::Imported { buffers } => Ok(format!(in alloc; "imported {buffers}\n")?),
+        Status::TraceRefused(fault) => {
+            let text = fault.text(alloc)?;
+            Ok(format!(in alloc; "trace {text}\n")?)
+        }
         Status::Classed { height, load } => classes_line(alloc, height, load),
         Status::NotPlain { buffer } => Ok(format!(in alloc; "not plain {buffer}\n")?),
         Status::Core { members } => Ok(format!(in alloc; "core {members}\n")?),
@@ -118,6 +124,7 @@ pub fn unwritten_line(role: Role) -> &'static str
         Role::Input => "unwritten --input\n",
         Role::Layout => "unwritten --layout\n",
         Role::Log => "unwritten --log\n",
+        Role::Trace => "unwritten --trace\n",
         Role::Output => "unwritten --output\n",
     }
 }

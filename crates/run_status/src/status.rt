@@ -8,6 +8,7 @@ use csv_instance::{InstanceFault, OffsetsFault};
 use dsa_model::LayoutFault;
 use log_check::CheckFault;
 use log_text::TextFault;
+use trace_import::TraceFault;
 
 /// A file's part in a command, named by its option.
 #[derive(Clone, Copy, Debug, PartialEq, Eq)]
@@ -18,6 +19,8 @@ pub enum Role {
     Layout,
     /// `--log`: a log.
     Log,
+    /// `--trace`: a recorded run of allocations.
+    Trace,
     /// `--output`: the file to write.
     Output,
 }
@@ -66,6 +69,10 @@ pub enum Status {
     LogRefused(LogCause),
     /// The log had so many lines, and the log that is written has so many.
     Trimmed { before: u64, after: u64 },
+    /// The instance of a trace, of so many buffers, is written.
+    Imported { buffers: u32 },
+    /// The file is no trace, for its first fault.
+    TraceRefused(TraceFault),
     /// A plan by size class is written: its height, and the greatest load, in bytes.
     Classed { height: u64, load: u64 },
     /// The instance is not plain, for this buffer first: it has a gap or an alignment above 1.
@@ -107,6 +114,7 @@ impl Status {
             | Status::Right
             | Status::Accepted { .. }
             | Status::Trimmed { .. }
+            | Status::Imported { .. }
             | Status::Classed { .. }
             | Status::NoCore { .. }
             | Status::Shown => 0,
@@ -116,7 +124,7 @@ impl Status {
             | Status::Core { .. } => 1,
             Status::Open { .. } => 2,
             Status::Usage(_) | Status::TooMany { .. } => 3,
-            Status::Malformed(_) | Status::NotPlain { .. } => 4,
+            Status::Malformed(_) | Status::TraceRefused(_) | Status::NotPlain { .. } => 4,
             Status::ReadFault(_) | Status::WriteFault(_) | Status::PrintFault => 5,
             Status::NoMemory => 6,
             Status::TooLong(_) => 7,

@@ -1,0 +1,67 @@
+-- What `import` promises.
+use Rattle.std.proofs.Common.{◌≡◌, ℕ, List, Result, Ok, Err, refl, sym, subst, inl, inr}
+use Rattle.dsa_outside.specs.Seen.{FilesSeen}
+use Rattle.csv_instance.specs.Records.{file_limit}
+use Rattle.trace_import.specs.Faults.{trace_of}
+use Rattle.trace_import.specs.Traces.{Trace}
+use Rattle.trace_import.specs.declared.fault.TraceFault.{TraceFault}
+use Rattle.trace_import.proofs.Accepted.{accepted_parses}
+use Rattle.trace_import.proofs.Imported.{imported_traced}
+use Rattle.command_words.specs.Options.{Word}
+use Rattle.command_words.specs.Pairs.{Pair, word_at}
+use Rattle.command_words.specs.Requests.{Request, request_of}
+use Rattle.command_words.specs.declared.option.OptionName.TheVariants as option
+use Rattle.command_words.specs.declared.verb.Verb.TheVariants as verb
+use Rattle.run_status.specs.declared.status.Role.TheVariants as role
+use Rattle.run_course.specs.Readings.{IsWholeFile}
+use Rattle.run_course.specs.Course.{Comes, Outcome}
+use Rattle.importing.specs.Importing.{imports}
+use Rattle.dsaplan_core.specs.Courses.{course_with, import_of}
+use Rattle.dsaplan_core.proofs.Gives as gives
+use Rattle.dsaplan_core.proofs.Promises.{Promises}
+use Rattle.dsaplan_core.proofs.Refusals.{unreadable}
+
+module _ (words : List Word) (old new : FilesSeen) (pairs : List Pair)
+    (is : request_of words ≡ Ok (record { verb = verb.Import; pairs = pairs })) where
+  abbrev request : Request
+  request = record { verb = verb.Import; pairs = pairs }
+
+  imported : (bytes : List ℕ) → IsWholeFile old (word_at pairs option.Trace) file_limit bytes →
+      (r : Result Trace TraceFault) → trace_of bytes ≡ r → Promises words old new request (imports (import_of pairs) r)
+  imported bytes whole (Ok trace) read = (
+    λ files. (
+      record {
+        pairs = pairs;
+        bytes = bytes;
+        trace = trace;
+        words_ask = is;
+        whole = whole;
+        read = read;
+        its_count = refl;
+        parsed = accepted_parses bytes trace whole.short read;
+        traced = imported_traced trace;
+        files = files;
+      },
+      tt,
+      tt,
+      tt,
+    ),
+    ((inl refl, refl), tt),
+  )
+  imported bytes whole (Err fault) refused = (
+    λ files. (
+      record { pairs = pairs; bytes = bytes; words_ask = is; whole = whole; refused = refused; files = files },
+      tt,
+      tt,
+      tt,
+    ),
+    tt,
+  )
+
+  pub import_promises : (o : Outcome) → Comes old new (course_with verb.Import pairs) o →
+      Promises words old new request o
+  import_promises o (inl failed) = gives.unreadable old new (Promises words old new request) role.Trace
+      (word_at pairs option.Trace) file_limit
+      (unreadable words old new request role.Trace (word_at pairs option.Trace) file_limit) o failed.0 failed.1
+  import_promises o (inr (bytes, whole, comes)) =
+      subst (Promises words old new request) (sym comes.1) (imported bytes whole (trace_of bytes) refl)
