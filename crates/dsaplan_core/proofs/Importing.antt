@@ -62,6 +62,6 @@ module _ (words : List Word) (old new : FilesSeen) (pairs : List Pair)
       Promises words old new request o
   import_promises o (inl failed) = gives.unreadable old new (Promises words old new request) role.Trace
       (word_at pairs option.Trace) file_limit
-      (unreadable words old new request role.Trace (word_at pairs option.Trace) file_limit) o failed.0 failed.1
+      (unreadable words old new request is role.Trace (inl refl)) o failed.0 failed.1
   import_promises o (inr (bytes, whole, comes)) =
       subst (Promises words old new request) (sym comes.1) (imported bytes whole (trace_of bytes) refl)

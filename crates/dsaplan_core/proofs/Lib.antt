@@ -16,3 +16,4 @@ mod Concluded
 mod Accepting
 mod Explained
 mod Importing
+mod Going

@@ -58,9 +58,9 @@ module _ (words : List Word) (old new : FilesSeen) where
     verify_promises is =
         let layout = word_at pairs option.Layout in
         let capacity = number_at pairs option.Capacity in
-        opened_promises words old new (r verb.Verify) (word_at pairs option.Input)
+        opened_promises words old new (r verb.Verify) is (inl refl)
         (λ table I. judged layout table I capacity (λ offsets. Ends (says status.Right)))
-        (λ table I input. judged_promises words old new (r verb.Verify) layout table I capacity
+        (λ table I input. judged_promises words old new (r verb.Verify) is (inr (inl refl)) table I capacity
         (λ offsets. Ends (says status.Right))
         (λ offsets gives o comes. subst (Promises words old new (r verb.Verify)) (sym comes.1) (λ files.
           let a = asked words old (r verb.Verify) is table I input in
@@ -70,9 +70,9 @@ module _ (words : List Word) (old new : FilesSeen) where
         Comes old new (course_with verb.Report pairs) o → Promises words old new (r verb.Report) o
     report_promises is =
         let layout = word_at pairs option.Layout in
-        opened_promises words old new (r verb.Report) (word_at pairs option.Input)
+        opened_promises words old new (r verb.Report) is (inl refl)
         (λ table I. judged layout table I (2 ^ 60) (λ offsets. Concludes (ShowsLayout table I offsets)))
-        (λ table I input. judged_promises words old new (r verb.Report) layout table I (2 ^ 60)
+        (λ table I input. judged_promises words old new (r verb.Report) is (inr (inl refl)) table I (2 ^ 60)
         (λ offsets. Concludes (ShowsLayout table I offsets))
         (λ offsets gives o comes. subst (Promises words old new (r verb.Report)) (sym comes.1.shown) (λ files.
           let a = asked words old (r verb.Report) is table I input in
@@ -86,9 +86,9 @@ module _ (words : List Word) (old new : FilesSeen) where
         Comes old new (course_with verb.Refute pairs) o → Promises words old new (r verb.Refute) o
     refute_promises is =
         let name = word_at pairs option.Log in
-        opened_promises words old new (r verb.Refute) (word_at pairs option.Input)
+        opened_promises words old new (r verb.Refute) is (inl refl)
         (λ table I. checked name I (λ log. says (status.Accepted log.capacity)))
-        (λ table I input. checked_promises words old new (r verb.Refute) name I
+        (λ table I input. checked_promises words old new (r verb.Refute) is (inr (inl refl)) I
         (λ log. says (status.Accepted log.capacity))
         (λ log holds. (λ files.
           let a = asked words old (r verb.Refute) is table I input in
@@ -99,9 +99,9 @@ module _ (words : List Word) (old new : FilesSeen) where
     trim_promises is =
         let name = word_at pairs option.Log in
         let output = word_at pairs option.Output in
-        opened_promises words old new (r verb.Trim) (word_at pairs option.Input)
+        opened_promises words old new (r verb.Trim) is (inl refl)
         (λ table I. checked name I (trimming output))
-        (λ table I input. checked_promises words old new (r verb.Trim) name I (trimming output)
+        (λ table I input. checked_promises words old new (r verb.Trim) is (inr (inl refl)) I (trimming output)
         (λ log holds. (λ files.
           let a = asked words old (r verb.Trim) is table I input in
           ((a, refl, (log, gives_log a log holds, refl, refl, record {

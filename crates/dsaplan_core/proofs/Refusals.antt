@@ -1,11 +1,15 @@
--- A run that a reading ends promises nothing; what is promised stands on what is read.
-use Rattle.std.proofs.Common.{ℕ, List}
+-- A run that a reading ends blames its file, and promises nothing else; what is promised stands on what is read.
+use Rattle.std.proofs.Common.{◌≡◌, ℕ, List, Ok}
 use Rattle.dsa_terms.specs.Buffers.{Instance}
+use Rattle.dsa_terms.specs.Claims.{IsIn}
 use Rattle.dsa_terms.specs.Logs.{Log}
 use Rattle.dsa_outside.specs.Seen.{FilesSeen}
-use Rattle.csv_instance.specs.Records.{Record, file_limit}
+use Rattle.csv_instance.specs.Records.{Record}
 use Rattle.command_words.specs.Options.{Word}
-use Rattle.command_words.specs.Requests.{Request}
+use Rattle.command_words.specs.Forms.{form_of}
+use Rattle.command_words.specs.Pairs.{word_at}
+use Rattle.command_words.specs.Requests.{Request, request_of}
+use Rattle.command_words.specs.declared.option.OptionName.TheVariants as option
 use Rattle.run_status.specs.declared.status.Role.{Role}
 use Rattle.run_status.specs.declared.status.Role.TheVariants as role
 use Rattle.run_course.specs.Course.{Course, Comes, Outcome}
@@ -13,37 +17,44 @@ use Rattle.readings.specs.Input.{opened}
 use Rattle.readings.specs.Opens.{IsInput}
 use Rattle.readings.specs.Judging.{judged}
 use Rattle.readings.specs.GivenLayouts.{GivesLayout}
-use Rattle.readings.specs.Checking.{checked, log_limit}
+use Rattle.readings.specs.Checking.{checked}
 use Rattle.readings.specs.GivenLogs.{HoldsAccepted}
+use Rattle.dsaplan_core.specs.Complete.{limit_of}
+use Rattle.dsaplan_core.specs.Lost.{option_of_role}
 use Rattle.dsaplan_core.proofs.Gives.{IfUnreadable, checked_gives, judged_gives, opened_gives}
 use Rattle.dsaplan_core.proofs.Promises.{Promises}
 
-module _ (words : List Word) (old new : FilesSeen) (r : Request) where
+module _ (words : List Word) (old new : FilesSeen) (r : Request) (is : request_of words ≡ Ok r) where
   abbrev P : Outcome → Type 0
   P = Promises words old new r
 
-  pub unreadable : (role : Role) (name : Word) (most : ℕ) → IfUnreadable old new P role name most
-  unreadable role name most =
-      (λ unread. (λ files. (tt, tt, tt, tt), tt), λ long. (λ files. (tt, tt, tt, tt), tt))
+  pub unreadable : (role : Role) → IsIn (option_of_role role) (form_of r.verb).reads →
+      IfUnreadable old new P role (word_at r.pairs (option_of_role role)) (limit_of (option_of_role role))
+  unreadable role read = (
+    λ unread. (λ files.
+        (tt, tt, tt, record { request = r; asked = is; read = read; cause = unread; files = files }), tt),
+    λ long. (λ files.
+        (tt, tt, tt, record { request = r; asked = is; read = read; long = long; files = files }), tt),
+  )
 
-  pub opened_promises : (name : Word) (next : List Record → Instance → Course) →
-      ((table : List Record) (I : Instance) → IsInput old name table I →
+  pub opened_promises : IsIn option.Input (form_of r.verb).reads → (next : List Record → Instance → Course) →
+      ((table : List Record) (I : Instance) → IsInput old (word_at r.pairs option.Input) table I →
           (o : Outcome) → Comes old new (next table I) o → P o) →
-      (o : Outcome) → Comes old new (opened name next) o → P o
-  opened_promises name next =
-      opened_gives old new P name next (unreadable role.Input name file_limit)
+      (o : Outcome) → Comes old new (opened (word_at r.pairs option.Input) next) o → P o
+  opened_promises read next = opened_gives old new P (word_at r.pairs option.Input) next (unreadable role.Input read)
       (λ fault bad. (λ files. (tt, tt, tt, tt), tt))
 
-  pub judged_promises : (name : Word) (table : List Record) (I : Instance) (C : ℕ) (next : List ℕ → Course) →
-      ((offsets : List ℕ) → GivesLayout old name table I C offsets →
+  pub judged_promises : IsIn option.Layout (form_of r.verb).reads → (table : List Record) (I : Instance) (C : ℕ)
+      (next : List ℕ → Course) →
+      ((offsets : List ℕ) → GivesLayout old (word_at r.pairs option.Layout) table I C offsets →
           (o : Outcome) → Comes old new (next offsets) o → P o) →
-      (o : Outcome) → Comes old new (judged name table I C next) o → P o
-  judged_promises name table I C next =
-      judged_gives old new P name table I C next (unreadable role.Layout name file_limit)
-      (λ cause. (λ files. (tt, tt, tt, tt), tt))
+      (o : Outcome) → Comes old new (judged (word_at r.pairs option.Layout) table I C next) o → P o
+  judged_promises read table I C next = judged_gives old new P (word_at r.pairs option.Layout) table I C next
+      (unreadable role.Layout read) (λ cause. (λ files. (tt, tt, tt, tt), tt))
 
-  pub checked_promises : (name : Word) (I : Instance) (accepted : Log → Outcome) →
-      ((log : Log) → HoldsAccepted old name I log → P (accepted log)) →
-      (o : Outcome) → Comes old new (checked name I accepted) o → P o
-  checked_promises name I accepted = checked_gives old new P name I accepted (unreadable role.Log name log_limit)
-      (λ fault bad. (λ files. (tt, tt, tt, tt), tt)) (λ fault bad. (λ files. (tt, tt, tt, tt), tt))
+  pub checked_promises : IsIn option.Log (form_of r.verb).reads → (I : Instance) (accepted : Log → Outcome) →
+      ((log : Log) → HoldsAccepted old (word_at r.pairs option.Log) I log → P (accepted log)) →
+      (o : Outcome) → Comes old new (checked (word_at r.pairs option.Log) I accepted) o → P o
+  checked_promises read I accepted = checked_gives old new P (word_at r.pairs option.Log) I accepted
+      (unreadable role.Log read) (λ fault bad. (λ files. (tt, tt, tt, tt), tt))
+      (λ fault bad. (λ files. (tt, tt, tt, tt), tt))

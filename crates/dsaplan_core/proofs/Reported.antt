@@ -3,9 +3,8 @@ use Rattle.std.proofs.Common.{◌≡◌, List, Ok, refl, sym, subst, inl, inr}
 use Rattle.fact_reports.specs.Reporting.{ShowsFacts}
 use Rattle.dsa_outside.specs.Seen.{FilesSeen}
 use Rattle.command_words.specs.Options.{Word}
-use Rattle.command_words.specs.Pairs.{Pair, word_at}
+use Rattle.command_words.specs.Pairs.{Pair}
 use Rattle.command_words.specs.Requests.{Request, request_of}
-use Rattle.command_words.specs.declared.option.OptionName.TheVariants as option
 use Rattle.command_words.specs.declared.verb.Verb.{Verb}
 use Rattle.command_words.specs.declared.verb.Verb.TheVariants as verb
 use Rattle.run_course.specs.Course.{Comes, Concludes, Outcome}
@@ -21,7 +20,7 @@ module _ (words : List Word) (old new : FilesSeen) (pairs : List Pair) where
 
   pub bounds_promises : request_of words ≡ Ok (r verb.Bounds) → (o : Outcome) →
       Comes old new (course_with verb.Bounds pairs) o → Promises words old new (r verb.Bounds) o
-  bounds_promises is = opened_promises words old new (r verb.Bounds) (word_at pairs option.Input)
+  bounds_promises is = opened_promises words old new (r verb.Bounds) is (inl refl)
       (λ table I. Concludes (ShowsFacts I))
       (λ table I input o comes. subst (Promises words old new (r verb.Bounds)) (sym comes.1.shown) (λ files.
         let a = asked words old (r verb.Bounds) is table I input in

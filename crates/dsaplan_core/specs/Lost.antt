@@ -1,5 +1,5 @@
--- What is left where a file could not be written.
-use Rattle.std.specs.Prelude.{◌≡◌, ◌∷◌, ◌++◌, List, Ok}
+-- What is left where a file could not be read, is too long, or could not be written.
+use Rattle.std.specs.Prelude.{◌≡◌, ◌∷◌, ◌++◌, List, IsSome, Ok}
 use Rattle.dsa_terms.specs.Claims.{IsIn}
 use Rattle.dsa_outside.specs.Held.{without_file}
 use Rattle.dsa_outside.specs.Seen.{FilesSeen}
@@ -11,12 +11,14 @@ use Rattle.command_words.specs.Requests.{Request, request_of}
 use Rattle.command_words.specs.declared.option.OptionName.{OptionName}
 use Rattle.command_words.specs.declared.option.OptionName.TheVariants as option
 use Rattle.run_status.specs.declared.status.Status.{Status}
-use Rattle.run_status.specs.declared.status.Status.TheVariants.{WriteFault}
+use Rattle.run_status.specs.declared.status.Status.TheVariants.{ReadFault, TooLong, WriteFault}
 use Rattle.run_status.specs.declared.status.Role.{Role}
 use Rattle.run_status.specs.declared.status.Role.TheVariants as role
+use Rattle.run_course.specs.Readings.{HoldsMore, IsUnread}
 use Rattle.run_course.specs.Course.{Comes, Outcome, Write}
 use Rattle.run_course.specs.Answers.{with_writes}
 use Rattle.dsaplan_core.specs.Courses.{course_with}
+use Rattle.dsaplan_core.specs.Complete.{limit_of}
 
 -- the option that names the file of the role
 abbrev pub option_of_role : Role → OptionName
@@ -25,6 +27,23 @@ option_of_role role.Layout = option.Layout
 option_of_role role.Log = option.Log
 option_of_role role.Trace = option.Trace
 option_of_role role.Output = option.Output
+
+-- the file of the role is one that the command reads, and it could not be read
+pub record MissesFile (words : List Word) (old new : FilesSeen) (role : Role) : Type 0 where
+  pub request : Request
+  pub asked : request_of words ≡ Ok request
+  pub read : IsIn (option_of_role role) (form_of request.verb).reads
+  pub cause : IsUnread old new (word_at request.pairs (option_of_role role))
+  pub files : new.held ≡ old.held
+
+-- the file of the role is one that the command reads, and it holds more bytes than it may
+pub record HasLongFile (words : List Word) (old new : FilesSeen) (role : Role) : Type 0 where
+  pub request : Request
+  pub asked : request_of words ≡ Ok request
+  pub read : IsIn (option_of_role role) (form_of request.verb).reads
+  pub long : IsSome old.held →
+      HoldsMore old (word_at request.pairs (option_of_role role)) (limit_of (option_of_role role))
+  pub files : new.held ≡ old.held
 
 -- the write is of a file that the command writes, under the name that the words give it
 abbrev pub IsOwnWrite : Request → Write → Type 0
@@ -46,7 +65,9 @@ pub record LosesFile (words : List Word) (old new : FilesSeen) (role : Role) : T
   pub rose : Rose (old.faults lost.name) (new.faults lost.name)
   pub others : without_file new.held lost.name ≡ without_file (with_writes old.held made) lost.name
 
--- which write a status blames
+-- which file a status blames, and for what
 abbrev pub Blames : List Word → FilesSeen → FilesSeen → Status → Type 0
+Blames words old new (ReadFault role) = MissesFile words old new role
+Blames words old new (TooLong role) = HasLongFile words old new role
 Blames words old new (WriteFault role) = LosesFile words old new role
 Blames words old new status = Unit {0}

@@ -30,7 +30,7 @@ fn answer<F: Files, S: Sink>(
     files: &mut F,
     out: &mut S,
 ) -> Status
-    ensures answer { Answers (course_with request.now.verb request.now.pairs)
+    ensures { Answers (course_with request.now.verb request.now.pairs)
         (F.seen files.old) (F.seen files.new) (S.seen out.old) (S.seen out.new) result }
 {
     let capacity = request.number(OptionName::Capacity);
@@ -99,6 +99,22 @@ fn answer<F: Files, S: Sink>(
     }
 }
 
+/// Does what the words ask for, or tells their first fault.
+fn execute<F: Files, S: Sink>(
+    alloc: Global,
+    words: &[String],
+    files: &mut F,
+    out: &mut S,
+) -> Status
+    ensures { Answers (course (map string_bytes words.now))
+        (F.seen files.old) (F.seen files.new) (S.seen out.old) (S.seen out.new) result }
+{
+    match read_words(words) {
+        Ok(request) => answer(alloc, &request, files, out),
+        Err(fault) => perform(alloc, &Misuse { fault }, files, out),
+    }
+}
+
 /// Does what the words (those after the program's name) ask for, with these files, and prints one
 /// text last. The status says which step decided, in this order: the words, the count of a trial,
 /// reading the input, its length, its records, reading the second file, its length, its content,
@@ -133,8 +149,5 @@ pub fn run<F: Files, S: Sink>(alloc: Global, words: &[String], files: &mut F, ou
         (F.seen files.old) (F.seen files.new) (S.seen out.old) (S.seen out.new) →
         IsConcluded request.verb request.pairs I result }
 {
-    match read_words(words) {
-        Ok(request) => answer(alloc, &request, files, out),
-        Err(fault) => perform(alloc, &Misuse { fault }, files, out),
-    }
+    execute(alloc, words, files, out)
 }

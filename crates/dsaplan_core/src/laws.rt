@@ -17,7 +17,7 @@ ghost use Rattle.run_status.specs.declared.status.Role.{Role};
 ghost use Rattle.run_course.specs.Answers.{Answers};
 ghost use Rattle.dsaplan_core.specs.Courses.{course};
 ghost use Rattle.dsaplan_core.specs.Complete.{HoldsLog, IsAcceptedAt, IsReady, IsUndisturbed};
-ghost use Rattle.dsaplan_core.specs.Lost.{LosesFile};
+ghost use Rattle.dsaplan_core.specs.Lost.{HasLongFile, LosesFile, MissesFile};
 ghost use Rattle.dsaplan_core.specs.Refused.{IsMisuse};
 ghost use Rattle.dsaplan_core.specs.Shown.{Shows};
 
@@ -53,6 +53,17 @@ pub fn print_fault()
     ensures { (words : List Word) (old new : FilesSeen) (before after : SinkSeen) →
         Answers (course words) old new before after status.PrintFault →
         Rose before.faults after.faults }
+{}
+
+/// Reading is blamed only for a file that the command reads, which could not be read, or holds more
+/// bytes than it may.
+pub fn missed()
+    ensures unread { (words : List Word) (old new : FilesSeen) (before after : SinkSeen)
+        (role : Role) → Answers (course words) old new before after (status.ReadFault role) →
+        MissesFile words old new role }
+    ensures long { (words : List Word) (old new : FilesSeen) (before after : SinkSeen)
+        (role : Role) → Answers (course words) old new before after (status.TooLong role) →
+        HasLongFile words old new role }
 {}
 
 /// A write is blamed only where the command came to it, and the count of faults of its own name

@@ -7,5 +7,5 @@ mod misuse;
 
 pub use command_words::{OptionName, UsageFault};
 pub use entry::run;
-pub use laws::{checks, lost, print_fault, refused, shown};
+pub use laws::{checks, lost, missed, print_fault, refused, shown};
 pub use run_status::{LogCause, Role, Status, WrongCause};
