@@ -71,8 +71,8 @@ five_of_four (suc (suc (suc (suc (suc b))))) lt = absurd (omega arith)
 
 -- buffer 2 alone is of a class below 1
 mixed_below_one : AreSetBelow mixed 1 (0 ∷ 0 ∷ 0 ∷ [])
-unfolding class_offset offset_in class_of widest in_class most_live live_among moments slot_of held least_free rises_by has
-    is_live buffer
+unfolding class_offset offset_in class_of widest in_class most_live live_among moments slot_of held least_free rises_by
+    has is_live buffer
 mixed_below_one = record { count = refl; each = each }
   where
     each : (b : ℕ) → b < 3 → class_of (buffer mixed b).size < 1 → slice_index (0 ∷ 0 ∷ 0 ∷ []) b ≡ class_offset mixed b
