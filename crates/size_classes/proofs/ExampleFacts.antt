@@ -14,7 +14,7 @@ use Rattle.size_classes.specs.Pools.{IsEnded, IsFree, IsLeastFree, IsReleased, P
 use Rattle.size_classes.specs.Slots.{held, in_turn, least_free, live_among, most_live, slot_count, slot_of, slotted}
 
 -- three buffers of two classes: sizes 3 and 4 have class 2, size 1 has class 0
-abbrev mixed : Instance
+abbrev pub mixed : Instance
 mixed = plain 0 2 3 1 ∷ plain 1 3 4 1 ∷ plain 0 1 1 1 ∷ []
 
 -- ---- classes of sizes
@@ -56,7 +56,7 @@ free_between : least_free (2 ∷ 0 ∷ []) ≡ 1
 unfolding least_free has
 free_between = refl
 
-five_in_turn : in_turn five (0 ∷ 1 ∷ 2 ∷ 3 ∷ 4 ∷ []) ≡ 0 ∷ 2 ∷ 4 ∷ 1 ∷ 3 ∷ []
+pub five_in_turn : in_turn five (0 ∷ 1 ∷ 2 ∷ 3 ∷ 4 ∷ []) ≡ 0 ∷ 2 ∷ 4 ∷ 1 ∷ 3 ∷ []
 unfolding rises_by buffer
 five_in_turn = refl
 

@@ -13,3 +13,4 @@ mod PlanLemmas
 mod RowLemmas
 mod EqualSizes
 mod ExampleFacts
+mod ExampleRowFacts
