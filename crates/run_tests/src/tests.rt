@@ -14,6 +14,11 @@ pub(crate) const FIVE_AT_12: &str =
 
 pub(crate) const FIVE_OVER_11: &str = "dsalog 1 5 11\nover 0 0 1 : 0=0 2=0 4=0\nend 0\n";
 
+/// The buffers of five that do not fit within 11, and fit without any one of them.
+const CORE_OF_FIVE: &str = "id,lower,upper,size\nb2,3,9,4\nb3,0,9,4\nb5,0,21,4\n";
+
+const CORE_OVER_11: &str = "dsalog 1 3 11\nover 3 0 1 : 0=0 1=0 2=0\nend 0\n";
+
 /// The load is 4, and the least capacity is 5.
 pub(crate) const THREE: &str = "id,lower,upper,size,alignment\nA,0,1,1,2\nB,0,1,1,2\nC,0,1,2,1\n";
 
@@ -129,6 +134,49 @@ fn what_is_decided_is_written(rt: HostRuntime) -> Result<(), Fail> {
             },
             "trimmed 6 5\n",
             Some(THREE_OVER_4),
+            None,
+        ),
+        (
+            "classes --input i --output o",
+            FIVE,
+            Status::Classed {
+                height: 12,
+                load: 12,
+            },
+            "classes 12 12\n",
+            Some(FIVE_AT_12),
+            None,
+        ),
+        (
+            "classes --input i --output o",
+            THREE,
+            Status::NotPlain { buffer: 0 },
+            "not plain 0\n",
+            None,
+            None,
+        ),
+        (
+            "core --capacity 11 --input i --output o --log l",
+            FIVE,
+            Status::Core { members: 3 },
+            "core 3\n",
+            Some(CORE_OF_FIVE),
+            Some(CORE_OVER_11),
+        ),
+        (
+            "core --capacity 12 --input i --output o --log l",
+            FIVE,
+            Status::NoCore { capacity: 12 },
+            "no core 12\n",
+            None,
+            None,
+        ),
+        (
+            "import --trace i --output o",
+            "alloc a 4 1\nfree a\n",
+            Status::Imported { buffers: 1 },
+            "imported 1\n",
+            Some("id,lower,upper,size,alignment,name\na0,0,1,4,1,a\n"),
             None,
         ),
     ];
