@@ -1,0 +1,10 @@
+pub mod Traces
+pub mod Limits
+pub mod Lines
+pub mod Faults
+pub mod ImportText
+pub mod FaultTexts
+pub mod Laws
+pub mod Kept
+pub mod Requests
+pub mod Found
