@@ -86,7 +86,8 @@ module _ {S : Type 0} (old new : HashMap (Bor (List ℕ)) ℕ S) (line : ℕ) (e
       go (Free id) f c =
           found_after old new id (Some line) c q
           ∙ ap (cond (bytes_eq id q) (Some line)) (h q)
-          ∙ ap (λ (b : Bool). cond b (Some line) (option_map (λ k. line + 1 + k) (position (frees q) after))) (turned id q)
+          ∙ ap (λ (b : Bool). cond b (Some line) (option_map (λ k. line + 1 + k) (position (frees q) after)))
+          (turned id q)
           ∙ sym (frees_next line q (Free id) after)
 
 pub frees_kept : (found : Entries) (line : ℕ) (e : Event) (after : List Event) → AreFrees found (line + 1) after →
@@ -180,8 +181,8 @@ module _ (lines : List Line) (place : ℕ) (line : Line) (some : 0 < place) (wit
       end ≡ unwrap_or (found_for found id) count → more ≡ ends ++ end ∷ [] → AreEnds es (place - 1) found more
   turn_kept found ends more id end count h n alloc own e m =
       ends_more es (place - 1) (line_value line) found ends more end line_left
-      (frees_kept found (place - 1) (line_value line) rest (subst (λ k. AreFrees found k (drop k es)) same_place h.frees)
-      alloc)
+      (frees_kept found (place - 1) (line_value line) rest
+      (subst (λ k. AreFrees found k (drop k es)) same_place h.frees) alloc)
       (subst (λ k. ends ≡ reverse (ends_from k (drop k es))) same_place h.ends)
       (e ∙ end_is found id count h.frees n ∙ ap (λ i. end_of (place - 1) i rest) own) m
 

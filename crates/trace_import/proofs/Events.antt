@@ -82,7 +82,8 @@ first_free id after lt =
 pub none_before_first : (id : List ℕ) (after : List Event) (i : ℕ) → i < position_or_len (frees id) after →
     slice_get after i ≡ Some (Free id) → ⊥
 none_before_first id after i lt h =
-    let fails : frees id (slice_index_or after i (Free [])) ≡ false = fails_before_first (frees id) after i (Free []) lt in
+    let fails : frees id (slice_index_or after i (Free [])) ≡ false =
+    fails_before_first (frees id) after i (Free []) lt in
     let here : slice_index_or after i (Free []) ≡ Free id = get_is after i (Free id) (Free []) h in
     let passes : frees id (slice_index_or after i (Free [])) ≡ true = ap (frees id) here ∙ frees_own id in
     absurd (cc (fails, passes))

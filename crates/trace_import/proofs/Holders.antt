@@ -41,7 +41,8 @@ alloc_from line id (Alloc o t b ∷ es) other s a =
     one_more line n = omega arith
 
     go : (x y z : Bool) →
-        option_or (cond x (Some (line + 1 + length es)) (holder_from (line + 1) id es)) (when (y && not (z || false)) line)
+        option_or (cond x (Some (line + 1 + length es)) (holder_from (line + 1) id es))
+        (when (y && not (z || false)) line)
         ≡ cond x (Some (line + suc (length es))) (option_or (holder_from (line + 1) id es) (when (y && not z) line))
     go true y z = ap Some (one_more line (length es))
     go false y true = refl
@@ -81,7 +82,9 @@ free_from line id (Free o ∷ es) other = free_from (line + 1) id es other
 pub holder_alloc : (es : List Event) (id other : List ℕ) (s a : ℕ) →
     holder (es ++ Alloc other s a ∷ []) id ≡ cond (bytes_eq id other) (Some (length es)) (holder es id)
 unfolding holder
-holder_alloc es id other s a = alloc_from 0 id es other s a ∙ ap (λ n. cond (bytes_eq id other) (Some n) (holder_from 0 id es)) (none_less (length es))
+holder_alloc es id other s a =
+    alloc_from 0 id es other s a
+    ∙ ap (λ n. cond (bytes_eq id other) (Some n) (holder_from 0 id es)) (none_less (length es))
   where
     none_less : (n : ℕ) → 0 + n ≡ n
     none_less n = omega arith

@@ -218,7 +218,8 @@ rows_good (Alloc id size alignment ∷ es) line before w soon are few =
     let upper = end_of line id es in
     let row = import_row line upper size alignment id in
     let ids = id_good line upper size alignment id before (omega arith) are (omega arith) in
-    let content = content_good line upper size alignment id (row_within line id size alignment es w soon) (length before) in
+    let content = content_good line upper size alignment id (row_within line id size alignment es w soon)
+    (length before) in
     let n = length_last before row in
     let rest = rows_good es (line + 1) (before ++ row ∷ []) (λ i s a j. w i s a (inr j)) (omega arith)
     (later_ids line before row are refl) (omega arith) in
@@ -256,8 +257,8 @@ rows_read (Alloc id size alignment ∷ es) line = (refl, rows_read es (line + 1)
 
 text_reads : (trace : Trace) → table_of (import_text trace) ≡ import_records trace
 unfolding import_text
-text_reads trace = ap (records default_config) (no_mark (codes "id") (codes "lower") (codes "upper" ∷ codes "size" ∷ codes "alignment" ∷ codes "name" ∷ [])
-    (text_of (import_rows 0 trace)) refl)
+text_reads trace = ap (records default_config) (no_mark (codes "id") (codes "lower")
+    (codes "upper" ∷ codes "size" ∷ codes "alignment" ∷ codes "name" ∷ []) (text_of (import_rows 0 trace)) refl)
     ∙ text-read (import_records trace) (refl, rows_read trace 0)
 
 pub text_parses : (trace : Trace) → AreWithin trace → length trace ≤ 2 ^ 60 → length (imported trace) ≤ buffer_limit →

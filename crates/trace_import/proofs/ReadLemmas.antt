@@ -1,5 +1,5 @@
 -- Reading, line after line.
-use Rattle.std.proofs.Common.{◌≡◌, ◌∙◌, ◌==◌, ◌+◌, ◌≤◌, ◌++◌, ◌∷◌, [], ℕ, ap, arith, Err, false, length, length-append, List, None, Ok, Option, refl, Some, sym}
+use Rattle.std.proofs.Common.{◌≡◌, ◌∙◌, ◌==◌, ◌+◌, ◌≤◌, ◌++◌, ◌∷◌, [], ℕ, ap, arith, Err, length, length-append, List, None, Ok, Option, refl, Some, sym}
 use Rattle.std.specs.Option.{option_map_or}
 use Rattle.dsa_model.specs.Fails.{IfFault}
 use Rattle.dsa_model.specs.declared.fail.Fail.{Fail}
@@ -9,7 +9,6 @@ use Rattle.trace_import.specs.Found.{AreHolders, Entries}
 use Rattle.trace_import.specs.Lines.{event_in}
 use Rattle.trace_import.specs.Traces.{Event}
 use Rattle.trace_import.specs.declared.fault.TraceFault.{TraceFault}
-use Rattle.trace_import.specs.declared.fault.TraceFault.TheVariants as fault
 use Rattle.trace_import.proofs.FoundLemmas.{no_holders}
 use Rattle.trace_import.proofs.Splits.{first_piece}
 
@@ -56,20 +55,6 @@ pub fault_read : (bytes rest line after : List ℕ) (lines : List Event) (live :
     with_event lines (event_in line) ≡ Err f → trace_of bytes ≡ Err f
 fault_read bytes rest line after lines live f h split bad =
     h.left ∙ one_read rest line after lines split ∙ ap (λ r. read_from r (pieces_of after)) bad
-
-pub all_read : (bytes rest : List ℕ) (lines : List Event) (live : Entries) → IsReadUpTo bytes rest lines live →
-    pieces_of rest ≡ rest ∷ [] → rest ≡ [] → trace_of bytes ≡ Ok lines
-all_read bytes rest lines live h last none = h.left ∙ ap (read_from (Ok lines)) last ∙ rw none refl
-
-pub unended : (bytes rest : List ℕ) (lines : List Event) (live : Entries) (line : ℕ) → IsReadUpTo bytes rest lines live →
-    pieces_of rest ≡ rest ∷ [] → (length rest == 0) ≡ false → line ≡ length lines →
-    trace_of bytes ≡ Err (fault.BadLine line)
-unended bytes rest lines live line h last some number =
-    h.left ∙ ap (read_from (Ok lines)) last ∙ go rest some ∙ ap (λ n. Err (fault.BadLine n)) (sym number)
-  where
-    go : (xs : List ℕ) → (length xs == 0) ≡ false → read_from (Ok lines) (xs ∷ []) ≡ Err (fault.BadLine (length lines))
-    go [] e = absurd cc
-    go (x ∷ xs) e = refl
 
 -- the failure of a line is that of the bytes
 pub failure_read : (bytes rest line after : List ℕ) (lines : List Event) (found : Entries) (failure : Fail TraceFault) →

@@ -144,7 +144,8 @@ module _ (f : TraceFault) (formed : (line : ℕ) → f ≡ fault.BadLine line �
   stops (piece ∷ next ∷ pieces) done seen m c e =
       line (event_in piece) refl
       (λ event w n q. subst (λ ps. Stops ps f) (append_assoc done (piece ∷ []) (next ∷ pieces))
-      (stops (next ∷ pieces) (done ++ piece ∷ []) (seen ++ event ∷ []) (longer event w) (clean_more seen event c n) q)) e
+      (stops (next ∷ pieces) (done ++ piece ∷ []) (seen ++ event ∷ []) (longer event w)
+      (clean_more seen event c n) q)) e
     where
       longer : (event : Event) → event_in piece ≡ Some event →
           map event_in (done ++ piece ∷ []) ≡ map Some (seen ++ event ∷ [])

@@ -64,7 +64,8 @@ rows_short (Free id ∷ es) line w soon = rows_short es (line + 1) (λ i s a j. 
 rows_short (Alloc id size alignment ∷ es) line w soon =
     let k = w id size alignment (inl refl) in
     let p = first_within id es in
-    let row = row_short line (end_of line id es) size alignment id (omega arith) (omega arith) k.small k.narrow k.short in
+    let row = row_short line (end_of line id es) size alignment id (omega arith) (omega arith) k.small k.narrow
+    k.short in
     let rest = rows_short es (line + 1) (λ i s a j. w i s a (inr j)) (omega arith) in
     omega (
       arith,

@@ -10,7 +10,6 @@ use Rattle.trace_import.specs.Faults.{holder, number_fault, place_fault, with_ev
 use Rattle.trace_import.specs.Kept.{line_value}
 use Rattle.trace_import.specs.Traces.{Alloc, Event, Free, is_alloc}
 use Rattle.trace_import.specs.declared.fault.TraceFault.{TraceFault}
-use Rattle.trace_import.specs.declared.fault.TraceFault.TheVariants as fault
 use Rattle.trace_import.specs.declared.line.Line.{Line}
 
 -- ---- what is wrong with a line
@@ -22,23 +21,10 @@ pub with_none : (before : List Event) (event : Event) → number_fault (length b
     place_fault before event ≡ None → with_event before (Some event) ≡ Ok (before ++ event ∷ [])
 with_none before event good none = rw (good, none) refl
 
-pub still_live : (before : List Event) (id : List ℕ) (size alignment earlier : ℕ) → holder before id ≡ Some earlier →
-    place_fault before (Alloc id size alignment) ≡ Some (fault.StillLive (length before) earlier)
-still_live before id size alignment earlier h = rw h refl
-
-pub is_full : (before : List Event) (id : List ℕ) (size alignment : ℕ) → holder before id ≡ None →
-    count_by is_alloc before ≡ buffer_limit →
-    place_fault before (Alloc id size alignment) ≡ Some (fault.TooManyBuffers (length before))
-is_full before id size alignment h n = rw (h, n) refl
-
 pub has_room : (before : List Event) (id : List ℕ) (size alignment : ℕ) → holder before id ≡ None →
     count_by is_alloc before < buffer_limit → place_fault before (Alloc id size alignment) ≡ None
 has_room before id size alignment h n =
     rw (h, not_at_most buffer_limit (count_by is_alloc before) n) refl
-
-pub not_live : (before : List Event) (id : List ℕ) → holder before id ≡ None →
-    place_fault before (Free id) ≡ Some (fault.NotLive (length before))
-not_live before id h = rw h refl
 
 pub is_live : (before : List Event) (id : List ℕ) → is_some (holder before id) ≡ true →
     place_fault before (Free id) ≡ None

@@ -20,7 +20,8 @@ returns-else-is_id c =
     let one_fails : (a && s && t) ≡ false = elim c.else-is_id.branch [
       | else-is_id-via-then-is_id+then-is_number+else-is_number-2 w ↦
           alloc_unaligned a s t (sym w.is_number-then-is_number.ensures ∙ w.if-is_number-2.false)
-      | else-is_id-via-then-is_id+else-is_number w ↦ alloc_unsized a s t (sym w.is_number.ensures ∙ w.if-is_number.false)
+      | else-is_id-via-then-is_id+else-is_number w ↦
+          alloc_unsized a s t (sym w.is_number.ensures ∙ w.if-is_number.false)
       | else-is_id-via-else-is_id w ↦ alloc_unnamed a s t (sym c.is_id.ensures ∙ w.if-is_id.false)
     ] in
     alloc_not c.args.rest.now c.in_ok-id.id.now c.in_ok-id.rest.now c.in_ok-size.size.now
