@@ -4,6 +4,7 @@ use Rattle.dsa_terms.specs.Buffers.{Instance, buffer, is_live, some_before}
 use Rattle.dsa_terms.proofs.Examples.{five}
 use Rattle.dsa_model.specs.LayoutFaults.{layout_fault}
 use Rattle.dsa_model.specs.LayoutFaults as faults
+use Rattle.dsa_model.specs.Moments.{first_common}
 use Rattle.dsa_model.specs.declared.layout.LayoutFault.TheVariants as layout
 use Rattle.dsa_outside.specs.Held.{file_at}
 use Rattle.dsa_outside.specs.Seen.{FilesSeen}
@@ -45,12 +46,12 @@ opens_two old new name next o held comes =
 
 pub overlap_at_4 : layout_fault two 10 (0 ∷ 2 ∷ []) ≡ Some (layout.Overlap 0 1 4)
 unfolding buffer is_live some_before faults.first_unaligned faults.first_above faults.first_overlap
-    faults.overlap_after faults.overlap
+    faults.overlap_after faults.overlap first_common
 overlap_at_4 = refl
 
 pub apart_at_8 : layout_fault two 8 (0 ∷ 4 ∷ []) ≡ None
 unfolding buffer is_live some_before faults.first_unaligned faults.first_above faults.first_overlap
-    faults.overlap_after faults.overlap
+    faults.overlap_after faults.overlap first_common
 apart_at_8 = refl
 
 above_7 : layout_fault two 7 (0 ∷ 4 ∷ []) ≡ Some (layout.Above 1)
