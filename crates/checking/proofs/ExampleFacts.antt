@@ -9,13 +9,13 @@ use Rattle.log_text.specs.Text.{log_text, raw_log_of}
 use Rattle.run_status.specs.declared.status.Role.TheVariants as role
 use Rattle.run_status.specs.declared.status.Status.TheVariants as status
 use Rattle.run_course.specs.Course.{says, writes}
-use Rattle.readings.specs.Checking.{Checks}
+use Rattle.readings.specs.Checking.{Checks, is_accepted}
 use Rattle.checking.specs.Checking.{trimming}
 
 -- `refute` accepts the sample log at 4
 accepted_at_4 : (bytes : List ℕ) → IsAccepted evens sample → IsTextOf bytes (raw_log_of sample) →
     Checks evens bytes (λ log. says (status.Accepted log.capacity)) (says (status.Accepted 4))
-accepted_at_4 bytes legal is = Checks.is_accepted sample is legal refl
+accepted_at_4 bytes legal is = is_accepted sample is legal refl
 
 -- ---- `trim`
 abbrev with_extra : Log

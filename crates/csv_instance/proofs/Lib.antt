@@ -20,3 +20,4 @@ pub mod SomeRows
 pub mod SomeBack
 mod KeptFacts
 mod TextFacts
+pub mod FileFacts

@@ -7,11 +7,12 @@ use Rattle.dsa_outside.proofs.Lookups.{file_at-with_file, file_at-with_other}
 use Rattle.dsa_terms.specs.Buffers.{Instance}
 use Rattle.dsa_model.specs.declared.layout.LayoutFault.TheVariants as layout
 use Rattle.csv_instance.specs.Records.{Record}
+use Rattle.csv_instance.proofs.FileFacts.{high_file, low_file, two_file}
 use Rattle.run_status.specs.declared.status.Status.TheVariants as status
 use Rattle.run_status.specs.declared.status.WrongCause.TheVariants as wrong
 use Rattle.run_course.specs.Course.{Comes, Course, Ends, says}
 use Rattle.readings.specs.Judging.{judged}
-use Rattle.readings.proofs.ExampleFacts.{high_file, judges_layout, judges_overlap, low_file, opens_two, overlaps, two_file}
+use Rattle.readings.proofs.ExampleFacts.{judges_layout, judges_overlap, opens_two, overlaps}
 use Rattle.judging.specs.Judging.{Verify, verify}
 
 -- the input stands in the file i, and the layout in the file a

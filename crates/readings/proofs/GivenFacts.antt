@@ -1,16 +1,13 @@
 -- What reading the files of the two buffers comes to, and of logs.
-use Rattle.std.proofs.Common.{◌≡◌, ℕ, List, [], ◌∷◌, Some, Err, Vec, Global, inl, inr, refl, sym, subst, lit≤}
-use Rattle.csv.specs.Machine.{next_record}
-use Rattle.csv.specs.Reading.{records_from, strip_bom}
+use Rattle.std.proofs.Common.{◌≡◌, ℕ, List, [], ◌∷◌, Some, inl, inr, refl, sym, lit≤}
 use Rattle.dsa_terms.specs.Logs.{IsAccepted}
 use Rattle.dsa_terms.proofs.Examples.{evens, sample}
 use Rattle.dsa_model.specs.declared.layout.LayoutFault.TheVariants as layout
 use Rattle.dsa_outside.specs.Held.{IsMissing, file_at}
 use Rattle.dsa_outside.specs.Seen.{FilesSeen}
-use Rattle.csv_instance.specs.Parse.{parse}
-use Rattle.csv_instance.specs.Records.{table_of}
 use Rattle.csv_instance.specs.declared.fault.InstanceFault.TheVariants as instance
 use Rattle.csv_instance.specs.declared.fault.OffsetsFault.TheVariants as offsets
+use Rattle.csv_instance.proofs.FileFacts.{high_file, high_offsets, low_file, low_offsets, no_bytes, short_file, two, two_file, two_parse, two_reads, two_rows, without_y}
 use Rattle.command_words.specs.Options.{Word}
 use Rattle.log_check.specs.declared.fault.CheckFault.TheVariants as check
 use Rattle.log_text.specs.Faults.{IsTextOf}
@@ -29,12 +26,8 @@ use Rattle.readings.specs.Opens.{OpensInput}
 use Rattle.readings.specs.declared.input.Input.TheVariants as input
 use Rattle.readings.specs.declared.layout_file.Judged.TheVariants as judged
 use Rattle.readings.specs.declared.log_file.Checked.TheVariants as checked
-use Rattle.readings.proofs.ExampleFacts.{apart_at_8, high_file, high_offsets, low_file, low_offsets, overlap_at_4, short_file, two, two_file, two_parse, two_reads, two_rows, without_y}
+use Rattle.readings.proofs.ExampleFacts.{apart_at_8, overlap_at_4}
 use Rattle.readings.proofs.LogFacts.{forged, no_header, too_low}
-
-no_columns : parse (table_of []) ≡ Err instance.NoHeader
-unfolding strip_bom records_from next_record
-no_columns = refl
 
 module _ (files : FilesSeen) (name : Word) where
   -- ---- inputs
@@ -58,7 +51,7 @@ module _ (files : FilesSeen) (name : Word) where
   opens_no_bytes held = inr (
     instance.NoHeader,
     refl,
-    record { bytes = []; whole = record { held = λ told. held; short = lit≤ tt }; refused = no_columns },
+    record { bytes = []; whole = record { held = λ told. held; short = lit≤ tt }; refused = no_bytes },
   )
 
   -- ---- layout files

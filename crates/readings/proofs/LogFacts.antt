@@ -15,7 +15,7 @@ use Rattle.refute_log.specs.declared.reason.Reason.TheVariants as reason
 use Rattle.run_status.specs.declared.status.LogCause.TheVariants as cause
 use Rattle.run_status.specs.declared.status.Status.TheVariants as status
 use Rattle.run_course.specs.Course.{Outcome, says}
-use Rattle.readings.specs.Checking.{Checks}
+use Rattle.readings.specs.Checking.{Checks, is_accepted, no_text, not_accepted}
 
 -- the first line of the sample log, one byte too low
 abbrev pub forged : RawLog
@@ -31,11 +31,11 @@ no_header version count capacity rest h = let e = h.text in cc
 module _ (bytes : List ℕ) (accepted : Log → Outcome) where
   sample_goes_on : IsAccepted evens sample → IsTextOf bytes (raw_log_of sample) →
       Checks evens bytes accepted (accepted sample)
-  sample_goes_on legal is = Checks.is_accepted sample is legal refl
+  sample_goes_on legal is = is_accepted sample is legal refl
 
   forged_is_refused : IsTextOf bytes forged →
       Checks evens bytes accepted (says (status.LogRefused (cause.Check (check.Illegal 0 reason.NotOver))))
-  forged_is_refused is = Checks.not_accepted forged (check.Illegal 0 reason.NotOver) is too_low refl
+  forged_is_refused is = not_accepted forged (check.Illegal 0 reason.NotOver) is too_low refl
 
   no_bytes_are_no_log : Checks evens [] accepted (says (status.LogRefused (cause.Text text.NotLog)))
-  no_bytes_are_no_log = Checks.no_text text.NotLog no_header refl
+  no_bytes_are_no_log = no_text text.NotLog no_header refl
