@@ -1,6 +1,6 @@
 -- Worked drafts and paths.
 use Rattle.std.proofs.Common.{◌≡◌, ℕ, true, false, List, [], ◌∷◌, None, Some, refl, replicate}
-use Rattle.dsa_outside.specs.Drafts.{DraftState, IsReady, with_rights, written, synced, closed, renamed, removed, name_of}
+use Rattle.dsa_outside.specs.Drafts.{DraftState, IsReady, with_rights, written, synced, renamed, removed, name_of}
 use Rattle.std.specs.Path.{path_parent, path_file_name, split_last_component, rsplit_once, trim_trailing}
 use Rattle.dsa_outside.specs.Paths.{slashed, folder_of, last_of, short_of, part_of, linked_from}
 
@@ -10,7 +10,6 @@ begun = record {
   text = [];
   has_rights = false;
   is_synced = false;
-  is_closed = false;
   is_beside = true;
   named = Some (9 ∷ []);
 }
@@ -22,30 +21,27 @@ whole = written (2 ∷ []) (written (1 ∷ []) (with_rights begun))
 both_are_written : whole.text ≡ 1 ∷ 2 ∷ []
 both_are_written = refl
 
-ready : IsReady (closed (synced whole))
-ready = record { has_rights = refl; is_synced = refl; is_closed = refl }
+ready : IsReady (synced whole)
+ready = record { has_rights = refl; is_synced = refl }
 
-not_synced : IsReady (closed whole) → ⊥
+not_synced : IsReady whole → ⊥
 not_synced r = let k = r.is_synced in absurd (cc)
 
-not_closed : IsReady (synced whole) → ⊥
-not_closed r = let k = r.is_closed in absurd (cc)
-
-rights_are_missing : IsReady (closed (synced (written (1 ∷ []) begun))) → ⊥
+rights_are_missing : IsReady (synced (written (1 ∷ []) begun)) → ⊥
 rights_are_missing r = let k = r.has_rights in absurd (cc)
 
 -- what is written after a sync is not yet on the disk
-more_is_written : IsReady (written (3 ∷ []) (closed (synced whole))) → ⊥
+more_is_written : IsReady (written (3 ∷ []) (synced whole)) → ⊥
 more_is_written r = let k = r.is_synced in absurd (cc)
 
 -- until then the name holds 9
-old_is_kept : name_of (Some (closed (synced whole))) ≡ Some (Some (9 ∷ []))
+old_is_kept : name_of (Some (synced whole)) ≡ Some (Some (9 ∷ []))
 old_is_kept = refl
 
-new_is_there : name_of (Some (renamed (closed (synced whole)))) ≡ Some (Some (1 ∷ 2 ∷ []))
+new_is_there : name_of (Some (renamed (synced whole))) ≡ Some (Some (1 ∷ 2 ∷ []))
 new_is_there = refl
 
-gone_by_its_name : (renamed (closed (synced whole))).is_beside ≡ false
+gone_by_its_name : (renamed (synced whole)).is_beside ≡ false
 gone_by_its_name = refl
 
 taken_away : name_of (Some (removed whole)) ≡ Some (Some (9 ∷ []))

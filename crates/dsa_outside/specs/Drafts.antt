@@ -10,8 +10,6 @@ pub record DraftState : Type 0 where
   pub has_rights : Bool
   -- the disk has all of it, and told no error
   pub is_synced : Bool
-  -- it is closed, and no error was told
-  pub is_closed : Bool
   -- it stands in the folder, and nothing was asked of taking it away
   pub is_beside : Bool
   -- what the name holds, where it is there
@@ -21,7 +19,6 @@ pub record DraftState : Type 0 where
 pub record IsReady (s : DraftState) : Type 0 where
   pub has_rights : s.has_rights ≡ true
   pub is_synced : s.is_synced ≡ true
-  pub is_closed : s.is_closed ≡ true
 
 -- it was given the permissions
 abbrev pub with_rights : DraftState → DraftState
@@ -29,15 +26,11 @@ with_rights s = record s { has_rights = true }
 
 -- these bytes were written, which the disk need not have yet
 abbrev pub written : List ℕ → DraftState → DraftState
-written bytes s = record s { text = s.text ++ bytes; is_synced = false; is_closed = false }
+written bytes s = record s { text = s.text ++ bytes; is_synced = false }
 
 -- the disk has it all
 abbrev pub synced : DraftState → DraftState
 synced s = record s { is_synced = true }
-
--- it is closed
-abbrev pub closed : DraftState → DraftState
-closed s = record s { is_closed = true }
 
 -- it took the name
 abbrev pub renamed : DraftState → DraftState

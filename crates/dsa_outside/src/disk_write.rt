@@ -6,7 +6,7 @@ ghost use Rattle.std.specs.Fs.{IsFile, file_type};
 use crate::draft::replace;
 use crate::part::Part;
 use crate::paths::{PathText, linked_path, path_text};
-use crate::transfer::{close, write_whole};
+use crate::transfer::write_whole;
 use std::alloc::Global;
 use std::fs::{File, Metadata, OpenOptions};
 use std::io::ErrorKind;
@@ -99,12 +99,10 @@ fn takes_no_file(kind: ErrorKind) -> bool
 fn write_in_place(mut file: File, bytes: &[u8]) -> io::Result<()> {
     write_whole(&mut file, bytes)?;
     match file.sync_all() {
-        Ok(()) => {}
         // Pipes and terminals have nothing to sync.
-        Err(e) if matches!(e.kind(), ErrorKind::InvalidInput | ErrorKind::Unsupported) => {}
-        Err(e) => return Err(e),
+        Err(e) if matches!(e.kind(), ErrorKind::InvalidInput | ErrorKind::Unsupported) => Ok(()),
+        synced => synced,
     }
-    close(file)
 }
 
 // The path to which links lead from a name, or none where no path is known: a link of the system's

@@ -2,7 +2,7 @@
 
 ghost use Rattle.std.specs.Prelude.{◌≡◌, ◌++◌, ℕ, [], Option, Some, false, take, IfSome, OnOk, OnErr};
 ghost use Rattle.std.specs.Option.{option_map};
-ghost use Rattle.dsa_outside.specs.Drafts.{DraftState, IsReady, with_rights, written, synced, closed, renamed, removed, name_of};
+ghost use Rattle.dsa_outside.specs.Drafts.{DraftState, IsReady, with_rights, written, synced, renamed, removed, name_of};
 
 use std::io;
 
@@ -27,11 +27,6 @@ pub(crate) trait Draft {
     /// Waits until the disk has all of it.
     fn sync(&mut self) -> io::Result<()>
         ensures done { OnOk result (state self.new ≡ option_map synced (state self.old)) }
-        ensures unchanged { OnErr result (state self.new ≡ state self.old) };
-
-    /// Closes it. An error may be one of an earlier write.
-    fn close(&mut self) -> io::Result<()>
-        ensures done { OnOk result (state self.new ≡ option_map closed (state self.old)) }
         ensures unchanged { OnErr result (state self.new ≡ state self.old) };
 
     /// Gives it the name, in the place of what was there.
@@ -70,6 +65,5 @@ fn take_name<D: Draft>(draft: &mut D, bytes: &[u8]) -> io::Result<()>
     draft.take_rights()?;
     draft.write(bytes)?;
     draft.sync()?;
-    draft.close()?;
     draft.rename()
 }

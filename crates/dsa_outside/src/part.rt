@@ -4,7 +4,7 @@ ghost use Rattle.std.specs.Prelude.{None};
 
 use crate::draft::Draft;
 use crate::paths::{PathText, part_path};
-use crate::transfer::{close, write_whole};
+use crate::transfer::write_whole;
 use std::fs::{File, Metadata, OpenOptions, TryLockError};
 use std::os::unix::fs::{MetadataExt, OpenOptionsExt, fchown};
 use std::{fs, io};
@@ -71,11 +71,6 @@ impl<'a, R: std::rt::Files<File = File>> Draft for Part<'a, R> {
 
     fn sync(&mut self) -> io::Result<()> {
         self.file.sync_all()
-    }
-
-    // The handle that stays open keeps the lock.
-    fn close(&mut self) -> io::Result<()> {
-        close(self.file.try_clone()?)
     }
 
     fn rename(&mut self) -> io::Result<()> {

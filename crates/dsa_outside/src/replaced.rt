@@ -20,7 +20,6 @@ struct Told {
     text: Vec<u8>,
     has_rights: bool,
     is_synced: bool,
-    is_closed: bool,
     is_beside: bool,
     named: Option<Vec<u8>>,
     steps: u8,
@@ -43,7 +42,6 @@ impl Draft for Told {
       text = s.text.items;
       has_rights = s.has_rights;
       is_synced = s.is_synced;
-      is_closed = s.is_closed;
       is_beside = s.is_beside;
       named = option_map (λ v. v.items) s.named;
     }) };
@@ -56,7 +54,6 @@ impl Draft for Told {
 
     fn write(&mut self, bytes: &[u8]) -> io::Result<()> {
         self.is_synced = false;
-        self.is_closed = false;
         self.step()?;
         self.text.extend_from_slice(bytes)?;
         Ok(())
@@ -65,12 +62,6 @@ impl Draft for Told {
     fn sync(&mut self) -> io::Result<()> {
         self.step()?;
         self.is_synced = true;
-        Ok(())
-    }
-
-    fn close(&mut self) -> io::Result<()> {
-        self.step()?;
-        self.is_closed = true;
         Ok(())
     }
 
@@ -94,7 +85,6 @@ fn begun(alloc: Global, named: Option<Vec<u8>>, steps: u8) -> Told
         text: Vec::new(alloc),
         has_rights: false,
         is_synced: false,
-        is_closed: false,
         is_beside: true,
         named,
         steps,
@@ -103,11 +93,11 @@ fn begun(alloc: Global, named: Option<Vec<u8>>, steps: u8) -> Told
 
 #[test]
 fn a_step_that_fails_leaves_the_old_text(rt: HostRuntime) -> Result<(), Fail> {
-    for steps in 0..6 {
+    for steps in 0..5 {
         let old = vec![in rt.alloc(); 7u8]?;
         let mut draft = begun(rt.alloc(), Some(old), steps);
         let whole = replace(&mut draft, b"new").is_ok();
-        assert_eq!(rt; whole, steps == 5);
+        assert_eq!(rt; whole, steps == 4);
         let want = if whole {
             b"new".as_slice()
         } else {

@@ -6,10 +6,8 @@ ghost use Rattle.dsa_model.specs.Counts.{one_more};
 
 use crate::{FileFault, SinkFault};
 use std::alloc::Global;
-use std::fs::File;
 use std::io;
 use std::io::{Read, Write};
-use std::os::fd::IntoRawFd;
 
 /// The most bytes of one read, in bytes.
 const PIECE: usize = 65536;
@@ -100,14 +98,6 @@ pub(crate) fn write_whole<W: Write>(writer: &mut W, bytes: &[u8]) -> io::Result<
             return Err(io::ErrorKind::WriteZero.into());
         }
         rest = &rest[taken..];
-    }
-    Ok(())
-}
-
-/// Closes a file. Its error may be one of an earlier write.
-pub(crate) fn close(file: File) -> io::Result<()> {
-    if libc::close(file.into_raw_fd()) < 0 {
-        return Err(io::ErrorKind::Other.into());
     }
     Ok(())
 }
