@@ -36,10 +36,10 @@ module _ (k : Core) (table : List Record) (I : Instance) (members : List ℕ) (r
     (its_capacity : refutation.capacity ≡ k.capacity)
     (parsed : parse (table_of (chosen_text table members)) ≡ Ok (some_of I members)) (readable : ReadsBack refutation)
     (its_rows : rows ≡ rows_file k.output table members) (its_log : log ≡ log_file k.log refutation) where
-  pub explains : (r : Result Prepared NoMemory) →
-      IfOk r (λ p. outcome_of p ≡ writes (rows ∷ log ∷ []) (status.Core (length members))) →
+  pub explains : (count : ℕ) (r : Result Prepared NoMemory) → count ≡ length members →
+      IfOk r (λ p. outcome_of p ≡ writes (rows ∷ log ∷ []) (status.Core count)) →
       IfOk r (λ p. ExplainsOrFits k table I (outcome_of p))
-  explains (Ok p) is = inl (record {
+  explains count (Ok p) its_count is = inl (record {
     members = members;
     refutation = refutation;
     core = core;
@@ -50,7 +50,8 @@ module _ (k : Core) (table : List Record) (I : Instance) (members : List ℕ) (r
     rests = λ b among. core_rest_fits I k.capacity b members core among;
     readable = readable;
     written = is
+        ∙ ap (λ n. writes (rows ∷ log ∷ []) (status.Core n)) its_count
         ∙ ap (λ (w : Write). writes (w ∷ log ∷ []) (status.Core (length members))) its_rows
         ∙ ap (λ (w : Write). writes (rows_file k.output table members ∷ w ∷ []) (status.Core (length members))) its_log;
   })
-  explains (Err e) is = tt
+  explains count (Err e) its_count is = tt

@@ -1,4 +1,4 @@
-use Rattle.std.proofs.Common.{◌≡◌, List, ℕ, Ok, ap, subst}
+use Rattle.std.proofs.Common.{◌≡◌, ◌∙◌, List, ℕ, Ok, ap, subst}
 use Rattle.run_status.specs.declared.status.Role.TheVariants as role
 use Rattle.run_course.specs.Course.{Write}
 use Rattle.run_course.specs.Prepares.{write_of}
@@ -26,4 +26,5 @@ returns c =
     (rw c.as_slice.ensures.value at (c.in_ok-write_rows.ensures.parsed c.args.instance.now c.requires.parsed)))
     c.in_ok-log.ensures.readable
     (ap (λ (xs : List ℕ). record { role = role.Output; name = c.args.words.now.output.now; bytes = xs }) text)
-    c.in_ok-log.ensures.file c.two_writes.result c.two_writes.ensures
+    c.in_ok-log.ensures.file c.len-members.result c.two_writes.result
+    (c.len-members.ensures ∙ c.in-Core.core.members.ok.0) c.two_writes.ensures
