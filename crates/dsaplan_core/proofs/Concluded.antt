@@ -98,6 +98,15 @@ module _ (old new : FilesSeen) (before after : SinkSeen) (I : Instance) where
   abbrev IsDone : Verb → List Pair → Outcome → Type 0
   IsDone v pairs o = IsConcluded v pairs I o.status
 
+  imported_done : (pairs : List Pair) → IsServed (record { verb = verb.Import; pairs = pairs }) → (o : Outcome) →
+      Comes old new (course_with verb.Import pairs) o → IsDone verb.Import pairs o
+  imported_done pairs (ready, calm) o (inl failed) =
+      gives.unreadable old new (IsDone verb.Import pairs) role.Trace (word_at pairs option.Trace) file_limit
+      (served old new before after I (record { verb = verb.Import; pairs = pairs }) ready calm
+      (IsDone verb.Import pairs) role.Trace option.Trace (inl refl)) o failed.0 failed.1
+  imported_done pairs (ready, calm) o (inr (bytes, whole, comes)) =
+      subst (IsDone verb.Import pairs) (sym comes.1) (imports_conclude pairs I (trace_of bytes))
+
   done : (v : Verb) (pairs : List Pair) → IsServed (record { verb = v; pairs = pairs }) → (o : Outcome) →
       Comes old new (course_with v pairs) o → IsDone v pairs o
   done verb.Solve pairs (ready, calm) =
@@ -141,12 +150,7 @@ module _ (old new : FilesSeen) (before after : SinkSeen) (I : Instance) where
       (λ table. judged_served old new before after I r ready calm (inr (inl refl)) (IsDone verb.Report pairs)
       table (2 ^ 60) (λ offsets. Concludes (ShowsLayout table I offsets)) (λ cause. tt)
       (λ offsets o comes. subst (IsDone verb.Report pairs) (sym comes.1.shown) tt))
-  done verb.Import pairs (ready, calm) o (inl failed) =
-      gives.unreadable old new (IsDone verb.Import pairs) role.Trace (word_at pairs option.Trace) file_limit
-      (served old new before after I (record { verb = verb.Import; pairs = pairs }) ready calm
-      (IsDone verb.Import pairs) role.Trace option.Trace (inl refl)) o failed.0 failed.1
-  done verb.Import pairs (ready, calm) o (inr (bytes, whole, comes)) =
-      subst (IsDone verb.Import pairs) (sym comes.1) (imports_conclude pairs I (trace_of bytes))
+  done verb.Import pairs served = imported_done pairs served
   done verb.Classes pairs (ready, calm) =
       opened_served old new before after I (record { verb = verb.Classes; pairs = pairs }) ready calm (inl refl)
       (IsDone verb.Classes pairs)
