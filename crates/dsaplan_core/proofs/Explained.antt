@@ -26,14 +26,19 @@ module _ (words : List Word) (old new : FilesSeen) (pairs : List Pair) where
       Promises words old new (r verb.Classes) o
   plans is table I input o (inl plan) = subst (Promises words old new (r verb.Classes)) (sym plan.written) (
     λ files. (
-      (asked words old (r verb.Classes) is table I input, refl, record {
-        its_height = refl;
-        peak = plan.peak;
-        layout = plan.layout;
-        powers = plan.powers;
-        least = plan.least;
-        files = files;
-      }),
+      (
+        asked words old (r verb.Classes) is table I input,
+        refl,
+        record {
+          plain = plan.plain;
+          its_height = refl;
+          peak = plan.peak;
+          layout = plan.layout;
+          powers = plan.powers;
+          least = plan.least;
+          files = files;
+        },
+      ),
       tt,
       tt,
       tt,
@@ -50,19 +55,23 @@ module _ (words : List Word) (old new : FilesSeen) (pairs : List Pair) where
       Promises words old new (r verb.Core) o
   explains is table I input o (inl core) = subst (Promises words old new (r verb.Core)) (sym core.written) (
     λ files. (
-      (asked words old (r verb.Core) is table I input, refl, record {
-        members = core.members;
-        refutation = core.refutation;
-        its_count = refl;
-        core = core.core;
-        parsed = core.parsed;
-        accepted = core.accepted;
-        its_capacity = core.its_capacity;
-        infeasible = core.infeasible;
-        rests = core.rests;
-        readable = core.readable;
-        files = files;
-      }),
+      (
+        asked words old (r verb.Core) is table I input,
+        refl,
+        record {
+          members = core.members;
+          refutation = core.refutation;
+          its_count = refl;
+          core = core.core;
+          parsed = core.parsed;
+          accepted = core.accepted;
+          its_capacity = core.its_capacity;
+          infeasible = core.infeasible;
+          rests = core.rests;
+          readable = core.readable;
+          files = files;
+        },
+      ),
       tt,
       tt,
       tt,

@@ -1,5 +1,5 @@
 -- What holds of the outcome that a course comes to, by what its shared readings come to.
-use Rattle.std.proofs.Common.{◌≡◌, ◌≤◌, ◌<◌, ℕ, Bool, true, false, nat_lt, List, IsSome, Option, Some, None, Result, Ok, Err, refl, sym, subst, ap, ◌∙◌, inl, inr, arith}
+use Rattle.std.proofs.Common.{◌≡◌, ◌≤◌, ◌<◌, ◌⊎◌, ℕ, Bool, true, false, nat_lt, List, IsSome, Option, Some, None, Result, Ok, Err, refl, sym, subst, ap, ◌∙◌, inl, inr, arith}
 use Rattle.dsa_terms.specs.Buffers.{Instance}
 use Rattle.dsa_terms.specs.Logs.{Log}
 use Rattle.dsa_model.specs.LayoutFaults.{layout_fault}
@@ -24,7 +24,7 @@ use Rattle.run_course.specs.Course.{Course, Concludes, Comes, Outcome, IsUnreada
 use Rattle.readings.specs.Input.{opened, instance_or_fault}
 use Rattle.readings.specs.Opens.{IsInput, IsMalformed}
 use Rattle.readings.specs.Judging.{judged, layout_or_fault, offsets_or_fault}
-use Rattle.readings.specs.GivenLayouts.{GivesLayout}
+use Rattle.readings.specs.GivenLayouts.{GivesLayout, GivesNoOffsets, GivesWrongOffsets}
 use Rattle.readings.specs.Checking.{checked, log_limit, Checks, no_text, not_accepted, is_accepted}
 use Rattle.readings.specs.GivenLogs.{HoldsAccepted, HoldsNoText, HoldsNoRefutation}
 use Rattle.fact_reports.specs.Reporting.{Trial, ShowsTrial, trial, unless_many}
@@ -45,7 +45,7 @@ module _ (old new : FilesSeen) (P : Outcome → Type 0) where
       IfUnreadable role.Input name file_limit →
       ((fault : InstanceFault) → IsMalformed old name fault → P (says (status.Malformed fault))) →
       ((table : List Record) (I : Instance) → IsInput old name table I →
-          (o : Outcome) → Comes old new (next table I) o → P o) →
+      (o : Outcome) → Comes old new (next table I) o → P o) →
       (o : Outcome) → Comes old new (opened name next) o → P o
   opened_gives name next unread malformed given o (inl failed) =
       unreadable role.Input name file_limit unread o failed.0 failed.1
@@ -61,9 +61,11 @@ module _ (old new : FilesSeen) (P : Outcome → Type 0) where
 
   -- a course that judges a layout file
   pub judged_gives : (name : Word) (table : List Record) (I : Instance) (C : ℕ) (next : List ℕ → Course) →
-      IfUnreadable role.Layout name file_limit → ((cause : WrongCause) → P (says (status.Wrong cause))) →
+      IfUnreadable role.Layout name file_limit →
+      ((cause : WrongCause) → GivesNoOffsets old name table (status.Wrong cause)
+      ⊎ GivesWrongOffsets old name table I C (status.Wrong cause) → P (says (status.Wrong cause))) →
       ((offsets : List ℕ) → GivesLayout old name table I C offsets →
-          (o : Outcome) → Comes old new (next offsets) o → P o) →
+      (o : Outcome) → Comes old new (next offsets) o → P o) →
       (o : Outcome) → Comes old new (judged name table I C next) o → P o
   judged_gives name table I C next unread wrongly given o (inl failed) =
       unreadable role.Layout name file_limit unread o failed.0 failed.1
@@ -75,20 +77,30 @@ module _ (old new : FilesSeen) (P : Outcome → Type 0) where
           Comes old new (layout_or_fault f (next offsets)) o → P o
       legal offsets read None is comes =
           given offsets (record { bytes = bytes; whole = whole; parsed = read; legal = is }) o comes
-      legal offsets read (Some fault) is comes = subst P (sym comes.1) (wrongly (wrong.Layout fault))
+      legal offsets read (Some fault) is comes = subst P (sym comes.1)
+          (wrongly (wrong.Layout fault) (inr (record {
+            bytes = bytes;
+            offsets = offsets;
+            fault = fault;
+            told = refl;
+            whole = whole;
+            parsed = read;
+            refused = is;
+          })))
 
       parsed : (r : Result (List ℕ) OffsetsFault) → parsed_offsets (ids_of table) (table_of bytes) ≡ r →
           Comes old new (offsets_or_fault r I C next) o → P o
       parsed (Ok offsets) is comes = legal offsets is (layout_fault I C offsets) refl comes
-      parsed (Err fault) is comes = subst P (sym comes.1) (wrongly (wrong.Offsets fault))
+      parsed (Err fault) is comes = subst P (sym comes.1) (wrongly (wrong.Offsets fault)
+          (inl (record { bytes = bytes; fault = fault; told = refl; whole = whole; refused = is })))
 
   -- a course that checks a log's file
   pub checked_gives : (name : Word) (I : Instance) (accepted : Log → Outcome) →
       IfUnreadable role.Log name log_limit →
       ((fault : TextFault) → HoldsNoText old name (status.LogRefused (refused.Text fault)) →
-          P (says (status.LogRefused (refused.Text fault)))) →
+      P (says (status.LogRefused (refused.Text fault)))) →
       ((fault : CheckFault) → HoldsNoRefutation old name I (status.LogRefused (refused.Check fault)) →
-          P (says (status.LogRefused (refused.Check fault)))) →
+      P (says (status.LogRefused (refused.Check fault)))) →
       ((log : Log) → HoldsAccepted old name I log → P (accepted log)) →
       (o : Outcome) → Comes old new (checked name I accepted) o → P o
   checked_gives name I accepted unread no_log no_proof given o (inl failed) =

@@ -15,6 +15,7 @@ use Rattle.run_course.specs.Answers.{Answers, AreBroken, Leaves, told_status, to
 use Rattle.dsaplan_core.specs.Courses.{course, course_with}
 use Rattle.dsaplan_core.specs.Theorem.{Headline}
 use Rattle.dsaplan_core.specs.Choice.{Choice}
+use Rattle.dsaplan_core.specs.Causes.{IsCaused}
 use Rattle.dsaplan_core.specs.Lost.{Blames, IsOwnWrite, LosesFile}
 use Rattle.dsaplan_core.specs.Refused.{IsMisuse}
 use Rattle.dsaplan_core.specs.Shown.{Shows, Tells}
@@ -36,6 +37,13 @@ one_own r (w ∷ made) lost rest own = one_own r made lost rest own.1
 none_lost : (made : List Write) (lost : Write) (rest : List Write) → [] ≡ made ++ (lost ∷ rest) → ⊥
 none_lost [] lost rest is = cc
 none_lost (w ∷ made) lost rest is = cc
+
+-- a status that blames no file is caused as it refuses
+cause_of : (words : List Word) (old new : FilesSeen) (s : Status) → Blames words old new s → IsCaused words old new s
+cause_of words old new (status.ReadFault role) blames = tt
+cause_of words old new (status.TooLong role) blames = tt
+cause_of words old new (status.WriteFault role) blames = tt
+cause_of words old new s blames = blames
 
 module _ (words : List Word) (old new : FilesSeen) where
   pub promised : (v : Verb) (pairs : List Pair) → request_of words ≡ Ok (record { verb = v; pairs = pairs }) →
@@ -60,7 +68,7 @@ module _ (words : List Word) (old new : FilesSeen) where
       × Blames words old new o.status
 
   written : (o : Outcome) → Comes old new (course words) o → Holds o
-  written = words_give old new words Holds (λ fault is files. (tt, tt, tt, tt))
+  written = words_give old new words Holds (λ fault is files. (tt, tt, tt, record { refused = is; files = files }))
       (λ r is o comes. (promised r.verb r.pairs is o comes).0)
 
   -- a write that fails is one of the command's
@@ -96,6 +104,9 @@ module _ (words : List Word) (old new : FilesSeen) where
     pub blamed : (s : Status) → Answers (course words) old new before after s → Blames words old new s
     blamed = answered (course words) old new before after (Blames words old new)
         (λ o comes files. (written o comes files).3) (λ role o comes left. broken role o comes left) (λ rose. tt) tt
+
+    pub caused : (s : Status) → Answers (course words) old new before after s → IsCaused words old new s
+    caused s answer = cause_of words old new s (blamed s answer)
 
     pub shown : Answers (course words) old new before after status.Shown → Shows words old new before after
     shown answer = go answer.tells.outcome answer.tells.lost answer.tells.comes answer.tells.files

@@ -61,10 +61,13 @@ module _ (words : List Word) (old new : FilesSeen) where
         opened_promises words old new (r verb.Verify) is (inl refl)
         (λ table I. judged layout table I capacity (λ offsets. Ends (says status.Right)))
         (λ table I input. judged_promises words old new (r verb.Verify) is (inr (inl refl)) table I capacity
-        (λ offsets. Ends (says status.Right))
-        (λ offsets gives o comes. subst (Promises words old new (r verb.Verify)) (sym comes.1) (λ files.
-          let a = asked words old (r verb.Verify) is table I input in
-          ((a, refl, gives_layout a capacity offsets gives, files), tt, tt, tt), tt)))
+        (λ offsets. Ends (says status.Right)) input refl
+        (λ offsets gives o comes. subst (Promises words old new (r verb.Verify)) (sym comes.1) (
+          λ files.
+              let a = asked words old (r verb.Verify) is table I input in
+              ((a, refl, gives_layout a capacity offsets gives, files), tt, tt, tt),
+          tt,
+        )))
 
     pub report_promises : request_of words ≡ Ok (r verb.Report) → (o : Outcome) →
         Comes old new (course_with verb.Report pairs) o → Promises words old new (r verb.Report) o
@@ -73,14 +76,27 @@ module _ (words : List Word) (old new : FilesSeen) where
         opened_promises words old new (r verb.Report) is (inl refl)
         (λ table I. judged layout table I (2 ^ 60) (λ offsets. Concludes (ShowsLayout table I offsets)))
         (λ table I input. judged_promises words old new (r verb.Report) is (inr (inl refl)) table I (2 ^ 60)
-        (λ offsets. Concludes (ShowsLayout table I offsets))
-        (λ offsets gives o comes. subst (Promises words old new (r verb.Report)) (sym comes.1.shown) (λ files.
-          let a = asked words old (r verb.Report) is table I input in
-          (tt, tt, (files, inr (inl (a, record {
-            command = refl;
-            given = gives_layout a (2 ^ 60) offsets gives;
-            its_text = comes.1.its_text;
-          }))), tt), tt)))
+        (λ offsets. Concludes (ShowsLayout table I offsets)) input refl
+        (λ offsets gives o comes. subst (Promises words old new (r verb.Report)) (sym comes.1.shown) (
+          λ files.
+              let a = asked words old (r verb.Report) is table I input in (
+                tt,
+                tt,
+                (
+                  files,
+                  inr (inl (
+                    a,
+                    record {
+                      command = refl;
+                      given = gives_layout a (2 ^ 60) offsets gives;
+                      its_text = comes.1.its_text;
+                    },
+                  )),
+                ),
+                tt,
+              ),
+          tt,
+        )))
 
     pub refute_promises : request_of words ≡ Ok (r verb.Refute) → (o : Outcome) →
         Comes old new (course_with verb.Refute pairs) o → Promises words old new (r verb.Refute) o
@@ -88,11 +104,14 @@ module _ (words : List Word) (old new : FilesSeen) where
         let name = word_at pairs option.Log in
         opened_promises words old new (r verb.Refute) is (inl refl)
         (λ table I. checked name I (λ log. says (status.Accepted log.capacity)))
-        (λ table I input. checked_promises words old new (r verb.Refute) is (inr (inl refl)) I
-        (λ log. says (status.Accepted log.capacity))
-        (λ log holds. (λ files.
-          let a = asked words old (r verb.Refute) is table I input in
-          ((a, refl, (log, gives_log a log holds, refl), files), tt, tt, tt), tt)))
+        (λ table I input. checked_promises words old new (r verb.Refute) is (inr (inl refl)) table I
+        (λ log. says (status.Accepted log.capacity)) input (inl refl)
+        (λ log holds. (
+          λ files.
+              let a = asked words old (r verb.Refute) is table I input in
+              ((a, refl, (log, gives_log a log holds, refl), files), tt, tt, tt),
+          tt,
+        )))
 
     pub trim_promises : request_of words ≡ Ok (r verb.Trim) → (o : Outcome) →
         Comes old new (course_with verb.Trim pairs) o → Promises words old new (r verb.Trim) o
@@ -101,11 +120,29 @@ module _ (words : List Word) (old new : FilesSeen) where
         let output = word_at pairs option.Output in
         opened_promises words old new (r verb.Trim) is (inl refl)
         (λ table I. checked name I (trimming output))
-        (λ table I input. checked_promises words old new (r verb.Trim) is (inr (inl refl)) I (trimming output)
-        (λ log holds. (λ files.
-          let a = asked words old (r verb.Trim) is table I input in
-          ((a, refl, (log, gives_log a log holds, refl, refl, record {
-            accepted = trimmed_is_accepted I log holds.accepted;
-            readable = trimmed_reads_back I log holds.bytes holds.accepted holds.text;
-            files = files;
-          })), tt, tt, tt), ((inl refl, refl), tt))))
+        (λ table I input. checked_promises words old new (r verb.Trim) is (inr (inl refl)) table I (trimming output) input
+        (inr refl)
+        (λ log holds. (
+          λ files.
+              let a = asked words old (r verb.Trim) is table I input in (
+                (
+                  a,
+                  refl,
+                  (
+                    log,
+                    gives_log a log holds,
+                    refl,
+                    refl,
+                    record {
+                      accepted = trimmed_is_accepted I log holds.accepted;
+                      readable = trimmed_reads_back I log holds.bytes holds.accepted holds.text;
+                      files = files;
+                    },
+                  ),
+                ),
+                tt,
+                tt,
+                tt,
+              ),
+          ((inl refl, refl), tt),
+        )))

@@ -1,5 +1,6 @@
--- A run that a reading ends blames its file, and promises nothing else; what is promised stands on what is read.
-use Rattle.std.proofs.Common.{◌≡◌, ℕ, List, Ok}
+-- A run that a reading ends blames its file, one that refuses what was read tells why, and neither promises anything
+-- else; what is promised stands on what is read.
+use Rattle.std.proofs.Common.{◌≡◌, ◌⊎◌, ℕ, List, Ok, inl, inr}
 use Rattle.dsa_terms.specs.Buffers.{Instance}
 use Rattle.dsa_terms.specs.Claims.{IsIn}
 use Rattle.dsa_terms.specs.Logs.{Log}
@@ -10,19 +11,24 @@ use Rattle.command_words.specs.Forms.{form_of}
 use Rattle.command_words.specs.Pairs.{word_at}
 use Rattle.command_words.specs.Requests.{Request, request_of}
 use Rattle.command_words.specs.declared.option.OptionName.TheVariants as option
+use Rattle.command_words.specs.declared.verb.Verb.TheVariants as verb
+use Rattle.run_status.specs.declared.status.Status.TheVariants as status
+use Rattle.run_status.specs.declared.status.LogCause.{LogCause}
+use Rattle.run_status.specs.declared.status.LogCause.TheVariants as refused
 use Rattle.run_status.specs.declared.status.Role.{Role}
 use Rattle.run_status.specs.declared.status.Role.TheVariants as role
-use Rattle.run_course.specs.Course.{Course, Comes, Outcome}
+use Rattle.run_course.specs.Course.{Course, Comes, Outcome, says}
 use Rattle.readings.specs.Input.{opened}
 use Rattle.readings.specs.Opens.{IsInput}
 use Rattle.readings.specs.Judging.{judged}
 use Rattle.readings.specs.GivenLayouts.{GivesLayout}
 use Rattle.readings.specs.Checking.{checked}
-use Rattle.readings.specs.GivenLogs.{HoldsAccepted}
+use Rattle.readings.specs.GivenLogs.{HoldsAccepted, HoldsNoText, HoldsNoRefutation}
+use Rattle.dsaplan_core.specs.Causes.{IsJudgedAt}
 use Rattle.dsaplan_core.specs.Complete.{limit_of}
 use Rattle.dsaplan_core.specs.Lost.{option_of_role}
 use Rattle.dsaplan_core.proofs.Gives.{IfUnreadable, checked_gives, judged_gives, opened_gives}
-use Rattle.dsaplan_core.proofs.Promises.{Promises}
+use Rattle.dsaplan_core.proofs.Promises.{Promises, asked}
 
 module _ (words : List Word) (old new : FilesSeen) (r : Request) (is : request_of words ≡ Ok r) where
   abbrev P : Outcome → Type 0
@@ -31,30 +37,78 @@ module _ (words : List Word) (old new : FilesSeen) (r : Request) (is : request_o
   pub unreadable : (role : Role) → IsIn (option_of_role role) (form_of r.verb).reads →
       IfUnreadable old new P role (word_at r.pairs (option_of_role role)) (limit_of (option_of_role role))
   unreadable role read = (
-    λ unread. (λ files.
-        (tt, tt, tt, record { request = r; asked = is; read = read; cause = unread; files = files }), tt),
-    λ long. (λ files.
-        (tt, tt, tt, record { request = r; asked = is; read = read; long = long; files = files }), tt),
+    λ unread. (
+      λ files.
+          (tt, tt, tt, record { request = r; asked = is; read = read; cause = unread; files = files }),
+      tt,
+    ),
+    λ long. (
+      λ files.
+          (tt, tt, tt, record { request = r; asked = is; read = read; long = long; files = files }),
+      tt,
+    ),
   )
 
   pub opened_promises : IsIn option.Input (form_of r.verb).reads → (next : List Record → Instance → Course) →
       ((table : List Record) (I : Instance) → IsInput old (word_at r.pairs option.Input) table I →
-          (o : Outcome) → Comes old new (next table I) o → P o) →
+      (o : Outcome) → Comes old new (next table I) o → P o) →
       (o : Outcome) → Comes old new (opened (word_at r.pairs option.Input) next) o → P o
   opened_promises read next = opened_gives old new P (word_at r.pairs option.Input) next (unreadable role.Input read)
-      (λ fault bad. (λ files. (tt, tt, tt, tt), tt))
+      (λ fault bad. (
+        λ files.
+            (tt, tt, tt, record { request = r; words_ask = is; read = read; malformed = bad; files = files }),
+        tt,
+      ))
 
   pub judged_promises : IsIn option.Layout (form_of r.verb).reads → (table : List Record) (I : Instance) (C : ℕ)
-      (next : List ℕ → Course) →
+      (next : List ℕ → Course) → IsInput old (word_at r.pairs option.Input) table I → IsJudgedAt r.verb r.pairs C →
       ((offsets : List ℕ) → GivesLayout old (word_at r.pairs option.Layout) table I C offsets →
-          (o : Outcome) → Comes old new (next offsets) o → P o) →
+      (o : Outcome) → Comes old new (next offsets) o → P o) →
       (o : Outcome) → Comes old new (judged (word_at r.pairs option.Layout) table I C next) o → P o
-  judged_promises read table I C next = judged_gives old new P (word_at r.pairs option.Layout) table I C next
-      (unreadable role.Layout read) (λ cause. (λ files. (tt, tt, tt, tt), tt))
+  judged_promises read table I C next input judged_at =
+      judged_gives old new P (word_at r.pairs option.Layout) table I C next (unreadable role.Layout read)
+      (λ cause wrong. (
+        λ files. (
+          tt,
+          tt,
+          tt,
+          record {
+            asked = asked words old r is table I input;
+            capacity = C;
+            judged = judged_at;
+            wrong = wrong;
+            files = files;
+          },
+        ),
+        tt,
+      ))
 
-  pub checked_promises : IsIn option.Log (form_of r.verb).reads → (I : Instance) (accepted : Log → Outcome) →
+  refuses_log : (table : List Record) (I : Instance) → IsInput old (word_at r.pairs option.Input) table I →
+      ((r.verb ≡ verb.Refute) ⊎ (r.verb ≡ verb.Trim)) → (cause : LogCause) →
+      HoldsNoText old (word_at r.pairs option.Log) (status.LogRefused cause)
+      ⊎ HoldsNoRefutation old (word_at r.pairs option.Log) I (status.LogRefused cause) →
+      P (says (status.LogRefused cause))
+  refuses_log table I input checks cause bad = (
+    λ files. (
+      tt,
+      tt,
+      tt,
+      record {
+        asked = asked words old r is table I input;
+        checked = checks;
+        refused = bad;
+        files = files;
+      },
+    ),
+    tt,
+  )
+
+  pub checked_promises : IsIn option.Log (form_of r.verb).reads → (table : List Record) (I : Instance)
+      (accepted : Log → Outcome) → IsInput old (word_at r.pairs option.Input) table I →
+      ((r.verb ≡ verb.Refute) ⊎ (r.verb ≡ verb.Trim)) →
       ((log : Log) → HoldsAccepted old (word_at r.pairs option.Log) I log → P (accepted log)) →
       (o : Outcome) → Comes old new (checked (word_at r.pairs option.Log) I accepted) o → P o
-  checked_promises read I accepted = checked_gives old new P (word_at r.pairs option.Log) I accepted
-      (unreadable role.Log read) (λ fault bad. (λ files. (tt, tt, tt, tt), tt))
-      (λ fault bad. (λ files. (tt, tt, tt, tt), tt))
+  checked_promises read table I accepted input checks =
+      checked_gives old new P (word_at r.pairs option.Log) I accepted (unreadable role.Log read)
+      (λ fault bad. refuses_log table I input checks (refused.Text fault) (inl bad))
+      (λ fault bad. refuses_log table I input checks (refused.Check fault) (inr bad))

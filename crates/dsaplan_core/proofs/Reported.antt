@@ -22,29 +22,56 @@ module _ (words : List Word) (old new : FilesSeen) (pairs : List Pair) where
       Comes old new (course_with verb.Bounds pairs) o → Promises words old new (r verb.Bounds) o
   bounds_promises is = opened_promises words old new (r verb.Bounds) is (inl refl)
       (λ table I. Concludes (ShowsFacts I))
-      (λ table I input o comes. subst (Promises words old new (r verb.Bounds)) (sym comes.1.shown) (λ files.
-        let a = asked words old (r verb.Bounds) is table I input in
-        (tt, tt, (files, inl (a, record {
-          command = refl;
-          facts = comes.1.facts;
-          true_facts = comes.1.true_facts;
-          its_text = refl;
-        })), tt), tt))
+      (λ table I input o comes. subst (Promises words old new (r verb.Bounds)) (sym comes.1.shown) (
+        λ files.
+            let a = asked words old (r verb.Bounds) is table I input in (
+              tt,
+              tt,
+              (
+                files,
+                inl (
+                  a,
+                  record {
+                    command = refl;
+                    facts = comes.1.facts;
+                    true_facts = comes.1.true_facts;
+                    its_text = refl;
+                  },
+                ),
+              ),
+              tt,
+            ),
+        tt,
+      ))
 
   pub trial_promises : request_of words ≡ Ok (r verb.Trial) → (o : Outcome) →
       Comes old new (course_with verb.Trial pairs) o → Promises words old new (r verb.Trial) o
   trial_promises is = trial_gives old new (Promises words old new (r verb.Trial)) (trial_of pairs)
-      (λ many. (λ files. (tt, tt, tt, tt), tt))
-      (λ few o shows. subst (Promises words old new (r verb.Trial)) (sym shows.shown)
-      (λ files. (tt, tt, (files, inr (inr (record {
-        pairs = pairs;
-        instance = shows.instance;
-        facts = shows.facts;
-        verdict = shows.verdict;
-        asked = is;
-        few = few;
-        made = shows.made;
-        true_facts = shows.true_facts;
-        true_verdict = shows.true_verdict;
-        its_text = refl;
-      }))), tt), tt))
+      (λ many. (
+        λ files.
+            (tt, tt, tt, record { pairs = pairs; words_ask = is; its_count = refl; many = many; files = files }),
+        tt,
+      ))
+      (λ few o shows. subst (Promises words old new (r verb.Trial)) (sym shows.shown) (
+        λ files. (
+          tt,
+          tt,
+          (
+            files,
+            inr (inr (record {
+              pairs = pairs;
+              instance = shows.instance;
+              facts = shows.facts;
+              verdict = shows.verdict;
+              asked = is;
+              few = few;
+              made = shows.made;
+              true_facts = shows.true_facts;
+              true_verdict = shows.true_verdict;
+              its_text = refl;
+            })),
+          ),
+          tt,
+        ),
+        tt,
+      ))

@@ -90,9 +90,9 @@ module _ (old new : FilesSeen) (before after : SinkSeen) (I : Instance) (r : Req
       (served P role.Input option.Input among)
       (λ fault bad. absurd (let a = read_as among bad.bytes bad.whole in let b = bad.refused in cc))
       (λ table J input o comes.
-        let mine : parse table ≡ Ok I = ap parse input.records ∙ read_as among input.bytes input.whole in
-        let same : J ≡ I = (let a = input.parsed in cc) in
-        given table o (subst (λ (K : Instance). Comes old new (next table K) o) same comes))
+      let mine : parse table ≡ Ok I = ap parse input.records ∙ read_as among input.bytes input.whole in
+      let same : J ≡ I = (let a = input.parsed in cc) in
+      given table o (subst (λ (K : Instance). Comes old new (next table K) o) same comes))
 
   pub judged_served : IsIn option.Layout (form_of r.verb).reads → (P : Outcome → Type 0) (table : List Record)
       (C : ℕ) (next : List ℕ → Course) → ((cause : WrongCause) → P (says (status.Wrong cause))) →
@@ -100,15 +100,15 @@ module _ (old new : FilesSeen) (before after : SinkSeen) (I : Instance) (r : Req
       (o : Outcome) → Comes old new (judged (word_at r.pairs option.Layout) table I C next) o → P o
   judged_served among P table C next wrongly given =
       judged_gives old new P (word_at r.pairs option.Layout) table I C next (served P role.Layout option.Layout among)
-      wrongly (λ offsets gives. given offsets)
+      (λ cause wrong. wrongly cause) (λ offsets gives. given offsets)
 
   pub checked_served : IsIn option.Log (form_of r.verb).reads → (P : Outcome → Type 0) (accepted : Log → Outcome) →
       ((fault : TextFault) →
-          HoldsNoText old (word_at r.pairs option.Log) (status.LogRefused (refused.Text fault)) →
-          P (says (status.LogRefused (refused.Text fault)))) →
+      HoldsNoText old (word_at r.pairs option.Log) (status.LogRefused (refused.Text fault)) →
+      P (says (status.LogRefused (refused.Text fault)))) →
       ((fault : CheckFault) →
-          HoldsNoRefutation old (word_at r.pairs option.Log) I (status.LogRefused (refused.Check fault)) →
-          P (says (status.LogRefused (refused.Check fault)))) →
+      HoldsNoRefutation old (word_at r.pairs option.Log) I (status.LogRefused (refused.Check fault)) →
+      P (says (status.LogRefused (refused.Check fault)))) →
       ((log : Log) → HoldsAccepted old (word_at r.pairs option.Log) I log → P (accepted log)) →
       (o : Outcome) → Comes old new (checked (word_at r.pairs option.Log) I accepted) o → P o
   checked_served among P accepted =

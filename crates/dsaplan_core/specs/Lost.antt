@@ -19,6 +19,7 @@ use Rattle.run_course.specs.Course.{Comes, Outcome, Write}
 use Rattle.run_course.specs.Answers.{with_writes}
 use Rattle.dsaplan_core.specs.Courses.{course_with}
 use Rattle.dsaplan_core.specs.Complete.{limit_of}
+use Rattle.dsaplan_core.specs.Causes.{IsCaused}
 
 -- the option that names the file of the role
 abbrev pub option_of_role : Role → OptionName
@@ -65,9 +66,9 @@ pub record LosesFile (words : List Word) (old new : FilesSeen) (role : Role) : T
   pub rose : Rose (old.faults lost.name) (new.faults lost.name)
   pub others : without_file new.held lost.name ≡ without_file (with_writes old.held made) lost.name
 
--- which file a status blames, and for what
+-- which file a status blames, and for what; and why it refuses
 abbrev pub Blames : List Word → FilesSeen → FilesSeen → Status → Type 0
 Blames words old new (ReadFault role) = MissesFile words old new role
 Blames words old new (TooLong role) = HasLongFile words old new role
 Blames words old new (WriteFault role) = LosesFile words old new role
-Blames words old new status = Unit {0}
+Blames words old new status = IsCaused words old new status

@@ -20,7 +20,7 @@ use Rattle.log_text.specs.Faults.{IsTextOf}
 use Rattle.log_text.specs.Text.{log_text, raw_log_of}
 use Rattle.dsa_model.specs.Chosen.{some_of}
 use Rattle.core_find.specs.Cores.{IsCore, without}
-use Rattle.size_classes.specs.Plain.{first_rough}
+use Rattle.size_classes.specs.Plain.{first_rough, IsPlain}
 use Rattle.size_classes.specs.Plans.{AllOf, IsPeakLoad, class_height, class_plan, power_height}
 use Rattle.trace_import.specs.Faults.{trace_of}
 use Rattle.trace_import.specs.ImportText.{import_text}
@@ -85,10 +85,12 @@ pub record HoldsTrimmed {words : List Word} {old : FilesSeen} (a : Asked words o
   pub readable : IsTextOf (log_text (trimmed log)) (raw_log_of (trimmed log))
   pub files : new.held ≡ with_file old.held (word_at a.pairs option.Output) (log_text (trimmed log))
 
--- the output holds the text of the plan by size class, a layout at its height, which is at most the sum of two to the
--- power of each class times its count; where all sizes are equal it is the least capacity, and the load of the peak
+-- the instance is plain, and the output holds the text of the plan by size class, a layout at its height, which is at
+-- most the sum of two to the power of each class times its count; where all sizes are equal it is the least capacity,
+-- and the load of the peak
 pub record HoldsClassPlan {words : List Word} {old : FilesSeen} (a : Asked words old) (new : FilesSeen)
     (height load : ℕ) : Type 0 where
+  pub plain : IsPlain a.instance
   pub its_height : class_height a.instance ≡ height
   pub peak : IsPeakLoad a.instance load
   pub layout : IsLayout a.instance height (class_plan a.instance)

@@ -1,10 +1,16 @@
 //! Laws of answers: what each says beside the clauses of `run`.
 
-ghost use Rattle.std.specs.Prelude.{◌≡◌, List, Ok, Err};
+ghost use Rattle.std.specs.Prelude.{◌≡◌, ◌↔◌, ℕ, List, Some, None, Ok, Err};
 ghost use Rattle.dsa_terms.specs.Buffers.{Instance};
-ghost use Rattle.dsa_terms.specs.Logs.{Log};
+ghost use Rattle.dsa_terms.specs.Layouts.{IsLayout};
+ghost use Rattle.dsa_terms.specs.Logs.{Log, IsAccepted};
 ghost use Rattle.dsa_outside.specs.Seen.{FilesSeen, SinkSeen};
 ghost use Rattle.dsa_model.specs.Counts.{Rose};
+ghost use Rattle.dsa_model.specs.LayoutFaults.{layout_fault};
+ghost use Rattle.log_text.specs.Text.{raw_log_of};
+ghost use Rattle.log_text.specs.declared.raw.RawLog.{RawLog};
+ghost use Rattle.log_check.specs.Faults.{check_fault};
+ghost use Rattle.log_check.specs.declared.fault.CheckFault.{CheckFault};
 ghost use Rattle.command_words.specs.Options.{Word};
 ghost use Rattle.command_words.specs.Pairs.{Pair, word_at};
 ghost use Rattle.command_words.specs.Requests.{request_of};
@@ -17,6 +23,7 @@ ghost use Rattle.run_status.specs.declared.status.Role.{Role};
 ghost use Rattle.run_course.specs.Answers.{Answers};
 ghost use Rattle.dsaplan_core.specs.Courses.{course};
 ghost use Rattle.dsaplan_core.specs.Complete.{HoldsLog, IsAcceptedAt, IsReady, IsUndisturbed};
+ghost use Rattle.dsaplan_core.specs.Causes.{IsCaused};
 ghost use Rattle.dsaplan_core.specs.Lost.{HasLongFile, LosesFile, MissesFile};
 ghost use Rattle.dsaplan_core.specs.Refused.{IsMisuse};
 ghost use Rattle.dsaplan_core.specs.Shown.{Shows};
@@ -64,6 +71,27 @@ pub fn missed()
     ensures long { (words : List Word) (old new : FilesSeen) (before after : SinkSeen)
         (role : Role) → Answers (course words) old new before after (status.TooLong role) →
         HasLongFile words old new role }
+{}
+
+/// What is refused is refused for its first fault, and nothing is written: words only where they
+/// are no command; too many buffers only by a trial; an input only where it was read whole and is
+/// no instance; a layout file only where it gives no layout at the command's capacity; a log's file
+/// only where it is no text of an accepted log.
+pub fn causes()
+    ensures { (words : List Word) (old new : FilesSeen) (before after : SinkSeen) (s : Status) →
+        Answers (course words) old new before after s → IsCaused words old new s }
+{}
+
+/// A log whose text has a first fault for an instance is not accepted for it.
+pub fn check_faults_are_exact()
+    ensures { (I : Instance) (raw : RawLog) (fault : CheckFault) (log : Log) →
+        check_fault I raw ≡ Some fault → raw_log_of log ≡ raw → IsAccepted I log → ⊥ }
+{}
+
+/// Offsets have no first fault exactly where they are a layout at the capacity.
+pub fn layout_faults_are_exact()
+    ensures { (I : Instance) (C : ℕ) (offsets : List ℕ) →
+        (layout_fault I C offsets ≡ None) ↔ IsLayout I C offsets }
 {}
 
 /// A write is blamed only where the command came to it, and the count of faults of its own name

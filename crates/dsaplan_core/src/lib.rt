@@ -7,5 +7,8 @@ mod misuse;
 
 pub use command_words::{OptionName, UsageFault};
 pub use entry::run;
-pub use laws::{checks, lost, missed, print_fault, refused, shown};
+pub use laws::{
+    causes, check_faults_are_exact, checks, layout_faults_are_exact, lost, missed, print_fault,
+    refused, shown,
+};
 pub use run_status::{LogCause, Role, Status, WrongCause};

@@ -1,1 +1,2 @@
 mod Importing
+mod ExampleFacts

@@ -1,1 +1,2 @@
 mod Concluding
+pub mod ExampleFacts

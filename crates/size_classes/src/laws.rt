@@ -1,18 +1,22 @@
 //! Laws of plans by size class.
 
-ghost use Rattle.std.specs.Prelude.{◌≡◌, ◌≢◌, ◌^◌, ◌<◌, ◌≤◌, ℕ, List, None, []};
+ghost use Rattle.std.specs.Prelude.{◌≡◌, ◌≢◌, ◌^◌, ◌<◌, ◌≤◌, ℕ, List, None, Some, [], length};
 ghost use Rattle.dsa_terms.specs.Buffers.{buffer, Instance, IsInstance, IsLive};
 ghost use Rattle.dsa_terms.specs.Claims.{IsIn, Rises};
 ghost use Rattle.dsa_terms.specs.Layouts.{IsLayout, IsLeast};
 ghost use Rattle.dsa_terms.specs.Plans.{IsPeak, load};
 ghost use Rattle.size_classes.specs.Classes.{class_of};
-ghost use Rattle.size_classes.specs.Plain.{first_rough, IsPlain};
+ghost use Rattle.size_classes.specs.Plain.{first_rough, HasNoGaps, IsPlain};
 ghost use Rattle.size_classes.specs.Plans.{AllOf, class_height, class_plan, power_height};
 ghost use Rattle.size_classes.specs.Slots.{AreMembers, IsSlotting, most_live, slot_of};
 
-/// An instance of which no buffer is rough is plain.
+/// An instance of which no buffer is rough is plain; the first buffer that is rough has a gap or an
+/// alignment above 1, and none before it has.
 pub fn smooth_is_plain()
-    ensures { (I : Instance) → first_rough I ≡ None → IsPlain I }
+    ensures none { (I : Instance) → first_rough I ≡ None → IsPlain I }
+    ensures some { (I : Instance) (b : ℕ) → first_rough I ≡ Some b →
+        (b < length I) × (HasNoGaps I b → 1 < (buffer I b).alignment)
+        × ((c : ℕ) → c < b → HasNoGaps I c × ((buffer I c).alignment ≤ 1)) }
 {}
 
 /// The class of a size is the least number of which two to the power is at least the size.

@@ -1,0 +1,76 @@
+-- Why a run refuses: its words, the number of a trial's buffers, the bytes of its input, of its layout file or of its
+-- log's file. Nothing is written then.
+use Rattle.std.specs.Prelude.{◌≡◌, ◌<◌, ◌⊎◌, ◌^◌, ℕ, List, Ok, Err}
+use Rattle.dsa_terms.specs.Claims.{IsIn}
+use Rattle.dsa_outside.specs.Seen.{FilesSeen}
+use Rattle.csv_instance.specs.Parse.{buffer_limit}
+use Rattle.csv_instance.specs.declared.fault.InstanceFault.{InstanceFault}
+use Rattle.command_words.specs.Options.{Word}
+use Rattle.command_words.specs.Forms.{form_of}
+use Rattle.command_words.specs.Pairs.{Pair, number_at, word_at}
+use Rattle.command_words.specs.Requests.{Request, request_of}
+use Rattle.command_words.specs.declared.option.OptionName.TheVariants as option
+use Rattle.command_words.specs.declared.verb.Verb.{Verb}
+use Rattle.command_words.specs.declared.verb.Verb.TheVariants as verb
+use Rattle.command_words.specs.declared.fault.UsageFault.{UsageFault}
+use Rattle.readings.specs.Opens.{IsMalformed}
+use Rattle.readings.specs.GivenLayouts.{GivesNoOffsets, GivesWrongOffsets}
+use Rattle.readings.specs.GivenLogs.{HoldsNoText, HoldsNoRefutation}
+use Rattle.run_status.specs.declared.status.Status.{Status}
+use Rattle.run_status.specs.declared.status.Status.TheVariants as status
+use Rattle.run_status.specs.declared.status.WrongCause.{WrongCause}
+use Rattle.run_status.specs.declared.status.LogCause.{LogCause}
+use Rattle.dsaplan_core.specs.Theorem.{Asked}
+
+-- the words are no command, for this fault first
+pub record AreNoCommand (words : List Word) (old new : FilesSeen) (fault : UsageFault) : Type 0 where
+  pub refused : request_of words ≡ Err fault
+  pub files : new.held ≡ old.held
+
+-- the words ask for a trial of so many buffers, which are more than an instance may have
+pub record AskTooMany (words : List Word) (old new : FilesSeen) (count : ℕ) : Type 0 where
+  pub pairs : List Pair
+  pub words_ask : request_of words ≡ Ok (record { verb = verb.Trial; pairs = pairs })
+  pub its_count : number_at pairs option.Count ≡ count
+  pub many : buffer_limit < count
+  pub files : new.held ≡ old.held
+
+-- the command reads an input, and its bytes are no instance, for this fault first
+pub record RefusesInput (words : List Word) (old new : FilesSeen) (fault : InstanceFault) : Type 0 where
+  pub request : Request
+  pub words_ask : request_of words ≡ Ok request
+  pub read : IsIn option.Input (form_of request.verb).reads
+  pub malformed : IsMalformed old (word_at request.pairs option.Input) fault
+  pub files : new.held ≡ old.held
+
+-- the command judges a layout file, at this capacity
+abbrev pub IsJudgedAt : Verb → List Pair → ℕ → Type 0
+IsJudgedAt verb.Verify pairs C = C ≡ number_at pairs option.Capacity
+IsJudgedAt verb.Report pairs C = C ≡ 2 ^ 60
+IsJudgedAt verb pairs C = ⊥
+
+-- the layout file gives no offsets, or none that are a layout at the capacity, for this cause
+pub record RefusesLayout (words : List Word) (old new : FilesSeen) (cause : WrongCause) : Type 0 where
+  pub asked : Asked words old
+  pub capacity : ℕ
+  pub judged : IsJudgedAt asked.verb asked.pairs capacity
+  pub wrong : GivesNoOffsets old (word_at asked.pairs option.Layout) asked.table (status.Wrong cause)
+      ⊎ GivesWrongOffsets old (word_at asked.pairs option.Layout) asked.table asked.instance capacity (status.Wrong cause)
+  pub files : new.held ≡ old.held
+
+-- the log's file is no log's text, or the text of one that is not accepted, for this cause
+pub record RefusesLog (words : List Word) (old new : FilesSeen) (cause : LogCause) : Type 0 where
+  pub asked : Asked words old
+  pub checked : (asked.verb ≡ verb.Refute) ⊎ (asked.verb ≡ verb.Trim)
+  pub refused : HoldsNoText old (word_at asked.pairs option.Log) (status.LogRefused cause)
+      ⊎ HoldsNoRefutation old (word_at asked.pairs option.Log) asked.instance (status.LogRefused cause)
+  pub files : new.held ≡ old.held
+
+-- why a status refuses, where it does
+abbrev pub IsCaused : List Word → FilesSeen → FilesSeen → Status → Type 0
+IsCaused words old new (status.Usage fault) = AreNoCommand words old new fault
+IsCaused words old new (status.TooMany count) = AskTooMany words old new count
+IsCaused words old new (status.Malformed fault) = RefusesInput words old new fault
+IsCaused words old new (status.Wrong cause) = RefusesLayout words old new cause
+IsCaused words old new (status.LogRefused cause) = RefusesLog words old new cause
+IsCaused words old new s = Unit {0}

@@ -1,0 +1,43 @@
+-- What `core` concludes of two buffers that are both live at 4: they fit at 8, and not at 7.
+use Rattle.std.proofs.Common.{◌≤◌, ◌⊎◌, ◌+◌, ℕ, [], ◌∷◌, codes, refl, inl, inr, lit<, arith}
+use Rattle.dsa_terms.specs.Buffers.{buffer, is_live, some_before}
+use Rattle.dsa_terms.specs.Layouts.{IsInfeasible, IsLayout}
+use Rattle.dsa_model.specs.LayoutFaults as faults
+use Rattle.dsa_model.specs.Moments.{first_common}
+use Rattle.dsa_model.proofs.LayoutFaults.{layout_exactly}
+use Rattle.csv_instance.proofs.FileFacts.{two, two_rows}
+use Rattle.run_status.specs.declared.status.Status.TheVariants as status
+use Rattle.run_course.specs.Course.{Outcome, says}
+use Rattle.explaining.specs.Explaining.{Core, Explains, ExplainsOrFits, FitsAll}
+
+-- the words name a capacity; the input is in the file i, the output goes to o, and the log to l
+abbrev words : ℕ → Core
+words capacity = record { capacity = capacity; input = codes "i"; output = codes "o"; log = codes "l" }
+
+-- ---- at 8 they fit, and nothing is written
+pub laid_at_8 : IsLayout two 8 (0 ∷ 4 ∷ [])
+unfolding buffer is_live some_before faults.first_unaligned faults.first_above faults.first_overlap
+    faults.overlap_after faults.overlap first_common
+laid_at_8 = (layout_exactly two 8 (0 ∷ 4 ∷ [])).0 refl
+
+fits_at_8 : FitsAll (words 8) two (says (status.NoCore 8))
+fits_at_8 = record { feasible = (0 ∷ 4 ∷ [], laid_at_8); told = refl }
+
+concluded_at_8 : ExplainsOrFits (words 8) two_rows two (says (status.NoCore 8))
+concluded_at_8 = inr fits_at_8
+
+no_core_at_8 : (o : Outcome) → Explains (words 8) two_rows two o → ⊥
+no_core_at_8 o h = h.core.infeasible (0 ∷ 4 ∷ []) laid_at_8
+
+-- ---- at 7 they do not
+one_above_the_other : (x y : ℕ) → x + 4 ≤ 7 → y + 4 ≤ 7 → (x + 4 ≤ y) ⊎ (y + 4 ≤ x) → ⊥
+one_above_the_other x y a b (inl c) = omega (arith, a, b, c)
+one_above_the_other x y a b (inr c) = omega (arith, a, b, c)
+
+pub none_at_7 : IsInfeasible two 7
+unfolding buffer is_live some_before
+none_at_7 offsets l = one_above_the_other _ _ (l.within 0 (lit< tt)) (l.within 1 (lit< tt))
+    (l.apart 0 1 4 (lit< tt) (lit< tt) (λ e. omega (arith, e)) refl refl)
+
+not_told_at_7 : (o : Outcome) → FitsAll (words 7) two o → ⊥
+not_told_at_7 o h = let fits = h.feasible in none_at_7 fits.0 fits.1
