@@ -77,7 +77,7 @@ module _ (words : List Word) (old new : FilesSeen) (before after : SinkSeen) (pa
   accepts = answered (course words) old new before after (IsAcceptedAt g.capacity)
       (λ o comes files. words_give old new words P (λ fault bad. absurd cc)
       (λ s asked o comes.
-        let same : s ≡ request = (let a = is in let b = asked in cc) in
-        refuted o (subst (λ (s : Request). Comes old new (course_with s.verb s.pairs) o) same comes)) o comes)
+      let same : s ≡ request = (let a = is in let b = asked in cc) in
+      refuted o (subst (λ (s : Request). Comes old new (course_with s.verb s.pairs) o) same comes)) o comes)
       (λ role o comes left. absurd (not_broken old new before after I words request is ready calm role o comes left))
       (λ rose. absurd (calm.sink rose)) tt

@@ -15,7 +15,7 @@ use Rattle.dsaplan_core.specs.Courses.{course, course_or_fault, course_with}
 module _ (c : Course) (old new : FilesSeen) (before after : SinkSeen) (P : Status → Type 0)
     (own : (o : Outcome) → Comes old new c o → new.held ≡ with_writes old.held o.writes → P o.status)
     (lost : (role : Role) (o : Outcome) → Comes old new c o → AreBroken old new o.writes role →
-        P (status.WriteFault role)) where
+    P (status.WriteFault role)) where
   told : (s : Status) (o : Outcome) (lost_role : Option Role) → Comes old new c o → Leaves old new o.writes lost_role →
       s ≡ told_status o lost_role → P s
   told s o None comes left is = subst P (sym is) (own o comes left)

@@ -169,20 +169,20 @@ module _ (old new : FilesSeen) (before after : SinkSeen) (I : Instance) where
     not_broken role = words_give old new words (λ o. AreBroken old new o.writes role → ⊥)
         (λ fault bad left. absurd cc)
         (λ s asked o comes left.
-          let same : s ≡ r = (let a = is in let b = asked in cc) in
-          let own = one_own s left.made left.lost left.rest
-          (subst (AreOwn s) left.order (promised words old new s.verb s.pairs asked o comes).1) in
-          let mine : IsOwnWrite r left.lost = subst (λ (s : Request). IsOwnWrite s left.lost) same own in
-          let rose = subst (λ n. Rose (old.faults n) (new.faults n)) mine.1 left.rose in
-          calm.files (word_at r.pairs (option_of_role left.lost.role))
-          (write_named r (option_of_role left.lost.role) mine.0) rose)
+        let same : s ≡ r = (let a = is in let b = asked in cc) in
+        let own = one_own s left.made left.lost left.rest
+        (subst (AreOwn s) left.order (promised words old new s.verb s.pairs asked o comes).1) in
+        let mine : IsOwnWrite r left.lost = subst (λ (s : Request). IsOwnWrite s left.lost) same own in
+        let rose = subst (λ n. Rose (old.faults n) (new.faults n)) mine.1 left.rose in
+        calm.files (word_at r.pairs (option_of_role left.lost.role))
+        (write_named r (option_of_role left.lost.role) mine.0) rose)
 
     own_outcome : (o : Outcome) → Comes old new (course words) o → IsConcluded r.verb r.pairs I o.status
     own_outcome = words_give old new words (λ o. IsConcluded r.verb r.pairs I o.status) (λ fault bad. absurd cc)
         (λ s asked o comes.
-          let same : s ≡ r = (let a = is in let b = asked in cc) in
-          done r.verb r.pairs (ready, calm) o
-          (subst (λ (s : Request). Comes old new (course_with s.verb s.pairs) o) same comes))
+        let same : s ≡ r = (let a = is in let b = asked in cc) in
+        done r.verb r.pairs (ready, calm) o
+        (subst (λ (s : Request). Comes old new (course_with s.verb s.pairs) o) same comes))
 
     -- the command is concluded, or memory ran out
     pub concluded : (s : Status) → Answers (course words) old new before after s → IsConcluded r.verb r.pairs I s

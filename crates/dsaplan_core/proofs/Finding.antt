@@ -53,16 +53,25 @@ module _ (words : List Word) (old new : FilesSeen) (pairs : List Pair)
           (writes (layout_file output table offsets ∷ log_files log refutation) (status.Least C))
       found None zero within readable = (
         λ files.
-            let held = last_held old.held new.held output (layout_text table offsets) files in
-            (
-              (this, refl, least, record { offsets = offsets; layout = layout; held = held },
-                λ positive. absurd (omega (arith, zero, positive))),
-              (this, zero_for_none, record {
-                offsets = offsets;
-                planned = planned;
-                searched = layout_took I (steps_of pairs) C C offsets None within layout;
-                held = held;
-              }, λ positive. absurd (omega (arith, zero, positive))),
+            let held = last_held old.held new.held output (layout_text table offsets) files in (
+              (
+                this,
+                refl,
+                least,
+                record { offsets = offsets; layout = layout; held = held },
+                λ positive. absurd (omega (arith, zero, positive)),
+              ),
+              (
+                this,
+                zero_for_none,
+                record {
+                  offsets = offsets;
+                  planned = planned;
+                  searched = layout_took I (steps_of pairs) C C offsets None within layout;
+                  held = held;
+                },
+                λ positive. absurd (omega (arith, zero, positive)),
+              ),
               tt,
               tt,
             ),
@@ -72,28 +81,38 @@ module _ (words : List Word) (old new : FilesSeen) (pairs : List Pair)
         λ files.
             let first = first_held old.held new.held output log (layout_text table offsets) (log_text g)
             (least_apart words pairs is) files in
-            let second = second_held old.held new.held output log (layout_text table offsets) (log_text g) files in
-            (
-              (this, refl, least, record { offsets = offsets; layout = layout; held = first }, λ positive. record {
-                refutation = g;
-                accepted = below.1.accepted;
-                its_capacity = below.1.its_capacity;
-                infeasible = below.1.infeasible;
-                readable = readable;
-                held = second;
-              }),
-              (this, zero_for_none, record {
-                offsets = offsets;
-                planned = planned;
-                searched = layout_took I (steps_of pairs) C C offsets (Some g) within layout;
-                held = first;
-              }, λ positive. record {
-                refutation = g;
-                its_capacity = below.1.its_capacity;
-                lean = below.1.lean;
-                searched = log_took I (steps_of pairs) C offsets g within positive below.1.its_capacity;
-                held = second;
-              }),
+            let second = second_held old.held new.held output log (layout_text table offsets) (log_text g) files in (
+              (
+                this,
+                refl,
+                least,
+                record { offsets = offsets; layout = layout; held = first },
+                λ positive. record {
+                  refutation = g;
+                  accepted = below.1.accepted;
+                  its_capacity = below.1.its_capacity;
+                  infeasible = below.1.infeasible;
+                  readable = readable;
+                  held = second;
+                },
+              ),
+              (
+                this,
+                zero_for_none,
+                record {
+                  offsets = offsets;
+                  planned = planned;
+                  searched = layout_took I (steps_of pairs) C C offsets (Some g) within layout;
+                  held = first;
+                },
+                λ positive. record {
+                  refutation = g;
+                  its_capacity = below.1.its_capacity;
+                  lean = below.1.lean;
+                  searched = log_took I (steps_of pairs) C offsets g within positive below.1.its_capacity;
+                  held = second;
+                },
+              ),
               tt,
               tt,
             ),
@@ -107,8 +126,7 @@ module _ (words : List Word) (old new : FilesSeen) (pairs : List Pair)
           (log_text left.refutation) (least_apart words pairs is) files in
           let second = second_held old.held new.held output log (layout_text table left.offsets)
           (log_text left.refutation) files in
-          let refuted = left.opened.refuted_below in
-          (
+          let refuted = left.opened.refuted_below in (
             (
               this,
               left.opened.positive,

@@ -22,9 +22,11 @@ buffer_sound b is =
     let one = neither _ _ numbers in
     let two = neither _ _ one.1 in
     let three = neither _ _ two.1 in
-    let four = neither _ _ three.1 in
-    (positive b.size (not_so _ _ two.0), positive b.alignment (not_so _ _ four.0),
-      above b.lower b.upper (not_so _ _ one.0))
+    let four = neither _ _ three.1 in (
+      positive b.size (not_so _ _ two.0),
+      positive b.alignment (not_so _ _ four.0),
+      above b.lower b.upper (not_so _ _ one.0),
+    )
 
 row_sound : (header : Record) (before : List Record) (row : Record) → row_fault header before row ≡ None →
     IsSound (row_buffer header row)

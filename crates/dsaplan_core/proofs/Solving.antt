@@ -61,15 +61,17 @@ module _ (words : List Word) (old new : FilesSeen) (pairs : List Pair)
     lays_out : (o : Outcome) → LaysOut (solve_of pairs) table I o → Promises words old new request o
     lays_out o lays = subst (Promises words old new request) (sym lays.written) (
       λ files.
-          let held = last_held old.held new.held (word_at pairs option.Output) (layout_text table lays.offsets) files in
-          (
+          let held = last_held old.held new.held (word_at pairs option.Output) (layout_text table lays.offsets) files in (
             (this, refl, refl, record { offsets = lays.offsets; layout = lays.layout; held = held }),
-            (this, record {
-              offsets = lays.offsets;
-              planned = lays.planned;
-              searched = lays.searched;
-              held = held;
-            }),
+            (
+              this,
+              record {
+                offsets = lays.offsets;
+                planned = lays.planned;
+                searched = lays.searched;
+                held = held;
+              },
+            ),
             tt,
             tt,
           ),
@@ -79,23 +81,30 @@ module _ (words : List Word) (old new : FilesSeen) (pairs : List Pair)
     refutes : (o : Outcome) → Refutes (solve_of pairs) I o → Promises words old new request o
     refutes o none = subst (Promises words old new request) (sym none.written) (
       λ files.
-          let held = last_held old.held new.held (word_at pairs option.Log) (log_text none.refutation) files in
-          (
-            (this, refl, refl, record {
-              refutation = none.refutation;
-              accepted = none.refuted.accepted;
-              its_capacity = none.refuted.its_capacity;
-              infeasible = none.refuted.infeasible;
-              readable = none.readable;
-              held = held;
-            }),
-            (this, record {
-              refutation = none.refutation;
-              its_capacity = none.refuted.its_capacity;
-              lean = none.refuted.lean;
-              searched = none.searched;
-              held = held;
-            }),
+          let held = last_held old.held new.held (word_at pairs option.Log) (log_text none.refutation) files in (
+            (
+              this,
+              refl,
+              refl,
+              record {
+                refutation = none.refutation;
+                accepted = none.refuted.accepted;
+                its_capacity = none.refuted.its_capacity;
+                infeasible = none.refuted.infeasible;
+                readable = none.readable;
+                held = held;
+              },
+            ),
+            (
+              this,
+              record {
+                refutation = none.refutation;
+                its_capacity = none.refuted.its_capacity;
+                lean = none.refuted.lean;
+                searched = none.searched;
+                held = held;
+              },
+            ),
             tt,
             tt,
           ),
@@ -113,8 +122,7 @@ module _ (words : List Word) (old new : FilesSeen) (pairs : List Pair)
           (log_text left.refutation) files in
           let refuted = left.opened.refuted_below in
           let within = open_within I (steps_of pairs) left.low left.refutation left.short.low left.opened.positive
-          refuted left.by_bound in
-          (
+          refuted left.by_bound in (
             (
               this,
               left.opened.positive,

@@ -100,12 +100,7 @@ fn answer<F: Files, S: Sink>(
 }
 
 /// Does what the words ask for, or tells their first fault.
-fn execute<F: Files, S: Sink>(
-    alloc: Global,
-    words: &[String],
-    files: &mut F,
-    out: &mut S,
-) -> Status
+fn execute<F: Files, S: Sink>(alloc: Global, words: &[String], files: &mut F, out: &mut S) -> Status
     ensures { Answers (course (map string_bytes words.now))
         (F.seen files.old) (F.seen files.new) (S.seen out.old) (S.seen out.new) result }
 {

@@ -22,11 +22,7 @@ pub struct Import<'a> {
 }
 
 /// What is written and told of the trace's bytes.
-fn imported<'a>(
-    alloc: Global,
-    words: &Import<'a>,
-    bytes: &[u8],
-) -> Result<Prepared<'a>, NoMemory>
+fn imported<'a>(alloc: Global, words: &Import<'a>, bytes: &[u8]) -> Result<Prepared<'a>, NoMemory>
     requires { length bytes.now ≤ 67108864 }
     ensures { IfOk result (λ p. outcome_of p ≡ imports (import_of words.now) (trace_of bytes.now)) }
 {

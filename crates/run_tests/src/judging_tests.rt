@@ -1,10 +1,10 @@
 //! Runs over files in memory that are read and judged.
 
 use crate::tests::{FIVE, FIVE_AT_12, FIVE_OVER_11, THREE, THREE_AT_5, words_of};
-use dsaplan_core::{LogCause, Role, Status, UsageFault, WrongCause, run};
 use csv_instance::{Column, InstanceFault, OffsetsFault};
 use dsa_model::LayoutFault;
 use dsa_outside::{SoundFiles, SoundSink};
+use dsaplan_core::{LogCause, Role, Status, UsageFault, WrongCause, run};
 use log_check::CheckFault;
 use log_text::TextFault;
 use std::test::Fail;

@@ -1,7 +1,7 @@
 //! Runs over files and sinks in memory: what is written, and what fails outside.
 
-use dsaplan_core::{LogCause, Role, Status, UsageFault, run};
 use dsa_outside::{MemoryFiles, MemorySink, SoundFiles, SoundSink};
+use dsaplan_core::{LogCause, Role, Status, UsageFault, run};
 use log_check::CheckFault;
 use std::alloc::{AllocError, Global};
 use std::test::Fail;

@@ -75,5 +75,9 @@ pub returns-in-Core : goal.returns-in-Core
 returns-in-Core g c = command_goes (g.F.Files.seen c.args.files.now) (g.F.Files.seen c.perform-in-Core.new.files)
     (g.S.Sink.seen c.args.out.now) (g.S.Sink.seen c.perform-in-Core.new.out) c.perform-in-Core.result c.args.request.now
     verb.Core (sym c.in-Core.is ∙ c.verb.ensures.value)
-    (rw (c.number-capacity.ensures.value, c.word-input.ensures.value, c.word-output.ensures.value,
-    c.word-log.ensures.value) at c.perform-in-Core.ensures)
+    (rw (
+      c.number-capacity.ensures.value,
+      c.word-input.ensures.value,
+      c.word-output.ensures.value,
+      c.word-log.ensures.value,
+    ) at c.perform-in-Core.ensures)
