@@ -17,3 +17,6 @@ mod Accepting
 mod Explained
 mod Importing
 mod Going
+mod WorldFacts
+mod ExampleFacts
+mod HeldFacts

@@ -1,0 +1,147 @@
+-- What words ask for, how they go, and which statuses conclude, accept or refuse.
+use Rattle.std.proofs.Common.{◌≡◌, ◌<◌, ℕ, List, [], ◌∷◌, Some, None, Ok, codes, refl, lit<, lit≤, arith}
+use Rattle.dsa_terms.specs.Buffers.{Instance}
+use Rattle.dsa_terms.proofs.Examples.{small_below, two_of_four}
+use Rattle.csv_instance.specs.declared.fault.InstanceFault.TheVariants as instance
+use Rattle.csv_instance.proofs.FileFacts.{two}
+use Rattle.log_text.specs.declared.fault.TextFault.TheVariants as text
+use Rattle.planner.proofs.ShortageFacts.{four_of_four, short_of_four_steps}
+use Rattle.size_classes.specs.Plain.{first_rough}
+use Rattle.command_words.specs.Pairs.{Pair, pairs_of}
+use Rattle.command_words.specs.Requests.{request_of}
+use Rattle.command_words.specs.declared.option.OptionName.TheVariants as option
+use Rattle.command_words.specs.declared.verb.Verb.TheVariants as verb
+use Rattle.command_words.specs.declared.fault.UsageFault.TheVariants as usage
+use Rattle.run_status.specs.declared.status.Status.TheVariants as status
+use Rattle.run_status.specs.declared.status.LogCause.TheVariants as refused
+use Rattle.run_status.specs.declared.status.Role.TheVariants as role
+use Rattle.run_course.specs.Course.{Ends, says}
+use Rattle.judging.specs.Judging.{verify}
+use Rattle.importing.specs.Importing.{import_course}
+use Rattle.planning.specs.Planning.{classes}
+use Rattle.explaining.specs.Explaining.{core}
+use Rattle.explaining.proofs.ExampleFacts.{laid_at_8, none_at_7}
+use Rattle.planning.proofs.ExampleFacts.{one, one_plain}
+use Rattle.dsaplan_core.specs.Courses.{course}
+use Rattle.dsaplan_core.specs.Choice.{MayStayOpen, steps_of}
+use Rattle.dsaplan_core.specs.Complete.{IsAcceptedAt, IsConcluded, limit_of}
+use Rattle.dsaplan_core.specs.Causes.{IsJudgedAt}
+use Rattle.dsaplan_core.specs.Lost.{option_of_role}
+use Rattle.dsaplan_core.specs.Refused.{IsMisuse}
+use Rattle.dsaplan_core.proofs.WorldFacts.{classes_values, core_values, import_values, trial_values, verify_values}
+
+-- ---- words
+classes_are_asked : request_of (codes "classes" ∷ classes_values)
+    ≡ Ok (record { verb = verb.Classes; pairs = pairs_of classes_values })
+classes_are_asked = refl
+
+classes_go : course (codes "classes" ∷ classes_values)
+    ≡ classes (record { input = codes "i"; output = codes "o" })
+classes_go = refl
+
+core_goes : course (codes "core" ∷ core_values (codes "11"))
+    ≡ core (record { capacity = 11; input = codes "i"; output = codes "o"; log = codes "l" })
+core_goes = refl
+
+verify_goes : course (codes "verify" ∷ verify_values (codes "12"))
+    ≡ verify (record { capacity = 12; input = codes "i"; layout = codes "a" })
+verify_goes = refl
+
+import_goes : course (codes "import" ∷ import_values)
+    ≡ import_course (record { trace = codes "t"; output = codes "o" })
+import_goes = refl
+
+no_words_go : course [] ≡ Ends (says (status.Usage usage.NoCommand))
+no_words_go = refl
+
+-- ---- steps
+steps_are_three : steps_of (pairs_of (codes "--steps" ∷ codes "3" ∷ [])) ≡ Some 3
+steps_are_three = refl
+
+no_steps : steps_of (pairs_of classes_values) ≡ None
+no_steps = refl
+
+-- without a number of steps nothing stays open, and with four steps the search at 4 is not short
+never_open : (pairs : List Pair) (I : Instance) (L H : ℕ) → MayStayOpen verb.Solve pairs None I L H → ⊥
+never_open pairs I L H h = h
+
+least_is_never_open : (pairs : List Pair) (I : Instance) (L H : ℕ) → MayStayOpen verb.Least pairs None I L H → ⊥
+least_is_never_open pairs I L H h = h
+
+open_with_three : MayStayOpen verb.Solve (pairs_of (core_values (codes "4"))) (Some 3) small_below 4 5
+open_with_three = short_of_four_steps 3 (lit≤ tt)
+
+decided_with_four : (L H : ℕ) → MayStayOpen verb.Solve (pairs_of (core_values (codes "4"))) (Some 4) small_below L H → ⊥
+decided_with_four = four_of_four
+
+-- ---- files
+most_of_a_log : limit_of option.Log ≡ 1099511627776
+most_of_a_log = refl
+
+most_of_an_input : limit_of option.Input ≡ 67108864
+most_of_an_input = refl
+
+a_log_is_named : option_of_role role.Log ≡ option.Log
+a_log_is_named = refl
+
+a_trace_is_named : option_of_role role.Trace ≡ option.Trace
+a_trace_is_named = refl
+
+-- ---- statuses
+accepted_at_its_own : IsAcceptedAt 3 (status.Accepted 3)
+accepted_at_its_own = refl
+
+accepted_at_no_other : IsAcceptedAt 3 (status.Accepted 2) → ⊥
+accepted_at_no_other e = omega (arith, e)
+
+refused_is_not_accepted : IsAcceptedAt 3 (status.LogRefused (refused.Text text.NotLog)) → ⊥
+refused_is_not_accepted h = h
+
+misused_for_its_fault : IsMisuse usage.NoCommand (status.Usage usage.NoCommand)
+misused_for_its_fault = refl
+
+misused_for_no_other : IsMisuse usage.NoCommand (status.Usage usage.SameName) → ⊥
+misused_for_no_other e = absurd cc
+
+misused_is_not_malformed : IsMisuse usage.NoCommand (status.Malformed instance.NoHeader) → ⊥
+misused_is_not_malformed h = h
+
+report_judges_at_the_greatest : (pairs : List Pair) → IsJudgedAt verb.Report pairs 1152921504606846976
+report_judges_at_the_greatest pairs = refl
+
+refute_judges_none : (pairs : List Pair) (C : ℕ) → IsJudgedAt verb.Refute pairs C → ⊥
+refute_judges_none pairs C h = h
+
+concluded_by_the_plan : (pairs : List Pair) → IsConcluded verb.Classes pairs one (status.Classed 1 1)
+concluded_by_the_plan pairs = one_plain
+
+concluded_by_the_first_rough : (pairs : List Pair) → IsConcluded verb.Classes pairs two_of_four (status.NotPlain 0)
+unfolding first_rough
+concluded_by_the_first_rough pairs = refl
+
+not_by_a_layout : (pairs : List Pair) → IsConcluded verb.Classes pairs one (status.Feasible 1) → ⊥
+not_by_a_layout pairs h = h
+
+concluded_by_layout : IsConcluded verb.Solve (pairs_of (core_values (codes "8"))) two (status.Feasible 8)
+concluded_by_layout = (refl, (0 ∷ 4 ∷ [], laid_at_8))
+
+concluded_by_refutation : IsConcluded verb.Solve (pairs_of (core_values (codes "7"))) two (status.Infeasible 7)
+concluded_by_refutation = (refl, none_at_7)
+
+not_at_another_capacity : IsConcluded verb.Solve (pairs_of (core_values (codes "8"))) two (status.Feasible 9) → ⊥
+not_at_another_capacity h = let e : 9 ≡ 8 = h.0 in omega (arith, e)
+
+concluded_by_the_core : IsConcluded verb.Core (pairs_of (core_values (codes "7"))) two (status.Core 2)
+concluded_by_the_core = none_at_7
+
+concluded_without_core : IsConcluded verb.Core (pairs_of (core_values (codes "8"))) two (status.NoCore 8)
+concluded_without_core = (refl, (0 ∷ 4 ∷ [], laid_at_8))
+
+trial_of_512 : IsConcluded verb.Trial (pairs_of (trial_values (codes "512"))) two status.Shown
+trial_of_512 = lit≤ tt
+
+too_many : IsConcluded verb.Trial (pairs_of (trial_values (codes "513"))) two (status.TooMany 513)
+too_many = (refl, lit< tt)
+
+not_too_many : IsConcluded verb.Trial (pairs_of (trial_values (codes "512"))) two (status.TooMany 512) → ⊥
+not_too_many h = let k : 512 < 512 = h.1 in omega (arith, k)

@@ -1,0 +1,134 @@
+-- What statuses promise of files, on an input of two buffers that are both live at 4.
+use Rattle.std.proofs.Common.{◌≡◌, ◌∙◌, List, [], ◌∷◌, Some, codes, refl, sym, subst, inl, inr, lit<, lit≤, arith}
+use Rattle.std.specs.FinMap.{empty, insert}
+use Rattle.dsa_terms.specs.Claims.{IsIn}
+use Rattle.csv_instance.specs.Layout.{layout_text}
+use Rattle.csv_instance.specs.declared.fault.InstanceFault.TheVariants as instance
+use Rattle.csv_instance.proofs.FileFacts.{no_bytes, two, two_file, two_rows}
+use Rattle.dsa_outside.specs.Seen.{FilesSeen, SinkSeen}
+use Rattle.dsa_outside.proofs.Lookups.{file_at-with_file}
+use Rattle.command_words.specs.Options.{Word}
+use Rattle.command_words.specs.Pairs.{pairs_of, word_at}
+use Rattle.command_words.specs.Requests.{Request}
+use Rattle.command_words.specs.declared.option.OptionName.{OptionName}
+use Rattle.command_words.specs.declared.option.OptionName.TheVariants as option
+use Rattle.command_words.specs.declared.verb.Verb.TheVariants as verb
+use Rattle.command_words.specs.declared.fault.UsageFault.TheVariants as usage
+use Rattle.run_course.specs.Complete.{IsReadable}
+use Rattle.run_status.specs.declared.status.Status.TheVariants as status
+use Rattle.run_status.specs.declared.status.Role.{Role}
+use Rattle.run_status.specs.declared.status.Role.TheVariants as role
+use Rattle.explaining.proofs.ExampleFacts.{laid_at_8, none_at_7}
+use Rattle.dsaplan_core.specs.Causes.{AreNoCommand, AskTooMany, RefusesInput}
+use Rattle.dsaplan_core.specs.Complete.{IsReady, IsUndisturbed, limit_of}
+use Rattle.dsaplan_core.specs.Lost.{LosesFile, MissesFile}
+use Rattle.dsaplan_core.specs.Theorem.{Asked, Headline, HoldsLayout, HoldsRefutation}
+use Rattle.dsaplan_core.proofs.WorldFacts.{asking, bounds_values, core_values, in_parse, input_alone, reads_input, reads_no_output, reads_none, told, trial_values}
+
+-- ---- a layout
+abbrev solve_8 : Asked (codes "solve" ∷ core_values (codes "8")) (told input_alone)
+solve_8 = asking (codes "solve" ∷ core_values (codes "8")) verb.Solve (pairs_of (core_values (codes "8"))) refl refl
+
+abbrev laid_files : FilesSeen
+laid_files = told (insert input_alone (codes "o") (layout_text two_rows (0 ∷ 4 ∷ [])))
+
+output_is_laid : HoldsLayout solve_8 laid_files 8
+output_is_laid = record {
+  offsets = 0 ∷ 4 ∷ [];
+  layout = laid_at_8;
+  held = λ there. file_at-with_file (Some input_alone) (codes "o") (layout_text two_rows (0 ∷ 4 ∷ [])) refl;
+}
+
+-- the output has to be there
+not_laid_without_output : HoldsLayout solve_8 (told input_alone) 8 → ⊥
+not_laid_without_output h = let e = sym reads_no_output ∙ h.held refl in absurd cc
+
+-- no layout is within 7 bytes
+not_laid_at_7 : (new : FilesSeen) → HoldsLayout solve_8 new 7 → ⊥
+not_laid_at_7 new h = none_at_7 h.offsets h.layout
+
+feasible_at_8 : Headline (codes "solve" ∷ core_values (codes "8")) (told input_alone) laid_files (status.Feasible 8)
+feasible_at_8 = (solve_8, refl, refl, output_is_laid)
+
+-- where a layout fits, no log's file refutes
+not_refuted_at_8 : (new : FilesSeen) → HoldsRefutation solve_8 new 8 → ⊥
+not_refuted_at_8 new h = h.infeasible (0 ∷ 4 ∷ []) laid_at_8
+
+-- where nothing failed, no write is lost
+not_lost : (words : List Word) (r : Role) → LosesFile words (told input_alone) laid_files r → ⊥
+not_lost words r h = let rose = h.rose in omega (arith, rose)
+
+-- ---- files that are missed, and inputs that are refused
+missed_input : MissesFile (codes "bounds" ∷ bounds_values) (told empty) (told empty) role.Input
+missed_input = record {
+  request = record { verb = verb.Bounds; pairs = pairs_of bounds_values };
+  asked = refl;
+  read = inl refl;
+  cause = inr (reads_none (codes "i"));
+  files = refl;
+}
+
+not_among : IsIn option.Output (option.Input ∷ []) → ⊥
+not_among (inl e) = cc
+not_among (inr i) = i
+
+-- an output is not read
+not_missed_output : (old new : FilesSeen) (h : MissesFile (codes "bounds" ∷ bounds_values) old new role.Output) →
+    h.request.verb ≡ verb.Bounds → ⊥
+not_missed_output old new h is = not_among (rw is at h.read)
+
+abbrev empty_input : FilesSeen
+empty_input = told (insert empty (codes "i") [])
+
+refused_input : RefusesInput (codes "bounds" ∷ bounds_values) empty_input empty_input instance.NoHeader
+refused_input = record {
+  request = record { verb = verb.Bounds; pairs = pairs_of bounds_values };
+  words_ask = refl;
+  read = inl refl;
+  malformed = record {
+    bytes = [];
+    whole = record { held = λ there. file_at-with_file (Some empty) (codes "i") [] refl; short = lit≤ tt };
+    refused = no_bytes;
+  };
+  files = refl;
+}
+
+refused_count : (files : FilesSeen) → AskTooMany (codes "trial" ∷ trial_values (codes "513")) files files 513
+refused_count files = record {
+  pairs = pairs_of (trial_values (codes "513"));
+  words_ask = refl;
+  its_count = refl;
+  many = lit< tt;
+  files = refl;
+}
+
+not_refused_at_512 : (words : List Word) (old new : FilesSeen) → AskTooMany words old new 512 → ⊥
+not_refused_at_512 words old new h = let lt = h.many in omega (arith, lt)
+
+no_command : (files : FilesSeen) → AreNoCommand [] files files usage.NoCommand
+no_command files = record { refused = refl; files = refl }
+
+no_other_fault : (old new : FilesSeen) → AreNoCommand [] old new usage.SameName → ⊥
+no_other_fault old new h = let e = h.refused in absurd cc
+
+-- ---- files that are ready, and nothing that disturbs
+abbrev bounds_request : Request
+bounds_request = record { verb = verb.Bounds; pairs = pairs_of bounds_values }
+
+abbrev input_is_readable : IsReadable (told input_alone) (codes "i") 67108864
+input_is_readable = record { bytes = two_file; held = reads_input; short = lit≤ tt }
+
+ready : IsReady (told input_alone) bounds_request two
+ready = record { files = files; input = λ among. record { file = input_is_readable; parsed = in_parse } }
+  where
+    files : (o : OptionName) → IsIn o (option.Input ∷ []) →
+        IsReadable (told input_alone) (word_at (pairs_of bounds_values) o) (limit_of o)
+    files o (inl is) = subst (λ (o : OptionName).
+        IsReadable (told input_alone) (word_at (pairs_of bounds_values) o) (limit_of o)) (sym is) input_is_readable
+    files o (inr i) = absurd i
+
+abbrev quiet : SinkSeen
+quiet = record { content = Some []; faults = 0 }
+
+undisturbed : IsUndisturbed bounds_request (told input_alone) (told input_alone) quiet quiet
+undisturbed = record { files = λ name among rose. omega (arith, rose); sink = λ rose. omega (arith, rose) }
