@@ -8,6 +8,9 @@ its address first came: an address that was freed and is given out again has the
 the new one is there, or before where it stays in place. The alignment is 16, what malloc gives on a 64-bit system; a block of no
 byte counts as one. What is still held at the end is not freed.
 
+PROGRAM allocates by malloc, calloc, realloc and free alone: at another call the script ends with a message, and what it printed is to
+be thrown away.
+
 `trace.txt` was made by: LC_ALL=C python3 examples/trace.py grep -c b examples/five.csv
 """
 

@@ -2,7 +2,7 @@
 -- within its capacity and free of overlap at every moment; with 'infeasible', 'least C' or 'open L H' the written log,
 -- at C - 1 or L - 1 unless C or L is zero, is accepted, and an accepted log means that no layout fits. With 'right' the
 -- layout file gives a layout, and with 'accepted' and 'trimmed' the log's file is an accepted log. 'classes' writes a
--- plan by size class, and 'core' an irreducible set of buffers that do not fit.
+-- plan by size class, 'core' an irreducible set of buffers that do not fit, and 'imported' the instance of the trace.
 use Rattle.std.specs.Prelude.{◌≡◌, ◌-◌, ◌≤◌, ◌<◌, ℕ, List, length, IsSome, Some, Ok, Err}
 use Rattle.dsa_terms.specs.Buffers.{Instance}
 use Rattle.dsa_terms.specs.Claims.{IsIn}

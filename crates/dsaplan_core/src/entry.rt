@@ -112,8 +112,9 @@ fn execute<F: Files, S: Sink>(alloc: Global, words: &[String], files: &mut F, ou
 
 /// Does what the words (those after the program's name) ask for, with these files, and prints one
 /// text last. The status says which step decided, in this order: the words, the count of a trial,
-/// reading the input, its length, its records, reading the second file, its length, its content,
-/// deciding, writing the output, writing the log, printing; want of memory may end any step.
+/// reading the input or the trace, its length, its records or lines, reading the second file, its
+/// length, its content, deciding, writing the output, writing the log, printing; want of memory may
+/// end any step.
 /// `alloc` is where all memory comes from. The problem is Dynamic Storage Allocation, SR2 of Garey
 /// and Johnson.
 pub fn run<F: Files, S: Sink>(alloc: Global, words: &[String], files: &mut F, out: &mut S) -> Status
@@ -126,6 +127,8 @@ pub fn run<F: Files, S: Sink>(alloc: Global, words: &[String], files: &mut F, ou
     // capacity and free of overlap at every moment; with 'infeasible', 'least C' or 'open L H' the
     // written log, at C - 1 or L - 1 unless C or L is zero, is accepted, and an accepted log means
     // that no layout fits. 'right', 'accepted' and 'trimmed' say the same of what was read.
+    // 'classes' writes a plan by size class, 'core' an irreducible set of buffers that do not fit,
+    // and 'imported' the instance of the trace.
     ensures headline { Headline (map string_bytes words.now)
         (F.seen files.old) (F.seen files.new) result }
 
@@ -135,8 +138,8 @@ pub fn run<F: Files, S: Sink>(alloc: Global, words: &[String], files: &mut F, ou
         (F.seen files.old) (F.seen files.new) result }
 
     // Where the words are a command, the files that it reads are there and within their limits, its
-    // input is an instance, and nothing outside fails, the command is concluded, unless memory runs
-    // out; without steps 'open' never comes.
+    // input is an instance (where it has one), and nothing outside fails, the command is concluded,
+    // unless memory runs out; without steps 'open' never comes.
     ensures complete { (request : RequestTerm) (I : Instance) →
         request_of (map string_bytes words.now) ≡ Ok request →
         IsReady (F.seen files.old) request I →
