@@ -1,0 +1,9 @@
+pub mod Turns
+pub mod Escaping
+pub mod Runs
+pub mod Summing
+pub mod Putting
+pub mod Whole
+pub mod Showing
+pub mod Apart
+pub mod ExampleFacts
