@@ -48,18 +48,18 @@ apart_in : (I : Instance) (C : ℕ) (offsets : List ℕ) (r s : Rectangle) (k : 
     (r.top ≤ s.place) ⊎ (s.top ≤ r.place)
 apart_in I C offsets r s k l o p ne h i = elim (l.apart r.buffer s.buffer (get_or (columns_of I) k 0) o.in_range p.in_range
     ne (o.live k h) (p.live k i)) [
-  | inl q ↦ inl (let a = o.top in let b = p.place in omega arith)
-  | inr q ↦ inr (let a = o.place in let b = p.top in omega arith)
-]
+      | inl q ↦ inl (let a = o.top in let b = p.place in omega arith)
+      | inr q ↦ inr (let a = o.place in let b = p.top in omega arith)
+    ]
 
 pub no_point : (I : Instance) (C : ℕ) (offsets : List ℕ) (r s : Rectangle) (k a : ℕ) → IsLayout I C offsets →
     IsIn r (rectangles I offsets) → IsIn s (rectangles I offsets) → r.buffer ≢ s.buffer →
     HasPoint r k a → HasPoint s k a → ⊥
 no_point I C offsets r s k a l i j ne h g = elim (apart_in I C offsets r s k l (of_buffer I offsets r i)
     (of_buffer I offsets s j) ne h.column g.column) [
-  | inl q ↦ (let b = h.to in let c = g.from in omega arith)
-  | inr q ↦ (let b = g.to in let c = h.from in omega arith)
-]
+      | inl q ↦ (let b = h.to in let c = g.from in omega arith)
+      | inr q ↦ (let b = g.to in let c = h.from in omega arith)
+    ]
 
 -- the four ways
 left_of : (u : Scale) (r s : Rectangle) → r.first < r.end → r.end ≤ s.first →
@@ -85,6 +85,6 @@ drawn_apart I C offsets r s u l i j ne = go (of_buffer I offsets r i) (of_buffer
     go o p (inl a) (inl b) = elim (apart_in I C offsets r s (max r.first s.first) l o p ne
         (record { from = omega arith; to = let c = o.some in omega arith })
         (record { from = omega arith; to = let c = p.some in omega arith })) [
-      | inl q ↦ inr (inr (inr (under u r s (let e = p.place in let f = p.top in omega arith) q)))
-      | inr q ↦ inr (inr (inl (under u s r (let e = o.place in let f = o.top in omega arith) q)))
-    ]
+          | inl q ↦ inr (inr (inr (under u r s (let e = p.place in let f = p.top in omega arith) q)))
+          | inr q ↦ inr (inr (inl (under u s r (let e = o.place in let f = o.top in omega arith) q)))
+        ]

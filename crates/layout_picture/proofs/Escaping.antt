@@ -17,7 +17,7 @@ one_piece [] n p e lt = absurd (omega arith)
 one_piece (b ∷ bytes) zero p e lt = absurd (omega arith)
 one_piece (b ∷ bytes) (suc n) p e lt =
     ap (λ (k : ℕ). piece_text (b ∷ bytes) ++ escaped_after k bytes)
-        (let f : piece_size (b ∷ bytes) - 1 ≡ n = omega arith in f)
+    (let f : piece_size (b ∷ bytes) - 1 ≡ n = omega arith in f)
     ∙ ap (λ (xs : List ℕ). piece_text (b ∷ bytes) ++ xs) (after_is_drop n bytes)
 
 -- the step of a loop over the pieces

@@ -100,12 +100,12 @@ unfolding rectangles rectangles_of
 are_of_buffers I offsets all e = rw e (all_from_in (λ (r : Rectangle). r.buffer < length I)
     (flat_map (rectangles_of I offsets) (numbers (length I)))
     (λ r i. let q = from_flat (rectangles_of I offsets) (numbers (length I)) r i in
-        let lt = below (length I) q.0 q.1 in
-        let m = from_map (rectangle_at (map (is_live (buffer I q.0)) (columns_of I)) q.0 (get_or offsets q.0 0)
-            (get_or offsets q.0 0 + (buffer I q.0).size))
-            (filter (begins_at (map (is_live (buffer I q.0)) (columns_of I)))
-            (numbers (length (map (is_live (buffer I q.0)) (columns_of I))))) r q.2 in
-        let f : r.buffer ≡ q.0 = ap (λ (r : Rectangle). r.buffer) m.2 in omega arith))
+    let lt = below (length I) q.0 q.1 in
+    let m = from_map (rectangle_at (map (is_live (buffer I q.0)) (columns_of I)) q.0 (get_or offsets q.0 0)
+    (get_or offsets q.0 0 + (buffer I q.0).size))
+    (filter (begins_at (map (is_live (buffer I q.0)) (columns_of I)))
+    (numbers (length (map (is_live (buffer I q.0)) (columns_of I))))) r q.2 in
+    let f : r.buffer ≡ q.0 = ap (λ (r : Rectangle). r.buffer) m.2 in omega arith))
 
 -- what stands past the last rectangle
 abbrev pub no_rectangle : Rectangle

@@ -72,18 +72,18 @@ in_run flags zero t = record { start = 0; begins = first (flag_at flags 0) t; fr
     first false e = absurd cc
 in_run flags (suc k) t = elim (true_or_false (flag_at flags k)) [
   | inl e ↦ (let r = in_run flags k e in record {
-      start = r.start;
-      begins = r.begins;
-      from = let a = r.from in omega arith;
-      to = further r.start (run_end flags r.start) refl r.to;
-    })
+    start = r.start;
+    begins = r.begins;
+    from = let a = r.from in omega arith;
+    to = further r.start (run_end flags r.start) refl r.to;
+  })
   | inr e ↦ record {
-      start = suc k;
-      begins = later (flag_at flags (suc k)) (flag_at flags (suc k - 1)) t
-          (ap (λ (n : ℕ). flag_at flags n) (let z : suc k - 1 ≡ k = omega arith in z) ∙ e);
-      from = omega arith;
-      to = run_begins flags (suc k) t;
-    }
+    start = suc k;
+    begins = later (flag_at flags (suc k)) (flag_at flags (suc k - 1)) t
+        (ap (λ (n : ℕ). flag_at flags n) (let z : suc k - 1 ≡ k = omega arith in z) ∙ e);
+    from = omega arith;
+    to = run_begins flags (suc k) t;
+  }
 ]
   where
     later : (b p : Bool) → b ≡ true → p ≡ false → (b && ((suc k == 0) || not p)) ≡ true
@@ -109,9 +109,9 @@ pub in_columns : (I : Instance) (b u : ℕ) → b < length I → turns_at u (buf
 unfolding columns_of turns_at buffer
 in_columns I b u lt h =
     into_filter (λ t. list_any (turns_at t) I) (numbers (greatest (map (λ (b : Buffer). b.upper) I) + 1)) u
-        (among _ u (let w = within u (get_or I b no_buffer) h in
-            let g = in_greatest I (get_or I b no_buffer) (in_at I b no_buffer lt) in omega arith))
-        (any_from (turns_at u) I (get_or I b no_buffer) (in_at I b no_buffer lt) h)
+    (among _ u (let w = within u (get_or I b no_buffer) h in
+    let g = in_greatest I (get_or I b no_buffer) (in_at I b no_buffer lt) in omega arith))
+    (any_from (turns_at u) I (get_or I b no_buffer) (in_at I b no_buffer lt) h)
   where
     either : (p q : Bool) → not (beq p q) ≡ true → (p ≡ true) ⊎ (q ≡ true)
     either true q e = inl refl
@@ -147,11 +147,14 @@ column_from : (m : ℕ) (ms : List ℕ) (t : ℕ) → m ≤ t → (k : ℕ) × I
 column_from m [] t le = (0, record { in_range = omega arith; begun = le; not_next = λ lt. absurd (omega arith) })
 column_from m (n ∷ ms) t le = elim (below_or_from t n) [
   | inl lt ↦ (0, record { in_range = omega arith; begun = le; not_next = λ h. lt })
-  | inr h ↦ (let r = column_from n ms t h in (suc r.0, record {
+  | inr h ↦ (let r = column_from n ms t h in (
+    suc r.0,
+    record {
       in_range = let a = r.1.in_range in omega arith;
       begun = r.1.begun;
       not_next = λ l. let z : suc r.0 + 1 ≡ suc (r.0 + 1) = omega arith in rw z (r.1.not_next (omega arith));
-    }))
+    },
+  ))
 ]
 
 column_of : (ms : List ℕ) (t u : ℕ) → Rises ms → IsIn u ms → u ≤ t → (k : ℕ) × IsInColumn ms t k
@@ -204,7 +207,7 @@ live_in_column I b t k lt c =
     let le = c.begun in
     ap (is_live (buffer I b)) (let e : t ≡ get_or (columns_of I) k 0 + (t - get_or (columns_of I) k 0) = omega arith in e)
     ∙ stays (buffer I b) (get_or (columns_of I) k 0) (t - get_or (columns_of I) k 0)
-        (λ u h l q. none_between (columns_of I) t k u (columns_rise I) c h (omega arith) (in_columns I b u lt q))
+    (λ u h l q. none_between (columns_of I) t k u (columns_rise I) c h (omega arith) (in_columns I b u lt q))
 
 -- ---- rectangles
 -- the flags of a buffer
@@ -240,8 +243,8 @@ unfolding rectangles rectangles_of
 of_buffer I offsets r i =
     let q = from_flat (rectangles_of I offsets) (numbers (length I)) r i in
     let m = from_map (rectangle_at (flags_of I q.0) q.0 (get_or offsets q.0 0)
-        (get_or offsets q.0 0 + (buffer I q.0).size))
-        (filter (begins_at (flags_of I q.0)) (numbers (length (flags_of I q.0)))) r q.2 in
+    (get_or offsets q.0 0 + (buffer I q.0).size))
+    (filter (begins_at (flags_of I q.0)) (numbers (length (flags_of I q.0)))) r q.2 in
     let f = from_filter (begins_at (flags_of I q.0)) (numbers (length (flags_of I q.0))) m.0 m.1 in
     subst (OfBuffer I offsets) (sym m.2) (made q.0 m.0 (below (length I) q.0 q.1) (first (flag_at (flags_of I q.0) m.0) _ f.1))
   where
@@ -269,9 +272,9 @@ is_drawn : (I : Instance) (offsets : List ℕ) (b j : ℕ) → b < length I → 
 unfolding rectangles rectangles_of
 is_drawn I offsets b j lt h k =
     into_flat (rectangles_of I offsets) (numbers (length I)) b _ (among (length I) b lt)
-        (into_map (rectangle_at (flags_of I b) b (get_or offsets b 0) (get_or offsets b 0 + (buffer I b).size))
-        (filter (begins_at (flags_of I b)) (numbers (length (flags_of I b)))) j
-        (into_filter (begins_at (flags_of I b)) (numbers (length (flags_of I b))) j (among _ j k) h))
+    (into_map (rectangle_at (flags_of I b) b (get_or offsets b 0) (get_or offsets b 0 + (buffer I b).size))
+    (filter (begins_at (flags_of I b)) (numbers (length (flags_of I b)))) j
+    (into_filter (begins_at (flags_of I b)) (numbers (length (flags_of I b))) j (among _ j k) h))
 
 -- ---- the law of moments
 pub shown : (I : Instance) (offsets : List ℕ) (b t : ℕ) → b < length I → IsLive (buffer I b) t → IsShownAt I offsets b t
@@ -279,7 +282,7 @@ shown I offsets b t lt live =
     let u = began (buffer I b) t live in
     let c = column_of (columns_of I) t u.0 (columns_rise I) (in_columns I b u.0 lt u.2) u.1 in
     let f : flag_at (flags_of I b) c.0 ≡ true =
-        flag_is I b c.0 c.1.in_range ∙ sym (live_in_column I b t c.0 lt c.1) ∙ live in
+    flag_is I b c.0 c.1.in_range ∙ sym (live_in_column I b t c.0 lt c.1) ∙ live in
     let r = in_run (flags_of I b) c.0 f in
     record {
       rectangle = rectangle_at (flags_of I b) b (get_or offsets b 0) (get_or offsets b 0 + (buffer I b).size) r.start;

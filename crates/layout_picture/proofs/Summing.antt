@@ -20,11 +20,11 @@ unfolding load buffer
 load_more I b t lt =
     ap (λ (J : Instance). sum_by (λ (x : Buffer). x.size) (filter (λ x. is_live x t) J)) (take_more I b no_buffer lt)
     ∙ ap (λ (J : Instance). sum_by (λ (x : Buffer). x.size) J)
-        (filter-append (λ x. is_live x t) (take b I) (get_or I b no_buffer ∷ []))
+    (filter-append (λ x. is_live x t) (take b I) (get_or I b no_buffer ∷ []))
     ∙ sum_by-append (λ (x : Buffer). x.size) (filter (λ x. is_live x t) (take b I))
-        (filter (λ x. is_live x t) (get_or I b no_buffer ∷ []))
+    (filter (λ x. is_live x t) (get_or I b no_buffer ∷ []))
     ∙ ap (λ (n : ℕ). sum_by (λ (x : Buffer). x.size) (filter (λ x. is_live x t) (take b I)) + n)
-        (one (is_live (get_or I b no_buffer) t) (get_or I b no_buffer))
+    (one (is_live (get_or I b no_buffer) t) (get_or I b no_buffer))
   where
     one : (p : Bool) (x : Buffer) → sum_by (λ (x : Buffer). x.size) (cond p (x ∷ []) []) ≡ added p x.size
     one true x = omega arith
@@ -86,8 +86,8 @@ pub summed_all : (I : Instance) (columns loads : List ℕ) (n : ℕ) → IsSumme
 summed_all I columns loads n h le = same_number_lists loads (map (load I) columns)
     (h.count ∙ sym (length-map columns (load I)))
     (λ k lt. let kt : k < length columns = let c = h.count in omega arith in
-        h.each k kt ∙ ap (λ (J : Instance). load J (get_or columns k 0)) (take_all n I le)
-        ∙ sym (get_or-map (load I) columns k 0 0 kt))
+    h.each k kt ∙ ap (λ (J : Instance). load J (get_or columns k 0)) (take_all n I le)
+    ∙ sym (get_or-map (load I) columns k 0 0 kt))
 
 -- the flags are as many as the loads that are lent
 pub as_many : (I : Instance) (columns loads lent : List ℕ) (flags items : List Bool) (x : Buffer) (n : ℕ) →

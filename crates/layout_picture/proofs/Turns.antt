@@ -56,7 +56,7 @@ edge_within x t h (inl e) = let k = h.sound.2 in omega arith
 edge_within x t h (inr (inl e)) = omega arith
 edge_within x t h (inr (inr i)) = gap_end_within x.lower x.upper t x.gaps
     (λ g j. let p = place_of x.gaps g g j in
-        subst (λ (f : ℕ × ℕ). IsInside x.lower x.upper f) p.2 (h.gaps_inside p.0 g p.1)) i
+    subst (λ (f : ℕ × ℕ). IsInside x.lower x.upper f) p.2 (h.gaps_inside p.0 g p.1)) i
 
 pub in_greatest : (I : Instance) (x : Buffer) → IsIn x I → x.upper ≤ greatest (map (λ (b : Buffer). b.upper) I)
 in_greatest [] x i = absurd i
@@ -95,8 +95,12 @@ gathered_more I n x xs more h e few m = rw m (record {
         (b : ℕ) × (b < n + 1) × (turns_at t (buffer I b) ≡ true)
     each t i = elim (from_append xs (filter (λ t. turns_at t x) (edge_moments x)) t i) [
       | inl j ↦ (let k = h.each t j in let lt = k.1 in (k.0, omega arith, k.2))
-      | inr j ↦ (n, omega arith, subst (λ (y : Buffer). turns_at t y ≡ true) e
-          (from_filter (λ t. turns_at t x) (edge_moments x) t j).1)
+      | inr j ↦ (
+        n,
+        omega arith,
+        subst (λ (y : Buffer). turns_at t y ≡ true) e
+            (from_filter (λ t. turns_at t x) (edge_moments x) t j).1,
+      )
     ]
 
     all : (b t : ℕ) → b < n + 1 → turns_at t (buffer I b) ≡ true →
@@ -109,7 +113,7 @@ gathered_more I n x xs more h e few m = rw m (record {
         own : b ≡ n → IsIn t (filter (λ t. turns_at t x) (edge_moments x))
         own k =
             let z : turns_at t x ≡ true =
-                subst (λ (y : Buffer). turns_at t y ≡ true) (ap (buffer I) k ∙ sym e) q in
+            subst (λ (y : Buffer). turns_at t y ≡ true) (ap (buffer I) k ∙ sym e) q in
             into_filter (λ t. turns_at t x) (edge_moments x) t (turn_is_edge x t z) z
 
 -- ---- in order, each once
@@ -118,7 +122,7 @@ pub gathered_all : (I : Instance) (n : ℕ) (xs sorted ys : List ℕ) → IsGath
 unfolding columns_of buffer
 gathered_all I n xs sorted ys h e good p up is =
     same_members ys (columns_of I) (rw is (rises_from_increasing _ (IsStrictlyIncreasing-dedup sorted up)))
-        (rises-numbers (λ t. list_any (turns_at t) I) _) into back
+    (rises-numbers (λ t. list_any (turns_at t) I) _) into back
   where
     uppers : ℕ
     uppers = greatest (map (λ (b : Buffer). b.upper) I)
@@ -140,13 +144,13 @@ gathered_all I n xs sorted ys h e good p up is =
         let z = edge_within x t (good r.0 no_buffer lt) (turn_is_edge x t r.2) in
         let g = in_greatest I x m in
         into_filter (λ t. list_any (turns_at t) I) (numbers (greatest (map (λ (b : Buffer). b.upper) I) + 1)) t
-            (among _ t (omega arith)) (any_from (turns_at t) I x m r.2)
+        (among _ t (omega arith)) (any_from (turns_at t) I x m r.2)
 
     back : (t : ℕ) → IsIn t (columns_of I) → IsIn t ys
     back t i =
         let q = (from_filter (λ t. list_any (turns_at t) I)
-            (numbers (greatest (map (λ (b : Buffer). b.upper) I) + 1)) t i).1 in
+        (numbers (greatest (map (λ (b : Buffer). b.upper) I) + 1)) t i).1 in
         let r = any_gives (turns_at t) I q in
         let k = place_of I r.0 no_buffer r.1 in
         to t (h.all k.0 t (let lt = k.1 in omega arith)
-            (subst (λ (y : Buffer). turns_at t y ≡ true) (sym k.2) r.2))
+        (subst (λ (y : Buffer). turns_at t y ≡ true) (sym k.2) r.2))

@@ -97,8 +97,8 @@ unfoldable pub moment_text : Scale → List ℕ → ℕ → List ℕ
 moment_text s moments k =
     if is_marked s k
     then codes "<path stroke='#000' d='M" ++ decimal (x_of s k) ++ codes " 624v6'/><text"
-        ++ attribute (codes "x") (x_of s k) ++ codes " y='642'>" ++ decimal (slice_index moments k)
-        ++ codes "</text>\n"
+    ++ attribute (codes "x") (x_of s k) ++ codes " y='642'>" ++ decimal (slice_index moments k)
+    ++ codes "</text>\n"
     else []
 
 -- the size of the picture, in which lines and text are drawn

@@ -38,13 +38,7 @@ fn put_axes(text: &mut Vec<u8>, scale: &Scale) -> Result<(), AllocError>
 }
 
 /// Puts a mark of the left axis, with a name and a number beside it.
-fn put_mark(
-    text: &mut Vec<u8>,
-    name: &[u8],
-    n: u64,
-    y: u64,
-    beside: u64,
-) -> Result<(), AllocError>
+fn put_mark(text: &mut Vec<u8>, name: &[u8], n: u64, y: u64, beside: u64) -> Result<(), AllocError>
     ensures { OnOk result (text.new.items ≡ text.old.items ++ mark_text name.now n y beside) }
 {
     put(text, b"<path stroke='#000' d='M194 ")?;

@@ -31,12 +31,7 @@ fn colour(b: u32) -> &'static [u8]
 }
 
 /// Puts a buffer's id, size, place and lifetime.
-fn put_title(
-    text: &mut Vec<u8>,
-    id: &[u8],
-    buffer: &Buffer,
-    place: u64,
-) -> Result<(), AllocError>
+fn put_title(text: &mut Vec<u8>, id: &[u8], buffer: &Buffer, place: u64) -> Result<(), AllocError>
     ensures { OnOk result (text.new.items ≡ text.old.items ++ title_text id.now buffer.now place) }
 {
     put_escaped(text, id)?;

@@ -12,5 +12,5 @@ returns c =
     (then_put c.args.text.now.items c.put_axes.new.text.items c.put.new.text.items _ _
     c.in_ok-put_axes.ensures c.in_ok-put.ensures)
     (put_same c.put.new.text.items c.put_marks.new.text.items (marks_text c.args.scale.now) _ _ c.greatest.ensures
-        c.in_ok-put_marks.ensures))
+    c.in_ok-put_marks.ensures))
     c.in_ok-put-2.ensures) c.in_ok-put_moments.ensures) c.in_ok-put-3.ensures

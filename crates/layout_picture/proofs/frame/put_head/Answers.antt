@@ -8,6 +8,6 @@ returns c =
     then_put c.args.text.now.items c.put_number.new.text.items c.put-2.new.text.items _ _
     (then_put c.args.text.now.items c.put.new.text.items c.put_number.new.text.items _ _ c.in_ok-put.ensures
     (put_same c.put.new.text.items c.put_number.new.text.items decimal _ _
-        (ap (λ (n : ℕ). n + 24) (c.x.ensures.value ∙ ap (x_of c.args.scale.now) c.spans.ensures))
-        c.in_ok-put_number.ensures))
+    (ap (λ (n : ℕ). n + 24) (c.x.ensures.value ∙ ap (x_of c.args.scale.now) c.spans.ensures))
+    c.in_ok-put_number.ensures))
     c.in_ok-put-2.ensures

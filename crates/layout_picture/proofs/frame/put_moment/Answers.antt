@@ -14,10 +14,10 @@ returns c = put_if c.args.text.now.items c.put-4.new.text.items _ (is_marked c.a
     (then_put c.args.text.now.items c.put_number.new.text.items c.put-2.new.text.items _ _
     (then_put c.args.text.now.items c.put.new.text.items c.put_number.new.text.items _ _ c.in_ok-put.ensures
     (put_same c.put.new.text.items c.put_number.new.text.items decimal _ _ c.x-x.ensures.value
-        c.in_ok-put_number.ensures))
+    c.in_ok-put_number.ensures))
     c.in_ok-put-2.ensures)
     (put_same c.put-2.new.text.items c.put_attribute.new.text.items (attribute (codes "x")) _ _ c.x-x.ensures.value
-        c.in_ok-put_attribute.ensures))
+    c.in_ok-put_attribute.ensures))
     c.in_ok-put-3.ensures) c.in_ok-put_number-2.ensures) c.in_ok-put-4.ensures)
 
 pub returns-then-not-is_marked : goal.returns-then-not-is_marked

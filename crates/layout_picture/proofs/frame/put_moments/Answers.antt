@@ -16,4 +16,4 @@ pub returns : goal.returns
 returns c =
     let e : c.loop-k.k ≡ length c.args.moments.now = omega arith in
     c.loop-k.invariant ∙ ap (λ (n : ℕ). c.args.text.now.items
-        ++ flat_map (moment_text c.args.scale.now c.args.moments.now) (numbers n)) e
+    ++ flat_map (moment_text c.args.scale.now c.args.moments.now) (numbers n)) e

@@ -21,13 +21,13 @@ pub loop-b-preserved : goal.loop-b-preserved
 loop-b-preserved c =
     rw (handed c.add_live.new.loads _ c.loop-b.loads.len (search rules))
     (summed_more c.args.instance.now c.args.columns.now c.loop-b.loads.items c.deref_mut.result.now
-        c.add_live.new.loads c.deref.result.now c.loop-b.b c.size.result c.loop-b.invariant c.deref_mut.ensures.value
-        (let k = c.len-b-end.ensures.value in omega arith)
-        (live_are c.deref.result.now c.in_ok-flags.flags.items c.buffer-buffer.result.now _ c.args.columns.now _
-            c.deref.ensures.value c.in_ok-flags.ensures c.buffer-buffer.ensures.value refl)
-        (c.size.ensures.value ∙ ap (λ (z : Buffer). z.size) c.buffer-buffer.ensures.value)
-        (let k = c.size.ensures.buffer.within_size in let z = c.size.ensures.value in omega arith)
-        (search rules) c.add_live.ensures)
+    c.add_live.new.loads c.deref.result.now c.loop-b.b c.size.result c.loop-b.invariant c.deref_mut.ensures.value
+    (let k = c.len-b-end.ensures.value in omega arith)
+    (live_are c.deref.result.now c.in_ok-flags.flags.items c.buffer-buffer.result.now _ c.args.columns.now _
+    c.deref.ensures.value c.in_ok-flags.ensures c.buffer-buffer.ensures.value refl)
+    (c.size.ensures.value ∙ ap (λ (z : Buffer). z.size) c.buffer-buffer.ensures.value)
+    (let k = c.size.ensures.buffer.within_size in let z = c.size.ensures.value in omega arith)
+    (search rules) c.add_live.ensures)
 
 pub returns : goal.returns
 returns c = record {

@@ -13,11 +13,11 @@ loop-rectangle-init c = sym (append-nil c.args.text.now.items)
 pub loop-rectangle-preserved : goal.loop-rectangle-preserved
 loop-rectangle-preserved c =
     put_more (label_text c.args.scale.now (ids_of c.args.table.now)) c.args.rectangles.now
-        c.loop-rectangle.rectangle-index no_rectangle c.args.text.now.items c.loop-rectangle.text.items
-        c.put_label.new.text.items c.loop-rectangle-test.true c.loop-rectangle.invariant c.in_ok-put_label.ensures
+    c.loop-rectangle.rectangle-index no_rectangle c.args.text.now.items c.loop-rectangle.text.items
+    c.put_label.new.text.items c.loop-rectangle-test.true c.loop-rectangle.invariant c.in_ok-put_label.ensures
 
 pub returns : goal.returns
 returns c =
     put_all (label_text c.args.scale.now (ids_of c.args.table.now)) c.args.rectangles.now
-        c.loop-rectangle.rectangle-index c.args.text.now.items c.loop-rectangle.text.items
-        c.loop-rectangle-test.false c.loop-rectangle.invariant
+    c.loop-rectangle.rectangle-index c.args.text.now.items c.loop-rectangle.text.items
+    c.loop-rectangle-test.false c.loop-rectangle.invariant

@@ -20,8 +20,8 @@ returns c =
     (put_same c.put-2.new.text.items c.put-3.new.text.items (λ (xs : List ℕ). xs) _ _ c.colour.ensures c.in_ok-put-3.ensures))
     c.in_ok-put-4.ensures)
     (put_same c.put-4.new.text.items c.put_title.new.text.items
-        (λ (x : Buffer). title_text (slice_index_or (ids_of c.args.table.now) c.args.rectangle.now.buffer []) x
-            c.args.rectangle.now.place) _ _ c.buffer.ensures.value
-        (put_same c.put-4.new.text.items c.put_title.new.text.items
-        (λ (id : List ℕ). title_text id c.buffer.result.now c.args.rectangle.now.place) _ _ c.id.ensures.value c.in_ok-put_title.ensures)))
+    (λ (x : Buffer). title_text (slice_index_or (ids_of c.args.table.now) c.args.rectangle.now.buffer []) x
+    c.args.rectangle.now.place) _ _ c.buffer.ensures.value
+    (put_same c.put-4.new.text.items c.put_title.new.text.items
+    (λ (id : List ℕ). title_text id c.buffer.result.now c.args.rectangle.now.place) _ _ c.id.ensures.value c.in_ok-put_title.ensures)))
     c.in_ok-put-5.ensures

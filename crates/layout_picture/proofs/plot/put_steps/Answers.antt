@@ -16,4 +16,4 @@ pub returns : goal.returns
 returns c =
     let e : c.loop-k.k ≡ length c.args.loads.now = omega arith in
     c.loop-k.invariant ∙ ap (λ (n : ℕ). c.args.text.now.items
-        ++ flat_map (load_step c.args.scale.now c.args.loads.now) (numbers n)) e
+    ++ flat_map (load_step c.args.scale.now c.args.loads.now) (numbers n)) e

@@ -15,5 +15,5 @@ pub returns-after-loop-end-clause-value : goal.returns-after-loop-end-clause-val
 unfolding run_end
 returns-after-loop-end-clause-value c =
     let k = front_none c.args.flags.now c.loop-end.end
-        (get_or_past c.args.flags.now c.loop-end.end false c.loop-end-test.false) in
+    (get_or_past c.args.flags.now c.loop-end.end false c.loop-end-test.false) in
     let i = c.loop-end.invariant.0 in omega arith
