@@ -1,8 +1,8 @@
 -- Ids that are escaped piece by piece.
-use Rattle.std.proofs.Common.{◌≡◌, ℕ, zero, suc, ◌+◌, ◌-◌, ◌<◌, ◌≤◌, true, false, Bool, cond, Option, Some, None, List, [], ◌∷◌, ◌++◌, length, drop, refl, ap, sym, ◌∙◌, arith, append_assoc}
+use Rattle.std.proofs.Common.{◌≡◌, ℕ, zero, suc, ◌-◌, ◌<◌, ◌≤◌, List, [], ◌∷◌, ◌++◌, length, drop, refl, ap, sym, ◌∙◌, arith, append_assoc}
 use Rattle.bstr.specs.Utf8.{decoded}
 use Rattle.bstr.proofs.lemmas.PieceLemmas.{piece-bounds}
-use Rattle.layout_picture.specs.Escape.{escaped, escaped_after, is_allowed, piece_size, piece_text, found_size}
+use Rattle.layout_picture.specs.Escape.{escaped, escaped_after, piece_size, piece_text}
 
 after_is_drop : (k : ℕ) (bytes : List ℕ) → escaped_after k bytes ≡ escaped_after 0 (drop k bytes)
 after_is_drop zero bytes = refl

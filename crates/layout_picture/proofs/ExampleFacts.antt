@@ -1,13 +1,12 @@
 -- Small pictures, worked out.
-use Rattle.std.proofs.Common.{◌≡◌, ℕ, true, false, Bool, List, [], ◌∷◌, ◌++◌, codes, refl}
+use Rattle.std.proofs.Common.{◌≡◌, ℕ, true, false, [], ◌∷◌, codes, refl}
 use lib.Utf8.{encode}
 use Rattle.std.specs.Fmt.{digits}
 use Rattle.dsa_terms.specs.Buffers.{Buffer, Instance, buffer, is_live}
-use Rattle.dsa_terms.specs.Plans.{layout_height, load}
 use Rattle.lifetime.specs.Runs.{was_live}
 use Rattle.layout_picture.specs.Columns.{columns_of, turns_at}
-use Rattle.layout_picture.specs.Escape.{char_text, escaped, is_allowed, piece_size}
-use Rattle.layout_picture.specs.Rectangles.{begins_at, front, rectangles, rectangles_of, run_end}
+use Rattle.layout_picture.specs.Escape.{char_text, escaped, is_allowed}
+use Rattle.layout_picture.specs.Rectangles.{begins_at, rectangles, rectangles_of, run_end}
 use Rattle.layout_picture.specs.Scale.{area_of, column_width, scaled, spans, x_of, y_of}
 use Rattle.layout_picture.specs.Texts.{attribute, colour_of, has_room, id_text, is_marked, label_text, load_step, mark_text, moment_text, title_text}
 use Rattle.layout_picture.specs.declared.rectangle.Rectangle.{Rectangle}

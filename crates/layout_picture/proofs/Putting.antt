@@ -1,5 +1,5 @@
 -- One piece of text after another.
-use Rattle.std.proofs.Common.{◌≡◌, ℕ, cond, Bool, true, false, List, [], ◌∷◌, ◌++◌, length, refl, ap, ap₂, sym, ◌∙◌, append_assoc, append-nil}
+use Rattle.std.proofs.Common.{◌≡◌, ℕ, cond, Bool, true, false, List, [], ◌++◌, length, refl, ap, ap₂, sym, ◌∙◌, append_assoc, append-nil}
 use Rattle.layout_picture.specs.Texts.{has_room, id_text}
 use Rattle.layout_picture.specs.declared.scale.Area.{Area}
 

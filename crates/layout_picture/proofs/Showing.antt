@@ -1,7 +1,7 @@
 -- What is drawn is what is live, and the other way round.
-use Rattle.std.proofs.Common.{◌≡◌, ◌≢◌, ℕ, zero, suc, ◌+◌, ◌-◌, ◌*◌, ◌/◌, ◌<◌, ◌≤◌, ◌⊎◌, inl, inr, Bool, true, false, not, ◌&&◌, ◌||◌, ◌==◌, max, min, List, [], ◌∷◌, length, map, filter, drop, get_or, refl, ap, sym, subst, ◌∙◌, arith}
+use Rattle.std.proofs.Common.{◌≡◌, ℕ, zero, suc, ◌+◌, ◌-◌, ◌<◌, ◌≤◌, ◌⊎◌, inl, inr, Bool, true, false, not, ◌&&◌, ◌||◌, ◌==◌, List, [], ◌∷◌, length, map, filter, drop, get_or, refl, ap, sym, subst, ◌∙◌, arith}
 use Rattle.std.specs.Bool.{beq}
-use Rattle.std.specs.List.{flat_map, list_any}
+use Rattle.std.specs.List.{list_any}
 use Rattle.std.proofs.lemmas.Bool.Decides.{nat_tests}
 use Rattle.std.proofs.lemmas.List.{get_or-map, get_or_past, length-map}
 use Rattle.dsa_terms.specs.Buffers.{Buffer, Instance, buffer, is_live, IsLive, no_buffer}
@@ -13,14 +13,13 @@ use Rattle.dsa_terms.proofs.Moments.{live_before}
 use Rattle.dsa_terms.proofs.NumberTests.{below_or_from}
 use Rattle.dsa_terms.proofs.Places.{in_at, place_of}
 use Rattle.dsa_terms.proofs.Ranges.{among, below}
-use Rattle.dsa_model.proofs.Edges.{beq_true}
 use Rattle.lifetime.specs.Runs.{was_live}
 use Rattle.lifetime.proofs.Lists.{rises-numbers, rises_at}
 use Rattle.layout_picture.specs.Columns.{IsInColumn, columns_of, turns_at}
 use Rattle.layout_picture.specs.Laws.{HasColumn, IsShownAt}
-use Rattle.layout_picture.specs.Rectangles.{begins_at, flag_at, front, rectangle_at, rectangles, rectangles_from, rectangles_of, run_end}
+use Rattle.layout_picture.specs.Rectangles.{begins_at, flag_at, front, rectangle_at, rectangles, rectangles_of, run_end}
 use Rattle.layout_picture.specs.declared.rectangle.Rectangle.{Rectangle}
-use Rattle.layout_picture.proofs.Runs.{front_more, front_none}
+use Rattle.layout_picture.proofs.Runs.{front_more}
 use Rattle.layout_picture.proofs.Turns.{in_greatest}
 
 -- ---- runs of flags

@@ -1,5 +1,5 @@
 -- Loads, buffer by buffer.
-use Rattle.std.proofs.Common.{◌≡◌, ℕ, zero, suc, ◌+◌, ◌*◌, ◌^◌, ◌<◌, ◌≤◌, Bool, true, false, cond, List, [], ◌∷◌, ◌++◌, length, map, take, filter, get_or, replicate, refl, ap, sym, ◌∙◌, arith}
+use Rattle.std.proofs.Common.{◌≡◌, ℕ, zero, suc, ◌+◌, ◌*◌, ◌^◌, ◌<◌, ◌≤◌, Bool, true, false, cond, List, [], ◌∷◌, length, map, take, filter, get_or, replicate, refl, ap, sym, ◌∙◌, arith}
 use Rattle.std.specs.List.{All, sum_by}
 use Rattle.std.proofs.lemmas.Grind.{same_number_lists}
 use Rattle.std.proofs.lemmas.List.{get_or-map, length-map, take_more, take_all}
@@ -8,7 +8,6 @@ use Rattle.std.proofs.lemmas.List.Sums.{sum_by-append}
 use Rattle.dsa_terms.specs.Buffers.{Buffer, Instance, buffer, is_live, no_buffer}
 use Rattle.dsa_terms.specs.Plans.{load}
 use Rattle.dsa_terms.proofs.Places.{any_default}
-use Rattle.dsa_model.specs.Buffer.{IsBuffer}
 
 -- the size where the buffer is live, and else 0
 abbrev added : Bool → ℕ → ℕ

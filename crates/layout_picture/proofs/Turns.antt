@@ -1,5 +1,5 @@
 -- The moments at which buffers begin or end to be live.
-use Rattle.std.proofs.Common.{◌≡◌, ℕ, zero, suc, ◌+◌, ◌-◌, ◌*◌, ◌<◌, ◌≤◌, inl, inr, Bool, true, false, not, max, eqb, List, [], ◌∷◌, ◌++◌, length, map, filter, get_or, refl, ap, sym, subst, ◌∙◌, arith, length-append}
+use Rattle.std.proofs.Common.{◌≡◌, ℕ, zero, suc, ◌+◌, ◌-◌, ◌*◌, ◌<◌, ◌≤◌, inl, inr, Bool, true, false, not, eqb, List, [], ◌∷◌, ◌++◌, length, map, filter, get_or, refl, ap, sym, subst, ◌∙◌, arith, length-append}
 use Rattle.std.specs.Bool.{beq}
 use Rattle.std.specs.List.{All, dedup, list_any}
 use Rattle.std.specs.List.Sorted.{IsPermutation, IsSorted}
@@ -8,10 +8,10 @@ use Rattle.std.proofs.lemmas.List.Kept.{Contains-dedup_nat, Contains-from_dedup}
 use Rattle.std.proofs.lemmas.List.Sorted.{Contains-permutation, IsPermutation-sym}
 use Rattle.std.proofs.lemmas.Map.Keys.{IsStrictlyIncreasing-dedup}
 use Rattle.dsa_terms.specs.Buffers.{Buffer, Instance, buffer, is_live, no_buffer}
-use Rattle.dsa_terms.specs.Claims.{IsIn, Rises}
+use Rattle.dsa_terms.specs.Claims.{IsIn}
 use Rattle.dsa_terms.specs.Logs.{greatest}
 use Rattle.dsa_terms.specs.Parts.{numbers}
-use Rattle.dsa_terms.proofs.Lists.{any_from, any_gives, from_append, from_filter, into_filter, into_map, left_append, length-filter_le, right_append}
+use Rattle.dsa_terms.proofs.Lists.{any_from, any_gives, from_append, from_filter, into_filter, left_append, length-filter_le, right_append}
 use Rattle.dsa_terms.proofs.NumberTests.{below_or_last}
 use Rattle.dsa_terms.proofs.Places.{from_contains, in_at, place_of, rises_from_increasing, to_contains}
 use Rattle.dsa_terms.proofs.Ranges.{among}

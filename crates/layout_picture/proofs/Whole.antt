@@ -1,8 +1,8 @@
 -- The whole picture.
-use Rattle.std.proofs.Common.{◌≡◌, ℕ, ◌+◌, ◌^◌, ◌<◌, ◌≤◌, List, [], ◌++◌, length, map, codes, get_or, Result, Ok, refl, sym, ap, ap₂, subst, ◌∙◌, arith}
+use Rattle.std.proofs.Common.{◌≡◌, ℕ, ◌^◌, ◌<◌, ◌≤◌, List, ◌++◌, length, map, codes, get_or, Result, Ok, sym, ap, ap₂, subst, ◌∙◌, arith}
 use Rattle.std.specs.List.{All}
 use Rattle.std.proofs.lemmas.List.{length-map}
-use Rattle.dsa_terms.specs.Buffers.{Buffer, Instance, buffer}
+use Rattle.dsa_terms.specs.Buffers.{Buffer, Instance}
 use Rattle.dsa_terms.specs.Layouts.{IsLayout}
 use Rattle.dsa_terms.specs.Plans.{load}
 use Rattle.dsa_terms.proofs.Places.{any_default}

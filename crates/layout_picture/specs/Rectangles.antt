@@ -1,5 +1,5 @@
 -- The rectangles of a layout: for each buffer one for each greatest run of columns at which it is live.
-use Rattle.std.specs.Prelude.{◌≡◌, ℕ, suc, zero, ◌+◌, ◌-◌, ◌^◌, ◌<◌, ◌≤◌, Bool, true, false, not, ◌&&◌, ◌||◌, ◌==◌, List, [], ◌∷◌, map, length, drop, flat_map, slice_index, slice_index_or}
+use Rattle.std.specs.Prelude.{◌≡◌, ℕ, suc, ◌+◌, ◌-◌, ◌^◌, ◌<◌, ◌≤◌, Bool, true, false, not, ◌&&◌, ◌||◌, ◌==◌, List, [], ◌∷◌, map, length, drop, flat_map, slice_index, slice_index_or}
 use Rattle.std.specs.List.{filter}
 use Rattle.dsa_terms.specs.Buffers.{Instance, buffer, is_live}
 use Rattle.dsa_terms.specs.Parts.{numbers}

@@ -1,5 +1,5 @@
 use Rattle.std.proofs.Common.{ℕ, ◌+◌, decimal, ap, ◌∙◌}
-use Rattle.layout_picture.specs.Scale.{spans, x_of}
+use Rattle.layout_picture.specs.Scale.{x_of}
 use Rattle.layout_picture.proofs.Putting.{put_same, then_put}
 use Rattle.layout_picture.proofs.frame.put_head.Goals as goal
 

@@ -1,4 +1,4 @@
-use Rattle.std.proofs.Common.{ℕ, ◌++◌, codes, decimal, sym, ◌∙◌, refl}
+use Rattle.std.proofs.Common.{codes, decimal, sym, ◌∙◌, refl}
 use Rattle.layout_picture.specs.Texts.{attribute, is_marked, moment_text}
 use Rattle.layout_picture.proofs.Putting.{put_if, put_not, put_same, then_put}
 use Rattle.layout_picture.proofs.frame.put_moment.Goals as goal

@@ -1,4 +1,4 @@
-use Rattle.std.proofs.Common.{sym, append-nil, arith}
+use Rattle.std.proofs.Common.{sym, append-nil}
 use Rattle.csv_instance.specs.Offsets.{ids_of}
 use Rattle.layout_picture.specs.Texts.{label_text}
 use Rattle.layout_picture.proofs.Runs.{no_rectangle, put_all, put_more}

@@ -1,4 +1,4 @@
-use Rattle.std.proofs.Common.{ℕ, [], ◌≡◌, ◌++◌, List, length, sym, ap, ◌∙◌, arith}
+use Rattle.std.proofs.Common.{ℕ, [], ◌≡◌, ◌++◌, List, length, ap, ◌∙◌, arith}
 use Rattle.std.specs.List.{flat_map}
 use Rattle.dsa_terms.specs.Parts.{numbers}
 use Rattle.layout_picture.specs.Rectangles.{rectangles, rectangles_of}

@@ -2,7 +2,7 @@ use Rattle.std.proofs.Common.{arith}
 use Rattle.std.proofs.lemmas.List.{get_or_past}
 use Rattle.std.proofs.Common.{false}
 use Rattle.layout_picture.specs.Rectangles.{run_end}
-use Rattle.layout_picture.proofs.Runs.{front_more, front_none}
+use Rattle.layout_picture.proofs.Runs.{front_none}
 use Rattle.layout_picture.proofs.rectangle.run_end.Goals as goal
 
 pub returns-else-flags-end-clause-value : goal.returns-else-flags-end-clause-value
