@@ -30,6 +30,18 @@ no_command = refl
 trim_writes_its_output : (form_of verb.Trim).writes ≡ option.Output ∷ []
 trim_writes_its_output = refl
 
+upgrade_reads_the_log : (form_of verb.Upgrade).reads ≡ option.Input ∷ option.Log ∷ []
+upgrade_reads_the_log = refl
+
+draw_reads_the_layout : (form_of verb.Draw).reads ≡ option.Input ∷ option.Layout ∷ []
+draw_reads_the_layout = refl
+
+missed_by_draw : (form_of verb.Draw).needed ≡ option.Input ∷ option.Layout ∷ option.Output ∷ []
+missed_by_draw = refl
+
+missed_by_unroll : (form_of verb.Unroll).needed ≡ option.Period ∷ option.Input ∷ option.Output ∷ []
+missed_by_unroll = refl
+
 solve_writes_both : (form_of verb.Solve).writes ≡ option.Output ∷ option.Log ∷ []
 solve_writes_both = refl
 
@@ -65,6 +77,9 @@ an_input_is_a_file = refl
 
 an_output_is_a_file : is_file option.Output ≡ true
 an_output_is_a_file = refl
+
+a_period_is_no_file : is_file option.Period ≡ false
+a_period_is_no_file = refl
 
 a_count_is_no_file : is_file option.Count ≡ false
 a_count_is_no_file = refl

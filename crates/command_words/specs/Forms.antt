@@ -3,9 +3,9 @@ use Rattle.std.specs.Prelude.{List, [], ◌∷◌, ◌++◌, codes, Option, find
 use Rattle.std.specs.Str.{bytes_eq}
 use Rattle.command_words.specs.Options.{Word, option_word}
 use Rattle.command_words.specs.declared.option.OptionName.{OptionName}
-use Rattle.command_words.specs.declared.option.OptionName.TheVariants.{Capacity, Input, Output, Log, Layout, Trace, Steps, Seed, Count}
+use Rattle.command_words.specs.declared.option.OptionName.TheVariants.{Capacity, Input, Output, Log, Layout, Trace, Steps, Seed, Count, Period}
 use Rattle.command_words.specs.declared.verb.Verb.{Verb}
-use Rattle.command_words.specs.declared.verb.Verb.TheVariants.{Solve, Least, Verify, Refute, Trim, Bounds, Report, Trial, Import, Classes, Core}
+use Rattle.command_words.specs.declared.verb.Verb.TheVariants.{Solve, Least, Verify, Refute, Trim, Upgrade, Bounds, Report, Draw, Trial, Import, Unroll, Classes, Core}
 use Rattle.command_words.specs.declared.form.Form as written
 
 -- the words of a command: its own; the options that it needs, in the order in which they are missed; those that it can
@@ -19,7 +19,8 @@ pub record Form : Type 0 where
 
 -- the commands that there are
 abbrev pub verbs : List Verb
-verbs = Solve ∷ Least ∷ Verify ∷ Refute ∷ Trim ∷ Bounds ∷ Report ∷ Trial ∷ Import ∷ Classes ∷ Core ∷ []
+verbs =
+    Solve ∷ Least ∷ Verify ∷ Refute ∷ Trim ∷ Upgrade ∷ Bounds ∷ Report ∷ Draw ∷ Trial ∷ Import ∷ Unroll ∷ Classes ∷ Core ∷ []
 
 -- the form of each command
 abbrev pub form_of : Verb → Form
@@ -58,6 +59,13 @@ form_of Trim = record {
   reads = Input ∷ Log ∷ [];
   writes = Output ∷ [];
 }
+form_of Upgrade = record {
+  word = codes "upgrade";
+  needed = Input ∷ Log ∷ Output ∷ [];
+  optional = [];
+  reads = Input ∷ Log ∷ [];
+  writes = Output ∷ [];
+}
 form_of Bounds = record {
   word = codes "bounds";
   needed = Input ∷ [];
@@ -72,6 +80,13 @@ form_of Report = record {
   reads = Input ∷ Layout ∷ [];
   writes = [];
 }
+form_of Draw = record {
+  word = codes "draw";
+  needed = Input ∷ Layout ∷ Output ∷ [];
+  optional = [];
+  reads = Input ∷ Layout ∷ [];
+  writes = Output ∷ [];
+}
 form_of Trial = record {
   word = codes "trial";
   needed = Seed ∷ Count ∷ Steps ∷ [];
@@ -84,6 +99,13 @@ form_of Import = record {
   needed = Trace ∷ Output ∷ [];
   optional = [];
   reads = Trace ∷ [];
+  writes = Output ∷ [];
+}
+form_of Unroll = record {
+  word = codes "unroll";
+  needed = Period ∷ Input ∷ Output ∷ [];
+  optional = [];
+  reads = Input ∷ [];
   writes = Output ∷ [];
 }
 form_of Classes = record {

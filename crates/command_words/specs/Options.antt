@@ -3,7 +3,7 @@ use Rattle.std.specs.Prelude.{ℕ, ◌^◌, Bool, true, false, not, List, codes,
 use Rattle.dsa_terms.specs.Parts.{is_empty}
 use Rattle.dsa_model.specs.Numbers.{written_number}
 use Rattle.command_words.specs.declared.option.OptionName.{OptionName}
-use Rattle.command_words.specs.declared.option.OptionName.TheVariants.{Capacity, Input, Output, Log, Layout, Trace, Steps, Seed, Count}
+use Rattle.command_words.specs.declared.option.OptionName.TheVariants.{Capacity, Input, Output, Log, Layout, Trace, Steps, Seed, Count, Period}
 
 -- the bytes of a word
 abbrev pub Word : Type 0
@@ -24,6 +24,7 @@ option_word Trace = codes "--trace"
 option_word Steps = codes "--steps"
 option_word Seed = codes "--seed"
 option_word Count = codes "--count"
+option_word Period = codes "--period"
 
 -- the option names a file
 abbrev pub is_file : OptionName → Bool

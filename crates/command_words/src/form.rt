@@ -25,7 +25,7 @@ impl Verb {
     pub(crate) fn form(self) -> Form
         ensures { form_value result ≡ form_of self }
     {
-        use OptionName::{Capacity, Count, Input, Layout, Log, Output, Seed, Steps, Trace};
+        use OptionName::{Capacity, Count, Input, Layout, Log, Output, Period, Seed, Steps, Trace};
         match self {
             Verb::Solve => Form {
                 word: "solve",
@@ -62,6 +62,13 @@ impl Verb {
                 reads: &[Input, Log],
                 writes: &[Output],
             },
+            Verb::Upgrade => Form {
+                word: "upgrade",
+                needed: &[Input, Log, Output],
+                optional: &[],
+                reads: &[Input, Log],
+                writes: &[Output],
+            },
             Verb::Bounds => Form {
                 word: "bounds",
                 needed: &[Input],
@@ -76,6 +83,13 @@ impl Verb {
                 reads: &[Input, Layout],
                 writes: &[],
             },
+            Verb::Draw => Form {
+                word: "draw",
+                needed: &[Input, Layout, Output],
+                optional: &[],
+                reads: &[Input, Layout],
+                writes: &[Output],
+            },
             Verb::Trial => Form {
                 word: "trial",
                 needed: &[Seed, Count, Steps],
@@ -88,6 +102,13 @@ impl Verb {
                 needed: &[Trace, Output],
                 optional: &[],
                 reads: &[Trace],
+                writes: &[Output],
+            },
+            Verb::Unroll => Form {
+                word: "unroll",
+                needed: &[Period, Input, Output],
+                optional: &[],
+                reads: &[Input],
                 writes: &[Output],
             },
             Verb::Classes => Form {

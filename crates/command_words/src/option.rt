@@ -24,6 +24,8 @@ pub enum OptionName {
     Seed,
     /// `--count`: the number of buffers of a made instance.
     Count,
+    /// `--period`: the number of moments after which lifetimes repeat.
+    Period,
 }
 
 impl OptionName {
@@ -41,6 +43,7 @@ impl OptionName {
             OptionName::Steps => "--steps",
             OptionName::Seed => "--seed",
             OptionName::Count => "--count",
+            OptionName::Period => "--period",
         }
     }
 
@@ -54,9 +57,11 @@ impl OptionName {
             | OptionName::Log
             | OptionName::Layout
             | OptionName::Trace => true,
-            OptionName::Capacity | OptionName::Steps | OptionName::Seed | OptionName::Count => {
-                false
-            }
+            OptionName::Capacity
+            | OptionName::Steps
+            | OptionName::Seed
+            | OptionName::Count
+            | OptionName::Period => false,
         }
     }
 }

@@ -22,15 +22,22 @@ pub enum Verb {
     /// `trim --input I --log L --output O`: write the log without the lines that its end does not
     /// need.
     Trim,
+    /// `upgrade --input I --log L --output O`: write the log in the second version of its text.
+    Upgrade,
     /// `bounds --input I`: print the facts of the instance.
     Bounds,
     /// `report --input I --layout A`: print the layout at the instance's peak.
     Report,
+    /// `draw --input I --layout A --output P`: write a picture of the layout.
+    Draw,
     /// `trial --seed S --count N --steps K`: make an instance of so many buffers from the seed, and
     /// look for its least capacity within the budget.
     Trial,
     /// `import --trace T --output O`: make an instance of a recorded run of allocations.
     Import,
+    /// `unroll --period P --input I --output O`: make an instance of one period of buffers whose
+    /// moments repeat with the period P.
+    Unroll,
     /// `classes --input I --output O`: write a plan by size class.
     Classes,
     /// `core --capacity C --input I --output O --log L`: write an irreducible set of buffers that
@@ -39,16 +46,19 @@ pub enum Verb {
 }
 
 /// The commands that there are.
-const VERBS: [Verb; 11] = [
+const VERBS: [Verb; 14] = [
     Verb::Solve,
     Verb::Least,
     Verb::Verify,
     Verb::Refute,
     Verb::Trim,
+    Verb::Upgrade,
     Verb::Bounds,
     Verb::Report,
+    Verb::Draw,
     Verb::Trial,
     Verb::Import,
+    Verb::Unroll,
     Verb::Classes,
     Verb::Core,
 ];

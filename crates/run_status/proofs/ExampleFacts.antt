@@ -4,6 +4,8 @@ use Rattle.std.specs.Fmt.{digits}
 use Rattle.command_words.specs.declared.fault.UsageFault.TheVariants as usage
 use Rattle.csv_instance.specs.declared.fault.InstanceFault.TheVariants as instance
 use Rattle.csv_instance.specs.declared.fault.OffsetsFault.TheVariants as offsets
+use Rattle.cyclic_plan.specs.declared.fault.CycleFault.TheVariants as cycle
+use Rattle.dsa_model.specs.declared.buffer_fault.BufferFault.TheVariants as buffer
 use Rattle.dsa_model.specs.declared.layout.LayoutFault.TheVariants as layout
 use Rattle.log_check.specs.declared.fault.CheckFault.TheVariants as check
 use Rattle.log_text.specs.declared.fault.TextFault.TheVariants as text
@@ -34,6 +36,18 @@ accepted = refl
 trimmed : line (status.Trimmed 6 5) ≡ codes "trimmed 6 5\n"
 unfolding digits
 trimmed = refl
+
+upgraded : line (status.Upgraded 5) ≡ codes "upgraded 5\n"
+unfolding digits
+upgraded = refl
+
+drawn : line (status.Drawn 7) ≡ codes "drawn 7\n"
+unfolding digits
+drawn = refl
+
+unrolled : line (status.Unrolled 2) ≡ codes "unrolled 2\n"
+unfolding digits
+unrolled = refl
 
 accepted_code : code_of (status.Accepted 4) ≡ 0
 accepted_code = refl
@@ -122,3 +136,18 @@ shown_is_spoken = tt
 
 unprinted_is_not : IsSpoken status.PrintFault → ⊥
 unprinted_is_not spoken = spoken
+
+-- ---- circles
+row_outside : line (status.CycleRefused (cycle.Outside 0)) ≡ codes "cycle row 0 outside\n"
+unfolding digits
+row_outside = refl
+
+never_live : line (status.CycleRefused (cycle.BadBuffer 0 buffer.EmptyLifetime)) ≡ codes "cycle row 0 empty lifetime\n"
+unfolding digits
+never_live = refl
+
+no_rows_to_unroll : line (status.CycleRefused (cycle.Instance instance.NoHeader)) ≡ codes "cycle no header\n"
+no_rows_to_unroll = refl
+
+cycle_code : code_of (status.CycleRefused (cycle.Outside 0)) ≡ 4
+cycle_code = refl

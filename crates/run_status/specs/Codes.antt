@@ -1,7 +1,7 @@
 -- The exit codes of the statuses.
 use Rattle.std.specs.Prelude.{ℕ}
 use Rattle.run_status.specs.declared.status.Status.{Status}
-use Rattle.run_status.specs.declared.status.Status.TheVariants.{Feasible, Infeasible, Least, Open, Right, Wrong, Accepted, LogRefused, Trimmed, Imported, TraceRefused, Classed, NotPlain, Core, NoCore, Shown, Usage, Malformed, ReadFault, TooLong, WriteFault, PrintFault, TooMany, NoMemory}
+use Rattle.run_status.specs.declared.status.Status.TheVariants.{Feasible, Infeasible, Least, Open, Right, Wrong, Accepted, LogRefused, Trimmed, Upgraded, Drawn, Imported, TraceRefused, Unrolled, CycleRefused, Classed, NotPlain, Core, NoCore, Shown, Usage, Malformed, ReadFault, TooLong, WriteFault, PrintFault, TooMany, NoMemory}
 
 -- the exit code of a status
 abbrev pub code_of : Status → ℕ
@@ -14,8 +14,12 @@ code_of (Wrong cause) = 1
 code_of (Accepted capacity) = 0
 code_of (LogRefused cause) = 1
 code_of (Trimmed before after) = 0
+code_of (Upgraded lines) = 0
+code_of (Drawn rectangles) = 0
 code_of (Imported buffers) = 0
 code_of (TraceRefused fault) = 4
+code_of (Unrolled buffers) = 0
+code_of (CycleRefused fault) = 4
 code_of (Classed height load) = 0
 code_of (NotPlain buffer) = 4
 code_of (Core members) = 1

@@ -10,6 +10,7 @@ use Rattle.run_status.specs.declared.status.LogCause.{LogCause}
 use Rattle.run_status.specs.declared.status.LogCause.TheVariants as refused
 use Rattle.command_words.specs.FaultTexts.{usage_text}
 use Rattle.csv_instance.specs.FaultTexts.{instance_text, offsets_text}
+use Rattle.cyclic_plan.specs.FaultTexts.{cycle_text}
 use Rattle.dsa_model.specs.FaultTexts.{layout_fault_text}
 use Rattle.log_text.specs.FaultTexts.{text_fault_text}
 use Rattle.log_check.specs.FaultTexts.{check_text}
@@ -45,8 +46,12 @@ line (status.Accepted capacity) = codes "accepted " ++ decimal capacity ++ codes
 line (status.LogRefused cause) = codes "refused " ++ refused_text cause ++ codes "\n"
 line (status.Trimmed before after) =
     codes "trimmed " ++ decimal before ++ codes " " ++ decimal after ++ codes "\n"
+line (status.Upgraded lines) = codes "upgraded " ++ decimal lines ++ codes "\n"
+line (status.Drawn rectangles) = codes "drawn " ++ decimal rectangles ++ codes "\n"
 line (status.Imported buffers) = codes "imported " ++ decimal buffers ++ codes "\n"
 line (status.TraceRefused fault) = codes "trace " ++ trace_fault_text fault ++ codes "\n"
+line (status.Unrolled buffers) = codes "unrolled " ++ decimal buffers ++ codes "\n"
+line (status.CycleRefused fault) = codes "cycle " ++ cycle_text fault ++ codes "\n"
 line (status.Classed height load) =
     codes "classes " ++ decimal height ++ codes " " ++ decimal load ++ codes "\n"
 line (status.NotPlain buffer) = codes "not plain " ++ decimal buffer ++ codes "\n"

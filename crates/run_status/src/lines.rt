@@ -71,10 +71,17 @@ pub fn status_line(alloc: Global, status: Status) -> Result<String, NoMemory>
         Status::Least { capacity } => Ok(format!(in alloc; "least {capacity}\n")?),
         Status::Open { low, high } => open_line(alloc, low, high),
         Status::Trimmed { before, after } => trimmed_line(alloc, before, after),
+        Status::Upgraded { lines } => Ok(format!(in alloc; "upgraded {lines}\n")?),
+        Status::Drawn { rectangles } => Ok(format!(in alloc; "drawn {rectangles}\n")?),
         Status::Imported { buffers } => Ok(format!(in alloc; "imported {buffers}\n")?),
         Status::TraceRefused(fault) => {
             let text = fault.text(alloc)?;
             Ok(format!(in alloc; "trace {text}\n")?)
+        }
+        Status::Unrolled { buffers } => Ok(format!(in alloc; "unrolled {buffers}\n")?),
+        Status::CycleRefused(fault) => {
+            let text = fault.text(alloc)?;
+            Ok(format!(in alloc; "cycle {text}\n")?)
         }
         Status::Classed { height, load } => classes_line(alloc, height, load),
         Status::NotPlain { buffer } => Ok(format!(in alloc; "not plain {buffer}\n")?),

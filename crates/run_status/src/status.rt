@@ -5,6 +5,7 @@ ghost use Rattle.run_status.specs.Codes.{code_of};
 
 use command_words::UsageFault;
 use csv_instance::{InstanceFault, OffsetsFault};
+use cyclic_plan::CycleFault;
 use dsa_model::LayoutFault;
 use log_check::CheckFault;
 use log_text::TextFault;
@@ -69,10 +70,18 @@ pub enum Status {
     LogRefused(LogCause),
     /// The log had so many lines, and the log that is written has so many.
     Trimmed { before: u64, after: u64 },
+    /// The log, of so many lines, is written in the second version of its text.
+    Upgraded { lines: u64 },
+    /// A picture of the layout is written, with so many rectangles.
+    Drawn { rectangles: u64 },
     /// The instance of a trace, of so many buffers, is written.
     Imported { buffers: u32 },
     /// The file is no trace, for its first fault.
     TraceRefused(TraceFault),
+    /// The instance of one period, of so many buffers, is written.
+    Unrolled { buffers: u32 },
+    /// The file holds no buffers of one period, for its first fault.
+    CycleRefused(CycleFault),
     /// A plan by size class is written: its height, and the greatest load, in bytes.
     Classed { height: u64, load: u64 },
     /// The instance is not plain, for this buffer first: it has a gap or an alignment above 1.
@@ -114,7 +123,10 @@ impl Status {
             | Status::Right
             | Status::Accepted { .. }
             | Status::Trimmed { .. }
+            | Status::Upgraded { .. }
+            | Status::Drawn { .. }
             | Status::Imported { .. }
+            | Status::Unrolled { .. }
             | Status::Classed { .. }
             | Status::NoCore { .. }
             | Status::Shown => 0,
@@ -124,7 +136,10 @@ impl Status {
             | Status::Core { .. } => 1,
             Status::Open { .. } => 2,
             Status::Usage(_) | Status::TooMany { .. } => 3,
-            Status::Malformed(_) | Status::TraceRefused(_) | Status::NotPlain { .. } => 4,
+            Status::Malformed(_)
+            | Status::TraceRefused(_)
+            | Status::CycleRefused(_)
+            | Status::NotPlain { .. } => 4,
             Status::ReadFault(_) | Status::WriteFault(_) | Status::PrintFault => 5,
             Status::NoMemory => 6,
             Status::TooLong(_) => 7,
