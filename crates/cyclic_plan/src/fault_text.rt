@@ -1,17 +1,17 @@
 //! The texts of faults, as they are printed.
 
 ghost use Rattle.std.specs.Prelude.{◌≡◌, IfOk, string_bytes};
-ghost use Rattle.cyclic_plan.specs.FaultTexts.{buffer_fault_text, cycle_text};
+ghost use Rattle.csv_instance.specs.FaultTexts.{row_fault_text};
+ghost use Rattle.cyclic_plan.specs.FaultTexts.{cycle_text};
 
 use crate::CycleFault;
-use dsa_model::{BufferFault, NoMemory};
+use dsa_model::NoMemory;
 use std::alloc::Global;
 
-/// A row and what is wrong with its buffer.
-fn buffer_fault_text(alloc: Global, row: u32, fault: BufferFault) -> Result<String, NoMemory>
-    ensures { IfOk result (λ made. string_bytes made ≡ buffer_fault_text row fault) }
+/// A row and what is wrong with it.
+fn row_text(alloc: Global, row: u32, text: &str) -> Result<String, NoMemory>
+    ensures { IfOk result (λ made. string_bytes made ≡ row_fault_text row text.now) }
 {
-    let text = fault.text(alloc)?;
     Ok(format!(in alloc; "row {row} {text}")?)
 }
 
@@ -22,8 +22,11 @@ impl CycleFault {
     {
         match self {
             CycleFault::Instance(fault) => fault.text(alloc),
-            CycleFault::Outside { row } => Ok(format!(in alloc; "row {row} outside")?),
-            CycleFault::BadBuffer { row, fault } => buffer_fault_text(alloc, row, fault),
+            CycleFault::Outside { row } => row_text(alloc, row, "outside"),
+            CycleFault::BadBuffer { row, fault } => {
+                let text = fault.text(alloc)?;
+                row_text(alloc, row, text.as_str())
+            }
         }
     }
 }

@@ -1,9 +1,9 @@
 -- What a run answers where nothing outside it goes wrong.
-use Rattle.std.proofs.Common.{◌≡◌, ◌^◌, List, Result, Ok, Err, refl, sym, subst, inl, inr}
+use Rattle.std.proofs.Common.{◌≡◌, ◌^◌, ℕ, List, Result, Ok, Err, refl, sym, subst, inl, inr}
 use Rattle.dsa_terms.specs.Buffers.{Instance}
 use Rattle.dsa_outside.specs.Seen.{FilesSeen, SinkSeen}
 use Rattle.dsa_model.specs.Counts.{Rose}
-use Rattle.csv_instance.specs.Records.{Record, file_limit}
+use Rattle.csv_instance.specs.Records.{Record, file_limit, table_of}
 use Rattle.command_words.specs.Options.{Word}
 use Rattle.command_words.specs.Pairs.{Pair, number_at, word_at}
 use Rattle.command_words.specs.Requests.{Request, request_of}
@@ -19,16 +19,20 @@ use Rattle.run_course.specs.Answers.{Answers, AreBroken}
 use Rattle.readings.specs.Judging.{judged}
 use Rattle.readings.specs.Checking.{checked}
 use Rattle.judging.specs.Judging.{ShowsLayout}
-use Rattle.checking.specs.Checking.{trimming}
+use Rattle.judging.specs.Drawing.{drawing}
+use Rattle.checking.specs.Checking.{trimming, upgrading}
 use Rattle.fact_reports.specs.Reporting.{ShowsFacts}
 use Rattle.trace_import.specs.Faults.{trace_of}
 use Rattle.trace_import.specs.Traces.{Trace}
 use Rattle.trace_import.specs.declared.fault.TraceFault.{TraceFault}
 use Rattle.importing.specs.Importing.{imports}
+use Rattle.importing.specs.Unrolling.{unrolls}
+use Rattle.cyclic_plan.specs.Texts.{unrolled_of}
+use Rattle.cyclic_plan.specs.declared.fault.CycleFault.{CycleFault}
 use Rattle.planning.specs.Planning.{Plans}
 use Rattle.explaining.specs.Explaining.{ExplainsOrFits}
 use Rattle.deciding.specs.Deciding.{Finds, Solves}
-use Rattle.dsaplan_core.specs.Courses.{classes_of, core_of, import_of, course, course_with, least_of, solve_of, trial_of}
+use Rattle.dsaplan_core.specs.Courses.{classes_of, core_of, import_of, course, course_with, least_of, solve_of, trial_of, unroll_of}
 use Rattle.dsaplan_core.specs.Choice.{MayStayOpen}
 use Rattle.dsaplan_core.specs.Complete.{IsConcluded, IsReady, IsUndisturbed}
 use Rattle.dsaplan_core.specs.Lost.{IsOwnWrite, option_of_role}
@@ -46,10 +50,13 @@ memory verb.Least pairs I = tt
 memory verb.Verify pairs I = tt
 memory verb.Refute pairs I = tt
 memory verb.Trim pairs I = tt
+memory verb.Upgrade pairs I = tt
 memory verb.Bounds pairs I = tt
 memory verb.Report pairs I = tt
+memory verb.Draw pairs I = tt
 memory verb.Trial pairs I = tt
 memory verb.Import pairs I = tt
+memory verb.Unroll pairs I = tt
 memory verb.Classes pairs I = tt
 memory verb.Core pairs I = tt
 
@@ -90,6 +97,11 @@ imports_conclude : (pairs : List Pair) (J : Instance) (r : Result Trace TraceFau
 imports_conclude pairs J (Ok trace) = tt
 imports_conclude pairs J (Err fault) = tt
 
+unrolls_conclude : (pairs : List Pair) (bytes : List ℕ) (J : Instance) (r : Result Instance CycleFault) →
+    IsConcluded verb.Unroll pairs J (unrolls (unroll_of pairs) bytes r).status
+unrolls_conclude pairs bytes J (Ok I) = tt
+unrolls_conclude pairs bytes J (Err fault) = tt
+
 module _ (old new : FilesSeen) (before after : SinkSeen) (I : Instance) where
   -- a request whose files are readable and are not disturbed
   abbrev IsServed : Request → Type 0
@@ -107,56 +119,81 @@ module _ (old new : FilesSeen) (before after : SinkSeen) (I : Instance) where
   imported_done pairs (ready, calm) o (inr (bytes, whole, comes)) =
       subst (IsDone verb.Import pairs) (sym comes.1) (imports_conclude pairs I (trace_of bytes))
 
+  unrolled_done : (pairs : List Pair) → IsServed (record { verb = verb.Unroll; pairs = pairs }) → (o : Outcome) →
+      Comes old new (course_with verb.Unroll pairs) o → IsDone verb.Unroll pairs o
+  unrolled_done pairs (ready, calm) o (inl failed) =
+      gives.unreadable old new (IsDone verb.Unroll pairs) role.Input (word_at pairs option.Input) file_limit
+      (served old new before after I (record { verb = verb.Unroll; pairs = pairs }) ready calm
+      (IsDone verb.Unroll pairs) role.Input option.Input (inl refl)) o failed.0 failed.1
+  unrolled_done pairs (ready, calm) o (inr (bytes, whole, comes)) =
+      subst (IsDone verb.Unroll pairs) (sym comes.1)
+      (unrolls_conclude pairs bytes I (unrolled_of (number_at pairs option.Period) (table_of bytes)))
+
   done : (v : Verb) (pairs : List Pair) → IsServed (record { verb = v; pairs = pairs }) → (o : Outcome) →
       Comes old new (course_with v pairs) o → IsDone v pairs o
   done verb.Solve pairs (ready, calm) =
-      opened_served old new before after I (record { verb = verb.Solve; pairs = pairs }) ready calm (inl refl)
+      opened_served old new before after I (record { verb = verb.Solve; pairs = pairs }) ready calm (inl refl, λ same. cc)
       (IsDone verb.Solve pairs)
       (λ table J. Concludes (Solves (solve_of pairs) table J)) (λ table o comes. solved pairs table I o comes.1)
   done verb.Least pairs (ready, calm) =
-      opened_served old new before after I (record { verb = verb.Least; pairs = pairs }) ready calm (inl refl)
+      opened_served old new before after I (record { verb = verb.Least; pairs = pairs }) ready calm (inl refl, λ same. cc)
       (IsDone verb.Least pairs)
       (λ table J. Concludes (Finds (least_of pairs) table J))
       (λ table o comes. found pairs table I o comes.1)
   done verb.Verify pairs (ready, calm) =
       let r : Request = record { verb = verb.Verify; pairs = pairs } in
       let capacity = number_at pairs option.Capacity in
-      opened_served old new before after I r ready calm (inl refl) (IsDone verb.Verify pairs)
+      opened_served old new before after I r ready calm (inl refl, λ same. cc) (IsDone verb.Verify pairs)
       (λ table J. judged (word_at pairs option.Layout) table J capacity (λ offsets. Ends (says status.Right)))
       (λ table. judged_served old new before after I r ready calm (inr (inl refl)) (IsDone verb.Verify pairs)
       table capacity (λ offsets. Ends (says status.Right)) (λ cause. tt)
       (λ offsets o comes. subst (IsDone verb.Verify pairs) (sym comes.1) tt))
   done verb.Refute pairs (ready, calm) =
       let r : Request = record { verb = verb.Refute; pairs = pairs } in
-      opened_served old new before after I r ready calm (inl refl) (IsDone verb.Refute pairs)
+      opened_served old new before after I r ready calm (inl refl, λ same. cc) (IsDone verb.Refute pairs)
       (λ table J. checked (word_at pairs option.Log) J (λ log. says (status.Accepted log.capacity)))
       (λ table. checked_served old new before after I r ready calm (inr (inl refl)) (IsDone verb.Refute pairs)
       (λ log. says (status.Accepted log.capacity)) (λ fault bad. tt) (λ fault bad. tt) (λ log holds. tt))
   done verb.Trim pairs (ready, calm) =
       let r : Request = record { verb = verb.Trim; pairs = pairs } in
-      opened_served old new before after I r ready calm (inl refl) (IsDone verb.Trim pairs)
+      opened_served old new before after I r ready calm (inl refl, λ same. cc) (IsDone verb.Trim pairs)
       (λ table J. checked (word_at pairs option.Log) J (trimming (word_at pairs option.Output)))
       (λ table. checked_served old new before after I r ready calm (inr (inl refl)) (IsDone verb.Trim pairs)
       (trimming (word_at pairs option.Output)) (λ fault bad. tt) (λ fault bad. tt) (λ log holds. tt))
+  done verb.Upgrade pairs (ready, calm) =
+      let r : Request = record { verb = verb.Upgrade; pairs = pairs } in
+      opened_served old new before after I r ready calm (inl refl, λ same. cc) (IsDone verb.Upgrade pairs)
+      (λ table J. checked (word_at pairs option.Log) J (upgrading (word_at pairs option.Output)))
+      (λ table. checked_served old new before after I r ready calm (inr (inl refl)) (IsDone verb.Upgrade pairs)
+      (upgrading (word_at pairs option.Output)) (λ fault bad. tt) (λ fault bad. tt) (λ log holds. tt))
   done verb.Bounds pairs (ready, calm) =
-      opened_served old new before after I (record { verb = verb.Bounds; pairs = pairs }) ready calm (inl refl)
+      opened_served old new before after I (record { verb = verb.Bounds; pairs = pairs }) ready calm (inl refl, λ same. cc)
       (IsDone verb.Bounds pairs) (λ table J. Concludes (ShowsFacts J))
       (λ table o comes. subst (IsDone verb.Bounds pairs) (sym comes.1.shown) tt)
   done verb.Report pairs (ready, calm) =
       let r : Request = record { verb = verb.Report; pairs = pairs } in
-      opened_served old new before after I r ready calm (inl refl) (IsDone verb.Report pairs)
+      opened_served old new before after I r ready calm (inl refl, λ same. cc) (IsDone verb.Report pairs)
       (λ table J. judged (word_at pairs option.Layout) table J (2 ^ 60)
       (λ offsets. Concludes (ShowsLayout table J offsets)))
       (λ table. judged_served old new before after I r ready calm (inr (inl refl)) (IsDone verb.Report pairs)
       table (2 ^ 60) (λ offsets. Concludes (ShowsLayout table I offsets)) (λ cause. tt)
       (λ offsets o comes. subst (IsDone verb.Report pairs) (sym comes.1.shown) tt))
+  done verb.Draw pairs (ready, calm) =
+      let r : Request = record { verb = verb.Draw; pairs = pairs } in
+      opened_served old new before after I r ready calm (inl refl, λ same. cc) (IsDone verb.Draw pairs)
+      (λ table J. judged (word_at pairs option.Layout) table J (2 ^ 60)
+      (λ offsets. Ends (drawing (word_at pairs option.Output) table J offsets)))
+      (λ table. judged_served old new before after I r ready calm (inr (inl refl)) (IsDone verb.Draw pairs)
+      table (2 ^ 60) (λ offsets. Ends (drawing (word_at pairs option.Output) table I offsets)) (λ cause. tt)
+      (λ offsets o comes. subst (IsDone verb.Draw pairs) (sym comes.1) tt))
   done verb.Import pairs served = imported_done pairs served
+  done verb.Unroll pairs served = unrolled_done pairs served
   done verb.Classes pairs (ready, calm) =
-      opened_served old new before after I (record { verb = verb.Classes; pairs = pairs }) ready calm (inl refl)
+      opened_served old new before after I (record { verb = verb.Classes; pairs = pairs }) ready calm (inl refl, λ same. cc)
       (IsDone verb.Classes pairs)
       (λ table J. Concludes (Plans (classes_of pairs) table J)) (λ table o comes. planned pairs table I o comes.1)
   done verb.Core pairs (ready, calm) =
-      opened_served old new before after I (record { verb = verb.Core; pairs = pairs }) ready calm (inl refl)
+      opened_served old new before after I (record { verb = verb.Core; pairs = pairs }) ready calm (inl refl, λ same. cc)
       (IsDone verb.Core pairs)
       (λ table J. Concludes (ExplainsOrFits (core_of pairs) table J))
       (λ table o comes. explained pairs table I o comes.1)

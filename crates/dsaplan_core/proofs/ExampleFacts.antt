@@ -1,8 +1,9 @@
 -- What words ask for, how they go, and which statuses conclude, accept or refuse.
-use Rattle.std.proofs.Common.{◌≡◌, ◌<◌, ℕ, List, [], ◌∷◌, Some, None, Ok, codes, refl, lit<, lit≤, arith}
+use Rattle.std.proofs.Common.{◌≡◌, ◌<◌, ℕ, List, [], ◌∷◌, Some, None, Ok, codes, refl, inl, lit<, lit≤, arith}
 use Rattle.dsa_terms.specs.Buffers.{Instance}
 use Rattle.dsa_terms.proofs.Examples.{small_below, two_of_four}
 use Rattle.csv_instance.specs.declared.fault.InstanceFault.TheVariants as instance
+use Rattle.cyclic_plan.specs.declared.fault.CycleFault.TheVariants as cycle
 use Rattle.csv_instance.proofs.FileFacts.{two}
 use Rattle.log_text.specs.declared.fault.TextFault.TheVariants as text
 use Rattle.planner.proofs.ShortageFacts.{four_of_four, short_of_four_steps}
@@ -17,7 +18,10 @@ use Rattle.run_status.specs.declared.status.LogCause.TheVariants as refused
 use Rattle.run_status.specs.declared.status.Role.TheVariants as role
 use Rattle.run_course.specs.Course.{Ends, says}
 use Rattle.judging.specs.Judging.{verify}
+use Rattle.judging.specs.Drawing.{draw}
+use Rattle.checking.specs.Checking.{upgrade}
 use Rattle.importing.specs.Importing.{import_course}
+use Rattle.importing.specs.Unrolling.{unroll}
 use Rattle.planning.specs.Planning.{classes}
 use Rattle.explaining.specs.Explaining.{core}
 use Rattle.explaining.proofs.ExampleFacts.{laid_at_8, none_at_7}
@@ -25,10 +29,11 @@ use Rattle.planning.proofs.ExampleFacts.{one, one_plain}
 use Rattle.dsaplan_core.specs.Courses.{course}
 use Rattle.dsaplan_core.specs.Choice.{MayStayOpen, steps_of}
 use Rattle.dsaplan_core.specs.Complete.{IsAcceptedAt, IsConcluded, limit_of}
-use Rattle.dsaplan_core.specs.Causes.{IsJudgedAt}
+use Rattle.dsaplan_core.specs.Causes.{IsChecking, IsJudgedAt}
+use Rattle.dsaplan_core.specs.Theorem.{ReadsInstance}
 use Rattle.dsaplan_core.specs.Lost.{option_of_role}
 use Rattle.dsaplan_core.specs.Refused.{IsMisuse}
-use Rattle.dsaplan_core.proofs.WorldFacts.{classes_values, core_values, import_values, trial_values, verify_values}
+use Rattle.dsaplan_core.proofs.WorldFacts.{classes_values, core_values, draw_values, import_values, trial_values, unroll_values, upgrade_values, verify_values}
 
 -- ---- words
 classes_are_asked : request_of (codes "classes" ∷ classes_values)
@@ -50,6 +55,18 @@ verify_goes = refl
 import_goes : course (codes "import" ∷ import_values)
     ≡ import_course (record { trace = codes "t"; output = codes "o" })
 import_goes = refl
+
+draw_goes : course (codes "draw" ∷ draw_values)
+    ≡ draw (record { input = codes "i"; layout = codes "a"; output = codes "o" })
+draw_goes = refl
+
+upgrade_goes : course (codes "upgrade" ∷ upgrade_values)
+    ≡ upgrade (record { input = codes "i"; log = codes "l"; output = codes "o" })
+upgrade_goes = refl
+
+unroll_goes : course (codes "unroll" ∷ unroll_values)
+    ≡ unroll (record { period = 10; input = codes "i"; output = codes "o" })
+unroll_goes = refl
 
 no_words_go : course [] ≡ Ends (says (status.Usage usage.NoCommand))
 no_words_go = refl
@@ -109,6 +126,22 @@ misused_is_not_malformed h = h
 report_judges_at_the_greatest : (pairs : List Pair) → IsJudgedAt verb.Report pairs 1152921504606846976
 report_judges_at_the_greatest pairs = refl
 
+draw_judges_at_the_greatest : (pairs : List Pair) → IsJudgedAt verb.Draw pairs 1152921504606846976
+draw_judges_at_the_greatest pairs = refl
+
+upgrade_checks_its_log : IsChecking verb.Upgrade
+upgrade_checks_its_log = tt
+
+solve_checks_none : IsChecking verb.Solve → ⊥
+solve_checks_none h = h
+
+draw_reads_an_instance : ReadsInstance verb.Draw
+draw_reads_an_instance = (inl refl, λ same. cc)
+
+-- `unroll` reads an input, but as no instance
+unroll_reads_none : ReadsInstance verb.Unroll → ⊥
+unroll_reads_none h = h.1 refl
+
 refute_judges_none : (pairs : List Pair) (C : ℕ) → IsJudgedAt verb.Refute pairs C → ⊥
 refute_judges_none pairs C h = h
 
@@ -121,6 +154,21 @@ concluded_by_the_first_rough pairs = refl
 
 not_by_a_layout : (pairs : List Pair) → IsConcluded verb.Classes pairs one (status.Feasible 1) → ⊥
 not_by_a_layout pairs h = h
+
+concluded_by_the_picture : (pairs : List Pair) → IsConcluded verb.Draw pairs two (status.Drawn 2)
+concluded_by_the_picture pairs = tt
+
+not_concluded_by_a_report : (pairs : List Pair) → IsConcluded verb.Draw pairs two status.Shown → ⊥
+not_concluded_by_a_report pairs h = h
+
+-- whatever the instance, a file without a header is refused as no circle, and never as malformed
+concluded_by_a_fault : (pairs : List Pair) →
+    IsConcluded verb.Unroll pairs two (status.CycleRefused (cycle.Instance instance.NoHeader))
+concluded_by_a_fault pairs = tt
+
+unroll_is_never_malformed : (pairs : List Pair) →
+    IsConcluded verb.Unroll pairs two (status.Malformed instance.NoHeader) → ⊥
+unroll_is_never_malformed pairs h = h
 
 concluded_by_layout : IsConcluded verb.Solve (pairs_of (core_values (codes "8"))) two (status.Feasible 8)
 concluded_by_layout = (refl, (0 ∷ 4 ∷ [], laid_at_8))

@@ -174,6 +174,6 @@ module _ (words : List Word) (old new : FilesSeen) (pairs : List Pair)
 
   pub least_promises : (o : Outcome) → Comes old new (course_with verb.Least pairs) o →
       Promises words old new request o
-  least_promises o comes = opened_promises words old new request is (inl refl)
+  least_promises o comes = opened_promises words old new request is (inl refl, λ same. cc)
       (λ table I. Concludes (Finds (least_of pairs) table I))
       (λ table I input o comes. concluded table I input o comes.1) o comes

@@ -23,8 +23,9 @@ use Rattle.dsaplan_core.proofs.Answered.{answered, words_give}
 use Rattle.dsaplan_core.proofs.Promises.{AreOwn, Promises}
 use Rattle.dsaplan_core.proofs.Solving.{solve_promises}
 use Rattle.dsaplan_core.proofs.Finding.{least_promises}
-use Rattle.dsaplan_core.proofs.Read.{refute_promises, report_promises, trim_promises, verify_promises}
+use Rattle.dsaplan_core.proofs.Read.{draw_promises, refute_promises, report_promises, trim_promises, upgrade_promises, verify_promises}
 use Rattle.dsaplan_core.proofs.Importing.{import_promises}
+use Rattle.dsaplan_core.proofs.Unrolling.{unroll_promises}
 use Rattle.dsaplan_core.proofs.Explained.{classes_promises, core_promises}
 use Rattle.dsaplan_core.proofs.Reported.{bounds_promises, trial_promises}
 
@@ -54,10 +55,13 @@ module _ (words : List Word) (old new : FilesSeen) where
   promised verb.Verify pairs is o comes = verify_promises words old new pairs is o comes
   promised verb.Refute pairs is o comes = refute_promises words old new pairs is o comes
   promised verb.Trim pairs is o comes = trim_promises words old new pairs is o comes
+  promised verb.Upgrade pairs is o comes = upgrade_promises words old new pairs is o comes
   promised verb.Bounds pairs is o comes = bounds_promises words old new pairs is o comes
   promised verb.Report pairs is o comes = report_promises words old new pairs is o comes
+  promised verb.Draw pairs is o comes = draw_promises words old new pairs is o comes
   promised verb.Trial pairs is o comes = trial_promises words old new pairs is o comes
   promised verb.Import pairs is o comes = import_promises words old new pairs is o comes
+  promised verb.Unroll pairs is o comes = unroll_promises words old new pairs is o comes
   promised verb.Classes pairs is o comes = classes_promises words old new pairs is o comes
   promised verb.Core pairs is o comes = core_promises words old new pairs is o comes
 

@@ -84,7 +84,7 @@ refused_input : RefusesInput (codes "bounds" ∷ bounds_values) empty_input empt
 refused_input = record {
   request = record { verb = verb.Bounds; pairs = pairs_of bounds_values };
   words_ask = refl;
-  read = inl refl;
+  read = (inl refl, λ same. cc);
   malformed = record {
     bytes = [];
     whole = record { held = λ there. file_at-with_file (Some empty) (codes "i") [] refl; short = lit≤ tt };

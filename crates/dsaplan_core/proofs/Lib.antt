@@ -16,6 +16,7 @@ mod Concluded
 mod Accepting
 mod Explained
 mod Importing
+mod Unrolling
 mod Going
 mod WorldFacts
 mod ExampleFacts

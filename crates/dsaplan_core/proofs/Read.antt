@@ -9,7 +9,8 @@ use Rattle.readings.specs.GivenLogs.{HoldsAccepted}
 use Rattle.readings.specs.Judging.{judged}
 use Rattle.readings.specs.Checking.{checked}
 use Rattle.judging.specs.Judging.{ShowsLayout}
-use Rattle.checking.specs.Checking.{trimming}
+use Rattle.judging.specs.Drawing.{drawing}
+use Rattle.checking.specs.Checking.{trimming, upgrading}
 use Rattle.dsa_outside.specs.Seen.{FilesSeen}
 use Rattle.command_words.specs.Options.{Word}
 use Rattle.command_words.specs.Pairs.{Pair, word_at, number_at}
@@ -58,7 +59,7 @@ module _ (words : List Word) (old new : FilesSeen) where
     verify_promises is =
         let layout = word_at pairs option.Layout in
         let capacity = number_at pairs option.Capacity in
-        opened_promises words old new (r verb.Verify) is (inl refl)
+        opened_promises words old new (r verb.Verify) is (inl refl, λ same. cc)
         (λ table I. judged layout table I capacity (λ offsets. Ends (says status.Right)))
         (λ table I input. judged_promises words old new (r verb.Verify) is (inr (inl refl)) table I capacity
         (λ offsets. Ends (says status.Right)) input refl
@@ -73,7 +74,7 @@ module _ (words : List Word) (old new : FilesSeen) where
         Comes old new (course_with verb.Report pairs) o → Promises words old new (r verb.Report) o
     report_promises is =
         let layout = word_at pairs option.Layout in
-        opened_promises words old new (r verb.Report) is (inl refl)
+        opened_promises words old new (r verb.Report) is (inl refl, λ same. cc)
         (λ table I. judged layout table I (2 ^ 60) (λ offsets. Concludes (ShowsLayout table I offsets)))
         (λ table I input. judged_promises words old new (r verb.Report) is (inr (inl refl)) table I (2 ^ 60)
         (λ offsets. Concludes (ShowsLayout table I offsets)) input refl
@@ -98,14 +99,38 @@ module _ (words : List Word) (old new : FilesSeen) where
           tt,
         )))
 
+    pub draw_promises : request_of words ≡ Ok (r verb.Draw) → (o : Outcome) →
+        Comes old new (course_with verb.Draw pairs) o → Promises words old new (r verb.Draw) o
+    draw_promises is =
+        let layout = word_at pairs option.Layout in
+        let output = word_at pairs option.Output in
+        opened_promises words old new (r verb.Draw) is (inl refl, λ same. cc)
+        (λ table I. judged layout table I (2 ^ 60) (λ offsets. Ends (drawing output table I offsets)))
+        (λ table I input. judged_promises words old new (r verb.Draw) is (inr (inl refl)) table I (2 ^ 60)
+        (λ offsets. Ends (drawing output table I offsets)) input refl
+        (λ offsets gives o comes. subst (Promises words old new (r verb.Draw)) (sym comes.1) (
+          λ files.
+              let a = asked words old (r verb.Draw) is table I input in (
+                (
+                  a,
+                  refl,
+                  record { given = gives_layout a (2 ^ 60) offsets gives; its_count = refl; files = files },
+                ),
+                tt,
+                tt,
+                tt,
+              ),
+          ((inl refl, refl), tt),
+        )))
+
     pub refute_promises : request_of words ≡ Ok (r verb.Refute) → (o : Outcome) →
         Comes old new (course_with verb.Refute pairs) o → Promises words old new (r verb.Refute) o
     refute_promises is =
         let name = word_at pairs option.Log in
-        opened_promises words old new (r verb.Refute) is (inl refl)
+        opened_promises words old new (r verb.Refute) is (inl refl, λ same. cc)
         (λ table I. checked name I (λ log. says (status.Accepted log.capacity)))
         (λ table I input. checked_promises words old new (r verb.Refute) is (inr (inl refl)) table I
-        (λ log. says (status.Accepted log.capacity)) input (inl refl)
+        (λ log. says (status.Accepted log.capacity)) input tt
         (λ log holds. (
           λ files.
               let a = asked words old (r verb.Refute) is table I input in
@@ -118,10 +143,9 @@ module _ (words : List Word) (old new : FilesSeen) where
     trim_promises is =
         let name = word_at pairs option.Log in
         let output = word_at pairs option.Output in
-        opened_promises words old new (r verb.Trim) is (inl refl)
+        opened_promises words old new (r verb.Trim) is (inl refl, λ same. cc)
         (λ table I. checked name I (trimming output))
-        (λ table I input. checked_promises words old new (r verb.Trim) is (inr (inl refl)) table I (trimming output) input
-        (inr refl)
+        (λ table I input. checked_promises words old new (r verb.Trim) is (inr (inl refl)) table I (trimming output) input tt
         (λ log holds. (
           λ files.
               let a = asked words old (r verb.Trim) is table I input in (
@@ -139,6 +163,30 @@ module _ (words : List Word) (old new : FilesSeen) where
                       files = files;
                     },
                   ),
+                ),
+                tt,
+                tt,
+                tt,
+              ),
+          ((inl refl, refl), tt),
+        )))
+
+    pub upgrade_promises : request_of words ≡ Ok (r verb.Upgrade) → (o : Outcome) →
+        Comes old new (course_with verb.Upgrade pairs) o → Promises words old new (r verb.Upgrade) o
+    upgrade_promises is =
+        let name = word_at pairs option.Log in
+        let output = word_at pairs option.Output in
+        opened_promises words old new (r verb.Upgrade) is (inl refl, λ same. cc)
+        (λ table I. checked name I (upgrading output))
+        (λ table I input. checked_promises words old new (r verb.Upgrade) is (inr (inl refl)) table I (upgrading output)
+        input tt
+        (λ log holds. (
+          λ files.
+              let a = asked words old (r verb.Upgrade) is table I input in (
+                (
+                  a,
+                  refl,
+                  (log, gives_log a log holds, refl, record { readable = ?; files = files }),
                 ),
                 tt,
                 tt,

@@ -11,7 +11,6 @@ use Rattle.command_words.specs.Forms.{form_of}
 use Rattle.command_words.specs.Pairs.{word_at}
 use Rattle.command_words.specs.Requests.{Request, request_of}
 use Rattle.command_words.specs.declared.option.OptionName.TheVariants as option
-use Rattle.command_words.specs.declared.verb.Verb.TheVariants as verb
 use Rattle.run_status.specs.declared.status.Status.TheVariants as status
 use Rattle.run_status.specs.declared.status.LogCause.{LogCause}
 use Rattle.run_status.specs.declared.status.LogCause.TheVariants as refused
@@ -24,9 +23,10 @@ use Rattle.readings.specs.Judging.{judged}
 use Rattle.readings.specs.GivenLayouts.{GivesLayout}
 use Rattle.readings.specs.Checking.{checked}
 use Rattle.readings.specs.GivenLogs.{HoldsAccepted, HoldsNoText, HoldsNoRefutation}
-use Rattle.dsaplan_core.specs.Causes.{IsJudgedAt}
+use Rattle.dsaplan_core.specs.Causes.{IsChecking, IsJudgedAt}
 use Rattle.dsaplan_core.specs.Complete.{limit_of}
 use Rattle.dsaplan_core.specs.Lost.{option_of_role}
+use Rattle.dsaplan_core.specs.Theorem.{ReadsInstance}
 use Rattle.dsaplan_core.proofs.Gives.{IfUnreadable, checked_gives, judged_gives, opened_gives}
 use Rattle.dsaplan_core.proofs.Promises.{Promises, asked}
 
@@ -49,11 +49,11 @@ module _ (words : List Word) (old new : FilesSeen) (r : Request) (is : request_o
     ),
   )
 
-  pub opened_promises : IsIn option.Input (form_of r.verb).reads → (next : List Record → Instance → Course) →
+  pub opened_promises : ReadsInstance r.verb → (next : List Record → Instance → Course) →
       ((table : List Record) (I : Instance) → IsInput old (word_at r.pairs option.Input) table I →
       (o : Outcome) → Comes old new (next table I) o → P o) →
       (o : Outcome) → Comes old new (opened (word_at r.pairs option.Input) next) o → P o
-  opened_promises read next = opened_gives old new P (word_at r.pairs option.Input) next (unreadable role.Input read)
+  opened_promises read next = opened_gives old new P (word_at r.pairs option.Input) next (unreadable role.Input read.0)
       (λ fault bad. (
         λ files.
             (tt, tt, tt, record { request = r; words_ask = is; read = read; malformed = bad; files = files }),
@@ -84,7 +84,7 @@ module _ (words : List Word) (old new : FilesSeen) (r : Request) (is : request_o
       ))
 
   refuses_log : (table : List Record) (I : Instance) → IsInput old (word_at r.pairs option.Input) table I →
-      ((r.verb ≡ verb.Refute) ⊎ (r.verb ≡ verb.Trim)) → (cause : LogCause) →
+      IsChecking r.verb → (cause : LogCause) →
       HoldsNoText old (word_at r.pairs option.Log) (status.LogRefused cause)
       ⊎ HoldsNoRefutation old (word_at r.pairs option.Log) I (status.LogRefused cause) →
       P (says (status.LogRefused cause))
@@ -105,7 +105,7 @@ module _ (words : List Word) (old new : FilesSeen) (r : Request) (is : request_o
 
   pub checked_promises : IsIn option.Log (form_of r.verb).reads → (table : List Record) (I : Instance)
       (accepted : Log → Outcome) → IsInput old (word_at r.pairs option.Input) table I →
-      ((r.verb ≡ verb.Refute) ⊎ (r.verb ≡ verb.Trim)) →
+      IsChecking r.verb →
       ((log : Log) → HoldsAccepted old (word_at r.pairs option.Log) I log → P (accepted log)) →
       (o : Outcome) → Comes old new (checked (word_at r.pairs option.Log) I accepted) o → P o
   checked_promises read table I accepted input checks =

@@ -20,7 +20,7 @@ module _ (words : List Word) (old new : FilesSeen) (pairs : List Pair) where
 
   pub bounds_promises : request_of words ≡ Ok (r verb.Bounds) → (o : Outcome) →
       Comes old new (course_with verb.Bounds pairs) o → Promises words old new (r verb.Bounds) o
-  bounds_promises is = opened_promises words old new (r verb.Bounds) is (inl refl)
+  bounds_promises is = opened_promises words old new (r verb.Bounds) is (inl refl, λ same. cc)
       (λ table I. Concludes (ShowsFacts I))
       (λ table I input o comes. subst (Promises words old new (r verb.Bounds)) (sym comes.1.shown) (
         λ files.

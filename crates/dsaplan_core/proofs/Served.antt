@@ -28,6 +28,7 @@ use Rattle.readings.specs.Judging.{judged}
 use Rattle.readings.specs.Checking.{checked}
 use Rattle.readings.specs.GivenLogs.{HoldsAccepted, HoldsNoText, HoldsNoRefutation}
 use Rattle.dsaplan_core.specs.Complete.{IsReady, IsUndisturbed, limit_of}
+use Rattle.dsaplan_core.specs.Theorem.{ReadsInstance}
 use Rattle.dsaplan_core.proofs.Gives.{IfUnreadable, checked_gives, judged_gives, opened_gives}
 use Rattle.dsaplan_core.proofs.Requests.{read_named}
 
@@ -74,7 +75,7 @@ module _ (old new : FilesSeen) (before after : SinkSeen) (I : Instance) (r : Req
   served P role o among = (λ unread. absurd (not_unread o among unread), λ long. absurd (not_long o among long))
 
   -- the bytes of the input are those that are held
-  read_as : (among : IsIn option.Input (form_of r.verb).reads) (bytes : List ℕ) →
+  read_as : (among : ReadsInstance r.verb) (bytes : List ℕ) →
       IsWholeFile old (word_at r.pairs option.Input) file_limit bytes → parse (table_of bytes) ≡ Ok I
   read_as among bytes whole =
       let there = ready.input among in
@@ -82,12 +83,12 @@ module _ (old new : FilesSeen) (before after : SinkSeen) (I : Instance) (r : Req
       ap (λ b. parse (table_of b)) same ∙ there.parsed
 
   -- a course that reads the input goes on with this instance
-  pub opened_served : IsIn option.Input (form_of r.verb).reads → (P : Outcome → Type 0)
+  pub opened_served : ReadsInstance r.verb → (P : Outcome → Type 0)
       (next : List Record → Instance → Course) →
       ((table : List Record) → (o : Outcome) → Comes old new (next table I) o → P o) →
       (o : Outcome) → Comes old new (opened (word_at r.pairs option.Input) next) o → P o
   opened_served among P next given = opened_gives old new P (word_at r.pairs option.Input) next
-      (served P role.Input option.Input among)
+      (served P role.Input option.Input among.0)
       (λ fault bad. absurd (let a = read_as among bad.bytes bad.whole in let b = bad.refused in cc))
       (λ table J input o comes.
       let mine : parse table ≡ Ok I = ap parse input.records ∙ read_as among input.bytes input.whole in

@@ -38,6 +38,16 @@ trial_values count =
 abbrev pub import_values : List Word
 import_values = codes "--trace" ∷ codes "t" ∷ codes "--output" ∷ codes "o" ∷ []
 
+abbrev pub draw_values : List Word
+draw_values =
+    codes "--input" ∷ codes "i" ∷ codes "--layout" ∷ codes "a" ∷ codes "--output" ∷ codes "o" ∷ []
+
+abbrev pub upgrade_values : List Word
+upgrade_values = codes "--input" ∷ codes "i" ∷ codes "--log" ∷ codes "l" ∷ codes "--output" ∷ codes "o" ∷ []
+
+abbrev pub unroll_values : List Word
+unroll_values = codes "--period" ∷ codes "10" ∷ codes "--input" ∷ codes "i" ∷ codes "--output" ∷ codes "o" ∷ []
+
 -- ---- files
 abbrev pub told : FileMap → FilesSeen
 told files = record { held = Some files; faults = λ name. 0 }

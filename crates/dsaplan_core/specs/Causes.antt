@@ -1,12 +1,10 @@
 -- Why a run refuses: its words, the number of a trial's buffers, the bytes of its input, of its layout file or of its
 -- log's file. Nothing is written then.
 use Rattle.std.specs.Prelude.{◌≡◌, ◌<◌, ◌⊎◌, ◌^◌, ℕ, List, Ok, Err}
-use Rattle.dsa_terms.specs.Claims.{IsIn}
 use Rattle.dsa_outside.specs.Seen.{FilesSeen}
 use Rattle.csv_instance.specs.Parse.{buffer_limit}
 use Rattle.csv_instance.specs.declared.fault.InstanceFault.{InstanceFault}
 use Rattle.command_words.specs.Options.{Word}
-use Rattle.command_words.specs.Forms.{form_of}
 use Rattle.command_words.specs.Pairs.{Pair, number_at, word_at}
 use Rattle.command_words.specs.Requests.{Request, request_of}
 use Rattle.command_words.specs.declared.option.OptionName.TheVariants as option
@@ -20,7 +18,7 @@ use Rattle.run_status.specs.declared.status.Status.{Status}
 use Rattle.run_status.specs.declared.status.Status.TheVariants as status
 use Rattle.run_status.specs.declared.status.WrongCause.{WrongCause}
 use Rattle.run_status.specs.declared.status.LogCause.{LogCause}
-use Rattle.dsaplan_core.specs.Theorem.{Asked}
+use Rattle.dsaplan_core.specs.Theorem.{Asked, ReadsInstance}
 
 -- the words are no command, for this fault first
 pub record AreNoCommand (words : List Word) (old new : FilesSeen) (fault : UsageFault) : Type 0 where
@@ -35,11 +33,11 @@ pub record AskTooMany (words : List Word) (old new : FilesSeen) (count : ℕ) : 
   pub many : buffer_limit < count
   pub files : new.held ≡ old.held
 
--- the command reads an input, and its bytes are no instance, for this fault first
+-- the command reads an instance, and the bytes of its input are none, for this fault first
 pub record RefusesInput (words : List Word) (old new : FilesSeen) (fault : InstanceFault) : Type 0 where
   pub request : Request
   pub words_ask : request_of words ≡ Ok request
-  pub read : IsIn option.Input (form_of request.verb).reads
+  pub read : ReadsInstance request.verb
   pub malformed : IsMalformed old (word_at request.pairs option.Input) fault
   pub files : new.held ≡ old.held
 
@@ -47,6 +45,7 @@ pub record RefusesInput (words : List Word) (old new : FilesSeen) (fault : Insta
 abbrev pub IsJudgedAt : Verb → List Pair → ℕ → Type 0
 IsJudgedAt verb.Verify pairs C = C ≡ number_at pairs option.Capacity
 IsJudgedAt verb.Report pairs C = C ≡ 2 ^ 60
+IsJudgedAt verb.Draw pairs C = C ≡ 2 ^ 60
 IsJudgedAt verb pairs C = ⊥
 
 -- the layout file gives no offsets, or none that are a layout at the capacity, for this cause
@@ -58,10 +57,17 @@ pub record RefusesLayout (words : List Word) (old new : FilesSeen) (cause : Wron
       ⊎ GivesWrongOffsets old (word_at asked.pairs option.Layout) asked.table asked.instance capacity (status.Wrong cause)
   pub files : new.held ≡ old.held
 
+-- the command checks a log's file
+abbrev pub IsChecking : Verb → Type 0
+IsChecking verb.Refute = Unit {0}
+IsChecking verb.Trim = Unit {0}
+IsChecking verb.Upgrade = Unit {0}
+IsChecking verb = ⊥
+
 -- the log's file is no log's text, or the text of one that is not accepted, for this cause
 pub record RefusesLog (words : List Word) (old new : FilesSeen) (cause : LogCause) : Type 0 where
   pub asked : Asked words old
-  pub checked : (asked.verb ≡ verb.Refute) ⊎ (asked.verb ≡ verb.Trim)
+  pub checked : IsChecking asked.verb
   pub refused : HoldsNoText old (word_at asked.pairs option.Log) (status.LogRefused cause)
       ⊎ HoldsNoRefutation old (word_at asked.pairs option.Log) asked.instance (status.LogRefused cause)
   pub files : new.held ≡ old.held

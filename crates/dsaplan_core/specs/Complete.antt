@@ -25,6 +25,7 @@ use Rattle.readings.specs.Checking.{log_limit}
 use Rattle.run_status.specs.declared.status.Status.{Status}
 use Rattle.run_status.specs.declared.status.Status.TheVariants as status
 use Rattle.dsaplan_core.specs.Choice.{MayStayOpen, steps_of}
+use Rattle.dsaplan_core.specs.Theorem.{ReadsInstance}
 
 -- the greatest number of bytes that the file of an option may have
 abbrev pub limit_of : OptionName → ℕ
@@ -36,10 +37,10 @@ pub record HoldsInstance (I : Instance) (files : FilesSeen) (name : Word) : Type
   pub file : IsReadable files name file_limit
   pub parsed : parse (table_of file.bytes) ≡ Ok I
 
--- each file that the command reads is readable, and its input, if it has one, is this instance
+-- each file that the command reads is readable, and the instance, if it reads one, is this
 pub record IsReady (seen : FilesSeen) (r : Request) (I : Instance) : Type 0 where
   pub files : (o : OptionName) → IsIn o (form_of r.verb).reads → IsReadable seen (word_at r.pairs o) (limit_of o)
-  pub input : IsIn option.Input (form_of r.verb).reads → HoldsInstance I seen (word_at r.pairs option.Input)
+  pub input : ReadsInstance r.verb → HoldsInstance I seen (word_at r.pairs option.Input)
 
 -- the name holds the text of this log, which is accepted for the instance
 pub record HoldsLog (I : Instance) (log : Log) (files : FilesSeen) (name : Word) : Type 0 where
@@ -73,14 +74,20 @@ IsConcluded verb.Refute pairs I (status.Accepted C) = Unit {0}
 IsConcluded verb.Refute pairs I (status.LogRefused cause) = Unit {0}
 IsConcluded verb.Trim pairs I (status.Trimmed before after) = Unit {0}
 IsConcluded verb.Trim pairs I (status.LogRefused cause) = Unit {0}
+IsConcluded verb.Upgrade pairs I (status.Upgraded lines) = Unit {0}
+IsConcluded verb.Upgrade pairs I (status.LogRefused cause) = Unit {0}
 IsConcluded verb.Bounds pairs I status.Shown = Unit {0}
 IsConcluded verb.Report pairs I status.Shown = Unit {0}
 IsConcluded verb.Report pairs I (status.Wrong cause) = Unit {0}
+IsConcluded verb.Draw pairs I (status.Drawn count) = Unit {0}
+IsConcluded verb.Draw pairs I (status.Wrong cause) = Unit {0}
 IsConcluded verb.Trial pairs I status.Shown = number_at pairs option.Count ≤ buffer_limit
 IsConcluded verb.Trial pairs I (status.TooMany n) =
     (n ≡ number_at pairs option.Count) × (buffer_limit < number_at pairs option.Count)
 IsConcluded verb.Import pairs I (status.Imported count) = Unit {0}
 IsConcluded verb.Import pairs I (status.TraceRefused fault) = Unit {0}
+IsConcluded verb.Unroll pairs I (status.Unrolled count) = Unit {0}
+IsConcluded verb.Unroll pairs I (status.CycleRefused fault) = Unit {0}
 IsConcluded verb.Classes pairs I (status.Classed height load) = IsPlain I
 IsConcluded verb.Classes pairs I (status.NotPlain b) = first_rough I ≡ Some b
 IsConcluded verb.Core pairs I (status.Core count) = IsInfeasible I (number_at pairs option.Capacity)

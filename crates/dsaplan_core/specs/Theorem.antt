@@ -1,9 +1,10 @@
 -- The promise of a run in few words. The layout that is written with 'feasible', 'least C' or 'open L H' is aligned,
 -- within its capacity and free of overlap at every moment; with 'infeasible', 'least C' or 'open L H' the written log,
 -- at C - 1 or L - 1 unless C or L is zero, is accepted, and an accepted log means that no layout fits. With 'right' the
--- layout file gives a layout, and with 'accepted' and 'trimmed' the log's file is an accepted log. 'classes' writes a
--- plan by size class, 'core' an irreducible set of buffers that do not fit, and 'imported' the instance of the trace.
-use Rattle.std.specs.Prelude.{◌≡◌, ◌-◌, ◌≤◌, ◌<◌, ℕ, List, length, IsSome, Some, Ok, Err}
+-- layout file gives a layout, and with 'accepted', 'trimmed' and 'upgraded' the log's file is an accepted log. 'drawn'
+-- writes a picture of the layout, 'classes' a plan by size class, 'core' an irreducible set of buffers that do not fit,
+-- 'imported' the instance of the trace, and 'unrolled' that of one period.
+use Rattle.std.specs.Prelude.{◌≡◌, ◌≢◌, ◌↔◌, ◌-◌, ◌≤◌, ◌<◌, ◌^◌, ℕ, List, length, IsSome, Some, Ok, Err}
 use Rattle.dsa_terms.specs.Buffers.{Instance}
 use Rattle.dsa_terms.specs.Claims.{IsIn}
 use Rattle.dsa_terms.specs.Layouts.{IsFeasible, IsLayout, IsInfeasible, IsLeast}
@@ -20,6 +21,10 @@ use Rattle.log_text.specs.Faults.{IsTextOf}
 use Rattle.log_text.specs.Text.{log_text, raw_log_of}
 use Rattle.dsa_model.specs.Chosen.{some_of}
 use Rattle.core_find.specs.Cores.{IsCore, without}
+use Rattle.cyclic_plan.specs.Texts.{IsUnrolled, unrolled_of, unrolled_text}
+use Rattle.cyclic_plan.specs.declared.fault.CycleFault.{CycleFault}
+use Rattle.layout_picture.specs.Rectangles.{rectangles}
+use Rattle.layout_picture.specs.Texts.{picture_text}
 use Rattle.size_classes.specs.Plain.{first_rough, IsPlain}
 use Rattle.size_classes.specs.Plans.{AllOf, IsPeakLoad, class_height, class_plan, power_height}
 use Rattle.trace_import.specs.Faults.{trace_of}
@@ -27,6 +32,7 @@ use Rattle.trace_import.specs.ImportText.{import_text}
 use Rattle.trace_import.specs.Traces.{IsTraced, Trace, imported}
 use Rattle.trace_import.specs.declared.fault.TraceFault.{TraceFault}
 use Rattle.command_words.specs.Options.{Word}
+use Rattle.command_words.specs.Forms.{form_of}
 use Rattle.command_words.specs.Pairs.{Pair, number_at, word_at}
 use Rattle.command_words.specs.Requests.{request_of}
 use Rattle.command_words.specs.declared.option.OptionName.TheVariants as option
@@ -37,6 +43,10 @@ use Rattle.readings.specs.Checking.{log_limit}
 use Rattle.readings.specs.Opens.{IsInput}
 use Rattle.run_status.specs.declared.status.Status.{Status}
 use Rattle.run_status.specs.declared.status.Status.TheVariants as status
+
+-- the command reads an input and takes it as an instance, as all do but `unroll`
+abbrev pub ReadsInstance : Verb → Type 0
+ReadsInstance v = IsIn option.Input (form_of v).reads × (v ≢ verb.Unroll)
 
 -- what the words ask for: the command with its values, and the instance that its input holds
 pub record Asked (words : List Word) (old : FilesSeen) : Type 0 where
@@ -84,6 +94,18 @@ pub record HoldsTrimmed {words : List Word} {old : FilesSeen} (a : Asked words o
   pub accepted : IsAccepted a.instance (trimmed log)
   pub readable : IsTextOf (log_text (trimmed log)) (raw_log_of (trimmed log))
   pub files : new.held ≡ with_file old.held (word_at a.pairs option.Output) (log_text (trimmed log))
+
+-- the output holds the log's second text, whose bytes say the log
+pub record HoldsUpgraded {words : List Word} {old : FilesSeen} (a : Asked words old) (new : FilesSeen) (log : Log) : Type 0 where
+  pub readable : Says (log_text2 log) (raw_log_of log)
+  pub files : new.held ≡ with_file old.held (word_at a.pairs option.Output) (log_text2 log)
+
+-- the layout file gives a layout, and the output holds its picture, with so many rectangles
+pub record HoldsPicture {words : List Word} {old : FilesSeen} (a : Asked words old) (new : FilesSeen) (count : ℕ) : Type 0 where
+  pub given : GivesLayoutAt a (2 ^ 60)
+  pub its_count : length (rectangles a.instance given.offsets) ≡ count
+  pub files : new.held ≡ with_file old.held (word_at a.pairs option.Output)
+      (picture_text a.instance (ids_of a.table) given.offsets)
 
 -- the instance is plain, and the output holds the text of the plan by size class, a layout at its height, which is at
 -- most the sum of two to the power of each class times its count; where all sizes are equal it is the least capacity,
@@ -139,6 +161,29 @@ pub record RefusesTrace (words : List Word) (old new : FilesSeen) (fault : Trace
   pub refused : trace_of bytes ≡ Err fault
   pub files : new.held ≡ old.held
 
+-- the words ask to unroll buffers whose moments repeat with the period; the output holds the text of their instance of
+-- one period, whose layouts are just those that hold at every moment of endless time
+pub record HoldsUnrolled (words : List Word) (old new : FilesSeen) (count : ℕ) : Type 0 where
+  pub pairs : List Pair
+  pub bytes : List ℕ
+  pub instance : Instance
+  pub words_ask : request_of words ≡ Ok (record { verb = verb.Unroll; pairs = pairs })
+  pub whole : IsWholeFile old (word_at pairs option.Input) file_limit bytes
+  pub its_count : length instance ≡ count
+  pub unrolled : IsUnrolled (number_at pairs option.Period) (table_of bytes) instance
+  pub parsed : parse (table_of (unrolled_text (number_at pairs option.Period) (table_of bytes))) ≡ Ok instance
+  pub files : new.held ≡ with_file old.held (word_at pairs option.Output)
+      (unrolled_text (number_at pairs option.Period) (table_of bytes))
+
+-- the words ask to unroll a file that holds no buffers of one period, for its first fault
+pub record RefusesCycle (words : List Word) (old new : FilesSeen) (fault : CycleFault) : Type 0 where
+  pub pairs : List Pair
+  pub bytes : List ℕ
+  pub words_ask : request_of words ≡ Ok (record { verb = verb.Unroll; pairs = pairs })
+  pub whole : IsWholeFile old (word_at pairs option.Input) file_limit bytes
+  pub refused : unrolled_of (number_at pairs option.Period) (table_of bytes) ≡ Err fault
+  pub files : new.held ≡ old.held
+
 -- what the status promises of the files
 abbrev pub Headline : List Word → FilesSeen → FilesSeen → Status → Type 0
 Headline words old new (status.Feasible C) = (a : Asked words old) × (a.verb ≡ verb.Solve)
@@ -156,8 +201,13 @@ Headline words old new (status.Accepted C) = (a : Asked words old) × (a.verb �
 Headline words old new (status.Trimmed before after) = (a : Asked words old) × (a.verb ≡ verb.Trim)
     × ((log : Log) × GivesLog a log × (length log.lines ≡ before) × (length (trimmed log).lines ≡ after)
     × HoldsTrimmed a new log)
+Headline words old new (status.Upgraded lines) = (a : Asked words old) × (a.verb ≡ verb.Upgrade)
+    × ((log : Log) × GivesLog a log × (length log.lines ≡ lines) × HoldsUpgraded a new log)
+Headline words old new (status.Drawn count) = (a : Asked words old) × (a.verb ≡ verb.Draw) × HoldsPicture a new count
 Headline words old new (status.Imported count) = HoldsImport words old new count
 Headline words old new (status.TraceRefused fault) = RefusesTrace words old new fault
+Headline words old new (status.Unrolled count) = HoldsUnrolled words old new count
+Headline words old new (status.CycleRefused fault) = RefusesCycle words old new fault
 Headline words old new (status.Classed height load) = (a : Asked words old) × (a.verb ≡ verb.Classes)
     × HoldsClassPlan a new height load
 Headline words old new (status.NotPlain b) = (a : Asked words old) × (a.verb ≡ verb.Classes)

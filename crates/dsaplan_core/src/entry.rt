@@ -10,14 +10,14 @@ ghost use Rattle.dsaplan_core.specs.Choice.{Choice};
 ghost use Rattle.dsaplan_core.specs.Complete.{IsConcluded, IsReady, IsUndisturbed};
 
 use crate::misuse::Misuse;
-use checking::{Refute, Trim};
+use checking::{Refute, Trim, Upgrade};
 use command_words::{OptionName, Request, Verb, read_words};
 use deciding::{Least, Solve};
 use dsa_outside::{Files, Sink};
 use explaining::Core;
 use fact_reports::{Bounds, Trial};
-use importing::Import;
-use judging::{Report, Verify};
+use importing::{Import, Unroll};
+use judging::{Draw, Report, Verify};
 use planning::Classes;
 use run_course::perform;
 use run_status::Status;
@@ -72,11 +72,31 @@ fn answer<F: Files, S: Sink>(
             let trim = Trim { input, log, output };
             perform(alloc, &trim, files, out)
         }
+        Verb::Upgrade => {
+            let upgrade = Upgrade { input, log, output };
+            perform(alloc, &upgrade, files, out)
+        }
         Verb::Bounds => perform(alloc, &Bounds { input }, files, out),
         Verb::Report => perform(alloc, &Report { input, layout }, files, out),
+        Verb::Draw => {
+            let draw = Draw {
+                input,
+                layout,
+                output,
+            };
+            perform(alloc, &draw, files, out)
+        }
         Verb::Import => {
             let trace = request.word(OptionName::Trace);
             perform(alloc, &Import { trace, output }, files, out)
+        }
+        Verb::Unroll => {
+            let unroll = Unroll {
+                period: request.number(OptionName::Period),
+                input,
+                output,
+            };
+            perform(alloc, &unroll, files, out)
         }
         Verb::Classes => perform(alloc, &Classes { input, output }, files, out),
         Verb::Core => {
@@ -127,8 +147,9 @@ pub fn run<F: Files, S: Sink>(alloc: Global, words: &[String], files: &mut F, ou
     // capacity and free of overlap at every moment; with 'infeasible', 'least C' or 'open L H' the
     // written log, at C - 1 or L - 1 unless C or L is zero, is accepted, and an accepted log means
     // that no layout fits. 'right', 'accepted' and 'trimmed' say the same of what was read.
-    // 'classes' writes a plan by size class, 'core' an irreducible set of buffers that do not fit,
-    // and 'imported' the instance of the trace.
+    // 'upgraded' writes the accepted log in the second version of its text, 'drawn' a picture of
+    // the layout, 'classes' a plan by size class, 'core' an irreducible set of buffers that do not
+    // fit, 'imported' the instance of the trace, and 'unrolled' that of one period.
     ensures headline { Headline (map string_bytes words.now)
         (F.seen files.old) (F.seen files.new) result }
 

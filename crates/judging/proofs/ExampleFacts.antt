@@ -1,19 +1,26 @@
 -- Two buffers that are both live at 4: at 0 and 2 they overlap, at 0 and 4 they are a layout within 8 bytes.
-use Rattle.std.proofs.Common.{◌≡◌, ◌∙◌, ℕ, List, Some, codes, refl, slice_index, ap, arith}
+use Rattle.std.proofs.Common.{◌≡◌, ◌∙◌, ℕ, List, [], ◌∷◌, Some, codes, refl, slice_index, ap, arith}
 use Rattle.std.specs.FinMap.{empty, insert}
 use Rattle.dsa_outside.specs.Held.{FileMap, file_at}
 use Rattle.dsa_outside.specs.Seen.{FilesSeen}
 use Rattle.dsa_outside.proofs.Lookups.{file_at-with_file, file_at-with_other}
-use Rattle.dsa_terms.specs.Buffers.{Instance}
+use Rattle.dsa_terms.specs.Buffers.{Instance, buffer, is_live}
+use Rattle.lifetime.specs.Runs.{was_live}
+use Rattle.layout_picture.specs.Columns.{columns_of, turns_at}
+use Rattle.layout_picture.specs.Rectangles.{rectangles, rectangles_of, run_end}
+use Rattle.layout_picture.specs.Texts.{picture_text}
 use Rattle.dsa_model.specs.declared.layout.LayoutFault.TheVariants as layout
 use Rattle.csv_instance.specs.Records.{Record}
-use Rattle.csv_instance.proofs.FileFacts.{high_file, low_file, two_file}
+use Rattle.csv_instance.specs.Offsets.{ids_of}
+use Rattle.csv_instance.proofs.FileFacts.{high_file, low_file, two, two_file, two_rows}
 use Rattle.run_status.specs.declared.status.Status.TheVariants as status
 use Rattle.run_status.specs.declared.status.WrongCause.TheVariants as wrong
-use Rattle.run_course.specs.Course.{Comes, Course, Ends, says}
+use Rattle.run_course.specs.Course.{Comes, Course, Ends, says, writes}
+use Rattle.run_status.specs.declared.status.Role.TheVariants as role
 use Rattle.readings.specs.Judging.{judged}
 use Rattle.readings.proofs.ExampleFacts.{judges_layout, judges_overlap, opens_two, overlaps}
 use Rattle.judging.specs.Judging.{Verify, verify}
+use Rattle.judging.specs.Drawing.{drawing}
 
 -- the input stands in the file i, and the layout in the file a
 abbrev input : FileMap
@@ -51,3 +58,12 @@ right_at_8 : (new : FilesSeen) → Comes (files high_file) new (verify (within 8
 right_at_8 new =
     opens_two (files high_file) new (codes "i") (goes_on 8) (says status.Right) (reads_input high_file)
     (judges_layout (files high_file) new (codes "a") right (says status.Right) (reads_layout high_file) (tt, refl))
+
+-- ---- drawing them
+two_are_drawn : drawing (codes "o") two_rows two (0 ∷ 4 ∷ []) ≡ writes (record {
+  role = role.Output;
+  name = codes "o";
+  bytes = picture_text two (ids_of two_rows) (0 ∷ 4 ∷ []);
+} ∷ []) (status.Drawn 2)
+unfolding rectangles rectangles_of run_end columns_of turns_at was_live is_live buffer
+two_are_drawn = refl

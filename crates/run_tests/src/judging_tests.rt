@@ -85,6 +85,16 @@ fn what_is_read_is_judged(rt: HostRuntime) -> Result<(), Fail> {
             "wrong overlap 0 4 0\n",
         ),
         (
+            "draw --input five --layout right --output o",
+            Status::Drawn { rectangles: 5 },
+            "drawn 5\n",
+        ),
+        (
+            "draw --input five --layout wrong --output o",
+            Status::Wrong(WrongCause::Layout(overlap)),
+            "wrong overlap 0 4 0\n",
+        ),
+        (
             "trial --seed 1 --count 2 --steps 1000",
             Status::Shown,
             MADE_IN_1000,

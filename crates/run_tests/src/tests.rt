@@ -1,5 +1,6 @@
 //! Runs over files and sinks in memory: what is written, and what fails outside.
 
+use cyclic_plan::CycleFault;
 use dsa_outside::{MemoryFiles, MemorySink, SoundFiles, SoundSink};
 use dsaplan_core::{LogCause, Role, Status, UsageFault, run};
 use log_check::CheckFault;
@@ -38,6 +39,17 @@ end 4
 
 /// Line 0 is cited by none.
 const THREE_OVER_4_WITH_WASTE: &str = "dsalog 1 3 4
+over 0 5 1 : 0=5
+over 0 3 1 : 2=3
+over 0 4 1 : 1=4
+case : 1=1 2=1 : 1>1 2>2
+over 0 2 2 : 0=2 1=2
+case : 0=0 1=0 2=0 : 0>3 1~0 2>4
+end 5
+";
+
+/// The same log as version 2 has it: no claim is shorter as a difference.
+const THREE_UPGRADED: &str = "dsalog 2 3 4
 over 0 5 1 : 0=5
 over 0 3 1 : 2=3
 over 0 4 1 : 1=4
@@ -172,6 +184,30 @@ fn what_is_decided_is_written(rt: HostRuntime) -> Result<(), Fail> {
             None,
         ),
         (
+            "upgrade --input i --log waste --output o",
+            THREE,
+            Status::Upgraded { lines: 6 },
+            "upgraded 6\n",
+            Some(THREE_UPGRADED),
+            None,
+        ),
+        (
+            "unroll --period 10 --input i --output o",
+            "id,lower,upper,size\nA,8,2,4\nB,2,8,4\n",
+            Status::Unrolled { buffers: 2 },
+            "unrolled 2\n",
+            Some("id,lower,upper,size,gaps\nA,0,10,4,2-8\nB,2,8,4,\n"),
+            None,
+        ),
+        (
+            "unroll --period 10 --input i --output o",
+            "id,lower,upper,size\nA,10,2,4\n",
+            Status::CycleRefused(CycleFault::Outside { row: 0 }),
+            "cycle row 0 outside\n",
+            None,
+            None,
+        ),
+        (
             "import --trace i --output o",
             "alloc a 4 1\nfree a\n",
             Status::Imported { buffers: 1 },
@@ -246,6 +282,15 @@ fn faults_outside_are_told(rt: HostRuntime) -> Result<(), Fail> {
         ),
         (
             "trim --input i --log log --output o",
+            2,
+            9,
+            Status::WriteFault(Role::Output),
+            "unwritten --output\n",
+            None,
+            None,
+        ),
+        (
+            "draw --input i --layout right --output o",
             2,
             9,
             Status::WriteFault(Role::Output),

@@ -38,6 +38,12 @@ returns-in-Trim g c = command_goes (g.F.Files.seen c.args.files.now) (g.F.Files.
     (rw (c.word-input.ensures.value, c.word-log.ensures.value, c.word-output.ensures.value)
     at c.perform-in-Trim.ensures)
 
+pub returns-in-Upgrade : goal.returns-in-Upgrade
+returns-in-Upgrade g c = command_goes (g.F.Files.seen c.args.files.now) (g.F.Files.seen c.perform-in-Upgrade.new.files)
+    (g.S.Sink.seen c.args.out.now) (g.S.Sink.seen c.perform-in-Upgrade.new.out) c.perform-in-Upgrade.result c.args.request.now
+    verb.Upgrade (sym c.in-Upgrade.is ∙ c.verb.ensures.value)
+    (rw (c.word-input.ensures.value, c.word-log.ensures.value, c.word-output.ensures.value) at c.perform-in-Upgrade.ensures)
+
 pub returns-in-Bounds : goal.returns-in-Bounds
 returns-in-Bounds g c = command_goes (g.F.Files.seen c.args.files.now) (g.F.Files.seen c.perform-in-Bounds.new.files)
     (g.S.Sink.seen c.args.out.now) (g.S.Sink.seen c.perform-in-Bounds.new.out) c.perform-in-Bounds.result c.args.request.now
@@ -52,6 +58,12 @@ returns-in-Report g c = command_goes (g.F.Files.seen c.args.files.now) (g.F.File
     (rw (c.word-input.ensures.value, c.word-layout.ensures.value)
     at c.perform-in-Report.ensures)
 
+pub returns-in-Draw : goal.returns-in-Draw
+returns-in-Draw g c = command_goes (g.F.Files.seen c.args.files.now) (g.F.Files.seen c.perform-in-Draw.new.files)
+    (g.S.Sink.seen c.args.out.now) (g.S.Sink.seen c.perform-in-Draw.new.out) c.perform-in-Draw.result c.args.request.now
+    verb.Draw (sym c.in-Draw.is ∙ c.verb.ensures.value)
+    (rw (c.word-input.ensures.value, c.word-layout.ensures.value, c.word-output.ensures.value) at c.perform-in-Draw.ensures)
+
 pub returns-in-Trial : goal.returns-in-Trial
 returns-in-Trial g c = command_goes (g.F.Files.seen c.args.files.now) (g.F.Files.seen c.perform-in-Trial.new.files)
     (g.S.Sink.seen c.args.out.now) (g.S.Sink.seen c.perform-in-Trial.new.out) c.perform-in-Trial.result c.args.request.now
@@ -64,6 +76,12 @@ returns-in-Import g c = command_goes (g.F.Files.seen c.args.files.now) (g.F.File
     (g.S.Sink.seen c.args.out.now) (g.S.Sink.seen c.perform-in-Import.new.out) c.perform-in-Import.result c.args.request.now
     verb.Import (sym c.in-Import.is ∙ c.verb.ensures.value)
     (rw (c.word-trace.ensures.value, c.word-output.ensures.value) at c.perform-in-Import.ensures)
+
+pub returns-in-Unroll : goal.returns-in-Unroll
+returns-in-Unroll g c = command_goes (g.F.Files.seen c.args.files.now) (g.F.Files.seen c.perform-in-Unroll.new.files)
+    (g.S.Sink.seen c.args.out.now) (g.S.Sink.seen c.perform-in-Unroll.new.out) c.perform-in-Unroll.result c.args.request.now
+    verb.Unroll (sym c.in-Unroll.is ∙ c.verb.ensures.value)
+    (rw (c.number.ensures.value, c.word-input.ensures.value, c.word-output.ensures.value) at c.perform-in-Unroll.ensures)
 
 pub returns-in-Classes : goal.returns-in-Classes
 returns-in-Classes g c = command_goes (g.F.Files.seen c.args.files.now) (g.F.Files.seen c.perform-in-Classes.new.files)

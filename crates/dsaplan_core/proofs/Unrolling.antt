@@ -1,0 +1,66 @@
+-- What `unroll` promises.
+use Rattle.std.proofs.Common.{◌≡◌, ℕ, List, Result, Ok, Err, refl, sym, subst, inl, inr}
+use Rattle.dsa_terms.specs.Buffers.{Instance}
+use Rattle.dsa_outside.specs.Seen.{FilesSeen}
+use Rattle.csv_instance.specs.Records.{file_limit, table_of}
+use Rattle.cyclic_plan.specs.Texts.{unrolled_of}
+use Rattle.cyclic_plan.specs.declared.fault.CycleFault.{CycleFault}
+use Rattle.command_words.specs.Options.{Word}
+use Rattle.command_words.specs.Pairs.{Pair, number_at, word_at}
+use Rattle.command_words.specs.Requests.{Request, request_of}
+use Rattle.command_words.specs.declared.option.OptionName.TheVariants as option
+use Rattle.command_words.specs.declared.verb.Verb.TheVariants as verb
+use Rattle.run_status.specs.declared.status.Role.TheVariants as role
+use Rattle.run_course.specs.Readings.{IsWholeFile}
+use Rattle.run_course.specs.Course.{Comes, Outcome}
+use Rattle.importing.specs.Unrolling.{unrolls}
+use Rattle.dsaplan_core.specs.Courses.{course_with, unroll_of}
+use Rattle.dsaplan_core.proofs.Gives as gives
+use Rattle.dsaplan_core.proofs.Promises.{Promises}
+use Rattle.dsaplan_core.proofs.Refusals.{unreadable}
+
+module _ (words : List Word) (old new : FilesSeen) (pairs : List Pair)
+    (is : request_of words ≡ Ok (record { verb = verb.Unroll; pairs = pairs })) where
+  abbrev request : Request
+  request = record { verb = verb.Unroll; pairs = pairs }
+
+  unrolled : (bytes : List ℕ) → IsWholeFile old (word_at pairs option.Input) file_limit bytes →
+      (r : Result Instance CycleFault) → unrolled_of (number_at pairs option.Period) (table_of bytes) ≡ r →
+      Promises words old new request (unrolls (unroll_of pairs) bytes r)
+  unrolled bytes whole (Ok I) read = (
+    λ files. (
+      record {
+        pairs = pairs;
+        bytes = bytes;
+        instance = I;
+        words_ask = is;
+        whole = whole;
+        its_count = refl;
+        unrolled = ?;
+        parsed = ?;
+        files = files;
+      },
+      tt,
+      tt,
+      tt,
+    ),
+    ((inl refl, refl), tt),
+  )
+  unrolled bytes whole (Err fault) refused = (
+    λ files. (
+      record { pairs = pairs; bytes = bytes; words_ask = is; whole = whole; refused = refused; files = files },
+      tt,
+      tt,
+      tt,
+    ),
+    tt,
+  )
+
+  pub unroll_promises : (o : Outcome) → Comes old new (course_with verb.Unroll pairs) o →
+      Promises words old new request o
+  unroll_promises o (inl failed) = gives.unreadable old new (Promises words old new request) role.Input
+      (word_at pairs option.Input) file_limit
+      (unreadable words old new request is role.Input (inl refl)) o failed.0 failed.1
+  unroll_promises o (inr (bytes, whole, comes)) =
+      subst (Promises words old new request) (sym comes.1)
+      (unrolled bytes whole (unrolled_of (number_at pairs option.Period) (table_of bytes)) refl)

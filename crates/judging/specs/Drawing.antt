@@ -1,0 +1,32 @@
+-- How the command goes that draws a layout.
+use Rattle.std.specs.Prelude.{◌^◌, ℕ, List, [], ◌∷◌, length}
+use Rattle.dsa_terms.specs.Buffers.{Instance}
+use Rattle.csv_instance.specs.Records.{Record}
+use Rattle.csv_instance.specs.Offsets.{ids_of}
+use Rattle.layout_picture.specs.Rectangles.{rectangles}
+use Rattle.layout_picture.specs.Texts.{picture_text}
+use Rattle.command_words.specs.Options.{Word}
+use Rattle.run_status.specs.declared.status.Status.TheVariants.{Drawn}
+use Rattle.run_status.specs.declared.status.Role.TheVariants as role
+use Rattle.run_course.specs.Course.{Course, Ends, Outcome, writes}
+use Rattle.readings.specs.Input.{opened}
+use Rattle.readings.specs.Judging.{judged}
+
+-- the words of `draw`
+pub record Draw : Type 0 where
+  pub input : Word
+  pub layout : Word
+  pub output : Word
+
+-- the picture of the layout is written to the output, and the number of its rectangles is told
+abbrev pub drawing : Word → List Record → Instance → List ℕ → Outcome
+drawing output table I offsets = writes (record {
+  role = role.Output;
+  name = output;
+  bytes = picture_text I (ids_of table) offsets;
+} ∷ []) (Drawn (length (rectangles I offsets)))
+
+-- how `draw` goes: the layout is judged at the greatest capacity
+abbrev pub draw : Draw → Course
+draw d =
+    opened d.input (λ table I. judged d.layout table I (2 ^ 60) (λ offsets. Ends (drawing d.output table I offsets)))
