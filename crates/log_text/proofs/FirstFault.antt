@@ -6,7 +6,7 @@ use Rattle.log_text.specs.Faults.{EndRow, GoesOn, HasCite, HasHeader, HasNoRow, 
 use Rattle.log_text.specs.RawLogs.{IsRawLineKept}
 use Rattle.log_text.specs.RawTexts.{end_text, header_text, line_text, raw_text}
 use Rattle.log_text.specs.declared.fault.TextFault.{TextFault}
-use Rattle.log_text.specs.declared.fault.TextFault.TheVariants.{NotLog, BadVersion, BadLine, NumberTooLarge, NotRising, NoEnd, AfterEnd}
+use Rattle.log_text.specs.declared.fault.TextFault.TheVariants.{NotLog, BadVersion, BadLine, NumberTooLarge, NotRising, BadBase, BadChange, NoEnd, AfterEnd}
 use Rattle.log_text.specs.declared.raw.RawLine.{RawLine}
 use Rattle.log_text.specs.declared.raw.RawLog.{RawLog}
 use Rattle.log_text.proofs.Unique.{end_form, header_split, line_begins, line_split, row_split}
@@ -31,6 +31,8 @@ ways bytes k NotLog h = inr (inr h)
 ways bytes k (BadVersion v) h = inr (inr h)
 ways bytes k (NumberTooLarge j) h = inr (inr h)
 ways bytes k (NotRising j) h = inr (inr h)
+ways bytes k (BadBase j) h = inr (inr h)
+ways bytes k (BadChange j) h = inr (inr h)
 ways bytes k AfterEnd h = inr (inr h)
 
 -- a row has at most one fault
@@ -56,10 +58,14 @@ row_fault_unique row more k AfterEnd AfterEnd a b = refl
 row_fault_unique row more k NotLog g a b = absurd a
 row_fault_unique row more k (BadVersion v) g a b = absurd a
 row_fault_unique row more k (BadLine j) g a b = absurd a
+row_fault_unique row more k (BadBase j) g a b = absurd a
+row_fault_unique row more k (BadChange j) g a b = absurd a
 row_fault_unique row more k NoEnd g a b = absurd a
 row_fault_unique row more k f NotLog a b = absurd b
 row_fault_unique row more k f (BadVersion v) a b = absurd b
 row_fault_unique row more k f (BadLine j) a b = absurd b
+row_fault_unique row more k f (BadBase j) a b = absurd b
+row_fault_unique row more k f (BadChange j) a b = absurd b
 row_fault_unique row more k f NoEnd a b = absurd b
 
 -- bytes that begin with a row are not at an end
@@ -103,6 +109,8 @@ sound_row row more k AfterEnd a w r l = a.2 (l a.0.0 a.0.1)
 sound_row row more k NotLog a w r l = a
 sound_row row more k (BadVersion v) a w r l = a
 sound_row row more k (BadLine j) a w r l = a
+sound_row row more k (BadBase j) a w r l = a
+sound_row row more k (BadChange j) a w r l = a
 sound_row row more k NoEnd a w r l = a
 
 no_fault_at : (bytes : List ℕ) (k : ℕ) (f : TextFault) (row : Row) (more : List ℕ) → IsFaultAt bytes k f →
@@ -198,6 +206,8 @@ kinds bytes (BadVersion v) h = inr (inl (v, h.1.0, h.1.1, h.1.2, h.1.3, h.0, ref
 kinds bytes (BadLine j) h = inr (inr h)
 kinds bytes (NumberTooLarge j) h = inr (inr h)
 kinds bytes (NotRising j) h = inr (inr h)
+kinds bytes (BadBase j) h = inr (inr h)
+kinds bytes (BadChange j) h = inr (inr h)
 kinds bytes NoEnd h = inr (inr h)
 kinds bytes AfterEnd h = inr (inr h)
 

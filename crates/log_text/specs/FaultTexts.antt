@@ -10,5 +10,7 @@ text_fault_text (text.BadVersion version) = codes "version " ++ decimal version
 text_fault_text (text.BadLine line) = codes "bad line " ++ decimal line
 text_fault_text (text.NumberTooLarge line) = codes "number too large " ++ decimal line
 text_fault_text (text.NotRising line) = codes "not rising " ++ decimal line
+text_fault_text (text.BadBase line) = codes "bad base " ++ decimal line
+text_fault_text (text.BadChange line) = codes "bad change " ++ decimal line
 text_fault_text text.NoEnd = codes "no end"
 text_fault_text text.AfterEnd = codes "after end"

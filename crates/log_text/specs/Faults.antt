@@ -3,7 +3,7 @@ use Rattle.std.specs.Prelude.{◌≡◌, ℕ, ◌^◌, ◌<◌, ◌≤◌, ◌�
 use Rattle.log_text.specs.RawLogs.{IsRawKept, IsRising, IsRawLineWithin, raw_claim_of}
 use Rattle.log_text.specs.RawTexts.{end_text, header_text, line_text, raw_text}
 use Rattle.log_text.specs.declared.fault.TextFault.{TextFault}
-use Rattle.log_text.specs.declared.fault.TextFault.TheVariants.{NotLog, BadVersion, BadLine, NumberTooLarge, NotRising, NoEnd, AfterEnd}
+use Rattle.log_text.specs.declared.fault.TextFault.TheVariants.{NotLog, BadVersion, BadLine, NumberTooLarge, NotRising, BadBase, BadChange, NoEnd, AfterEnd}
 use Rattle.log_text.specs.declared.raw.RawLine.{RawLine}
 use Rattle.log_text.specs.declared.raw.RawLine.TheVariants as raw_line
 use Rattle.log_text.specs.declared.raw.RawLog.{RawLog}
@@ -71,6 +71,8 @@ IsRowFault row more k (BadVersion v) = ⊥
 IsRowFault row more k (BadLine j) = ⊥
 IsRowFault row more k (NumberTooLarge j) = (j ≡ k) × (IsRowWithin row → ⊥)
 IsRowFault row more k (NotRising j) = (j ≡ k) × IsRowWithin row × (IsRowRising row → ⊥)
+IsRowFault row more k (BadBase j) = ⊥
+IsRowFault row more k (BadChange j) = ⊥
 IsRowFault row more k NoEnd = ⊥
 IsRowFault row more k AfterEnd = ((e : ℕ) × (row ≡ EndRow e)) × IsRowWithin row × (more ≢ [])
 

@@ -96,7 +96,7 @@ impl<'a> Cursor<'a> {
 
     /// Reads a number, up to where its digits end, as one of 64 bits: the greatest, where it does
     /// not fit.
-    fn capped_number(&mut self) -> Option<u64>
+    pub(crate) fn capped_number(&mut self) -> Option<u64>
         ensures some { IfSome result (λ n. IsItemRead numeral capped self.old n self.new) }
         ensures none { IfNone result (HasNoNumber self.old) }
     {

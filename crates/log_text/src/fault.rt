@@ -25,6 +25,13 @@ pub enum TextFault {
     /// A buffer of a claim or of a list of cites is not above the one before it.
     #[error("line {line} has a list that does not rise")]
     NotRising { line: u64 },
+    /// A difference is of the claim of a line that is not earlier.
+    #[error("line {line} is a difference from no earlier line")]
+    BadBase { line: u64 },
+    /// A difference drops a buffer that the claim has not, or gives one the bound that it has
+    /// there, or leaves no buffer.
+    #[error("line {line} has a change that changes nothing, or no buffer")]
+    BadChange { line: u64 },
     /// The bytes stop where a line or the end would begin.
     #[error("the log has no end")]
     NoEnd,

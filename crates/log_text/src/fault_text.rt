@@ -18,6 +18,8 @@ impl TextFault {
             TextFault::BadLine { line } => Ok(format!(in alloc; "bad line {line}")?),
             TextFault::NumberTooLarge { line } => Ok(format!(in alloc; "number too large {line}")?),
             TextFault::NotRising { line } => Ok(format!(in alloc; "not rising {line}")?),
+            TextFault::BadBase { line } => Ok(format!(in alloc; "bad base {line}")?),
+            TextFault::BadChange { line } => Ok(format!(in alloc; "bad change {line}")?),
             TextFault::NoEnd => Ok(String::from_str(alloc, "no end")?),
             TextFault::AfterEnd => Ok(String::from_str(alloc, "after end")?),
         }

@@ -19,7 +19,7 @@ const ROOM: usize = 64;
 pub(crate) struct NoForm;
 
 /// Reads a buffer and its bound.
-fn read_pair(cursor: &mut Cursor) -> Option<(u64, u64)>
+pub(crate) fn read_pair(cursor: &mut Cursor) -> Option<(u64, u64)>
     ensures some { IfSome result
         (λ value. IsItemRead pair_text capped_pair cursor.old value cursor.new) }
     ensures none { IfNone result (HasNoItem pair_text cursor.old) }

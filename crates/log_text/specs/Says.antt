@@ -1,0 +1,173 @@
+-- What the bytes of a log say, in either version, and the first fault of bytes that say no log.
+use Rattle.std.specs.Prelude.{◌≡◌, ℕ, ◌^◌, ◌<◌, ◌≤◌, ◌≢◌, ◌⊎◌, List, [], ◌∷◌, ◌++◌, length, flat_map, map, All}
+use Rattle.dsa_terms.specs.Claims.{Rises, buffers_of}
+use Rattle.log_text.specs.Changes.{AreChanges, Change, Drops, Puts, buffer_of}
+use Rattle.log_text.specs.Faults.{HasHeader, IsTextOf}
+use Rattle.log_text.specs.RawLogs.{IsPairWithin, IsRawCiteWithin}
+use Rattle.log_text.specs.RawTexts.{end_text, header_text}
+use Rattle.log_text.specs.Spellings.{CasesAs, From, Full, OverAs, Spelled, Spelling, claim_at, line_said, lines_said, spelled_log, spelled_text, spelling_of}
+use Rattle.log_text.specs.declared.fault.TextFault.{TextFault}
+use Rattle.log_text.specs.declared.fault.TextFault.TheVariants.{NotLog, BadVersion, BadLine, NumberTooLarge, NotRising, BadBase, BadChange, NoEnd, AfterEnd}
+use Rattle.log_text.specs.declared.raw.RawCite.{RawCite}
+use Rattle.log_text.specs.declared.raw.RawLine.{RawLine}
+use Rattle.log_text.specs.declared.raw.RawLog.{RawLog}
+
+-- what a row of the text says, after the header: a line of the log, or the end
+pub data Row : Type 0 where
+  LineRow : (line : Spelled) → Row
+  EndRow : (k : ℕ) → Row
+
+-- its bytes, the newline among them; no other byte of it is a newline
+abbrev pub row_text : Row → List ℕ
+row_text (LineRow line) = spelled_text line
+row_text (EndRow k) = end_text k
+
+-- ---- the form of a row, by the version
+-- a claim in full has a buffer, and version 2 alone has differences
+abbrev pub IsSpellingFormed : ℕ → Spelling → Type 0
+IsSpellingFormed version (Full l) = l ≢ []
+IsSpellingFormed version (From base changes) = version ≡ 2
+
+-- a Cases line has a cite
+abbrev pub HasCite : Spelled → Type 0
+HasCite (OverAs T H G s) = Unit {0}
+HasCite (CasesAs s cites) = cites ≢ []
+
+abbrev pub IsLineFormed : ℕ → Spelled → Type 0
+IsLineFormed version line = IsSpellingFormed version (spelling_of line) × HasCite line
+
+abbrev pub IsFormed : ℕ → Row → Type 0
+IsFormed version (LineRow line) = IsLineFormed version line
+IsFormed version (EndRow k) = Unit {0}
+
+-- ---- limits, a moment's below 2^62, each other number's 2^60
+abbrev pub IsChangeWithin : Change → Type 0
+IsChangeWithin (Puts e) = IsPairWithin e
+IsChangeWithin (Drops b) = b ≤ 2 ^ 60
+
+abbrev pub IsSpellingWithin : Spelling → Type 0
+IsSpellingWithin (Full l) = All IsPairWithin l
+IsSpellingWithin (From base changes) = (base ≤ 2 ^ 60) × All IsChangeWithin changes
+
+abbrev pub IsLineWithin : Spelled → Type 0
+IsLineWithin (OverAs T H G s) = (T < 2 ^ 62) × (H ≤ 2 ^ 60) × (G ≤ 2 ^ 60) × IsSpellingWithin s
+IsLineWithin (CasesAs s cites) = IsSpellingWithin s × All IsRawCiteWithin cites
+
+abbrev pub IsWithin : Row → Type 0
+IsWithin (LineRow line) = IsLineWithin line
+IsWithin (EndRow k) = k ≤ 2 ^ 60
+
+-- ---- lists that rise
+abbrev pub IsSpellingRising : Spelling → Type 0
+IsSpellingRising (Full l) = Rises (buffers_of l)
+IsSpellingRising (From base changes) = Rises (map buffer_of changes)
+
+abbrev pub IsLineRising : Spelled → Type 0
+IsLineRising (OverAs T H G s) = IsSpellingRising s
+IsLineRising (CasesAs s cites) = IsSpellingRising s × Rises (map (λ (p : ℕ × RawCite). p.0) cites)
+
+abbrev pub IsRising : Row → Type 0
+IsRising (LineRow line) = IsLineRising line
+IsRising (EndRow k) = Unit {0}
+
+-- ---- differences, after these lines
+-- the line that a difference names stands earlier
+abbrev pub HasSpellingBase : List RawLine → Spelling → Type 0
+HasSpellingBase earlier (Full l) = Unit {0}
+HasSpellingBase earlier (From base changes) = base < length earlier
+
+abbrev pub HasBase : List RawLine → Row → Type 0
+HasBase earlier (LineRow line) = HasSpellingBase earlier (spelling_of line)
+HasBase earlier (EndRow k) = Unit {0}
+
+-- each change of a difference changes that line's claim, and some buffer is left
+abbrev pub HasSpellingChanges : List RawLine → Spelling → Type 0
+HasSpellingChanges earlier (Full l) = Unit {0}
+HasSpellingChanges earlier (From base changes) = AreChanges (claim_at earlier base) changes
+
+abbrev pub HasChanges : List RawLine → Row → Type 0
+HasChanges earlier (LineRow line) = HasSpellingChanges earlier (spelling_of line)
+HasChanges earlier (EndRow k) = Unit {0}
+
+-- ---- what bytes say
+-- a row as a log's text has it, after these lines
+pub record IsGood (version : ℕ) (earlier : List RawLine) (row : Row) : Type 0 where
+  pub formed : IsFormed version row
+  pub within : IsWithin row
+  pub rising : IsRising row
+  pub base : HasBase earlier row
+  pub changes : HasChanges earlier row
+
+-- each of the lines is good after all before it
+abbrev pub AreGood : ℕ → List RawLine → List Spelled → Type 0
+AreGood version earlier [] = Unit {0}
+AreGood version earlier (s ∷ ss) =
+    IsGood version earlier (LineRow s) × AreGood version (earlier ++ line_said earlier s ∷ []) ss
+
+-- the bytes say the log by this version
+pub record SaysBy (version : ℕ) (bytes : List ℕ) (raw : RawLog) : Type 0 where
+  pub spelled : List Spelled
+  pub count_limit : raw.count ≤ 2 ^ 60
+  pub capacity_limit : raw.capacity ≤ 2 ^ 60
+  pub end_limit : raw.end ≤ 2 ^ 60
+  pub good : AreGood version [] spelled
+  pub lines : raw.lines ≡ lines_said [] spelled
+  pub text : bytes ≡ spelled_log version raw.count raw.capacity spelled raw.end
+
+-- the bytes say the log: they are its one text of version 1, or say it by version 2
+abbrev pub Says : List ℕ → RawLog → Type 0
+Says bytes raw = IsTextOf bytes raw ⊎ SaysBy 2 bytes raw
+
+-- ---- the first fault
+abbrev pub IsVersion : ℕ → Type 0
+IsVersion version = (version ≡ 1) ⊎ (version ≡ 2)
+
+-- the bytes are a header, then these good lines, then the rest
+pub record GoesOn (version : ℕ) (bytes : List ℕ) (spelled : List Spelled) (rest : List ℕ) : Type 0 where
+  pub count : ℕ
+  pub capacity : ℕ
+  pub count_limit : count ≤ 2 ^ 60
+  pub capacity_limit : capacity ≤ 2 ^ 60
+  pub good : AreGood version [] spelled
+  pub text : bytes ≡ header_text version count capacity ++ (flat_map spelled_text spelled ++ rest)
+
+-- the fault of a row that has the right form, after these lines, with more bytes after it
+abbrev pub IsRowFault : List RawLine → Row → List ℕ → TextFault → Type 0
+IsRowFault earlier row more NotLog = ⊥
+IsRowFault earlier row more (BadVersion v) = ⊥
+IsRowFault earlier row more (BadLine j) = ⊥
+IsRowFault earlier row more (NumberTooLarge j) = (j ≡ length earlier) × (IsWithin row → ⊥)
+IsRowFault earlier row more (NotRising j) = (j ≡ length earlier) × IsWithin row × (IsRising row → ⊥)
+IsRowFault earlier row more (BadBase j) =
+    (j ≡ length earlier) × IsWithin row × IsRising row × (HasBase earlier row → ⊥)
+IsRowFault earlier row more (BadChange j) =
+    (j ≡ length earlier) × IsWithin row × IsRising row × HasBase earlier row × (HasChanges earlier row → ⊥)
+IsRowFault earlier row more NoEnd = ⊥
+IsRowFault earlier row more AfterEnd = ((e : ℕ) × (row ≡ EndRow e)) × IsWithin row × (more ≢ [])
+
+-- the bytes begin no row
+abbrev pub HasNoRow : ℕ → List ℕ → Type 0
+HasNoRow version bytes =
+    (row : Row) (more : List ℕ) → IsFormed version row → bytes ≡ row_text row ++ more → ⊥
+
+-- the bytes begin with the row
+pub record HasRow (version : ℕ) (bytes : List ℕ) (row : Row) (more : List ℕ) : Type 0 where
+  pub formed : IsFormed version row
+  pub text : bytes ≡ row_text row ++ more
+
+-- the fault of bytes where the next row would begin, after these lines
+abbrev pub IsFaultAt : ℕ → List RawLine → List ℕ → TextFault → Type 0
+IsFaultAt version earlier bytes NoEnd = bytes ≡ []
+IsFaultAt version earlier bytes (BadLine j) = (j ≡ length earlier) × (bytes ≢ []) × HasNoRow version bytes
+IsFaultAt version earlier bytes fault =
+    (row : Row) × (more : List ℕ) × HasRow version bytes row more × IsRowFault earlier row more fault
+
+-- the first fault of the bytes, read from the front: of the header, else of the first row that is no good line
+abbrev pub IsFirstFault : List ℕ → TextFault → Type 0
+IsFirstFault bytes NotLog =
+    (version count capacity : ℕ) (rest : List ℕ) → HasHeader bytes version count capacity rest → ⊥
+IsFirstFault bytes (BadVersion v) =
+    (IsVersion v → ⊥) × ((count : ℕ) × (capacity : ℕ) × (rest : List ℕ) × HasHeader bytes v count capacity rest)
+IsFirstFault bytes fault =
+    (version : ℕ) × IsVersion version × (spelled : List Spelled) × (rest : List ℕ)
+    × GoesOn version bytes spelled rest × IsFaultAt version (lines_said [] spelled) rest fault
