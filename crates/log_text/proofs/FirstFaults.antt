@@ -1,10 +1,11 @@
 -- Bytes of either version: they say at most one log, have at most one first fault, and not both.
 use Rattle.std.proofs.Common.{◌≡◌, ℕ, ◌^◌, ◌≤◌, ◌≢◌, ◌⊎◌, inl, inr, subst, List, [], ◌∷◌, ◌++◌, codes, length, refl, sym, ap, ◌∙◌, arith, append_assoc, append-nil}
 use Rattle.std.specs.List.{flat_map}
-use Rattle.log_text.specs.Faults.{HasHeader}
+use Rattle.log_text.specs.Faults.{GoesOn, HasHeader, HasNoRow, HasRow, IsFirstFault, IsVersion, Meets}
+use Rattle.log_text.specs.Faults as fault
 use Rattle.log_text.specs.Numerals.{numeral}
 use Rattle.log_text.specs.RawTexts.{end_text, header_text}
-use Rattle.log_text.specs.Says.{AreGood, EndRow, GoesOn, HasBase, HasChanges, HasNoRow, HasRow, IsFaultAt, IsFirstFault, IsGood, IsRising, IsRowFault, IsVersion, LineRow, Row, SaysBy, row_text}
+use Rattle.log_text.specs.Says.{AreGood, EndRow, HasBase, HasChanges, IsGood, IsRising, IsWithin, LineRow, Row, SaysBy, row_text}
 use Rattle.log_text.specs.Spellings.{Spelled, line_said, lines_said, spelled_log, spelled_text}
 use Rattle.log_text.specs.declared.fault.TextFault.{TextFault}
 use Rattle.log_text.specs.declared.fault.TextFault.TheVariants.{NotLog, BadVersion, BadLine, NumberTooLarge, NotRising, BadBase, BadChange, NoEnd, AfterEnd}
@@ -15,145 +16,117 @@ use Rattle.log_text.proofs.Splits.{line_split, lines_split, not_empty, row_split
 use Rattle.log_text.proofs.Unique.{end_form, header_split}
 
 -- ---- faults where a row would begin
-AtEnd : List ℕ → TextFault → Type 0
-AtEnd bytes f = (bytes ≡ []) × (f ≡ NoEnd)
+-- the fault of a row that has the right form, after these lines, with more bytes after it
+data RowFault (lines : List RawLine) (row : Row) (more : List ℕ) : TextFault → Type 0 where
+  too_large : (IsWithin row → ⊥) → RowFault lines row more (NumberTooLarge (length lines))
+  falls : IsWithin row → (IsRising row → ⊥) → RowFault lines row more (NotRising (length lines))
+  no_base : IsWithin row → IsRising row → (HasBase lines row → ⊥) → RowFault lines row more (BadBase (length lines))
+  no_change : IsWithin row → IsRising row → HasBase lines row → (HasChanges lines row → ⊥) →
+      RowFault lines row more (BadChange (length lines))
+  after_end : (last : ℕ) → row ≡ EndRow last → IsWithin row → more ≢ [] → RowFault lines row more AfterEnd
 
-AtNoRow : ℕ → List RawLine → List ℕ → TextFault → Type 0
-AtNoRow v earlier bytes f = (bytes ≢ []) × HasNoRow v bytes × (f ≡ BadLine (length earlier))
-
-AtRow : ℕ → List RawLine → List ℕ → TextFault → Type 0
-AtRow v earlier bytes f = (row : Row) × (more : List ℕ) × HasRow v bytes row more × IsRowFault earlier row more f
-
-ways : (v : ℕ) (earlier : List RawLine) (bytes : List ℕ) (f : TextFault) → IsFaultAt v earlier bytes f →
-    AtEnd bytes f ⊎ (AtNoRow v earlier bytes f ⊎ AtRow v earlier bytes f)
-unfolding AtEnd AtNoRow AtRow
-ways v earlier bytes NoEnd h = inl (h, refl)
-ways v earlier bytes (BadLine j) h = inr (inl (h.1, h.2, ap BadLine h.0))
-ways v earlier bytes NotLog h = inr (inr h)
-ways v earlier bytes (BadVersion w) h = inr (inr h)
-ways v earlier bytes (NumberTooLarge j) h = inr (inr h)
-ways v earlier bytes (NotRising j) h = inr (inr h)
-ways v earlier bytes (BadBase j) h = inr (inr h)
-ways v earlier bytes (BadChange j) h = inr (inr h)
-ways v earlier bytes AfterEnd h = inr (inr h)
+-- the fault of bytes where the next row would begin
+data FaultAt (v : ℕ) (lines : List RawLine) (bytes : List ℕ) : TextFault → Type 0 where
+  at_end : bytes ≡ [] → FaultAt v lines bytes NoEnd
+  at_no_row : bytes ≢ [] → HasNoRow v bytes → FaultAt v lines bytes (BadLine (length lines))
+  at_row : (row : Row) (more : List ℕ) (f : TextFault) → HasRow v bytes row more → RowFault lines row more f →
+      FaultAt v lines bytes f
 
 -- an end is never one that does not rise, has no base or changes nothing
 end_rises : (row : Row) {e : ℕ} → row ≡ EndRow e → IsRising row
 end_rises (LineRow line) q = absurd cc
 end_rises (EndRow k) q = tt
 
-end_has_base : (earlier : List RawLine) (row : Row) {e : ℕ} → row ≡ EndRow e → HasBase earlier row
-end_has_base earlier (LineRow line) q = absurd cc
-end_has_base earlier (EndRow k) q = tt
+end_has_base : (lines : List RawLine) (row : Row) {e : ℕ} → row ≡ EndRow e → HasBase lines row
+end_has_base lines (LineRow line) q = absurd cc
+end_has_base lines (EndRow k) q = tt
 
-end_has_changes : (earlier : List RawLine) (row : Row) {e : ℕ} → row ≡ EndRow e → HasChanges earlier row
-end_has_changes earlier (LineRow line) q = absurd cc
-end_has_changes earlier (EndRow k) q = tt
+end_has_changes : (lines : List RawLine) (row : Row) {e : ℕ} → row ≡ EndRow e → HasChanges lines row
+end_has_changes lines (LineRow line) q = absurd cc
+end_has_changes lines (EndRow k) q = tt
 
 -- a row has at most one fault
-row_fault_unique : (earlier : List RawLine) (row : Row) (more : List ℕ) (f g : TextFault) →
-    IsRowFault earlier row more f → IsRowFault earlier row more g → f ≡ g
-row_fault_unique earlier row more (NumberTooLarge i) (NumberTooLarge j) a b = ap NumberTooLarge (a.0 ∙ sym b.0)
-row_fault_unique earlier row more (NumberTooLarge i) (NotRising j) a b = absurd (a.1 b.1)
-row_fault_unique earlier row more (NumberTooLarge i) (BadBase j) a b = absurd (a.1 b.1)
-row_fault_unique earlier row more (NumberTooLarge i) (BadChange j) a b = absurd (a.1 b.1)
-row_fault_unique earlier row more (NumberTooLarge i) AfterEnd a b = absurd (a.1 b.1)
-row_fault_unique earlier row more (NotRising i) (NumberTooLarge j) a b = absurd (b.1 a.1)
-row_fault_unique earlier row more (NotRising i) (NotRising j) a b = ap NotRising (a.0 ∙ sym b.0)
-row_fault_unique earlier row more (NotRising i) (BadBase j) a b = absurd (a.2 b.2)
-row_fault_unique earlier row more (NotRising i) (BadChange j) a b = absurd (a.2 b.2)
-row_fault_unique earlier row more (NotRising i) AfterEnd a b = absurd (a.2 (end_rises row b.0.1))
-row_fault_unique earlier row more (BadBase i) (NumberTooLarge j) a b = absurd (b.1 a.1)
-row_fault_unique earlier row more (BadBase i) (NotRising j) a b = absurd (b.2 a.2)
-row_fault_unique earlier row more (BadBase i) (BadBase j) a b = ap BadBase (a.0 ∙ sym b.0)
-row_fault_unique earlier row more (BadBase i) (BadChange j) a b = absurd (a.3 b.3)
-row_fault_unique earlier row more (BadBase i) AfterEnd a b = absurd (a.3 (end_has_base earlier row b.0.1))
-row_fault_unique earlier row more (BadChange i) (NumberTooLarge j) a b = absurd (b.1 a.1)
-row_fault_unique earlier row more (BadChange i) (NotRising j) a b = absurd (b.2 a.2)
-row_fault_unique earlier row more (BadChange i) (BadBase j) a b = absurd (b.3 a.3)
-row_fault_unique earlier row more (BadChange i) (BadChange j) a b = ap BadChange (a.0 ∙ sym b.0)
-row_fault_unique earlier row more (BadChange i) AfterEnd a b = absurd (a.4 (end_has_changes earlier row b.0.1))
-row_fault_unique earlier row more AfterEnd (NumberTooLarge j) a b = absurd (b.1 a.1)
-row_fault_unique earlier row more AfterEnd (NotRising j) a b = absurd (b.2 (end_rises row a.0.1))
-row_fault_unique earlier row more AfterEnd (BadBase j) a b = absurd (b.3 (end_has_base earlier row a.0.1))
-row_fault_unique earlier row more AfterEnd (BadChange j) a b = absurd (b.4 (end_has_changes earlier row a.0.1))
-row_fault_unique earlier row more AfterEnd AfterEnd a b = refl
-row_fault_unique earlier row more NotLog g a b = absurd a
-row_fault_unique earlier row more (BadVersion w) g a b = absurd a
-row_fault_unique earlier row more (BadLine j) g a b = absurd a
-row_fault_unique earlier row more NoEnd g a b = absurd a
-row_fault_unique earlier row more f NotLog a b = absurd b
-row_fault_unique earlier row more f (BadVersion w) a b = absurd b
-row_fault_unique earlier row more f (BadLine j) a b = absurd b
-row_fault_unique earlier row more f NoEnd a b = absurd b
+row_fault_unique : (lines : List RawLine) (row : Row) (more : List ℕ) (f g : TextFault) →
+    RowFault lines row more f → RowFault lines row more g → f ≡ g
+row_fault_unique lines row more f g (too_large a) (too_large b) = refl
+row_fault_unique lines row more f g (too_large a) (falls w b) = absurd (a w)
+row_fault_unique lines row more f g (too_large a) (no_base w r b) = absurd (a w)
+row_fault_unique lines row more f g (too_large a) (no_change w r h b) = absurd (a w)
+row_fault_unique lines row more f g (too_large a) (after_end e q w b) = absurd (a w)
+row_fault_unique lines row more f g (falls w a) (too_large b) = absurd (b w)
+row_fault_unique lines row more f g (falls w a) (falls v b) = refl
+row_fault_unique lines row more f g (falls w a) (no_base v r b) = absurd (a r)
+row_fault_unique lines row more f g (falls w a) (no_change v r h b) = absurd (a r)
+row_fault_unique lines row more f g (falls w a) (after_end e q v b) = absurd (a (end_rises row q))
+row_fault_unique lines row more f g (no_base w r a) (too_large b) = absurd (b w)
+row_fault_unique lines row more f g (no_base w r a) (falls v b) = absurd (b r)
+row_fault_unique lines row more f g (no_base w r a) (no_base v s b) = refl
+row_fault_unique lines row more f g (no_base w r a) (no_change v s h b) = absurd (a h)
+row_fault_unique lines row more f g (no_base w r a) (after_end e q v b) = absurd (a (end_has_base lines row q))
+row_fault_unique lines row more f g (no_change w r h a) (too_large b) = absurd (b w)
+row_fault_unique lines row more f g (no_change w r h a) (falls v b) = absurd (b r)
+row_fault_unique lines row more f g (no_change w r h a) (no_base v s b) = absurd (b h)
+row_fault_unique lines row more f g (no_change w r h a) (no_change v s i b) = refl
+row_fault_unique lines row more f g (no_change w r h a) (after_end e q v b) = absurd (a (end_has_changes lines row q))
+row_fault_unique lines row more f g (after_end e q w a) (too_large b) = absurd (b w)
+row_fault_unique lines row more f g (after_end e q w a) (falls v b) = absurd (b (end_rises row q))
+row_fault_unique lines row more f g (after_end e q w a) (no_base v r b) = absurd (b (end_has_base lines row q))
+row_fault_unique lines row more f g (after_end e q w a) (no_change v r h b) = absurd (b (end_has_changes lines row q))
+row_fault_unique lines row more f g (after_end e q w a) (after_end d p v b) = refl
 
 -- the same row with the same bytes after it
-fault_moved : (earlier : List RawLine) {x y : Row} {m n : List ℕ} (f : TextFault) → x ≡ y → m ≡ n →
-    IsRowFault earlier x m f → IsRowFault earlier y n f
-fault_moved earlier {x} {y} {m} {n} f p q a = subst (λ (v : List ℕ). IsRowFault earlier y v f) q
-    (subst (λ (u : Row). IsRowFault earlier u m f) p a)
+fault_moved : (lines : List RawLine) {x y : Row} {m n : List ℕ} (f : TextFault) → x ≡ y → m ≡ n →
+    RowFault lines x m f → RowFault lines y n f
+fault_moved lines {x} {y} {m} {n} f p q a = subst (λ (v : List ℕ). RowFault lines y v f) q
+    (subst (λ (u : Row). RowFault lines u m f) p a)
 
-fault_at_unique : (v : ℕ) (earlier : List RawLine) (bytes : List ℕ) (f g : TextFault) → IsFaultAt v earlier bytes f →
-    IsFaultAt v earlier bytes g → f ≡ g
-unfolding AtEnd AtNoRow AtRow
-fault_at_unique v earlier bytes f g a b = both (ways v earlier bytes f a) (ways v earlier bytes g b)
-  where
-    same_row : (x y : Row) (m n : List ℕ) → HasRow v bytes x m → HasRow v bytes y n → IsRowFault earlier x m f →
-        IsRowFault earlier y n g → f ≡ g
-    same_row x y m n p q a b =
-        let e = row_split x y m n (sym p.text ∙ q.text) in
-        row_fault_unique earlier y n f g (fault_moved earlier f e.0 e.1 a) b
+same_row : (v : ℕ) (lines : List RawLine) (bytes : List ℕ) (f g : TextFault) (x y : Row) (m n : List ℕ) →
+    HasRow v bytes x m → HasRow v bytes y n → RowFault lines x m f → RowFault lines y n g → f ≡ g
+same_row v lines bytes f g x y m n p q a b =
+    let e = row_split x y m n (sym p.text ∙ q.text) in
+    row_fault_unique lines y n f g (fault_moved lines f e.0 e.1 a) b
 
-    both : AtEnd bytes f ⊎ (AtNoRow v earlier bytes f ⊎ AtRow v earlier bytes f) →
-        AtEnd bytes g ⊎ (AtNoRow v earlier bytes g ⊎ AtRow v earlier bytes g) → f ≡ g
-    both (inl a) (inl b) = a.1 ∙ sym b.1
-    both (inl a) (inr (inl b)) = absurd (b.0 a.0)
-    both (inl a) (inr (inr b)) = absurd (not_empty b.0 b.1 (sym b.2.text ∙ a.0))
-    both (inr (inl a)) (inl b) = absurd (a.0 b.0)
-    both (inr (inl a)) (inr (inl b)) = a.2 ∙ sym b.2
-    both (inr (inl a)) (inr (inr b)) = absurd (a.1 b.0 b.1 b.2.formed b.2.text)
-    both (inr (inr a)) (inl b) = absurd (not_empty a.0 a.1 (sym a.2.text ∙ b.0))
-    both (inr (inr a)) (inr (inl b)) = absurd (b.1 a.0 a.1 a.2.formed a.2.text)
-    both (inr (inr a)) (inr (inr b)) = same_row a.0 b.0 a.1 b.1 a.2 b.2 a.3 b.3
+fault_at_unique : (v : ℕ) (lines : List RawLine) (bytes : List ℕ) (f g : TextFault) → FaultAt v lines bytes f →
+    FaultAt v lines bytes g → f ≡ g
+fault_at_unique v lines bytes f g (at_end e) (at_end d) = refl
+fault_at_unique v lines bytes f g (at_end e) (at_no_row s n) = absurd (s e)
+fault_at_unique v lines bytes f g (at_end e) (at_row x m h p a) = absurd (not_empty x m (sym p.text ∙ e))
+fault_at_unique v lines bytes f g (at_no_row s n) (at_end e) = absurd (s e)
+fault_at_unique v lines bytes f g (at_no_row s n) (at_no_row t m) = refl
+fault_at_unique v lines bytes f g (at_no_row s n) (at_row x m h p a) = absurd (n x m p.formed p.text)
+fault_at_unique v lines bytes f g (at_row x m h p a) (at_end e) = absurd (not_empty x m (sym p.text ∙ e))
+fault_at_unique v lines bytes f g (at_row x m h p a) (at_no_row s n) = absurd (n x m p.formed p.text)
+fault_at_unique v lines bytes f g (at_row x m h p a) (at_row y n i q b) =
+    same_row v lines bytes h i x y m n p q a b
 
 -- ---- good rows have no fault
-sound_row : (v : ℕ) (earlier : List RawLine) (row : Row) (more : List ℕ) (f : TextFault) →
-    IsRowFault earlier row more f → IsGood v earlier row → ((e : ℕ) → row ≡ EndRow e → more ≡ []) → ⊥
-sound_row v earlier row more (NumberTooLarge j) a g l = a.1 g.within
-sound_row v earlier row more (NotRising j) a g l = a.2 g.rising
-sound_row v earlier row more (BadBase j) a g l = a.3 g.base
-sound_row v earlier row more (BadChange j) a g l = a.4 g.changes
-sound_row v earlier row more AfterEnd a g l = a.2 (l a.0.0 a.0.1)
-sound_row v earlier row more NotLog a g l = a
-sound_row v earlier row more (BadVersion w) a g l = a
-sound_row v earlier row more (BadLine j) a g l = a
-sound_row v earlier row more NoEnd a g l = a
+sound_row : (v : ℕ) (lines : List RawLine) (row : Row) (more : List ℕ) (f : TextFault) →
+    RowFault lines row more f → IsGood v lines row → ((e : ℕ) → row ≡ EndRow e → more ≡ []) → ⊥
+sound_row v lines row more f (too_large a) g l = a g.within
+sound_row v lines row more f (falls w a) g l = a g.rising
+sound_row v lines row more f (no_base w r a) g l = a g.base
+sound_row v lines row more f (no_change w r h a) g l = a g.changes
+sound_row v lines row more f (after_end e q w a) g l = a (l e q)
 
-no_fault_at : (v : ℕ) (earlier : List RawLine) (bytes : List ℕ) (f : TextFault) (row : Row) (more : List ℕ) →
-    IsFaultAt v earlier bytes f → bytes ≡ row_text row ++ more → IsGood v earlier row →
+no_fault_at : (v : ℕ) (lines : List RawLine) (bytes : List ℕ) (f : TextFault) (row : Row) (more : List ℕ) →
+    FaultAt v lines bytes f → bytes ≡ row_text row ++ more → IsGood v lines row →
     ((e : ℕ) → row ≡ EndRow e → more ≡ []) → ⊥
-unfolding AtEnd AtNoRow AtRow
-no_fault_at v earlier bytes f row more a q g l = none (ways v earlier bytes f a)
-  where
-    same_row : (x : Row) (m : List ℕ) → HasRow v bytes x m → IsRowFault earlier x m f → ⊥
-    same_row x m p a = let e = row_split x row m more (sym p.text ∙ q) in
-        sound_row v earlier row more f (fault_moved earlier f e.0 e.1 a) g l
-
-    none : AtEnd bytes f ⊎ (AtNoRow v earlier bytes f ⊎ AtRow v earlier bytes f) → ⊥
-    none (inl a) = not_empty row more (sym q ∙ a.0)
-    none (inr (inl a)) = a.1 row more g.formed q
-    none (inr (inr a)) = same_row a.0 a.1 a.2 a.3
+no_fault_at v lines bytes f row more (at_end e) q g l = not_empty row more (sym q ∙ e)
+no_fault_at v lines bytes f row more (at_no_row s n) q g l = n row more g.formed q
+no_fault_at v lines bytes f row more (at_row x m h p a) q g l =
+    let e = row_split x row m more (sym p.text ∙ q) in
+    sound_row v lines row more h (fault_moved lines h e.0 e.1 a) g l
 
 -- no good line is at fault
-line_no_fault : (v : ℕ) (earlier : List RawLine) (bytes : List ℕ) (f : TextFault) (line : Spelled) (more : List ℕ) →
-    IsFaultAt v earlier bytes f → IsGood v earlier (LineRow line) → bytes ≡ spelled_text line ++ more → ⊥
-line_no_fault v earlier bytes f line more a g e = no_fault_at v earlier bytes f (LineRow line) more a e g
+line_no_fault : (v : ℕ) (lines : List RawLine) (bytes : List ℕ) (f : TextFault) (line : Spelled) (more : List ℕ) →
+    FaultAt v lines bytes f → IsGood v lines (LineRow line) → bytes ≡ spelled_text line ++ more → ⊥
+line_no_fault v lines bytes f line more a g e = no_fault_at v lines bytes f (LineRow line) more a e g
     (λ e q. absurd cc)
 
 -- an end at the end is not at fault
-end_no_fault : (v : ℕ) (earlier : List RawLine) (bytes : List ℕ) (f : TextFault) (e : ℕ) →
-    IsFaultAt v earlier bytes f → e ≤ 2 ^ 60 → bytes ≡ end_text e ++ [] → ⊥
-end_no_fault v earlier bytes f e a w q = no_fault_at v earlier bytes f (EndRow e) [] a q
+end_no_fault : (v : ℕ) (lines : List RawLine) (bytes : List ℕ) (f : TextFault) (e : ℕ) →
+    FaultAt v lines bytes f → e ≤ 2 ^ 60 → bytes ≡ end_text e ++ [] → ⊥
+end_no_fault v lines bytes f e a w q = no_fault_at v lines bytes f (EndRow e) [] a q
     (record { formed = tt; within = w; rising = tt; base = tt; changes = tt }) (λ e q. refl)
 
 -- ---- whole texts
@@ -163,10 +136,10 @@ good_moved : (v : ℕ) (earlier : List RawLine) {x y : Spelled} (ss : List Spell
 good_moved v earlier ss p a = subst (λ (u : Spelled). AreGood v (earlier ++ line_said earlier u ∷ []) ss) p a
 
 at_moved : (v : ℕ) (earlier : List RawLine) {x y : Spelled} (ss : List Spelled) (r : List ℕ) (f : TextFault) → x ≡ y →
-    IsFaultAt v (lines_said (earlier ++ line_said earlier x ∷ []) ss) r f →
-    IsFaultAt v (lines_said (earlier ++ line_said earlier y ∷ []) ss) r f
+    FaultAt v (lines_said (earlier ++ line_said earlier x ∷ []) ss) r f →
+    FaultAt v (lines_said (earlier ++ line_said earlier y ∷ []) ss) r f
 at_moved v earlier ss r f p a =
-    subst (λ (u : Spelled). IsFaultAt v (lines_said (earlier ++ line_said earlier u ∷ []) ss) r f) p a
+    subst (λ (u : Spelled). FaultAt v (lines_said (earlier ++ line_said earlier u ∷ []) ss) r f) p a
 
 longer : {x y : Spelled} {xs ys : List Spelled} → x ≡ y → xs ≡ ys → x ∷ xs ≡ y ∷ ys
 longer h k = cc
@@ -174,7 +147,7 @@ longer h k = cc
 -- faults come after the same good lines
 lines_same : (v : ℕ) (earlier : List RawLine) (xs ys : List Spelled) (r s : List ℕ) (f g : TextFault) →
     AreGood v earlier xs → AreGood v earlier ys →
-    IsFaultAt v (lines_said earlier xs) r f → IsFaultAt v (lines_said earlier ys) s g →
+    FaultAt v (lines_said earlier xs) r f → FaultAt v (lines_said earlier ys) s g →
     flat_map spelled_text xs ++ r ≡ flat_map spelled_text ys ++ s → (xs ≡ ys) × (r ≡ s)
 lines_same v earlier [] [] r s f g a b p q e = (refl, e)
 lines_same v earlier [] (y ∷ ys) r s f g a b p q e = absurd (line_no_fault v earlier r f y _ p b.0
@@ -191,7 +164,7 @@ lines_same v earlier (x ∷ xs) (y ∷ ys) r s f g a b p q e =
 
 -- good lines and an end are not at fault
 lines_no_fault : (v : ℕ) (earlier : List RawLine) (xs ys : List Spelled) (r : List ℕ) (e : ℕ) (f : TextFault) →
-    AreGood v earlier xs → AreGood v earlier ys → IsFaultAt v (lines_said earlier xs) r f → e ≤ 2 ^ 60 →
+    AreGood v earlier xs → AreGood v earlier ys → FaultAt v (lines_said earlier xs) r f → e ≤ 2 ^ 60 →
     flat_map spelled_text xs ++ r ≡ flat_map spelled_text ys ++ (end_text e ++ []) → ⊥
 lines_no_fault v earlier [] [] r e f a b p w q = end_no_fault v earlier r f e p w q
 lines_no_fault v earlier [] (y ∷ ys) r e f a b p w q = line_no_fault v earlier r f y _ p b.0
@@ -208,38 +181,36 @@ lines_no_fault v earlier (x ∷ xs) (y ∷ ys) r e f a b p w q =
     (at_moved v earlier xs r f one.0 p) w one.1
 
 -- ---- the three ways in which bytes say no log
-HeaderMissing : List ℕ → TextFault → Type 0
-HeaderMissing bytes f = ((v n c : ℕ) (rest : List ℕ) → HasHeader bytes v n c rest → ⊥) × (f ≡ NotLog)
+data Way (bytes : List ℕ) : TextFault → Type 0 where
+  header_missing : ((v n c : ℕ) (rest : List ℕ) → HasHeader bytes v n c rest → ⊥) → Way bytes NotLog
+  unknown_version : (v n c : ℕ) (rest : List ℕ) → HasHeader bytes v n c rest → (IsVersion v → ⊥) → Way bytes (BadVersion v)
+  row_at_fault : (v : ℕ) (lines : List RawLine) (rest : List ℕ) (f : TextFault) → GoesOn v bytes lines rest →
+      FaultAt v lines rest f → Way bytes f
 
-OtherVersion : List ℕ → TextFault → Type 0
-OtherVersion bytes f = (v : ℕ) × (n : ℕ) × (c : ℕ) × (rest : List ℕ) × HasHeader bytes v n c rest × (IsVersion v → ⊥) ×
-    (f ≡ BadVersion v)
+met_at : (bytes : List ℕ) (lines : List RawLine) (row : Row) (more : List ℕ) (f : TextFault) →
+    Meets bytes lines row more → RowFault lines row more f → Way bytes f
+met_at bytes lines row more f m a = row_at_fault m.version lines m.rest f m.goes_on (at_row row more f m.has_row a)
 
-RowAtFault : List ℕ → TextFault → Type 0
-RowAtFault bytes f = (v : ℕ) × IsVersion v × (spelled : List Spelled) × (rest : List ℕ) × GoesOn v bytes spelled rest ×
-    IsFaultAt v (lines_said [] spelled) rest f
-
-kinds : (bytes : List ℕ) (f : TextFault) → IsFirstFault bytes f →
-    HeaderMissing bytes f ⊎ (OtherVersion bytes f ⊎ RowAtFault bytes f)
-unfolding HeaderMissing OtherVersion RowAtFault
-kinds bytes NotLog h = inl (h, refl)
-kinds bytes (BadVersion v) h = inr (inl (v, h.1.0, h.1.1, h.1.2, h.1.3, h.0, refl))
-kinds bytes (BadLine j) h = inr (inr h)
-kinds bytes (NumberTooLarge j) h = inr (inr h)
-kinds bytes (NotRising j) h = inr (inr h)
-kinds bytes (BadBase j) h = inr (inr h)
-kinds bytes (BadChange j) h = inr (inr h)
-kinds bytes NoEnd h = inr (inr h)
-kinds bytes AfterEnd h = inr (inr h)
+way : (bytes : List ℕ) (f : TextFault) → IsFirstFault bytes f → Way bytes f
+way bytes f (fault.no_header n) = header_missing n
+way bytes f (fault.other_version v n c r h u) = unknown_version v n c r h u
+way bytes f (fault.no_end v lines g) = row_at_fault v lines [] NoEnd g (at_end refl)
+way bytes f (fault.no_row v lines r g s n) = row_at_fault v lines r (BadLine (length lines)) g (at_no_row s n)
+way bytes f (fault.too_large lines row more m p) = met_at bytes lines row more _ m (too_large p)
+way bytes f (fault.falls lines row more m w r) = met_at bytes lines row more _ m (falls w r)
+way bytes f (fault.no_base lines row more m w r b) = met_at bytes lines row more _ m (no_base w r b)
+way bytes f (fault.no_change lines row more m w r b n) = met_at bytes lines row more _ m (no_change w r b n)
+way bytes f (fault.after_end lines last more m w s) =
+    met_at bytes lines (EndRow last) more _ m (after_end last refl w s)
 
 version_fits : (v : ℕ) → IsVersion v → v ≤ 2
 version_fits v (inl e) = omega arith
 version_fits v (inr e) = omega arith
 
-header_of : (v : ℕ) (bytes : List ℕ) (spelled : List Spelled) (rest : List ℕ) → IsVersion v →
-    (g : GoesOn v bytes spelled rest) → HasHeader bytes v g.count g.capacity (flat_map spelled_text spelled ++ rest)
-header_of v bytes spelled rest i g = record {
-  version_limit = let k = version_fits v i in omega arith;
+header_of : (v : ℕ) (bytes : List ℕ) (lines : List RawLine) (rest : List ℕ) → (g : GoesOn v bytes lines rest) →
+    HasHeader bytes v g.count g.capacity (flat_map spelled_text g.spelled ++ rest)
+header_of v bytes lines rest g = record {
+  version_limit = let k = version_fits v g.known in omega arith;
   count_limit = g.count_limit;
   capacity_limit = g.capacity_limit;
   text = g.text;
@@ -249,53 +220,46 @@ headers_same : (bytes : List ℕ) (v n c w m d : ℕ) (r s : List ℕ) → HasHe
     HasHeader bytes w m d s → (v ≡ w) × (n ≡ m) × (c ≡ d) × (r ≡ s)
 headers_same bytes v n c w m d r s p q = header_split v w n m c d r s (sym p.text ∙ q.text)
 
-version_moved : (bytes : List ℕ) {v w : ℕ} (spelled : List Spelled) (rest : List ℕ) (f : TextFault) → v ≡ w →
-    GoesOn v bytes spelled rest → IsFaultAt v (lines_said [] spelled) rest f →
-    GoesOn w bytes spelled rest × IsFaultAt w (lines_said [] spelled) rest f
-version_moved bytes spelled rest f e g a = (
-  subst (λ (v : ℕ). GoesOn v bytes spelled rest) e g,
-  subst (λ (v : ℕ). IsFaultAt v (lines_said [] spelled) rest f) e a,
-)
+-- after the good lines that go on, faults come there
+at_said : (v : ℕ) (bytes : List ℕ) (lines : List RawLine) (rest : List ℕ) (f : TextFault) →
+    (g : GoesOn v bytes lines rest) → FaultAt v lines rest f → FaultAt v (lines_said [] g.spelled) rest f
+at_said v bytes lines rest f g a = subst (λ (u : List RawLine). FaultAt v u rest f) g.said a
+
+-- the same version, lines and rest
+at_same : {v w : ℕ} {xs ys : List Spelled} {r s : List ℕ} (f : TextFault) → v ≡ w → xs ≡ ys → r ≡ s →
+    FaultAt v (lines_said [] xs) r f → FaultAt w (lines_said [] ys) s f
+at_same {v} {w} {xs} {ys} {r} {s} f o p q a = subst (λ (u : ℕ). FaultAt u (lines_said [] ys) s f) o
+    (subst (λ (u : List ℕ). FaultAt v (lines_said [] ys) u f) q
+    (subst (λ (u : List Spelled). FaultAt v (lines_said [] u) r f) p a))
 
 -- bytes have at most one first fault
 pub first_fault_unique : (bytes : List ℕ) (f g : TextFault) → IsFirstFault bytes f → IsFirstFault bytes g → f ≡ g
-unfolding HeaderMissing OtherVersion RowAtFault
-first_fault_unique bytes f g a b = both (kinds bytes f a) (kinds bytes g b)
+first_fault_unique bytes f g a b = both f g (way bytes f a) (way bytes g b)
   where
-    moved : (v : ℕ) {xs ys : List Spelled} {r s : List ℕ} → xs ≡ ys → r ≡ s →
-        IsFaultAt v (lines_said [] xs) r f → IsFaultAt v (lines_said [] ys) s f
-    moved v {xs} {ys} {r} {s} p q a = subst (λ (u : List ℕ). IsFaultAt v (lines_said [] ys) u f) q
-        (subst (λ (u : List Spelled). IsFaultAt v (lines_said [] u) r f) p a)
+    rows : (f g : TextFault) (v w : ℕ) (xs ys : List RawLine) (r s : List ℕ) → GoesOn v bytes xs r → GoesOn w bytes ys s →
+        FaultAt v xs r f → FaultAt w ys s g → f ≡ g
+    rows f g v w xs ys r s p q a b =
+        let h = headers_same bytes v p.count p.capacity w q.count q.capacity _ _ (header_of v bytes xs r p)
+        (header_of w bytes ys s q) in
+        let c = at_same f h.0 refl refl (at_said v bytes xs r f p a) in
+        let d = at_said w bytes ys s g q b in
+        let e = lines_same w [] p.spelled q.spelled r s f g (subst (λ (u : ℕ). AreGood u [] p.spelled) h.0 p.good) q.good
+        c d h.3 in
+        fault_at_unique w (lines_said [] q.spelled) s f g (at_same f refl e.0 e.1 c) d
 
-    same_version : (v : ℕ) (xs ys : List Spelled) (r s : List ℕ) → IsVersion v → GoesOn v bytes xs r →
-        GoesOn v bytes ys s → IsFaultAt v (lines_said [] xs) r f → IsFaultAt v (lines_said [] ys) s g → f ≡ g
-    same_version v xs ys r s i p q a b =
-        let h = headers_same bytes v p.count p.capacity v q.count q.capacity _ _ (header_of v bytes xs r i p)
-        (header_of v bytes ys s i q) in
-        let e = lines_same v [] xs ys r s f g p.good q.good a b h.3 in
-        fault_at_unique v (lines_said [] ys) s f g (moved v e.0 e.1 a) b
-
-    rows : RowAtFault bytes f → RowAtFault bytes g → f ≡ g
-    rows (v, i, xs, r, p, a) (w, j, ys, s, q, b) =
-        let h = headers_same bytes v p.count p.capacity w q.count q.capacity _ _ (header_of v bytes xs r i p)
-        (header_of w bytes ys s j q) in
-        let m = version_moved bytes xs r f h.0 p a in
-        same_version w xs ys r s j m.0 q m.1 b
-
-    both : HeaderMissing bytes f ⊎ (OtherVersion bytes f ⊎ RowAtFault bytes f) →
-        HeaderMissing bytes g ⊎ (OtherVersion bytes g ⊎ RowAtFault bytes g) → f ≡ g
-    both (inl a) (inl b) = a.1 ∙ sym b.1
-    both (inl a) (inr (inl b)) = absurd (a.0 b.0 b.1 b.2 b.3 b.4)
-    both (inl a) (inr (inr b)) = absurd (a.0 b.0 b.4.count b.4.capacity _ (header_of b.0 bytes b.2 b.3 b.1 b.4))
-    both (inr (inl a)) (inl b) = absurd (b.0 a.0 a.1 a.2 a.3 a.4)
-    both (inr (inl a)) (inr (inl b)) = a.6 ∙ (ap BadVersion
-        (headers_same bytes a.0 a.1 a.2 b.0 b.1 b.2 a.3 b.3 a.4 b.4).0 ∙ sym b.6)
-    both (inr (inl a)) (inr (inr b)) = absurd (a.5 (subst IsVersion (sym
-        (headers_same bytes a.0 a.1 a.2 b.0 b.4.count b.4.capacity a.3 _ a.4 (header_of b.0 bytes b.2 b.3 b.1 b.4)).0) b.1))
-    both (inr (inr a)) (inl b) = absurd (b.0 a.0 a.4.count a.4.capacity _ (header_of a.0 bytes a.2 a.3 a.1 a.4))
-    both (inr (inr a)) (inr (inl b)) = absurd (b.5 (subst IsVersion (sym
-        (headers_same bytes b.0 b.1 b.2 a.0 a.4.count a.4.capacity b.3 _ b.4 (header_of a.0 bytes a.2 a.3 a.1 a.4)).0) a.1))
-    both (inr (inr a)) (inr (inr b)) = rows a b
+    both : (f g : TextFault) → Way bytes f → Way bytes g → f ≡ g
+    both f g (header_missing n) (header_missing m) = refl
+    both f g (header_missing n) (unknown_version v m c r h u) = absurd (n v m c r h)
+    both f g (header_missing n) (row_at_fault v xs r h p a) = absurd (n v p.count p.capacity _ (header_of v bytes xs r p))
+    both f g (unknown_version v m c r h u) (header_missing n) = absurd (n v m c r h)
+    both f g (unknown_version v m c r h u) (unknown_version w n d s i t) =
+        ap BadVersion (headers_same bytes v m c w n d r s h i).0
+    both f g (unknown_version v m c r h u) (row_at_fault w xs s i p a) = absurd (u (subst IsVersion (sym
+        (headers_same bytes v m c w p.count p.capacity r _ h (header_of w bytes xs s p)).0) p.known))
+    both f g (row_at_fault v xs r h p a) (header_missing n) = absurd (n v p.count p.capacity _ (header_of v bytes xs r p))
+    both f g (row_at_fault w xs s i p a) (unknown_version v m c r h u) = absurd (u (subst IsVersion (sym
+        (headers_same bytes v m c w p.count p.capacity r _ h (header_of w bytes xs s p)).0) p.known))
+    both f g (row_at_fault v xs r h p a) (row_at_fault w ys s i q b) = rows h i v w xs ys r s p q a b
 
 -- ---- what bytes say
 pub log_form : (v n c : ℕ) (spelled : List Spelled) (e : ℕ) (r : List ℕ) → spelled_log v n c spelled e ++ r ≡
@@ -317,27 +281,17 @@ its_header v bytes raw i t = record {
 -- bytes that say a log have no first fault
 pub says_no_fault : (v : ℕ) (bytes : List ℕ) (f : TextFault) (raw : RawLog) → IsVersion v → IsFirstFault bytes f →
     SaysBy v bytes raw → ⊥
-unfolding HeaderMissing OtherVersion RowAtFault
-says_no_fault v bytes f raw i a t = none (kinds bytes f a)
+says_no_fault v bytes f raw i a t = none f (way bytes f a)
   where
-    same_version : (xs : List Spelled) (r : List ℕ) → GoesOn v bytes xs r → IsFaultAt v (lines_said [] xs) r f → ⊥
-    same_version xs r p a =
-        let h = headers_same bytes v p.count p.capacity v raw.count raw.capacity _ _ (header_of v bytes xs r i p)
+    none : (f : TextFault) → Way bytes f → ⊥
+    none f (header_missing n) = n v raw.count raw.capacity _ (its_header v bytes raw i t)
+    none f (unknown_version w n c r h u) = u (subst IsVersion (sym
+        (headers_same bytes w n c v raw.count raw.capacity r _ h (its_header v bytes raw i t)).0) i)
+    none f (row_at_fault w xs r g p a) =
+        let h = headers_same bytes w p.count p.capacity v raw.count raw.capacity _ _ (header_of w bytes xs r p)
         (its_header v bytes raw i t) in
-        lines_no_fault v [] xs t.spelled r raw.end f p.good t.good a t.end_limit h.3
-
-    rows : RowAtFault bytes f → ⊥
-    rows (w, j, xs, r, p, a) =
-        let h = headers_same bytes w p.count p.capacity v raw.count raw.capacity _ _ (header_of w bytes xs r j p)
-        (its_header v bytes raw i t) in
-        let m = version_moved bytes xs r f h.0 p a in
-        same_version xs r m.0 m.1
-
-    none : HeaderMissing bytes f ⊎ (OtherVersion bytes f ⊎ RowAtFault bytes f) → ⊥
-    none (inl a) = a.0 v raw.count raw.capacity _ (its_header v bytes raw i t)
-    none (inr (inl a)) = a.5 (subst IsVersion (sym (headers_same bytes a.0 a.1 a.2 v raw.count raw.capacity a.3 _ a.4
-        (its_header v bytes raw i t)).0) i)
-    none (inr (inr a)) = rows a
+        lines_no_fault v [] p.spelled t.spelled r raw.end g (subst (λ (u : ℕ). AreGood u [] p.spelled) h.0 p.good) t.good
+        (at_same g h.0 refl refl (at_said w bytes xs r g p a)) t.end_limit h.3
 
 same_log : (g h : RawLog) → g.count ≡ h.count → g.capacity ≡ h.capacity → g.lines ≡ h.lines → g.end ≡ h.end → g ≡ h
 same_log g h p q u v = λ i. record { count = p i; capacity = q i; lines = u i; end = v i }

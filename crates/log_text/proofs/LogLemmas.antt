@@ -1,27 +1,30 @@
 -- Headers that are read, and what is read of a log so far.
-use Rattle.std.proofs.Common.{◌≡◌, ◌≢◌, ◌^◌, ℕ, ◌<◌, ◌≤◌, Option, Some, None, Result, Ok, Err, IfOk, List, [], ◌∷◌, ◌++◌, All, codes, refl, sym, ap, ◌∙◌, arith, append_assoc}
+use Rattle.std.proofs.Common.{◌≡◌, ◌≢◌, ◌^◌, ℕ, ◌<◌, ◌≤◌, inl, inr, subst, Option, Some, None, Result, Ok, Err, IfOk, List, [], ◌∷◌, ◌++◌, All, codes, refl, sym, ap, ◌∙◌, arith, append_assoc}
 use Rattle.std.proofs.lemmas.List.{append-nil}
-use Rattle.std.proofs.lemmas.List.Concat.{flat_map-append}
-use Rattle.std.proofs.lemmas.List.Elements.{All-push}
+use Rattle.std.proofs.lemmas.List.Elements.{All-nil, All-push}
 use Rattle.std.specs.List.{flat_map}
 use Rattle.dsa_model.specs.Fails.{UnlessNoMemory}
 use Rattle.dsa_model.specs.declared.fail.Fail.{Fail}
 use Rattle.dsa_model.specs.declared.fail.Fail.TheVariants as fail
-use Rattle.log_text.specs.Faults.{HasHeader, IsFirstFault, IsGood, IsTextOf}
-use Rattle.log_text.specs.RawLogs.{IsRawKept}
-use Rattle.log_text.specs.RawTexts.{end_text, header_text, line_text}
+use Rattle.log_text.specs.Faults.{GoesOn, HasHeader, IsFirstFault, IsVersion}
+use Rattle.log_text.specs.Faults as fault
+use Rattle.log_text.specs.RawLogs.{IsRawKept, IsRawLineKept}
+use Rattle.log_text.specs.RawTexts.{end_text, header_text}
 use Rattle.log_text.specs.Reading.{HasNoField, IsFieldRead}
-use Rattle.log_text.specs.Rows.{HasNoHeader, IsGoodRead, IsHeaderRead}
+use Rattle.log_text.specs.Rows.{HasNoHeader, IsGoodRead, IsHeaderRead, IsStarted, row_said}
+use Rattle.log_text.specs.Says.{EndRow, IsGood, LineRow, Row, Says, SaysBy, row_text}
+use Rattle.log_text.specs.Spellings.{line_said, spelled_log, spelled_text}
 use Rattle.log_text.specs.declared.fault.TextFault.{TextFault}
-use Rattle.log_text.specs.declared.fault.TextFault.TheVariants.{NotLog, BadVersion}
+use Rattle.log_text.specs.declared.fault.TextFault.TheVariants.{AfterEnd, BadVersion, NoEnd, NotLog}
 use Rattle.log_text.specs.declared.raw.RawLine.{RawLine}
 use Rattle.log_text.specs.declared.raw.RawLog.{RawLog}
-use Rattle.log_text.specs.declared.rows.Read.TheVariants as read
-use Rattle.log_text.proofs.FirstFault.{first_fault_unique, text_has_no_fault}
+use Rattle.log_text.specs.declared.said.Said.TheVariants as said
+use Rattle.log_text.proofs.FirstFaults.{first_fault_unique}
 use Rattle.log_text.proofs.PrefixFree.{cut}
 use Rattle.log_text.proofs.ReadLemmas.{fitting_none, fitting_small, fitting_some}
 use Rattle.log_text.proofs.RowLemmas.{field_split}
-use Rattle.log_text.proofs.Unique.{header_form, header_split, log_split}
+use Rattle.log_text.proofs.Saying.{goes_on_more, line_kept, no_fault_said, says_kept, says_prefix_free, says_text}
+use Rattle.log_text.proofs.Unique.{header_form, header_split}
 
 -- ---- headers
 pub header_no_count : (old mid rest : List ℕ) (v : Option ℕ) → old ≡ codes "dsalog " ++ mid →
@@ -44,22 +47,22 @@ header_same old x y z new p v n c r h = header_split p.v v p.n n p.c c new r (sy
 
 pub no_version : (old : List ℕ) (x y z : Option ℕ) (new : List ℕ) → IsHeaderRead old x y z new → x ≡ None →
     IsFirstFault old NotLog
-no_version old x y z new p e = λ v n c r h. let s = (header_same old x y z new p v n c r h).0 in
-    let l : p.v < 2 ^ 64 = rw s h.version_limit in fitting_none p.v (sym e ∙ p.version_is) l
+no_version old x y z new p e = fault.no_header (λ v n c r h. let s = (header_same old x y z new p v n c r h).0 in
+    let l : p.v < 2 ^ 64 = rw s h.version_limit in fitting_none p.v (sym e ∙ p.version_is) l)
 
 pub no_count : (old : List ℕ) (x y z : Option ℕ) (new : List ℕ) → IsHeaderRead old x y z new →
     ((n : ℕ) → y ≡ Some n → 2 ^ 60 < n) → IsFirstFault old NotLog
-no_count old x y z new p f = λ v n c r h.
+no_count old x y z new p f = fault.no_header (λ v n c r h.
     let s = (header_same old x y z new p v n c r h).1 in
     let l : n ≤ 2 ^ 60 = h.count_limit in
-    let m : 2 ^ 60 < p.n = f p.n (p.count_is ∙ fitting_small p.n (omega arith)) in omega arith
+    let m : 2 ^ 60 < p.n = f p.n (p.count_is ∙ fitting_small p.n (omega arith)) in omega arith)
 
 pub no_capacity : (old : List ℕ) (x y z : Option ℕ) (new : List ℕ) → IsHeaderRead old x y z new →
     ((n : ℕ) → z ≡ Some n → 2 ^ 60 < n) → IsFirstFault old NotLog
-no_capacity old x y z new p f = λ v n c r h.
+no_capacity old x y z new p f = fault.no_header (λ v n c r h.
     let s = (header_same old x y z new p v n c r h).2 in
     let l : c ≤ 2 ^ 60 = h.capacity_limit in
-    let m : 2 ^ 60 < p.c = f p.c (p.capacity_is ∙ fitting_small p.c (omega arith)) in omega arith
+    let m : 2 ^ 60 < p.c = f p.c (p.capacity_is ∙ fitting_small p.c (omega arith)) in omega arith)
 
 pub header_read : (old : List ℕ) (x y z : Option ℕ) (a b d : ℕ) (new : List ℕ) → IsHeaderRead old x y z new →
     x ≡ Some a → y ≡ Some b → z ≡ Some d → b ≤ 2 ^ 60 → d ≤ 2 ^ 60 → HasHeader old a b d new
@@ -77,70 +80,142 @@ header_read old x y z a b d new p e f g l m =
     same e f g = rw (e, f, g) refl
 
 pub other_version : (old : List ℕ) (x y z : Option ℕ) (a b d : ℕ) (new : List ℕ) → IsHeaderRead old x y z new →
-    x ≡ Some a → y ≡ Some b → z ≡ Some d → b ≤ 2 ^ 60 → d ≤ 2 ^ 60 → a ≢ 1 →
+    x ≡ Some a → y ≡ Some b → z ≡ Some d → b ≤ 2 ^ 60 → d ≤ 2 ^ 60 → a ≢ 1 → a ≢ 2 →
     IsFirstFault old (BadVersion a)
-other_version old x y z a b d new p e f g l m h = (h, (b, d, new, header_read old x y z a b d new p e f g l m))
+other_version old x y z a b d new p e f g l m h k =
+    fault.other_version a b d new (header_read old x y z a b d new p e f g l m) (unknown a h k)
+  where
+    unknown : (a : ℕ) → a ≢ 1 → a ≢ 2 → IsVersion a → ⊥
+    unknown a h k (inl e) = h e
+    unknown a h k (inr e) = k e
+
+pub is_started : (old : List ℕ) (x y z : Option ℕ) (a b d : ℕ) (new : List ℕ) → IsHeaderRead old x y z new →
+    x ≡ Some a → y ≡ Some b → z ≡ Some d → b ≤ 2 ^ 60 → d ≤ 2 ^ 60 → IsVersion a → IsStarted old a b d new
+is_started old x y z a b d new p e f g l m h = record { header = header_read old x y z a b d new p e f g l m; known = h }
 
 -- ---- rows
--- a header of version 1 and these good lines were read
-pub record IsReadUpTo (bytes : List ℕ) (count capacity : ℕ) (lines : List RawLine) (rest : List ℕ) : Type 0 where
-  pub count_limit : count ≤ 2 ^ 60
-  pub capacity_limit : capacity ≤ 2 ^ 60
-  pub good : All IsGood lines
-  pub text : bytes ≡ header_text 1 count capacity ++ (flat_map line_text lines ++ rest)
+-- a header with these numbers and these lines were read
+pub record IsReadUpTo (version : ℕ) (bytes : List ℕ) (count capacity : ℕ) (lines : List RawLine) (rest : List ℕ) :
+    Type 0 where
+  pub goes_on : GoesOn version bytes lines rest
+  pub count_is : goes_on.count ≡ count
+  pub capacity_is : goes_on.capacity ≡ capacity
+  pub kept : All IsRawLineKept lines
 
-pub up_to_more : (bytes : List ℕ) (count capacity : ℕ) (lines : List RawLine) (mid : List ℕ) (line : RawLine)
-    (new : List ℕ) (more : List RawLine) →
-    IsReadUpTo bytes count capacity lines mid → IsGoodRead mid (read.Line line) new → more ≡ lines ++ line ∷ [] →
-    IsReadUpTo bytes count capacity more new
-up_to_more bytes count capacity lines mid line new more p q e = rw e (record {
-  count_limit = p.count_limit;
-  capacity_limit = p.capacity_limit;
-  good = All-push IsGood lines line p.good (q.is_row.formed, q.within, q.rising);
-  text = p.text ∙ ap (λ u. header_text 1 count capacity ++ u)
-      (ap (λ u. flat_map line_text lines ++ u) q.is_row.text ∙ sym (one_more lines line new));
-})
-  where
-    one_more : (xs : List RawLine) (x : RawLine) (r : List ℕ) →
-        flat_map line_text (xs ++ x ∷ []) ++ r ≡ flat_map line_text xs ++ (line_text x ++ r)
-    one_more xs x r = ap (λ u. u ++ r) (flat_map-append line_text xs (x ∷ []))
-        ∙ regroup (flat_map line_text xs) (line_text x) r
-      where
-        regroup : (a b r : List ℕ) → (a ++ (b ++ [])) ++ r ≡ a ++ (b ++ r)
-        regroup a b r = ap (λ u. (a ++ u) ++ r) (append-nil b) ∙ append_assoc a b r
-
-pub whole_text : (bytes : List ℕ) (count capacity : ℕ) (lines : List RawLine) (mid : List ℕ) (k : ℕ) (new : List ℕ) →
-    IsReadUpTo bytes count capacity lines mid → IsGoodRead mid (read.End k) new → new ≡ [] →
-    IsTextOf bytes (record { count = count; capacity = capacity; lines = lines; end = k })
-whole_text bytes count capacity lines mid k new p q e = record {
-  kept = record {
-    count_limit = p.count_limit;
-    capacity_limit = p.capacity_limit;
-    end_limit = q.within;
-    lines = λ i d l. record { not_empty = (p.good i d l).0.0; rising = (p.good i d l).2; within = (p.good i d l).1 };
+pub none_yet : (version : ℕ) (bytes : List ℕ) (count capacity : ℕ) (lines : List RawLine) (rest : List ℕ) →
+    IsStarted bytes version count capacity rest → lines ≡ [] → IsReadUpTo version bytes count capacity lines rest
+none_yet version bytes count capacity lines rest p e = record {
+  goes_on = record {
+    known = p.known;
+    count = count;
+    capacity = capacity;
+    count_limit = p.header.count_limit;
+    capacity_limit = p.header.capacity_limit;
+    spelled = [];
+    good = tt;
+    said = e;
+    text = p.header.text;
   };
-  cited = λ i d l. (p.good i d l).0.1;
-  text = p.text ∙ (ap (λ u. header_text 1 count capacity ++ (flat_map line_text lines ++ u))
-      (q.is_row.text ∙ (ap (λ u. end_text k ++ u) e ∙ append-nil (end_text k)))
-      ∙ sym (append_assoc (header_text 1 count capacity) (flat_map line_text lines) (end_text k)));
+  count_is = refl;
+  capacity_is = refl;
+  kept = rw e (All-nil IsRawLineKept);
 }
+
+pub up_to_more : (version : ℕ) (bytes : List ℕ) (count capacity : ℕ) (lines : List RawLine) (mid : List ℕ)
+    (line : RawLine) (new : List ℕ) (more : List RawLine) → IsReadUpTo version bytes count capacity lines mid →
+    IsGoodRead version lines mid (said.Line line) new → more ≡ lines ++ line ∷ [] →
+    IsReadUpTo version bytes count capacity more new
+up_to_more version bytes count capacity lines mid line new more p q e = go q.row q.good q.text q.says
+  where
+    go : (row : Row) → IsGood version lines row → mid ≡ row_text row ++ new → said.Line line ≡ row_said lines row →
+        IsReadUpTo version bytes count capacity more new
+    go (EndRow k) g t w = absurd cc
+    go (LineRow s) g t w =
+        let same : line ≡ line_said lines s = cc in
+        let whole : more ≡ lines ++ line_said lines s ∷ [] = e ∙ ap (λ (x : RawLine). lines ++ x ∷ []) same in
+        rw whole (record {
+          goes_on = goes_on_more version bytes lines mid new s p.goes_on g t;
+          count_is = p.count_is;
+          capacity_is = p.capacity_is;
+          kept = All-push IsRawLineKept lines (line_said lines s) p.kept (line_kept version lines s p.kept g).0;
+        })
+
+pub whole_text : (version : ℕ) (bytes : List ℕ) (count capacity : ℕ) (lines : List RawLine) (mid : List ℕ) (k : ℕ)
+    (new : List ℕ) → IsReadUpTo version bytes count capacity lines mid →
+    IsGoodRead version lines mid (said.End k) new → new ≡ [] →
+    Says bytes (record { count = count; capacity = capacity; lines = lines; end = k })
+whole_text version bytes count capacity lines mid k new p q e =
+    by_one bytes (record { count = count; capacity = capacity; lines = lines; end = k }) version p.goes_on.known
+    (go q.row q.good q.text q.says)
+  where
+    go : (row : Row) → IsGood version lines row → mid ≡ row_text row ++ new → said.End k ≡ row_said lines row →
+        SaysBy version bytes (record { count = count; capacity = capacity; lines = lines; end = k })
+    go (LineRow s) g t w = absurd cc
+    go (EndRow j) g t w = let same : k ≡ j = cc in record {
+      spelled = p.goes_on.spelled;
+      count_limit = subst (λ (n : ℕ). n ≤ 2 ^ 60) p.count_is p.goes_on.count_limit;
+      capacity_limit = subst (λ (n : ℕ). n ≤ 2 ^ 60) p.capacity_is p.goes_on.capacity_limit;
+      end_limit = subst (λ (n : ℕ). n ≤ 2 ^ 60) (sym same) g.within;
+      good = p.goes_on.good;
+      lines = p.goes_on.said;
+      text = p.goes_on.text ∙ written p.count_is p.capacity_is same t;
+    }
+      where
+        written : p.goes_on.count ≡ count → p.goes_on.capacity ≡ capacity → k ≡ j → mid ≡ end_text j ++ new →
+            header_text version p.goes_on.count p.goes_on.capacity ++ (flat_map spelled_text p.goes_on.spelled ++ mid)
+            ≡ spelled_log version count capacity p.goes_on.spelled k
+        written a b c t = joined (header_same a b) (t ∙ (ap (λ u. end_text j ++ u) e ∙ append-nil (end_text j)
+            ∙ ap end_text (sym c)))
+
+        header_same : p.goes_on.count ≡ count → p.goes_on.capacity ≡ capacity →
+            header_text version p.goes_on.count p.goes_on.capacity ≡ header_text version count capacity
+        header_same a b = ap (λ (n : ℕ). header_text version n p.goes_on.capacity) a
+            ∙ ap (λ (n : ℕ). header_text version count n) b
+
+        joined : {h i m n : List ℕ} → h ≡ i → m ≡ n → h ++ (flat_map spelled_text p.goes_on.spelled ++ m)
+            ≡ i ++ flat_map spelled_text p.goes_on.spelled ++ n
+        joined {h} {i} {m} {n} a b = ap (λ (u : List ℕ). u ++ (flat_map spelled_text p.goes_on.spelled ++ m)) a
+            ∙ (ap (λ (u : List ℕ). i ++ (flat_map spelled_text p.goes_on.spelled ++ u)) b
+            ∙ sym (append_assoc i (flat_map spelled_text p.goes_on.spelled) n))
+
+    by_one : (bytes : List ℕ) (raw : RawLog) (v : ℕ) → IsVersion v → SaysBy v bytes raw → Says bytes raw
+    by_one bytes raw v (inl e) t = inl (says_text bytes raw (subst (λ (w : ℕ). SaysBy w bytes raw) e t))
+    by_one bytes raw v (inr e) t = inr (subst (λ (w : ℕ). SaysBy w bytes raw) e t)
+
+-- the bytes stop where a line or the end would begin
+pub stops_there : (version : ℕ) (bytes : List ℕ) (count capacity : ℕ) (lines : List RawLine) (rest : List ℕ) →
+    IsReadUpTo version bytes count capacity lines rest → rest ≡ [] → IsFirstFault bytes NoEnd
+stops_there version bytes count capacity lines rest p e =
+    fault.no_end version lines (subst (λ (r : List ℕ). GoesOn version bytes lines r) e p.goes_on)
+
+-- bytes follow the end
+pub goes_past : (version : ℕ) (bytes : List ℕ) (count capacity : ℕ) (lines : List RawLine) (mid : List ℕ) (k : ℕ)
+    (new : List ℕ) → IsReadUpTo version bytes count capacity lines mid →
+    IsGoodRead version lines mid (said.End k) new → new ≢ [] → IsFirstFault bytes AfterEnd
+goes_past version bytes count capacity lines mid k new p q n = go q.row q.good q.text q.says
+  where
+    go : (row : Row) → IsGood version lines row → mid ≡ row_text row ++ new → said.End k ≡ row_said lines row →
+        IsFirstFault bytes AfterEnd
+    go (LineRow s) g t w = absurd cc
+    go (EndRow j) g t w = fault.after_end lines j new
+        (record { version = version; rest = mid; goes_on = p.goes_on; has_row = record { formed = tt; text = t } }) g.within n
 
 -- ---- what the answer is
 pub is_complete : (bytes : List ℕ) (r : Result RawLog (Fail TextFault)) →
-    UnlessNoMemory r (λ raw. IsTextOf bytes raw) (λ f. IsFirstFault bytes f) → (raw : RawLog) → IsTextOf bytes raw →
+    UnlessNoMemory r (λ raw. Says bytes raw) (λ f. IsFirstFault bytes f) → (raw : RawLog) → Says bytes raw →
     UnlessNoMemory r (λ found. found ≡ raw) (λ _. ⊥)
-is_complete bytes (Ok found) h raw t = (log_split found raw [] [] (ap (λ u. u ++ []) (sym h.text ∙ t.text))).0
-is_complete bytes (Err (fail.Fault f)) h raw t = text_has_no_fault bytes f raw h t
+is_complete bytes (Ok found) h raw t = (says_prefix_free bytes bytes found raw [] [] h t refl).0
+is_complete bytes (Err (fail.Fault f)) h raw t = no_fault_said bytes f raw h t
 is_complete bytes (Err fail.NoMemory) h raw t = tt
 
 pub is_cause : (bytes : List ℕ) (r : Result RawLog (Fail TextFault)) →
-    UnlessNoMemory r (λ raw. IsTextOf bytes raw) (λ f. IsFirstFault bytes f) → (f : TextFault) → IsFirstFault bytes f →
+    UnlessNoMemory r (λ raw. Says bytes raw) (λ f. IsFirstFault bytes f) → (f : TextFault) → IsFirstFault bytes f →
     UnlessNoMemory r (λ _. ⊥) (λ g. g ≡ f)
-is_cause bytes (Ok found) h f t = text_has_no_fault bytes f found t h
+is_cause bytes (Ok found) h f t = no_fault_said bytes f found t h
 is_cause bytes (Err (fail.Fault g)) h f t = first_fault_unique bytes g f h t
 is_cause bytes (Err fail.NoMemory) h f t = tt
 
 pub is_kept : (bytes : List ℕ) (r : Result RawLog (Fail TextFault)) →
-    UnlessNoMemory r (λ raw. IsTextOf bytes raw) (λ f. IsFirstFault bytes f) → IfOk r IsRawKept
-is_kept bytes (Ok found) h = h.kept
+    UnlessNoMemory r (λ raw. Says bytes raw) (λ f. IsFirstFault bytes f) → IfOk r IsRawKept
+is_kept bytes (Ok found) h = says_kept bytes found h
 is_kept bytes (Err f) h = tt

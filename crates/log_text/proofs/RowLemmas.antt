@@ -1,5 +1,5 @@
 -- Rows that are read, and where no row stands.
-use Rattle.std.proofs.Common.{◌≡◌, ◌^◌, ◌-◌, ℕ, Option, Result, Ok, Err, List, ◌++◌, codes, refl, sym, ap, ◌∙◌, arith, subst}
+use Rattle.std.proofs.Common.{◌≡◌, ◌≢◌, ◌^◌, ◌-◌, ℕ, Option, length, map, Result, Ok, Err, List, [], ◌∷◌, ◌++◌, codes, refl, sym, ap, ◌∙◌, arith, append_assoc, subst}
 use Rattle.std.specs.Option.{unwrap_or}
 use Rattle.std.specs.Result.{IsErrAnd}
 use Rattle.dsa_model.specs.Fails.{IfFault, UnlessNoMemory}
@@ -7,20 +7,32 @@ use Rattle.dsa_model.specs.declared.fail.Fail.{Fail}
 use Rattle.dsa_model.specs.declared.fail.Fail.TheVariants as fail
 use Rattle.dsa_terms.specs.Claims.{Claim}
 use Rattle.log_text.specs.Digits.{Ends}
-use Rattle.log_text.specs.Faults.{EndRow, HasNoRow, HasRow, IsFaultAt, IsFormed, IsRowRising, IsRowWithin, LineRow, Row, row_text}
+use Rattle.log_text.specs.Changes.{Change}
+use Rattle.log_text.specs.Edits.{AreChangesRead, EndsChanges, HasNoChanges, capped_change, changes_text}
+use Rattle.log_text.specs.Faults.{GoesOn, HasNoRow, HasRow, Meets}
+use Rattle.log_text.specs.Faults as fault
 use Rattle.log_text.specs.Numerals.{numeral}
+use Rattle.log_text.specs.RawLogs.{IsRawLineKept}
 use Rattle.log_text.specs.RawTexts.{cite_text, pair_text, spaced}
-use Rattle.log_text.specs.Reading.{HasNoCases, HasNoField, HasNoList, HasNoOver, HasNoStart, IsBreak, IsCasesRead, IsFieldRead, IsListRead, IsOverRead, IsStartRead, capped, capped_pair, over_start}
-use Rattle.log_text.specs.Rows.{IsGoodRead, IsRowRead, row_value}
+use Rattle.log_text.specs.Reading.{HasNoField, HasNoList, HasNoNumber, HasNoStart, IsBreak, IsFieldRead, IsItemRead, IsListRead, IsStartRead, capped, capped_cite, capped_pair, over_start}
+use Rattle.log_text.specs.Rows.{HasNoCases, HasNoOver, HasNoSpelling, IsCasesRead, IsFaultAfter, IsGoodRead, IsLineSaid, IsOverRead, IsRowRead, IsSpellingRead, IsUnsaid, row_said, row_value, spelled_value, spelling_value}
+use Rattle.log_text.specs.Says.{EndRow, HasBase, HasChanges, IsFormed, IsGood, IsRising, IsSpellingFormed, IsWithin, LineRow, Row, row_text}
+use Rattle.log_text.specs.Spellings.{CasesAs, From, Full, OverAs, Spelled, Spelling, line_said, spelling_of, spelling_text}
+use Rattle.log_text.specs.declared.raw.RawCite.{RawCite}
 use Rattle.log_text.specs.declared.raw.RawLine.{RawLine}
-use Rattle.log_text.specs.declared.raw.RawLine.TheVariants as raw_line
-use Rattle.log_text.specs.declared.fault.TextFault.TheVariants.{NumberTooLarge, NotRising}
+use Rattle.log_text.specs.declared.fault.TextFault.{TextFault}
+use Rattle.log_text.specs.declared.fault.TextFault.TheVariants.{BadBase, BadChange, BadLine, NumberTooLarge, NotRising}
 use Rattle.log_text.specs.declared.rows.Read.{Read}
 use Rattle.log_text.specs.declared.rows.Read.TheVariants as read
+use Rattle.log_text.specs.declared.rows.ReadLine.{ReadLine}
+use Rattle.log_text.specs.declared.said.Said.{Said}
+use Rattle.log_text.specs.declared.said.Said.TheVariants as said
+use Rattle.log_text.specs.declared.said.Unsaid.TheVariants as unsaid
 use Rattle.log_text.proofs.Capped.{within_back, within_same}
-use Rattle.log_text.proofs.PrefixFree.{cut, head_of, number_split, pairs_are_items, spaced_split}
+use Rattle.log_text.proofs.PrefixFree.{cut, ends_stop, head_of, number_split, spaced_split, tail_of}
 use Rattle.log_text.proofs.ReadLemmas.{break_stops, unwrap-fitting}
-use Rattle.log_text.proofs.Unique.{cases_form, end_form, over_form}
+use Rattle.log_text.proofs.Splits.{cases_form, changes_stop, colon_ends_spelling, full_no_base, over_form, spelling_split}
+use Rattle.log_text.proofs.Unique.{end_form}
 
 -- ---- errors that are passed on
 pub passed_on : {T E : Type 0} (P : T → Type 0) (Q R : Type 0) (r : Result T (Fail E)) (f : Fail E) →
@@ -76,113 +88,218 @@ start_split old a b c mid p T H G r e =
     let three = number_split p.G G _ _ refl refl (cut (codes " ") _ _ two.1) in
     cut (codes " : ") mid r three.1
 
-pub over_no_start : (old : List ℕ) → HasNoStart old → HasNoOver old
-over_no_start old h = λ T H G l r s e. h T H G _ e
+pub over_no_start : (v : ℕ) (old : List ℕ) → HasNoStart old → HasNoOver v old
+over_no_start v old h = λ T H G s r f e. h T H G _ e
 
-pub over_no_claim : (old : List ℕ) (a b c : ℕ) (mid : List ℕ) → IsStartRead old a b c mid →
-    HasNoList pair_text (codes "\n") mid → HasNoOver old
-over_no_claim old a b c mid p h = λ T H G l r s e. h l r s (start_split old a b c mid p T H G _ e)
+pub over_no_claim : (v : ℕ) (old : List ℕ) (a b c : ℕ) (mid : List ℕ) → IsStartRead old a b c mid →
+    HasNoSpelling v (codes "\n") mid → HasNoOver v old
+over_no_claim v old a b c mid p h = λ T H G s r f e. h s r f (start_split old a b c mid p T H G _ e)
+
+pub over_read : (v : ℕ) (old mid new : List ℕ) (a b c : ℕ) (s : Spelling) → IsStartRead old a b c mid →
+    IsSpellingRead v (codes "\n") mid s new → IsOverRead v old (OverAs a b c s) new
+over_read v old mid new a b c s p q = record {
+  T = p.T;
+  H = p.H;
+  G = p.G;
+  spelling = q.spelling;
+  formed = q.formed;
+  text = p.text ∙ ap (λ u. over_start p.T p.H p.G u) q.text;
+  line_is = same p.moment_is p.height_is p.modulus_is q.value_is;
+}
+  where
+    same : {T U H J G K : ℕ} {x y : Spelling} → T ≡ U → H ≡ J → G ≡ K → x ≡ y → OverAs T H G x ≡ OverAs U J K y
+    same p q u v = cc
+
+-- ---- claims
+-- a claim in full
+pub full_read : (v : ℕ) (end old : List ℕ) (l : Claim) (new : List ℕ) → IsListRead pair_text capped_pair end old l new →
+    IsSpellingRead v end old (Full l) new
+full_read v end old l new p = record {
+  spelling = Full p.items;
+  formed = p.some;
+  text = p.text;
+  value_is = ap Full p.values_are;
+}
+
+-- neither a claim in full nor a difference
+pub no_spelling : (v : ℕ) (end old : List ℕ) → HasNoList pair_text end old →
+    (v ≡ 2 → (r : List ℕ) → old ≡ 64 ∷ r → ⊥) → HasNoSpelling v end old
+no_spelling v end old h n = λ s r f e. go s r f e
+  where
+    go : (s : Spelling) (r : List ℕ) → IsSpellingFormed v s → old ≡ spelling_text s ++ (end ++ r) → ⊥
+    go (Full l) r f e = h l r f e
+    go (From base changes) r f e = n f _ e
+
+-- a difference
+pub difference_read : (v : ℕ) (end old mid rest new : List ℕ) (base : ℕ) (changes : List Change) → v ≡ 2 →
+    old ≡ 64 ∷ mid → IsItemRead numeral capped mid base rest → AreChangesRead end rest changes new →
+    IsSpellingRead v end old (From base changes) new
+difference_read v end old mid rest new base changes q e p t = record {
+  spelling = From p.item t.items;
+  formed = q;
+  text = e ∙ ap (λ u. 64 ∷ u) (p.text ∙ (ap (λ u. numeral p.item ++ u) t.text
+      ∙ sym (append_assoc (numeral p.item) (changes_text t.items) (end ++ new))));
+  value_is = same p.value_is t.values_are;
+}
+  where
+    same : {a b : ℕ} {x y : List Change} → a ≡ b → x ≡ y → From a x ≡ From b y
+    same p q = cc
+
+-- no claim in full begins so
+pub not_in_full : (v : ℕ) (end old mid : List ℕ) → EndsChanges end → old ≡ 64 ∷ mid →
+    ((base : ℕ) (changes : List Change) (r : List ℕ) → mid ≡ numeral base ++ (changes_text changes ++ (end ++ r)) → ⊥) →
+    HasNoSpelling v end old
+not_in_full v end old mid l e h = λ s r f q. go s r f q
+  where
+    go : (s : Spelling) (r : List ℕ) → IsSpellingFormed v s → old ≡ spelling_text s ++ (end ++ r) → ⊥
+    go (Full k) r f q = full_no_base k (end ++ r) (l r) mid (sym q ∙ e)
+    go (From base changes) r f q = h base changes r (tail_of 64 64 _ _ (sym e ∙ q)
+        ∙ append_assoc (numeral base) (changes_text changes) (end ++ r))
+
+pub no_base_number : (v : ℕ) (end old mid : List ℕ) → EndsChanges end → old ≡ 64 ∷ mid → HasNoNumber mid →
+    HasNoSpelling v end old
+no_base_number v end old mid l e h = not_in_full v end old mid l e (λ base changes r q.
+    h base _ (changes_stop changes (end ++ r) (ends_stop (end ++ r) (l r).ends)) q)
+
+pub no_difference : (v : ℕ) (end old mid rest : List ℕ) (base : ℕ) → EndsChanges end → old ≡ 64 ∷ mid →
+    IsItemRead numeral capped mid base rest → HasNoChanges end rest → HasNoSpelling v end old
+no_difference v end old mid rest base l e p h = not_in_full v end old mid l e (λ b changes r q.
+    h changes r (number_split p.item b rest _ p.stops
+    (changes_stop changes (end ++ r) (ends_stop (end ++ r) (l r).ends)) (sym p.text ∙ q)).1)
 
 -- ---- Cases lines
-pub cases_no_claim : (old : List ℕ) → HasNoList pair_text (codes " : ") old → HasNoCases old
-cases_no_claim old h = λ l cites r s t e. h l _ s e
+pub cases_no_claim : (v : ℕ) (old : List ℕ) → HasNoSpelling v (codes " : ") old → HasNoCases v old
+cases_no_claim v old h = λ s cites r f e. h s _ f.0 e
 
--- the colon ends a claim
-pub colon_ends : (r : List ℕ) → Ends (codes " : " ++ r)
-colon_ends r = (refl, λ e. refl)
+pub cases_no_cites : (v : ℕ) (old : List ℕ) (s : Spelling) (mid : List ℕ) →
+    IsSpellingRead v (codes " : ") old s mid → HasNoList cite_text (codes "\n") mid → HasNoCases v old
+cases_no_cites v old s mid p h = λ x cites r f e.
+    h cites r f.1 (cut (codes " : ") mid (spaced cite_text cites ++ (codes "\n" ++ r))
+    (spelling_split p.spelling x (codes " : " ++ mid)
+    (codes " : " ++ (spaced cite_text cites ++ (codes "\n" ++ r))) (colon_ends_spelling mid)
+    (colon_ends_spelling (spaced cite_text cites ++ (codes "\n" ++ r))) (sym p.text ∙ e)).1)
 
-pub cases_no_cites : (old : List ℕ) (claim : Claim) (mid : List ℕ) →
-    IsListRead pair_text capped_pair (codes " : ") old claim mid → HasNoList cite_text (codes "\n") mid → HasNoCases old
-cases_no_cites old claim mid p h = λ l cites r s t e.
-    h cites r t (cut (codes " : ") mid (spaced cite_text cites ++ (codes "\n" ++ r))
-    (spaced_split pair_text pairs_are_items p.items l (codes " : " ++ mid)
-    (codes " : " ++ (spaced cite_text cites ++ (codes "\n" ++ r))) (colon_ends mid)
-    (colon_ends (spaced cite_text cites ++ (codes "\n" ++ r))) (sym p.text ∙ e)).1)
+pub cases_read : (v : ℕ) (old mid new : List ℕ) (s : Spelling) (cites : List (ℕ × RawCite)) →
+    IsSpellingRead v (codes " : ") old s mid → IsListRead cite_text capped_cite (codes "\n") mid cites new →
+    IsCasesRead v old (CasesAs s cites) new
+cases_read v old mid new s cites p q = record {
+  spelling = p.spelling;
+  cites = q.items;
+  formed = (p.formed, q.some);
+  text = p.text ∙ ap (λ u. spelling_text p.spelling ++ (codes " : " ++ u)) q.text;
+  line_is = same p.value_is q.values_are;
+}
+  where
+    same : {x y : Spelling} {c d : List (ℕ × RawCite)} → x ≡ y → c ≡ d → CasesAs x c ≡ CasesAs y d
+    same p q = cc
 
 -- ---- rows
-pub row_over : (old mid : List ℕ) (line : RawLine) (new : List ℕ) → old ≡ codes "over " ++ mid →
-    IsOverRead mid line new → IsRowRead old (read.Line line) new
-row_over old mid line new e p = record {
-  row = LineRow (raw_line.Over p.T p.H p.G p.claim);
+pub row_over : (v : ℕ) (old mid : List ℕ) (line : ReadLine) (new : List ℕ) → old ≡ codes "over " ++ mid →
+    IsOverRead v mid (spelled_value line) new → IsRowRead v old (read.Line line) new
+row_over v old mid line new e p = record {
+  row = LineRow (OverAs p.T p.H p.G p.spelling);
   is_row = record {
-    formed = (p.some, tt);
-    text = e ∙ (ap (λ u. codes "over " ++ u) p.text
-        ∙ sym (over_form p.T p.H p.G p.claim new));
+    formed = (p.formed, tt);
+    text = e ∙ (ap (λ u. codes "over " ++ u) p.text ∙ sym (over_form p.T p.H p.G p.spelling new));
   };
   value_is = ap LineRow p.line_is;
 }
 
-pub row_cases : (old mid : List ℕ) (line : RawLine) (new : List ℕ) → old ≡ codes "case : " ++ mid →
-    IsCasesRead mid line new → IsRowRead old (read.Line line) new
-row_cases old mid line new e p = record {
-  row = LineRow (raw_line.Cases p.claim p.cites);
+pub row_cases : (v : ℕ) (old mid : List ℕ) (line : ReadLine) (new : List ℕ) → old ≡ codes "case : " ++ mid →
+    IsCasesRead v mid (spelled_value line) new → IsRowRead v old (read.Line line) new
+row_cases v old mid line new e p = record {
+  row = LineRow (CasesAs p.spelling p.cites);
   is_row = record {
-    formed = (p.some, p.cited);
-    text = e
-        ∙ (ap (λ u. codes "case : " ++ u) p.text ∙ sym (cases_form p.claim p.cites new));
+    formed = p.formed;
+    text = e ∙ (ap (λ u. codes "case : " ++ u) p.text ∙ sym (cases_form p.spelling p.cites new));
   };
   value_is = ap LineRow p.line_is;
 }
 
-pub row_end : (old mid : List ℕ) (v : Option ℕ) (x : ℕ) (new : List ℕ) → old ≡ codes "end " ++ mid →
-    IsFieldRead (codes "\n") mid v new → x ≡ unwrap_or v (2 ^ 64 - 1) → IsRowRead old (read.End x) new
-row_end old mid v x new e p q = record {
+pub row_end : (v : ℕ) (old mid : List ℕ) (n : Option ℕ) (x : ℕ) (new : List ℕ) → old ≡ codes "end " ++ mid →
+    IsFieldRead (codes "\n") mid n new → x ≡ unwrap_or n (2 ^ 64 - 1) → IsRowRead v old (read.End x) new
+row_end v old mid n x new e p q = record {
   row = EndRow p.number;
   is_row = record { formed = tt; text = e ∙ (ap (λ u. codes "end " ++ u) p.text ∙ sym (end_form p.number new)) };
-  value_is = ap EndRow (unwrapped (codes "\n") mid v new x p q);
+  value_is = ap EndRow (unwrapped (codes "\n") mid n new x p q);
 }
 
 -- no row stands where what follows each first word is none
-no_row : (old : List ℕ) → ((r : List ℕ) → old ≡ codes "over " ++ r → HasNoOver r) →
-    ((r : List ℕ) → old ≡ codes "case : " ++ r → HasNoCases r) →
-    ((r : List ℕ) → old ≡ codes "end " ++ r → HasNoField (codes "\n") r) → HasNoRow old
-no_row old f g h = λ row more p e. go f g h row more p e
+no_row : (v : ℕ) (old : List ℕ) → ((r : List ℕ) → old ≡ codes "over " ++ r → HasNoOver v r) →
+    ((r : List ℕ) → old ≡ codes "case : " ++ r → HasNoCases v r) →
+    ((r : List ℕ) → old ≡ codes "end " ++ r → HasNoField (codes "\n") r) → HasNoRow v old
+no_row v old f g h = λ row more p e. go row more p e
   where
-    go : ((r : List ℕ) → old ≡ codes "over " ++ r → HasNoOver r) →
-        ((r : List ℕ) → old ≡ codes "case : " ++ r → HasNoCases r) →
-        ((r : List ℕ) → old ≡ codes "end " ++ r → HasNoField (codes "\n") r) → (row : Row) (more : List ℕ) →
-        IsFormed row → old ≡ row_text row ++ more → ⊥
-    go f g h (LineRow (raw_line.Over T H G l)) more p e = f _ (e ∙ over_form T H G l more) T H G l more p.0 refl
-    go f g h (LineRow (raw_line.Cases l cites)) more p e = g _ (e ∙ cases_form l cites more) l cites more p.0 p.1 refl
-    go f g h (EndRow k) more p e = h _ (e ∙ end_form k more) k more refl
+    go : (row : Row) (more : List ℕ) → IsFormed v row → old ≡ row_text row ++ more → ⊥
+    go (LineRow (OverAs T H G s)) more p e = f _ (e ∙ over_form T H G s more) T H G s more p.0 refl
+    go (LineRow (CasesAs s cites)) more p e = g _ (e ∙ cases_form s cites more) s cites more p refl
+    go (EndRow k) more p e = h _ (e ∙ end_form k more) k more refl
 
-pub row_no_over : (old mid : List ℕ) → old ≡ codes "over " ++ mid → HasNoOver mid → HasNoRow old
-row_no_over old mid e h = no_row old
-    (λ r q. subst HasNoOver (cut (codes "over ") mid r (sym e ∙ q)) h)
+pub row_no_over : (v : ℕ) (old mid : List ℕ) → old ≡ codes "over " ++ mid → HasNoOver v mid → HasNoRow v old
+row_no_over v old mid e h = no_row v old
+    (λ r q. subst (HasNoOver v) (cut (codes "over ") mid r (sym e ∙ q)) h)
     (λ r q. absurd (let n : 111 ≡ 99 = head_of _ _ _ _ (sym e ∙ q) in omega arith))
     (λ r q. absurd (let n : 111 ≡ 101 = head_of _ _ _ _ (sym e ∙ q) in omega arith))
 
 -- ---- rows with their faults
-pub row_large : (old : List ℕ) (value : Read) (new : List ℕ) (k : ℕ) → IsRowRead old value new →
-    (IsRowWithin (row_value value) → ⊥) → IsFaultAt old k (NumberTooLarge k)
-row_large old value new k p h = (
-  p.row,
-  new,
-  p.is_row,
-  (
-    refl,
-    λ w. h
-        (subst IsRowWithin (sym (p.value_is ∙ within_same p.row w)) w),
-  ),
-)
+-- the row that was read is met after these lines
+pub is_met : (v : ℕ) (bytes : List ℕ) (lines : List RawLine) (old : List ℕ) (value : Read) (new : List ℕ) →
+    GoesOn v bytes lines old → (p : IsRowRead v old value new) → Meets bytes lines p.row new
+is_met v bytes lines old value new g p = record { version = v; rest = old; goes_on = g; has_row = p.is_row }
+
+pub row_none : (v : ℕ) (lines : List RawLine) (old : List ℕ) (k : ℕ) → k ≡ length lines → old ≢ [] → HasNoRow v old →
+    IsFaultAfter v lines old (BadLine k)
+row_none v lines old k q s n = λ bytes g. rw q (fault.no_row v lines old g s n)
+
+pub row_large : (v : ℕ) (lines : List RawLine) (old : List ℕ) (value : Read) (new : List ℕ) (k : ℕ) → k ≡ length lines →
+    IsRowRead v old value new → (IsWithin (row_value value) → ⊥) → IsFaultAfter v lines old (NumberTooLarge k)
+row_large v lines old value new k q p h = λ bytes g. rw q
+    (fault.too_large lines p.row new (is_met v bytes lines old value new g p)
+    (λ w. h (subst IsWithin (sym (p.value_is ∙ within_same p.row w)) w)))
 
 -- within its limits the row is read as it stands
-as_it_stands : (old : List ℕ) (value : Read) (new : List ℕ) → (p : IsRowRead old value new) →
-    IsRowWithin (row_value value) → row_value value ≡ p.row
-as_it_stands old value new p w = p.value_is ∙ within_same p.row (within_back p.row (subst IsRowWithin p.value_is w))
+as_it_stands : (v : ℕ) (old : List ℕ) (value : Read) (new : List ℕ) → (p : IsRowRead v old value new) →
+    IsWithin (row_value value) → row_value value ≡ p.row
+as_it_stands v old value new p w = p.value_is ∙ within_same p.row (within_back p.row (subst IsWithin p.value_is w))
 
-pub row_falls : (old : List ℕ) (value : Read) (new : List ℕ) (k : ℕ) → IsRowRead old value new →
-    IsRowWithin (row_value value) → (IsRowRising (row_value value) → ⊥) → IsFaultAt old k (NotRising k)
-row_falls old value new k p w h =
-    let e = as_it_stands old value new p w in (
-      p.row,
-      new,
-      p.is_row,
-      (refl, subst IsRowWithin e w, λ r. h (subst IsRowRising (sym e) r)),
-    )
+pub row_falls : (v : ℕ) (lines : List RawLine) (old : List ℕ) (value : Read) (new : List ℕ) (k : ℕ) → k ≡ length lines →
+    IsRowRead v old value new → IsWithin (row_value value) → (IsRising (row_value value) → ⊥) →
+    IsFaultAfter v lines old (NotRising k)
+row_falls v lines old value new k q p w h = λ bytes g.
+    let e = as_it_stands v old value new p w in rw q
+    (fault.falls lines p.row new (is_met v bytes lines old value new g p) (subst IsWithin e w)
+    (λ r. h (subst IsRising (sym e) r)))
 
-pub row_good : (old : List ℕ) (value : Read) (new : List ℕ) → IsRowRead old value new →
-    IsRowWithin (row_value value) → IsRowRising (row_value value) → IsGoodRead old value new
-row_good old value new p w r =
-    let e = as_it_stands old value new p w in
-    record { is_row = subst (λ (row : Row). HasRow old row new) (sym e) p.is_row; within = w; rising = r }
+pub row_no_base : (v : ℕ) (lines : List RawLine) (old : List ℕ) (value : Read) (new : List ℕ) (k : ℕ) → k ≡ length lines →
+    IsRowRead v old value new → IsWithin (row_value value) → IsRising (row_value value) →
+    (HasBase lines (row_value value) → ⊥) → IsFaultAfter v lines old (BadBase k)
+row_no_base v lines old value new k q p w r h = λ bytes g.
+    let e = as_it_stands v old value new p w in rw q
+    (fault.no_base lines p.row new (is_met v bytes lines old value new g p) (subst IsWithin e w) (subst IsRising e r)
+    (λ b. h (subst (HasBase lines) (sym e) b)))
+
+pub row_no_change : (v : ℕ) (lines : List RawLine) (old : List ℕ) (value : Read) (new : List ℕ) (k : ℕ) →
+    k ≡ length lines → IsRowRead v old value new → IsWithin (row_value value) → IsRising (row_value value) →
+    HasBase lines (row_value value) → (HasChanges lines (row_value value) → ⊥) → IsFaultAfter v lines old (BadChange k)
+row_no_change v lines old value new k q p w r b h = λ bytes g.
+    let e = as_it_stands v old value new p w in rw q
+    (fault.no_change lines p.row new (is_met v bytes lines old value new g p) (subst IsWithin e w) (subst IsRising e r)
+    (subst (HasBase lines) e b) (λ c. h (subst (HasChanges lines) (sym e) c)))
+
+pub row_good : (v : ℕ) (lines : List RawLine) (old : List ℕ) (value : Read) (new : List ℕ) (x : Said) →
+    IsRowRead v old value new → IsWithin (row_value value) → IsRising (row_value value) →
+    HasBase lines (row_value value) → HasChanges lines (row_value value) → x ≡ row_said lines (row_value value) →
+    IsGoodRead v lines old x new
+row_good v lines old value new x p w r b c q =
+    let e = as_it_stands v old value new p w in record {
+      row = p.row;
+      good = record {
+        formed = p.is_row.formed;
+        within = subst IsWithin e w;
+        rising = subst IsRising e r;
+        base = subst (HasBase lines) e b;
+        changes = subst (HasChanges lines) e c;
+      };
+      text = p.is_row.text;
+      says = q ∙ ap (row_said lines) e;
+    }

@@ -7,10 +7,10 @@ use Rattle.std.specs.List.{flat_map}
 use Rattle.dsa_terms.specs.Claims.{Claim, Entry, IsIn, Rises, buffers_of}
 use Rattle.log_text.specs.Changes.{AreChanges, Change, DoesChange, Drops, Puts, carried_out, difference}
 use Rattle.dsa_terms.proofs.Lists.{into_map}
-use Rattle.log_text.specs.Faults.{HasCite as HasRawCite, IsTextOf}
+use Rattle.log_text.specs.Faults.{GoesOn, IsFirstFault, IsVersion}
 use Rattle.log_text.specs.RawLogs.{IsPairWithin, IsRawKept, IsRawLineKept, raw_claim_of}
-use Rattle.log_text.specs.RawTexts.{end_text, header_text, line_text}
-use Rattle.log_text.specs.Says.{AreGood, IsChangeWithin, IsFirstFault, IsVersion, HasSpellingBase, HasSpellingChanges, IsGood, IsSpellingFormed, IsSpellingRising, IsSpellingWithin, LineRow, Says, SaysBy}
+use Rattle.log_text.specs.RawTexts.{HasCite, IsTextOf, end_text, header_text, line_text}
+use Rattle.log_text.specs.Says.{AreGood, IsChangeWithin, HasSpellingBase, HasSpellingChanges, IsGood, IsSpellingFormed, IsSpellingRising, IsSpellingWithin, LineRow, Says, SaysBy}
 use Rattle.log_text.specs.Spellings.{CasesAs, From, Full, OverAs, Spelled, Spelling, claim_at, claim_said, line_said, lines_said, raw_text2, shorter, spelled_after, spelled_as, spelled_lines, spelled_text, spelling_text}
 use Rattle.log_text.specs.declared.raw.RawLine.{RawLine}
 use Rattle.log_text.specs.declared.raw.RawLine.TheVariants as raw_line
@@ -31,7 +31,7 @@ in_all P (y ∷ ys) a x (inr i) = in_all P ys (All-tail P y ys a) x i
 
 -- ---- a line with its claim spelled in any way
 -- what is kept of a claim
-record IsClaimKept (l : Claim) : Type 0 where
+pub record IsClaimKept (l : Claim) : Type 0 where
   pub not_empty : l ≢ []
   pub rising : Rises (buffers_of l)
   pub within : All IsPairWithin l
@@ -48,7 +48,7 @@ record IsSpellingGood (v : ℕ) (earlier : List RawLine) (s : Spelling) : Type 0
   pub base : HasSpellingBase earlier s
   pub changes : HasSpellingChanges earlier s
 
-good_as : (v : ℕ) (earlier : List RawLine) (line : RawLine) (s : Spelling) → IsRawLineKept line → HasRawCite line →
+good_as : (v : ℕ) (earlier : List RawLine) (line : RawLine) (s : Spelling) → IsRawLineKept line → HasCite line →
     IsSpellingGood v earlier s → IsGood v earlier (LineRow (spelled_as line s))
 good_as v earlier (raw_line.Over T H G l) s k c g = record {
   formed = (g.formed, tt);
@@ -101,15 +101,15 @@ full_said earlier (line ∷ lines) =
     (said_as earlier line (Full (raw_claim_of line)) refl)
     ∙ (full_said (earlier ++ line ∷ []) lines ∙ one_more earlier line lines)
 
-full_are_good : (v : ℕ) (earlier lines : List RawLine) → All IsRawLineKept lines → All HasRawCite lines →
+full_are_good : (v : ℕ) (earlier lines : List RawLine) → All IsRawLineKept lines → All HasCite lines →
     AreGood v earlier (map in_full lines)
 unfolding in_full
 full_are_good v earlier [] a b = tt
 full_are_good v earlier (line ∷ lines) a b = (
-  good_as v earlier line (Full (raw_claim_of line)) k (All-head HasRawCite line lines b)
+  good_as v earlier line (Full (raw_claim_of line)) k (All-head HasCite line lines b)
       (full_good v earlier (raw_claim_of line) (claim_kept line k)),
   full_are_good v (earlier ++ line_said earlier (in_full line) ∷ []) lines (All-tail IsRawLineKept line lines a)
-      (All-tail HasRawCite line lines b),
+      (All-tail HasCite line lines b),
 )
   where
     k : IsRawLineKept line
@@ -128,7 +128,7 @@ text_says bytes raw t = record {
 }
 
 -- ---- what is said is kept
-claim_at_kept : (earlier : List RawLine) (k : ℕ) → k < length earlier → All IsRawLineKept earlier →
+pub claim_at_kept : (earlier : List RawLine) (k : ℕ) → k < length earlier → All IsRawLineKept earlier →
     IsClaimKept (claim_at earlier k)
 claim_at_kept [] k lt a = absurd (omega arith)
 claim_at_kept (line ∷ lines) zero lt a = claim_kept line (All-head IsRawLineKept line lines a)
@@ -149,8 +149,8 @@ spelling_kept v earlier (From base changes) a g = let k = claim_at_kept earlier 
     either e (inl i) b c = in_all IsPairWithin (claim_at earlier base) b e i
     either e (inr i) b c = in_all IsChangeWithin changes c (Puts e) i
 
-line_kept : (v : ℕ) (earlier : List RawLine) (s : Spelled) → All IsRawLineKept earlier → IsGood v earlier (LineRow s) →
-    IsRawLineKept (line_said earlier s) × HasRawCite (line_said earlier s)
+pub line_kept : (v : ℕ) (earlier : List RawLine) (s : Spelled) → All IsRawLineKept earlier → IsGood v earlier (LineRow s) →
+    IsRawLineKept (line_said earlier s) × HasCite (line_said earlier s)
 line_kept v earlier (OverAs T H G s) a g = let k = spelling_kept v earlier s a (record {
   formed = g.formed.0;
   within = g.within.3;
@@ -173,14 +173,14 @@ line_kept v earlier (CasesAs s cites) a g = let k = spelling_kept v earlier s a 
 )
 
 lines_kept : (v : ℕ) (earlier : List RawLine) (ss : List Spelled) → All IsRawLineKept earlier →
-    All HasRawCite earlier → AreGood v earlier ss →
-    All IsRawLineKept (lines_said earlier ss) × All HasRawCite (lines_said earlier ss)
+    All HasCite earlier → AreGood v earlier ss →
+    All IsRawLineKept (lines_said earlier ss) × All HasCite (lines_said earlier ss)
 lines_kept v earlier [] a b g = (a, b)
 lines_kept v earlier (s ∷ ss) a b g =
     let k = line_kept v earlier s a g.0 in
     lines_kept v (earlier ++ line_said earlier s ∷ []) ss
     (All-push IsRawLineKept earlier (line_said earlier s) a k.0)
-    (All-push HasRawCite earlier (line_said earlier s) b k.1) g.1
+    (All-push HasCite earlier (line_said earlier s) b k.1) g.1
 
 pub said_kept : (v : ℕ) (bytes : List ℕ) (raw : RawLog) → SaysBy v bytes raw → IsRawKept raw
 said_kept v bytes raw t = record {
@@ -188,7 +188,7 @@ said_kept v bytes raw t = record {
   capacity_limit = t.capacity_limit;
   end_limit = t.end_limit;
   lines = subst (λ (ls : List RawLine). All IsRawLineKept ls) (sym t.lines)
-      (lines_kept v [] t.spelled (All-nil IsRawLineKept) (All-nil HasRawCite) t.good).0;
+      (lines_kept v [] t.spelled (All-nil IsRawLineKept) (All-nil HasCite) t.good).0;
 }
 
 pub says_kept : (bytes : List ℕ) (raw : RawLog) → Says bytes raw → IsRawKept raw
@@ -221,8 +221,8 @@ pub says_text : (bytes : List ℕ) (raw : RawLog) → SaysBy 1 bytes raw → IsT
 says_text bytes raw t =
     let f = are_full [] t.spelled t.good in record {
       kept = said_kept 1 bytes raw t;
-      cited = subst (λ (ls : List RawLine). All HasRawCite ls) (sym t.lines)
-          (lines_kept 1 [] t.spelled (All-nil IsRawLineKept) (All-nil HasRawCite) t.good).1;
+      cited = subst (λ (ls : List RawLine). All HasCite ls) (sym t.lines)
+          (lines_kept 1 [] t.spelled (All-nil IsRawLineKept) (All-nil HasCite) t.good).1;
       text = t.text ∙ ap (λ u. header_text 1 raw.count raw.capacity ++ u ++ end_text raw.end)
           (ap (λ (ss : List Spelled). flat_map spelled_text ss) f.1
           ∙ (full_texts f.0 ∙ ap (λ (ls : List RawLine). flat_map line_text ls) (sym (t.lines ∙ f.2))));
@@ -300,7 +300,7 @@ shorter_good earlier before line lim a b =
 
 after_good : (earlier : List RawLine) (k : ℕ) (before : RawLine) (lines : List RawLine) → k ≡ length earlier →
     length earlier + length lines ≤ 2 ^ 60 →
-    IsRawLineKept before → All IsRawLineKept lines → All HasRawCite lines →
+    IsRawLineKept before → All IsRawLineKept lines → All HasCite lines →
     AreGood 2 (earlier ++ before ∷ []) (spelled_after k before lines)
     × (lines_said (earlier ++ before ∷ []) (spelled_after k before lines) ≡ (earlier ++ before ∷ []) ++ lines)
 after_good earlier k before [] q lim a b c = (tt, sym (append-nil (earlier ++ before ∷ [])))
@@ -312,7 +312,7 @@ after_good earlier k before (line ∷ lines) q lim a b c =
     (after_good (earlier ++ before ∷ []) (k + 1) line lines
     (let n = length-append earlier (before ∷ []) in omega arith)
     (let n = length-append earlier (before ∷ []) in omega arith)
-    (All-head IsRawLineKept line lines b) (All-tail IsRawLineKept line lines b) (All-tail HasRawCite line lines c))
+    (All-head IsRawLineKept line lines b) (All-tail IsRawLineKept line lines b) (All-tail HasCite line lines c))
   where
     step : (s : Spelling) →
         IsSpellingGood 2 (earlier ++ before ∷ []) s × (claim_said (earlier ++ before ∷ []) s ≡ raw_claim_of line) →
@@ -325,7 +325,7 @@ after_good earlier k before (line ∷ lines) q lim a b c =
     step s g ih =
         let e = said_as (earlier ++ before ∷ []) line s g.1 in (
           (
-            good_as 2 (earlier ++ before ∷ []) line s (All-head IsRawLineKept line lines b) (All-head HasRawCite line lines c) g.0,
+            good_as 2 (earlier ++ before ∷ []) line s (All-head IsRawLineKept line lines b) (All-head HasCite line lines c) g.0,
             subst (λ (x : RawLine). AreGood 2 ((earlier ++ before ∷ []) ++ x ∷ []) (spelled_after (k + 1) line lines)) (sym e) ih.0,
           ),
           ap (λ (x : RawLine). lines_said ((earlier ++ before ∷ []) ++ x ∷ []) (spelled_after (k + 1) line lines)) e
@@ -333,7 +333,7 @@ after_good earlier k before (line ∷ lines) q lim a b c =
         )
 
 -- the text of version 2 of a log says it
-pub text2_says : (raw : RawLog) → IsRawKept raw → All HasRawCite raw.lines → length raw.lines ≤ 2 ^ 60 →
+pub text2_says : (raw : RawLog) → IsRawKept raw → All HasCite raw.lines → length raw.lines ≤ 2 ^ 60 →
     SaysBy 2 (raw_text2 raw) raw
 text2_says raw k c lim = let t = go raw.lines k.lines c lim in record {
   spelled = spelled_lines raw.lines;
@@ -345,16 +345,16 @@ text2_says raw k c lim = let t = go raw.lines k.lines c lim in record {
   text = refl;
 }
   where
-    go : (lines : List RawLine) → All IsRawLineKept lines → All HasRawCite lines → length lines ≤ 2 ^ 60 →
+    go : (lines : List RawLine) → All IsRawLineKept lines → All HasCite lines → length lines ≤ 2 ^ 60 →
         AreGood 2 [] (spelled_lines lines) × (lines_said [] (spelled_lines lines) ≡ lines)
     go [] k c lim = (tt, refl)
     go (line ∷ lines) k c lim =
         let a = All-head IsRawLineKept line lines k in
         let e = said_as [] line (Full (raw_claim_of line)) refl in
         let t = after_good [] 0 line lines refl (omega arith) a (All-tail IsRawLineKept line lines k)
-        (All-tail HasRawCite line lines c) in (
+        (All-tail HasCite line lines c) in (
           (
-            good_as 2 [] line (Full (raw_claim_of line)) a (All-head HasRawCite line lines c)
+            good_as 2 [] line (Full (raw_claim_of line)) a (All-head HasCite line lines c)
                 (full_good 2 [] (raw_claim_of line) (claim_kept line a)),
             subst (λ (x : RawLine). AreGood 2 (x ∷ []) (spelled_after 0 line lines)) (sym e) t.0,
           ),
@@ -385,25 +385,20 @@ pub good_more : (v : ℕ) (earlier : List RawLine) (ss : List Spelled) (s : Spel
 good_more v earlier [] s a g = (g, tt)
 good_more v earlier (x ∷ ss) s a g = (a.0, good_more v (earlier ++ line_said earlier x ∷ []) ss s a.1 g)
 
--- what a reader keeps: these lines were said so far
-pub record IsReadUpTo (version : ℕ) (bytes : List ℕ) (count capacity : ℕ) (lines : List RawLine) (rest : List ℕ) : Type 0 where
-  pub spelled : List Spelled
-  pub goes_on : AreGood version [] spelled
-  pub said : lines ≡ lines_said [] spelled
-  pub kept : All IsRawLineKept lines
-  pub text : bytes ≡ header_text version count capacity ++ (flat_map spelled_text spelled ++ rest)
-
 -- a further line was read
-pub read_more : (v : ℕ) (bytes : List ℕ) (n c : ℕ) (lines : List RawLine) (mid rest : List ℕ) (s : Spelled)
-    (more : List RawLine) → IsReadUpTo v bytes n c lines mid → IsGood v lines (LineRow s) →
-    mid ≡ spelled_text s ++ rest → more ≡ lines ++ line_said lines s ∷ [] → IsReadUpTo v bytes n c more rest
-read_more v bytes n c lines mid rest s more p g t e = record {
+pub goes_on_more : (v : ℕ) (bytes : List ℕ) (lines : List RawLine) (mid rest : List ℕ) (s : Spelled) →
+    GoesOn v bytes lines mid → IsGood v lines (LineRow s) → mid ≡ spelled_text s ++ rest →
+    GoesOn v bytes (lines ++ line_said lines s ∷ []) rest
+goes_on_more v bytes lines mid rest s p g t = record {
+  known = p.known;
+  count = p.count;
+  capacity = p.capacity;
+  count_limit = p.count_limit;
+  capacity_limit = p.capacity_limit;
   spelled = p.spelled ++ s ∷ [];
-  goes_on = good_more v [] p.spelled s p.goes_on (subst (λ (ls : List RawLine). IsGood v ls (LineRow s)) p.said g);
-  said = e ∙ (ap (λ (ls : List RawLine). ls ++ line_said ls s ∷ []) p.said ∙ sym (said_more [] p.spelled s));
-  kept = subst (λ (ls : List RawLine). All IsRawLineKept ls) (sym e)
-      (All-push IsRawLineKept lines (line_said lines s) p.kept (line_kept v lines s p.kept g).0);
-  text = p.text ∙ ap (λ u. header_text v n c ++ u)
+  good = good_more v [] p.spelled s p.good (subst (λ (ls : List RawLine). IsGood v ls (LineRow s)) p.said g);
+  said = ap (λ (ls : List RawLine). ls ++ line_said ls s ∷ []) p.said ∙ sym (said_more [] p.spelled s);
+  text = p.text ∙ ap (λ u. header_text v p.count p.capacity ++ u)
       (ap (λ u. flat_map spelled_text p.spelled ++ u) t ∙ sym (one_text p.spelled s rest));
 }
   where

@@ -54,7 +54,7 @@ pub changes_stop : (cs : List Change) (r : List ℕ) → Stops r → Stops (chan
 changes_stop [] r h = h
 changes_stop (c ∷ cs) r h = refl
 
-changes_split : (xs ys : List Change) (r s : List ℕ) → EndsSpelling r → EndsSpelling s →
+pub changes_split : (xs ys : List Change) (r s : List ℕ) → EndsSpelling r → EndsSpelling s →
     changes_text xs ++ r ≡ changes_text ys ++ s → (xs ≡ ys) × (r ≡ s)
 changes_split [] [] r s p q e = (refl, e)
 changes_split [] (y ∷ ys) r s p q e = absurd (p.no_change y _
@@ -73,7 +73,7 @@ changes_split (x ∷ xs) (y ∷ ys) r s p q e =
 
 -- ---- claims
 -- a claim in full has no base
-full_no_base : (l : Claim) (r : List ℕ) → EndsSpelling r → (cs : List ℕ) → spaced pair_text l ++ r ≡ 64 ∷ cs → ⊥
+pub full_no_base : (l : Claim) (r : List ℕ) → EndsSpelling r → (cs : List ℕ) → spaced pair_text l ++ r ≡ 64 ∷ cs → ⊥
 full_no_base [] r p cs e = p.no_base cs e
 full_no_base (x ∷ l) r p cs e = let t = pairs_are_items.begins x in
     digit_clash t.0 64 t.3 refl (head_of t.0 64 _ cs

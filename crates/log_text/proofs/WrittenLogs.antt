@@ -7,8 +7,8 @@ use Rattle.dsa_terms.specs.Logs.{Line, Over, Cases, Cite, ByLine, Below, Twin, L
 use Rattle.canonical_order.specs.Claims.{IsBoundedBy}
 use Rattle.refute_log.specs.Lines as lines
 use Rattle.refute_log.specs.Logs.{IsKeptLog}
-use Rattle.log_text.specs.Faults.{HasCite, IsTextOf}
 use Rattle.log_text.specs.RawLogs.{IsRawCiteWithin, IsRawLineKept, IsPairWithin}
+use Rattle.log_text.specs.RawTexts.{HasCite, IsTextOf}
 use Rattle.log_text.specs.Text.{log_text, raw_cite_of, raw_line_of, raw_log_of}
 use Rattle.log_text.specs.declared.raw.RawCite.{RawCite}
 

@@ -1,7 +1,8 @@
 -- The one text of a log that is given by its numbers, by cases on the log. Nothing here reads.
-use Rattle.std.specs.Prelude.{ℕ, List, [], ◌∷◌, ◌++◌, codes, flat_map}
+use Rattle.std.specs.Prelude.{◌≡◌, ◌≢◌, ℕ, List, [], ◌∷◌, ◌++◌, All, codes, flat_map}
 use Rattle.dsa_terms.specs.Claims.{Entry}
 use Rattle.log_text.specs.Numerals.{numeral}
+use Rattle.log_text.specs.RawLogs.{IsRawKept}
 use Rattle.log_text.specs.declared.raw.RawCite.{RawCite}
 use Rattle.log_text.specs.declared.raw.RawCite.TheVariants as raw_cite
 use Rattle.log_text.specs.declared.raw.RawLine.{RawLine}
@@ -43,3 +44,14 @@ end_text k = codes "end " ++ numeral k ++ codes "\n"
 -- the text of a log, in version 1
 abbrev pub raw_text : RawLog → List ℕ
 raw_text log = header_text 1 log.count log.capacity ++ flat_map line_text log.lines ++ end_text log.end
+
+-- a Cases line has a cite
+abbrev pub HasCite : RawLine → Type 0
+HasCite (raw_line.Over T H G l) = Unit {0}
+HasCite (raw_line.Cases l cites) = cites ≢ []
+
+-- the bytes are the text of the log, within all limits, with rising lists and none that is empty
+pub record IsTextOf (bytes : List ℕ) (raw : RawLog) : Type 0 where
+  pub kept : IsRawKept raw
+  pub cited : All HasCite raw.lines
+  pub text : bytes ≡ raw_text raw

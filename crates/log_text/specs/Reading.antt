@@ -1,13 +1,11 @@
 -- What the parts of the reader give, and when one gives nothing.
 use Rattle.std.specs.Prelude.{◌≡◌, codes, ℕ, ◌-◌, ◌^◌, false, true, ◌≢◌, cond, nat_lt, min, Option, Some, None, List, [], ◌∷◌, ◌++◌, map}
-use Rattle.dsa_terms.specs.Claims.{Claim, Entry}
+use Rattle.dsa_terms.specs.Claims.{Entry}
 use Rattle.log_text.specs.Digits.{Ends, Stops, is_digit}
 use Rattle.log_text.specs.Numerals.{numeral}
-use Rattle.log_text.specs.RawTexts.{cite_text, pair_text, spaced}
+use Rattle.log_text.specs.RawTexts.{spaced}
 use Rattle.log_text.specs.declared.raw.RawCite.{RawCite}
 use Rattle.log_text.specs.declared.raw.RawCite.TheVariants as raw_cite
-use Rattle.log_text.specs.declared.raw.RawLine.{RawLine}
-use Rattle.log_text.specs.declared.raw.RawLine.TheVariants as raw_line
 
 -- the number where it fits 64 bits
 unfoldable pub fitting : ℕ → Option ℕ
@@ -26,11 +24,6 @@ abbrev pub capped_cite : ℕ × RawCite → ℕ × RawCite
 capped_cite (b, raw_cite.Line k) = (capped b, raw_cite.Line (capped k))
 capped_cite (b, raw_cite.Below c) = (capped b, raw_cite.Below (capped c))
 capped_cite (b, raw_cite.Twin c) = (capped b, raw_cite.Twin (capped c))
-
--- each number of a line
-abbrev pub capped_line : RawLine → RawLine
-capped_line (raw_line.Over T H G l) = raw_line.Over (capped T) (capped H) (capped G) (map capped_pair l)
-capped_line (raw_line.Cases l cites) = raw_line.Cases (map capped_pair l) (map capped_cite cites)
 
 -- a number was read, and no digit follows
 pub record IsNumberRead (old : List ℕ) (value : Option ℕ) (new : List ℕ) : Type 0 where
@@ -123,39 +116,3 @@ pub record IsStartRead (old : List ℕ) (moment height modulus : ℕ) (new : Lis
 -- no three numbers stand here
 abbrev pub HasNoStart : List ℕ → Type 0
 HasNoStart old = (T H G : ℕ) (r : List ℕ) → old ≡ over_start T H G r → ⊥
-
--- an Over line after its first word
-abbrev pub over_rest : ℕ → ℕ → ℕ → Claim → List ℕ → List ℕ
-over_rest T H G l r = over_start T H G (spaced pair_text l ++ (codes "\n" ++ r))
-
--- an Over line was read after its first word
-pub record IsOverRead (old : List ℕ) (line : RawLine) (new : List ℕ) : Type 0 where
-  pub T : ℕ
-  pub H : ℕ
-  pub G : ℕ
-  pub claim : Claim
-  pub some : claim ≢ []
-  pub text : old ≡ over_rest T H G claim new
-  pub line_is : line ≡ capped_line (raw_line.Over T H G claim)
-
--- no Over line stands here after its first word
-abbrev pub HasNoOver : List ℕ → Type 0
-HasNoOver old = (T H G : ℕ) (l : Claim) (r : List ℕ) → l ≢ [] → old ≡ over_rest T H G l r → ⊥
-
--- a Cases line after its first word
-abbrev pub cases_rest : Claim → List (ℕ × RawCite) → List ℕ → List ℕ
-cases_rest l cites r = spaced pair_text l ++ (codes " : " ++ (spaced cite_text cites ++ (codes "\n" ++ r)))
-
--- a Cases line was read after its first word
-pub record IsCasesRead (old : List ℕ) (line : RawLine) (new : List ℕ) : Type 0 where
-  pub claim : Claim
-  pub cites : List (ℕ × RawCite)
-  pub some : claim ≢ []
-  pub cited : cites ≢ []
-  pub text : old ≡ cases_rest claim cites new
-  pub line_is : line ≡ capped_line (raw_line.Cases claim cites)
-
--- no Cases line stands here after its first word
-abbrev pub HasNoCases : List ℕ → Type 0
-HasNoCases old = (l : Claim) (cites : List (ℕ × RawCite)) (r : List ℕ) → l ≢ [] → cites ≢ [] →
-    old ≡ cases_rest l cites r → ⊥

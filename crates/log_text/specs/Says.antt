@@ -1,13 +1,10 @@
--- What the bytes of a log say, in either version, and the first fault of bytes that say no log.
-use Rattle.std.specs.Prelude.{◌≡◌, ℕ, ◌^◌, ◌<◌, ◌≤◌, ◌≢◌, ◌⊎◌, List, [], ◌∷◌, ◌++◌, length, flat_map, map, All}
+-- What the bytes of a log say, in either version.
+use Rattle.std.specs.Prelude.{◌≡◌, ℕ, ◌^◌, ◌<◌, ◌≤◌, ◌≢◌, ◌⊎◌, List, [], ◌∷◌, ◌++◌, length, map, All}
 use Rattle.dsa_terms.specs.Claims.{Rises, buffers_of}
 use Rattle.log_text.specs.Changes.{AreChanges, Change, Drops, Puts, buffer_of}
-use Rattle.log_text.specs.Faults.{HasHeader, IsTextOf}
 use Rattle.log_text.specs.RawLogs.{IsPairWithin, IsRawCiteWithin}
-use Rattle.log_text.specs.RawTexts.{end_text, header_text}
+use Rattle.log_text.specs.RawTexts.{IsTextOf, end_text}
 use Rattle.log_text.specs.Spellings.{CasesAs, From, Full, OverAs, Spelled, Spelling, claim_at, line_said, lines_said, spelled_log, spelled_text, spelling_of}
-use Rattle.log_text.specs.declared.fault.TextFault.{TextFault}
-use Rattle.log_text.specs.declared.fault.TextFault.TheVariants.{NotLog, BadVersion, BadLine, NumberTooLarge, NotRising, BadBase, BadChange, NoEnd, AfterEnd}
 use Rattle.log_text.specs.declared.raw.RawCite.{RawCite}
 use Rattle.log_text.specs.declared.raw.RawLine.{RawLine}
 use Rattle.log_text.specs.declared.raw.RawLog.{RawLog}
@@ -29,13 +26,15 @@ IsSpellingFormed version (Full l) = l ≢ []
 IsSpellingFormed version (From base changes) = version ≡ 2
 
 -- a Cases line has a cite
-abbrev pub HasCite : Spelled → Type 0
-HasCite (OverAs T H G s) = Unit {0}
-HasCite (CasesAs s cites) = cites ≢ []
+abbrev pub IsCited : Spelled → Type 0
+IsCited (OverAs T H G s) = Unit {0}
+IsCited (CasesAs s cites) = cites ≢ []
 
+-- no list of the line is empty, and its claim is spelled as the version has it
 abbrev pub IsLineFormed : ℕ → Spelled → Type 0
-IsLineFormed version line = IsSpellingFormed version (spelling_of line) × HasCite line
+IsLineFormed version line = IsSpellingFormed version (spelling_of line) × IsCited line
 
+-- the row has the form that the version has
 abbrev pub IsFormed : ℕ → Row → Type 0
 IsFormed version (LineRow line) = IsLineFormed version line
 IsFormed version (EndRow k) = Unit {0}
@@ -117,57 +116,3 @@ pub record SaysBy (version : ℕ) (bytes : List ℕ) (raw : RawLog) : Type 0 whe
 -- the bytes say the log: they are its one text of version 1, or say it by version 2
 abbrev pub Says : List ℕ → RawLog → Type 0
 Says bytes raw = IsTextOf bytes raw ⊎ SaysBy 2 bytes raw
-
--- ---- the first fault
-abbrev pub IsVersion : ℕ → Type 0
-IsVersion version = (version ≡ 1) ⊎ (version ≡ 2)
-
--- the bytes are a header, then these good lines, then the rest
-pub record GoesOn (version : ℕ) (bytes : List ℕ) (spelled : List Spelled) (rest : List ℕ) : Type 0 where
-  pub count : ℕ
-  pub capacity : ℕ
-  pub count_limit : count ≤ 2 ^ 60
-  pub capacity_limit : capacity ≤ 2 ^ 60
-  pub good : AreGood version [] spelled
-  pub text : bytes ≡ header_text version count capacity ++ (flat_map spelled_text spelled ++ rest)
-
--- the fault of a row that has the right form, after these lines, with more bytes after it
-abbrev pub IsRowFault : List RawLine → Row → List ℕ → TextFault → Type 0
-IsRowFault earlier row more NotLog = ⊥
-IsRowFault earlier row more (BadVersion v) = ⊥
-IsRowFault earlier row more (BadLine j) = ⊥
-IsRowFault earlier row more (NumberTooLarge j) = (j ≡ length earlier) × (IsWithin row → ⊥)
-IsRowFault earlier row more (NotRising j) = (j ≡ length earlier) × IsWithin row × (IsRising row → ⊥)
-IsRowFault earlier row more (BadBase j) =
-    (j ≡ length earlier) × IsWithin row × IsRising row × (HasBase earlier row → ⊥)
-IsRowFault earlier row more (BadChange j) =
-    (j ≡ length earlier) × IsWithin row × IsRising row × HasBase earlier row × (HasChanges earlier row → ⊥)
-IsRowFault earlier row more NoEnd = ⊥
-IsRowFault earlier row more AfterEnd = ((e : ℕ) × (row ≡ EndRow e)) × IsWithin row × (more ≢ [])
-
--- the bytes begin no row
-abbrev pub HasNoRow : ℕ → List ℕ → Type 0
-HasNoRow version bytes =
-    (row : Row) (more : List ℕ) → IsFormed version row → bytes ≡ row_text row ++ more → ⊥
-
--- the bytes begin with the row
-pub record HasRow (version : ℕ) (bytes : List ℕ) (row : Row) (more : List ℕ) : Type 0 where
-  pub formed : IsFormed version row
-  pub text : bytes ≡ row_text row ++ more
-
--- the fault of bytes where the next row would begin, after these lines
-abbrev pub IsFaultAt : ℕ → List RawLine → List ℕ → TextFault → Type 0
-IsFaultAt version earlier bytes NoEnd = bytes ≡ []
-IsFaultAt version earlier bytes (BadLine j) = (j ≡ length earlier) × (bytes ≢ []) × HasNoRow version bytes
-IsFaultAt version earlier bytes fault =
-    (row : Row) × (more : List ℕ) × HasRow version bytes row more × IsRowFault earlier row more fault
-
--- the first fault of the bytes, read from the front: of the header, else of the first row that is no good line
-abbrev pub IsFirstFault : List ℕ → TextFault → Type 0
-IsFirstFault bytes NotLog =
-    (version count capacity : ℕ) (rest : List ℕ) → HasHeader bytes version count capacity rest → ⊥
-IsFirstFault bytes (BadVersion v) =
-    (IsVersion v → ⊥) × ((count : ℕ) × (capacity : ℕ) × (rest : List ℕ) × HasHeader bytes v count capacity rest)
-IsFirstFault bytes fault =
-    (version : ℕ) × IsVersion version × (spelled : List Spelled) × (rest : List ℕ)
-    × GoesOn version bytes spelled rest × IsFaultAt version (lines_said [] spelled) rest fault

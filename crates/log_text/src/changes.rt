@@ -24,7 +24,7 @@ pub(crate) enum Edit {
 }
 
 /// The buffer that is changed.
-fn changed_buffer(change: Edit) -> u64
+pub(crate) fn changed_buffer(change: Edit) -> u64
     ensures { result ≡ buffer_of (change_value change) }
 {
     match change {
@@ -155,6 +155,7 @@ pub(crate) fn changed(
     if pairs.is_empty() {
         return Ok(None);
     }
+    pairs.shrink_to_fit();
     Ok(Some(pairs))
 }
 

@@ -4,15 +4,15 @@ use thiserror::Error;
 
 /// What is wrong with bytes that are no log's text; of several faults the one that is met first
 /// when the text is read from the front. Lines have numbers from 0 after the header, and the end
-/// has one too. On one line `BadLine` comes before `NumberTooLarge`, then `NotRising`, then
-/// `AfterEnd`.
+/// has one too. On one line `BadLine` comes before `NumberTooLarge`, then `NotRising`, `BadBase`,
+/// `BadChange` and `AfterEnd`.
 #[derive(Clone, Copy, Debug, PartialEq, Eq, Error)]
 pub enum TextFault {
     /// There is no header, or its version is above 2^64 - 1, or its count or its capacity above
     /// 2^60. It comes before BadVersion.
     #[error("the text is no log")]
     NotLog,
-    /// The header is of another version than 1.
+    /// The header is of another version than 1 and 2.
     #[error("the log is of version {version}")]
     BadVersion { version: u64 },
     /// The bytes up to the next newline have the form of no line and of no end, or no newline
@@ -22,7 +22,8 @@ pub enum TextFault {
     /// A moment is above 2^62 - 1, or another number above 2^60.
     #[error("line {line} has a number above its limit")]
     NumberTooLarge { line: u64 },
-    /// A buffer of a claim or of a list of cites is not above the one before it.
+    /// A buffer of a claim, of a list of changes or of a list of cites is not above the one before
+    /// it.
     #[error("line {line} has a list that does not rise")]
     NotRising { line: u64 },
     /// A difference is of the claim of a line that is not earlier.

@@ -3,8 +3,9 @@
 ghost use Rattle.std.specs.Prelude.{◌≡◌, ◌++◌, ℕ, List, All};
 ghost use Rattle.dsa_terms.specs.Logs.{Log};
 ghost use Rattle.refute_log.specs.Lines.{HasCites};
-ghost use Rattle.log_text.specs.Faults.{IsFirstFault, IsTextOf};
+ghost use Rattle.log_text.specs.Faults.{IsFirstFault};
 ghost use Rattle.log_text.specs.RawTexts.{raw_text};
+ghost use Rattle.log_text.specs.Says.{Says};
 ghost use Rattle.log_text.specs.Text.{log_text};
 ghost use Rattle.log_text.specs.declared.fault.TextFault.{TextFault as Fault};
 ghost use Rattle.log_text.specs.declared.raw.RawLog.{RawLog as Raw};
@@ -22,10 +23,10 @@ pub fn raw_texts_are_prefix_free()
     ensures { (g h : Raw) (r s : List ℕ) → raw_text g ++ r ≡ raw_text h ++ s → (g ≡ h) × (r ≡ s) }
 {}
 
-/// Bytes have at most one first fault, and those of a log's text have none.
+/// Bytes have at most one first fault, and those that say a log have none.
 pub fn first_faults_are_unique()
     ensures one { (bytes : List ℕ) (f g : Fault) →
         IsFirstFault bytes f → IsFirstFault bytes g → f ≡ g }
     ensures none { (bytes : List ℕ) (f : Fault) (raw : Raw) →
-        IsFirstFault bytes f → IsTextOf bytes raw → ⊥ }
+        IsFirstFault bytes f → Says bytes raw → ⊥ }
 {}

@@ -2,12 +2,15 @@
 
 ghost use Rattle.std.specs.Prelude.{◌≡◌, ◌↔◌, ◌^◌, ◌≤◌, ◌<◌, All, IsTrue, map};
 ghost use Rattle.dsa_terms.specs.Claims.{Rises, buffers_of};
-ghost use Rattle.log_text.specs.Faults.{IsRowRising, IsRowWithin};
+ghost use Rattle.log_text.specs.Changes.{buffer_of};
+ghost use Rattle.log_text.specs.Edits.{change_value};
 ghost use Rattle.log_text.specs.RawLogs.{IsRawCiteWithin, IsPairWithin, number_of_cite};
-ghost use Rattle.log_text.specs.Rows.{row_value};
+ghost use Rattle.log_text.specs.Rows.{row_value, spelling_value};
+ghost use Rattle.log_text.specs.Says.{IsChangeWithin, IsRising, IsSpellingRising, IsSpellingWithin, IsWithin};
 
-use crate::rows::Read;
-use crate::{RawCite, RawLine};
+use crate::RawCite;
+use crate::changes::{Edit, changed_buffer};
+use crate::rows::{Read, ReadClaim, ReadLine};
 
 /// The greatest moment of a text.
 const MOMENT_LIMIT: u64 = (1 << 62) - 1;
@@ -42,13 +45,45 @@ fn cites_within(cites: &[(u64, RawCite)]) -> bool
     cites.iter().all(|cite| cite.0 <= NUMBER_LIMIT && number_of(cite.1) <= NUMBER_LIMIT)
 }
 
+/// Whether the numbers of the change are within their limits.
+fn is_change_within(change: Edit) -> bool
+    ensures { IsTrue result ↔ IsChangeWithin (change_value change) }
+{
+    match change {
+        Edit::Puts(b, bound) => b <= NUMBER_LIMIT && bound <= NUMBER_LIMIT,
+        Edit::Drops(b) => b <= NUMBER_LIMIT,
+    }
+}
+
+/// Whether each number of the changes is within its limit.
+fn changes_within(changes: &[Edit]) -> bool
+    ensures { IsTrue result ↔ All IsChangeWithin (map change_value changes.now) }
+{
+    changes.iter().all(|change| is_change_within(*change))
+}
+
+/// Whether each number of the claim is within its limit.
+fn is_claim_within(claim: &ReadClaim) -> bool
+    ensures { IsTrue result ↔ IsSpellingWithin (spelling_value claim.now) }
+{
+    match claim {
+        ReadClaim::Full(claim) => pairs_within(claim.as_slice()),
+        ReadClaim::From(base, changes) => {
+            if *base > NUMBER_LIMIT {
+                return false;
+            }
+            changes_within(changes.as_slice())
+        }
+    }
+}
+
 /// Whether each number of the row is within its limit.
 pub(crate) fn is_within(row: &Read) -> bool
-    ensures { IsTrue result ↔ IsRowWithin (row_value row.now) }
+    ensures { IsTrue result ↔ IsWithin (row_value row.now) }
 {
     match row {
         Read::Line(
-            RawLine::Over {
+            ReadLine::Over {
                 moment,
                 height,
                 modulus,
@@ -58,10 +93,10 @@ pub(crate) fn is_within(row: &Read) -> bool
             if *moment > MOMENT_LIMIT || *height > NUMBER_LIMIT || *modulus > NUMBER_LIMIT {
                 return false;
             }
-            pairs_within(claim.as_slice())
+            is_claim_within(claim)
         }
-        Read::Line(RawLine::Cases { claim, cites }) => {
-            if !pairs_within(claim.as_slice()) {
+        Read::Line(ReadLine::Cases { claim, cites }) => {
+            if !is_claim_within(claim) {
                 return false;
             }
             cites_within(cites.as_slice())
@@ -94,14 +129,36 @@ fn cites_rise(cites: &[(u64, RawCite)]) -> bool
     true
 }
 
+/// Whether each changed buffer is above the one before it.
+fn changes_rise(changes: &[Edit]) -> bool
+    ensures { IsTrue result ↔ Rises (map buffer_of (map change_value changes.now)) }
+{
+    for place in 1..changes.len() {
+        if changed_buffer(changes[place]) <= changed_buffer(changes[place - 1]) {
+            return false;
+        }
+    }
+    true
+}
+
+/// Whether the claim rises, or its changes.
+fn is_claim_rising(claim: &ReadClaim) -> bool
+    ensures { IsTrue result ↔ IsSpellingRising (spelling_value claim.now) }
+{
+    match claim {
+        ReadClaim::Full(claim) => pairs_rise(claim.as_slice()),
+        ReadClaim::From(_, changes) => changes_rise(changes.as_slice()),
+    }
+}
+
 /// Whether each list of the row rises.
 pub(crate) fn is_rising(row: &Read) -> bool
-    ensures { IsTrue result ↔ IsRowRising (row_value row.now) }
+    ensures { IsTrue result ↔ IsRising (row_value row.now) }
 {
     match row {
-        Read::Line(RawLine::Over { claim, .. }) => pairs_rise(claim.as_slice()),
-        Read::Line(RawLine::Cases { claim, cites }) => {
-            if !pairs_rise(claim.as_slice()) {
+        Read::Line(ReadLine::Over { claim, .. }) => is_claim_rising(claim),
+        Read::Line(ReadLine::Cases { claim, cites }) => {
+            if !is_claim_rising(claim) {
                 return false;
             }
             cites_rise(cites.as_slice())

@@ -1,17 +1,19 @@
 //! Reading a log.
 
-ghost use Rattle.std.specs.Prelude.{◌≡◌, ◌≢◌, ◌^◌, ◌≤◌, ◌<◌, [], IfNone, IfOk, IfSome, List, MatchResult, ℕ};
+ghost use Rattle.std.specs.Prelude.{◌≡◌, ◌≢◌, ◌^◌, ◌≤◌, ◌<◌, [], All, IfNone, IfOk, IfSome, List, MatchResult, ℕ};
 ghost use Rattle.dsa_model.specs.Fails.{UnlessNoMemory};
-ghost use Rattle.log_text.specs.Faults.{HasHeader, IsFaultAt, IsFirstFault, IsTextOf};
-ghost use Rattle.log_text.specs.RawLogs.{IsRawKept};
-ghost use Rattle.log_text.specs.Rows.{HasNoHeader, IsGoodRead, IsHeaderRead};
+ghost use Rattle.log_text.specs.Faults.{IsFirstFault};
+ghost use Rattle.log_text.specs.RawLogs.{IsRawKept, IsRawLineKept};
+ghost use Rattle.log_text.specs.Rows.{HasNoHeader, IsFaultAfter, IsGoodRead, IsHeaderRead, IsStarted};
+ghost use Rattle.log_text.specs.Says.{Says};
 ghost use Rattle.log_text.specs.declared.raw.RawLog.{RawLog as Raw};
 ghost use Rattle.log_text.specs.declared.fault.TextFault.{TextFault as Fault};
 
 use crate::cursor::Cursor;
 use crate::limits::{NUMBER_LIMIT, is_rising, is_within};
 use crate::rows::{Read, read_row};
-use crate::{RawLines, RawLog, TextFault};
+use crate::said::{Said, Unsaid, line_said};
+use crate::{RawLine, RawLines, RawLog, TextFault};
 use dsa_model::Fail;
 use std::alloc::Global;
 
@@ -42,9 +44,10 @@ fn read_header(cursor: &mut Cursor) -> Option<Header>
     })
 }
 
-/// The count of buffers and the capacity of a header of version 1.
+/// The header of a log of a version that is read.
 #[derive(Clone, Copy)]
 struct Sizes {
+    version: u64,
     count: u64,
     capacity: u64,
 }
@@ -61,7 +64,7 @@ fn within_limit(number: Option<u64>) -> Option<u64>
 /// Reads the header of a log.
 fn read_sizes(cursor: &mut Cursor) -> Result<Sizes, TextFault>
     ensures { MatchResult result
-        (λ s. HasHeader cursor.old 1 s.count s.capacity cursor.new)
+        (λ s. IsStarted cursor.old s.version s.count s.capacity cursor.new)
         (λ fault. IsFirstFault cursor.old fault) }
 {
     let Some(header) = read_header(cursor) else {
@@ -76,20 +79,31 @@ fn read_sizes(cursor: &mut Cursor) -> Result<Sizes, TextFault>
     let Some(capacity) = within_limit(header.capacity) else {
         return Err(TextFault::NotLog);
     };
-    if version != 1 {
+    if version != 1 && version != 2 {
         return Err(TextFault::BadVersion { version });
     }
-    Ok(Sizes { count, capacity })
+    Ok(Sizes {
+        version,
+        count,
+        capacity,
+    })
 }
 
-/// Reads the row of that number.
-fn read_good_row(alloc: Global, cursor: &mut Cursor, line: u64) -> Result<Read, Fail<TextFault>>
-    requires { cursor.old ≢ [] }
+/// Reads the row that comes after these lines.
+fn read_good_row(
+    alloc: Global,
+    cursor: &mut Cursor,
+    version: u64,
+    lines: &[RawLine],
+) -> Result<Said, Fail<TextFault>>
+    requires some { cursor.old ≢ [] }
+    requires kept { All IsRawLineKept lines.now }
     ensures { UnlessNoMemory result
-        (λ read. IsGoodRead cursor.old read cursor.new)
-        (λ fault. IsFaultAt cursor.old line fault) }
+        (λ said. IsGoodRead version lines.now cursor.old said cursor.new)
+        (λ fault. IsFaultAfter version lines.now cursor.old fault) }
 {
-    let row = match read_row(alloc, cursor) {
+    let line = lines.len() as u64;
+    let row = match read_row(alloc, cursor, version) {
         Ok(row) => row,
         Err(Fail::NoMemory) => return Err(Fail::NoMemory),
         Err(Fail::Fault(_)) => return Err(Fail::Fault(TextFault::BadLine { line })),
@@ -100,13 +114,21 @@ fn read_good_row(alloc: Global, cursor: &mut Cursor, line: u64) -> Result<Read, 
     if !is_rising(&row) {
         return Err(Fail::Fault(TextFault::NotRising { line }));
     }
-    Ok(row)
+    match row {
+        Read::End(end) => Ok(Said::End(end)),
+        Read::Line(spelled) => match line_said(alloc, lines, spelled) {
+            Ok(said) => Ok(Said::Line(said)),
+            Err(Fail::NoMemory) => Err(Fail::NoMemory),
+            Err(Fail::Fault(Unsaid::NoBase)) => Err(Fail::Fault(TextFault::BadBase { line })),
+            Err(Fail::Fault(Unsaid::NoChange)) => Err(Fail::Fault(TextFault::BadChange { line })),
+        },
+    }
 }
 
 /// Reads the text of a log, or finds its first fault.
 fn read_text(alloc: Global, bytes: &[u8]) -> Result<RawLog, Fail<TextFault>>
     ensures { UnlessNoMemory result
-        (λ raw. IsTextOf bytes.now raw)
+        (λ raw. Says bytes.now raw)
         (λ fault. IsFirstFault bytes.now fault) }
 {
     let mut cursor = Cursor::new(bytes);
@@ -116,9 +138,9 @@ fn read_text(alloc: Global, bytes: &[u8]) -> Result<RawLog, Fail<TextFault>>
     };
     let mut lines = Vec::new(alloc);
     while !cursor.is_done() {
-        match read_good_row(alloc, &mut cursor, lines.len() as u64)? {
-            Read::Line(line) => lines.push(line)?,
-            Read::End(end) => {
+        match read_good_row(alloc, &mut cursor, sizes.version, lines.as_slice())? {
+            Said::Line(line) => lines.push(line)?,
+            Said::End(end) => {
                 if !cursor.is_done() {
                     return Err(Fail::Fault(TextFault::AfterEnd));
                 }
@@ -134,15 +156,19 @@ fn read_text(alloc: Global, bytes: &[u8]) -> Result<RawLog, Fail<TextFault>>
     Err(Fail::Fault(TextFault::NoEnd))
 }
 
-/// Reads the text of a log. The answer is the one log, by its numbers, of which the bytes are the
-/// text; else the first fault, which is there exactly where the bytes are no log's text. In a log
-/// that was read no claim is empty, the buffers of claims and of cites rise, a moment is at most
-/// 2^62 - 1 and each other number at most 2^60. One pass over the bytes.
+/// Reads the text of a log, of either version. The answer is the one log, by its numbers, that the
+/// bytes say, its claims in full; else the first fault, which is there exactly where the bytes say
+/// no log. In a log that was read no claim is empty, the buffers of claims and of cites rise, a
+/// moment is at most 2^62 - 1 and each other number at most 2^60.
+///
+/// One pass over the bytes; a claim that is a difference takes the time and the memory of its
+/// changes and of what they give. So a short text of version 2 may stand for claims that are far
+/// larger, and end in want of memory.
 pub fn read_log(alloc: Global, bytes: &[u8]) -> Result<RawLog, Fail<TextFault>>
     ensures sound { UnlessNoMemory result
-        (λ raw. IsTextOf bytes.now raw)
+        (λ raw. Says bytes.now raw)
         (λ fault. IsFirstFault bytes.now fault) }
-    ensures complete { (raw : Raw) → IsTextOf bytes.now raw →
+    ensures complete { (raw : Raw) → Says bytes.now raw →
         UnlessNoMemory result (λ read. read ≡ raw) (λ _. ⊥) }
     ensures cause { (fault : Fault) → IsFirstFault bytes.now fault →
         UnlessNoMemory result (λ _. ⊥) (λ found. found ≡ fault) }

@@ -3,19 +3,46 @@
 ghost use Rattle.std.specs.Prelude.{◌≡◌, ◌++◌, IfNone, IfSome};
 ghost use Rattle.dsa_model.specs.Fails.{UnlessNoMemory};
 ghost use Rattle.log_text.specs.Faults.{HasNoRow};
-ghost use Rattle.log_text.specs.Reading.{HasNoCases, HasNoOver, HasNoStart, IsCasesRead, IsOverRead, IsStartRead};
-ghost use Rattle.log_text.specs.Rows.{IsRowRead};
+ghost use Rattle.log_text.specs.Edits.{EndsChanges};
+ghost use Rattle.log_text.specs.Reading.{HasNoStart, IsStartRead};
+ghost use Rattle.log_text.specs.Rows.{HasNoCases, HasNoOver, HasNoSpelling, IsCasesRead, IsOverRead, IsRowRead, IsSpellingRead, spelled_value, spelling_value};
 
-use crate::RawLine;
+use crate::changes::{Edit, read_changes};
 use crate::cursor::{Cursor, cap};
 use crate::items::{NoForm, read_cites, read_claim};
+use crate::{RawCites, RawClaim};
 use dsa_model::Fail;
 use std::alloc::Global;
+
+/// The version whose claims may be differences.
+const DIFFERENCES: u64 = 2;
+
+/// A claim as a text spells it: in full, or as changes of the claim of the line of that number.
+#[derive(Drop)]
+pub(crate) enum ReadClaim {
+    Full(RawClaim),
+    From(u64, Vec<Edit>),
+}
+
+/// A line as a text spells it.
+#[derive(Drop)]
+pub(crate) enum ReadLine {
+    Over {
+        moment: u64,
+        height: u64,
+        modulus: u64,
+        claim: ReadClaim,
+    },
+    Cases {
+        claim: ReadClaim,
+        cites: RawCites,
+    },
+}
 
 /// A line of the log, or its end. Numbers of the text above 64 bits stand as the greatest of these.
 #[derive(Drop)]
 pub(crate) enum Read {
-    Line(RawLine),
+    Line(ReadLine),
     End(u64),
 }
 
@@ -43,17 +70,43 @@ fn read_start(cursor: &mut Cursor) -> Option<Start>
     })
 }
 
-/// Reads an Over line after its first word.
-fn read_over(alloc: Global, cursor: &mut Cursor) -> Result<RawLine, Fail<NoForm>>
+/// Reads a claim of that version and these bytes after it.
+fn read_spelling(
+    alloc: Global,
+    cursor: &mut Cursor,
+    version: u64,
+    end: &[u8],
+) -> Result<ReadClaim, Fail<NoForm>>
+    requires { EndsChanges end.now }
     ensures { UnlessNoMemory result
-        (λ line. IsOverRead cursor.old line cursor.new)
-        (λ _. HasNoOver cursor.old) }
+        (λ claim. IsSpellingRead version end.now cursor.old (spelling_value claim) cursor.new)
+        (λ _. HasNoSpelling version end.now cursor.old) }
+{
+    if version != DIFFERENCES || !cursor.take(b"@") {
+        return Ok(ReadClaim::Full(read_claim(alloc, cursor, end)?));
+    }
+    let Some(base) = cursor.capped_number() else {
+        return Err(Fail::Fault(NoForm));
+    };
+    let changes = read_changes(alloc, cursor, end)?;
+    Ok(ReadClaim::From(base, changes))
+}
+
+/// Reads an Over line after its first word.
+fn read_over(
+    alloc: Global,
+    cursor: &mut Cursor,
+    version: u64,
+) -> Result<ReadLine, Fail<NoForm>>
+    ensures { UnlessNoMemory result
+        (λ line. IsOverRead version cursor.old (spelled_value line) cursor.new)
+        (λ _. HasNoOver version cursor.old) }
 {
     let Some(start) = read_start(cursor) else {
         return Err(Fail::Fault(NoForm));
     };
-    let claim = read_claim(alloc, cursor, b"\n")?;
-    Ok(RawLine::Over {
+    let claim = read_spelling(alloc, cursor, version, b"\n")?;
+    Ok(ReadLine::Over {
         moment: start.moment,
         height: start.height,
         modulus: start.modulus,
@@ -62,27 +115,35 @@ fn read_over(alloc: Global, cursor: &mut Cursor) -> Result<RawLine, Fail<NoForm>
 }
 
 /// Reads a Cases line after its first word.
-fn read_cases(alloc: Global, cursor: &mut Cursor) -> Result<RawLine, Fail<NoForm>>
+fn read_cases(
+    alloc: Global,
+    cursor: &mut Cursor,
+    version: u64,
+) -> Result<ReadLine, Fail<NoForm>>
     ensures { UnlessNoMemory result
-        (λ line. IsCasesRead cursor.old line cursor.new)
-        (λ _. HasNoCases cursor.old) }
+        (λ line. IsCasesRead version cursor.old (spelled_value line) cursor.new)
+        (λ _. HasNoCases version cursor.old) }
 {
-    let claim = read_claim(alloc, cursor, b" : ")?;
+    let claim = read_spelling(alloc, cursor, version, b" : ")?;
     let cites = read_cites(alloc, cursor, b"\n")?;
-    Ok(RawLine::Cases { claim, cites })
+    Ok(ReadLine::Cases { claim, cites })
 }
 
-/// Reads a line or the end.
-pub(crate) fn read_row(alloc: Global, cursor: &mut Cursor) -> Result<Read, Fail<NoForm>>
+/// Reads a line of that version, or the end.
+pub(crate) fn read_row(
+    alloc: Global,
+    cursor: &mut Cursor,
+    version: u64,
+) -> Result<Read, Fail<NoForm>>
     ensures { UnlessNoMemory result
-        (λ read. IsRowRead cursor.old read cursor.new)
-        (λ _. HasNoRow cursor.old) }
+        (λ read. IsRowRead version cursor.old read cursor.new)
+        (λ _. HasNoRow version cursor.old) }
 {
     if cursor.take(b"over ") {
-        return Ok(Read::Line(read_over(alloc, cursor)?));
+        return Ok(Read::Line(read_over(alloc, cursor, version)?));
     }
     if cursor.take(b"case : ") {
-        return Ok(Read::Line(read_cases(alloc, cursor)?));
+        return Ok(Read::Line(read_cases(alloc, cursor, version)?));
     }
     if cursor.take(b"end ") {
         if let Some(end) = cursor.field(b"\n") {

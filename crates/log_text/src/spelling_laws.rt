@@ -4,11 +4,10 @@ ghost use Rattle.std.specs.Prelude.{◌≡◌, ◌↔◌, ◌⊎◌, ◌^◌, �
 ghost use Rattle.dsa_terms.specs.Claims.{Claim, Entry, IsIn, Rises, buffers_of};
 ghost use Rattle.dsa_terms.specs.Logs.{Log};
 ghost use Rattle.log_text.specs.Changes.{Change, Puts, buffer_of, carried_out, difference};
-ghost use Rattle.log_text.specs.Faults.{HasCite, IsTextOf};
+ghost use Rattle.log_text.specs.RawTexts.{HasCite, IsTextOf};
 ghost use Rattle.log_text.specs.RawLogs.{IsRawKept};
-ghost use Rattle.log_text.specs.Says.{IsFirstFault, Says, SaysBy};
+ghost use Rattle.log_text.specs.Says.{Says, SaysBy};
 ghost use Rattle.log_text.specs.Spellings.{raw_text2};
-ghost use Rattle.log_text.specs.declared.fault.TextFault.{TextFault as Fault};
 ghost use Rattle.log_text.specs.declared.raw.RawLog.{RawLog as Raw};
 
 /// Bytes say at most one log, and no bytes that say one are the beginning of others that say one.
@@ -32,12 +31,6 @@ pub fn the_versions_agree()
 pub fn second_texts_say_their_logs()
     ensures { (g : Raw) → IsRawKept g → All HasCite g.lines → length g.lines ≤ 2 ^ 60 →
         Says (raw_text2 g) g }
-{}
-
-/// Bytes have at most one first fault, and those that say a log have none.
-pub fn said_faults_are_unique()
-    ensures one { (x : List ℕ) (f g : Fault) → IsFirstFault x f → IsFirstFault x g → f ≡ g }
-    ensures none { (x : List ℕ) (f : Fault) (g : Raw) → IsFirstFault x f → Says x g → ⊥ }
 {}
 
 /// What changes make of a claim, buffer by buffer: an entry is put there, or it was there and no
