@@ -226,9 +226,9 @@ at_said : (v : ℕ) (bytes : List ℕ) (lines : List RawLine) (rest : List ℕ) 
 at_said v bytes lines rest f g a = subst (λ (u : List RawLine). FaultAt v u rest f) g.said a
 
 -- the same version, lines and rest
-at_same : {v w : ℕ} {xs ys : List Spelled} {r s : List ℕ} (f : TextFault) → v ≡ w → xs ≡ ys → r ≡ s →
+at_same : {v w : ℕ} (xs ys : List Spelled) {r s : List ℕ} (f : TextFault) → v ≡ w → xs ≡ ys → r ≡ s →
     FaultAt v (lines_said [] xs) r f → FaultAt w (lines_said [] ys) s f
-at_same {v} {w} {xs} {ys} {r} {s} f o p q a = subst (λ (u : ℕ). FaultAt u (lines_said [] ys) s f) o
+at_same {v} {w} xs ys {r} {s} f o p q a = subst (λ (u : ℕ). FaultAt u (lines_said [] ys) s f) o
     (subst (λ (u : List ℕ). FaultAt v (lines_said [] ys) u f) q
     (subst (λ (u : List Spelled). FaultAt v (lines_said [] u) r f) p a))
 
@@ -241,11 +241,11 @@ first_fault_unique bytes f g a b = both f g (way bytes f a) (way bytes g b)
     rows f g v w xs ys r s p q a b =
         let h = headers_same bytes v p.count p.capacity w q.count q.capacity _ _ (header_of v bytes xs r p)
         (header_of w bytes ys s q) in
-        let c = at_same f h.0 refl refl (at_said v bytes xs r f p a) in
+        let c = at_same p.spelled p.spelled f h.0 refl refl (at_said v bytes xs r f p a) in
         let d = at_said w bytes ys s g q b in
         let e = lines_same w [] p.spelled q.spelled r s f g (subst (λ (u : ℕ). AreGood u [] p.spelled) h.0 p.good) q.good
         c d h.3 in
-        fault_at_unique w (lines_said [] q.spelled) s f g (at_same f refl e.0 e.1 c) d
+        fault_at_unique w (lines_said [] q.spelled) s f g (at_same p.spelled q.spelled f refl e.0 e.1 c) d
 
     both : (f g : TextFault) → Way bytes f → Way bytes g → f ≡ g
     both f g (header_missing n) (header_missing m) = refl
@@ -291,7 +291,7 @@ says_no_fault v bytes f raw i a t = none f (way bytes f a)
         let h = headers_same bytes w p.count p.capacity v raw.count raw.capacity _ _ (header_of w bytes xs r p)
         (its_header v bytes raw i t) in
         lines_no_fault v [] p.spelled t.spelled r raw.end g (subst (λ (u : ℕ). AreGood u [] p.spelled) h.0 p.good) t.good
-        (at_same g h.0 refl refl (at_said w bytes xs r g p a)) t.end_limit h.3
+        (at_same p.spelled p.spelled g h.0 refl refl (at_said w bytes xs r g p a)) t.end_limit h.3
 
 same_log : (g h : RawLog) → g.count ≡ h.count → g.capacity ≡ h.capacity → g.lines ≡ h.lines → g.end ≡ h.end → g ≡ h
 same_log g h p q u v = λ i. record { count = p i; capacity = q i; lines = u i; end = v i }

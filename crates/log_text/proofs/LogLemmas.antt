@@ -125,6 +125,7 @@ pub up_to_more : (version : ℕ) (bytes : List ℕ) (count capacity : ℕ) (line
     (line : RawLine) (new : List ℕ) (more : List RawLine) → IsReadUpTo version bytes count capacity lines mid →
     IsGoodRead version lines mid (said.Line line) new → more ≡ lines ++ line ∷ [] →
     IsReadUpTo version bytes count capacity more new
+unfolding goes_on_more
 up_to_more version bytes count capacity lines mid line new more p q e = go q.row q.good q.text q.says
   where
     go : (row : Row) → IsGood version lines row → mid ≡ row_text row ++ new → said.Line line ≡ row_said lines row →
@@ -139,6 +140,23 @@ up_to_more version bytes count capacity lines mid line new more p q e = go q.row
           capacity_is = p.capacity_is;
           kept = All-push IsRawLineKept lines (line_said lines s) p.kept (line_kept version lines s p.kept g).0;
         })
+
+by_one : (bytes : List ℕ) (raw : RawLog) (v : ℕ) → IsVersion v → SaysBy v bytes raw → Says bytes raw
+by_one bytes raw v (inl e) t = inl (says_text bytes raw (subst (λ (w : ℕ). SaysBy w bytes raw) e t))
+by_one bytes raw v (inr e) t = inr (subst (λ (w : ℕ). SaysBy w bytes raw) e t)
+
+-- the text of what was read, and an end
+written : (v : ℕ) (bytes lines mid new : List ℕ) (m n c d k : ℕ) → bytes ≡ header_text v m c ++ (lines ++ mid) →
+    mid ≡ end_text k ++ new → new ≡ [] → m ≡ n → c ≡ d → bytes ≡ header_text v n d ++ lines ++ end_text k
+written v bytes lines mid new m n c d k t u e a b = t ∙ joined (header_same a b) (u ∙ (ap (λ x. end_text k ++ x) e
+    ∙ append-nil (end_text k)))
+  where
+    header_same : m ≡ n → c ≡ d → header_text v m c ≡ header_text v n d
+    header_same a b = ap (λ (x : ℕ). header_text v x c) a ∙ ap (λ (x : ℕ). header_text v n x) b
+
+    joined : {h i x y : List ℕ} → h ≡ i → x ≡ y → h ++ (lines ++ x) ≡ i ++ lines ++ y
+    joined {h} {i} {x} {y} a b = ap (λ (z : List ℕ). z ++ (lines ++ x)) a
+        ∙ (ap (λ (z : List ℕ). i ++ (lines ++ z)) b ∙ sym (append_assoc i lines y))
 
 pub whole_text : (version : ℕ) (bytes : List ℕ) (count capacity : ℕ) (lines : List RawLine) (mid : List ℕ) (k : ℕ)
     (new : List ℕ) → IsReadUpTo version bytes count capacity lines mid →
@@ -158,29 +176,10 @@ whole_text version bytes count capacity lines mid k new p q e =
       end_limit = subst (λ (n : ℕ). n ≤ 2 ^ 60) (sym same) g.within;
       good = p.goes_on.good;
       lines = p.goes_on.said;
-      text = p.goes_on.text ∙ written p.count_is p.capacity_is same t;
+      text = written version bytes (flat_map spelled_text p.goes_on.spelled) mid new p.goes_on.count count
+          p.goes_on.capacity capacity k p.goes_on.text (t ∙ ap (λ (n : ℕ). end_text n ++ new) (sym same)) e p.count_is
+          p.capacity_is;
     }
-      where
-        written : p.goes_on.count ≡ count → p.goes_on.capacity ≡ capacity → k ≡ j → mid ≡ end_text j ++ new →
-            header_text version p.goes_on.count p.goes_on.capacity ++ (flat_map spelled_text p.goes_on.spelled ++ mid)
-            ≡ spelled_log version count capacity p.goes_on.spelled k
-        written a b c t = joined (header_same a b) (t ∙ (ap (λ u. end_text j ++ u) e ∙ append-nil (end_text j)
-            ∙ ap end_text (sym c)))
-
-        header_same : p.goes_on.count ≡ count → p.goes_on.capacity ≡ capacity →
-            header_text version p.goes_on.count p.goes_on.capacity ≡ header_text version count capacity
-        header_same a b = ap (λ (n : ℕ). header_text version n p.goes_on.capacity) a
-            ∙ ap (λ (n : ℕ). header_text version count n) b
-
-        joined : {h i m n : List ℕ} → h ≡ i → m ≡ n → h ++ (flat_map spelled_text p.goes_on.spelled ++ m)
-            ≡ i ++ flat_map spelled_text p.goes_on.spelled ++ n
-        joined {h} {i} {m} {n} a b = ap (λ (u : List ℕ). u ++ (flat_map spelled_text p.goes_on.spelled ++ m)) a
-            ∙ (ap (λ (u : List ℕ). i ++ (flat_map spelled_text p.goes_on.spelled ++ u)) b
-            ∙ sym (append_assoc i (flat_map spelled_text p.goes_on.spelled) n))
-
-    by_one : (bytes : List ℕ) (raw : RawLog) (v : ℕ) → IsVersion v → SaysBy v bytes raw → Says bytes raw
-    by_one bytes raw v (inl e) t = inl (says_text bytes raw (subst (λ (w : ℕ). SaysBy w bytes raw) e t))
-    by_one bytes raw v (inr e) t = inr (subst (λ (w : ℕ). SaysBy w bytes raw) e t)
 
 -- the bytes stop where a line or the end would begin
 pub stops_there : (version : ℕ) (bytes : List ℕ) (count capacity : ℕ) (lines : List RawLine) (rest : List ℕ) →

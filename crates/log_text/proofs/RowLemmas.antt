@@ -6,7 +6,7 @@ use Rattle.dsa_model.specs.Fails.{IfFault, UnlessNoMemory}
 use Rattle.dsa_model.specs.declared.fail.Fail.{Fail}
 use Rattle.dsa_model.specs.declared.fail.Fail.TheVariants as fail
 use Rattle.dsa_terms.specs.Claims.{Claim}
-use Rattle.log_text.specs.Digits.{Ends}
+use Rattle.log_text.specs.Digits.{Stops}
 use Rattle.log_text.specs.Changes.{Change}
 use Rattle.log_text.specs.Edits.{AreChangesRead, EndsChanges, HasNoChanges, capped_change, changes_text}
 use Rattle.log_text.specs.Faults.{GoesOn, HasNoRow, HasRow, Meets}
@@ -15,7 +15,7 @@ use Rattle.log_text.specs.Numerals.{numeral}
 use Rattle.log_text.specs.RawLogs.{IsRawLineKept}
 use Rattle.log_text.specs.RawTexts.{cite_text, pair_text, spaced}
 use Rattle.log_text.specs.Reading.{HasNoField, HasNoList, HasNoNumber, HasNoStart, IsBreak, IsFieldRead, IsItemRead, IsListRead, IsStartRead, capped, capped_cite, capped_pair, over_start}
-use Rattle.log_text.specs.Rows.{HasNoCases, HasNoOver, HasNoSpelling, IsCasesRead, IsFaultAfter, IsGoodRead, IsLineSaid, IsOverRead, IsRowRead, IsSpellingRead, IsUnsaid, row_said, row_value, spelled_value, spelling_value}
+use Rattle.log_text.specs.Rows.{HasNoBase, HasNoCases, HasNoDifference, HasNoOver, HasNoSpelling, IsCasesRead, IsDifferenceRead, IsFaultAfter, IsGoodRead, IsLineSaid, IsOverRead, IsRowRead, IsSpellingRead, IsUnsaid, row_said, row_value, spelled_value, spelling_value}
 use Rattle.log_text.specs.Says.{EndRow, HasBase, HasChanges, IsFormed, IsGood, IsRising, IsSpellingFormed, IsWithin, LineRow, Row, row_text}
 use Rattle.log_text.specs.Spellings.{CasesAs, From, Full, OverAs, Spelled, Spelling, line_said, spelling_of, spelling_text}
 use Rattle.log_text.specs.declared.raw.RawCite.{RawCite}
@@ -24,6 +24,8 @@ use Rattle.log_text.specs.declared.fault.TextFault.{TextFault}
 use Rattle.log_text.specs.declared.fault.TextFault.TheVariants.{BadBase, BadChange, BadLine, NumberTooLarge, NotRising}
 use Rattle.log_text.specs.declared.rows.Read.{Read}
 use Rattle.log_text.specs.declared.rows.Read.TheVariants as read
+use Rattle.log_text.specs.declared.items.NoForm.{NoForm}
+use Rattle.log_text.specs.declared.rows.ReadClaim.{ReadClaim}
 use Rattle.log_text.specs.declared.rows.ReadLine.{ReadLine}
 use Rattle.log_text.specs.declared.said.Said.{Said}
 use Rattle.log_text.specs.declared.said.Said.TheVariants as said
@@ -41,6 +43,19 @@ passed_on P Q R (Ok x) f e h k = absurd e
 passed_on P Q R (Err fail.NoMemory) f e h k = tt
 passed_on P Q R (Err (fail.Fault g)) fail.NoMemory e h k = absurd cc
 passed_on P Q R (Err (fail.Fault g)) (fail.Fault x) e h k = k h
+
+-- a fault that was met
+pub fault_is : {E : Type 0} (P : E → Type 0) (f : Fail E) (e : E) → f ≡ fail.Fault e → IfFault P f → P e
+fault_is P fail.NoMemory e q h = absurd cc
+fault_is P (fail.Fault x) e q h = subst P (same q) h
+  where
+    same : {E : Type 0} {x y : E} → fail.Fault x ≡ fail.Fault y → x ≡ y
+    same q = cc
+
+-- another fault for the same reason
+pub fault_for : {E : Type 0} {Q R : Type 0} (f : Fail E) → (Q → R) → IfFault (λ _. Q) f → IfFault (λ _. R) f
+fault_for fail.NoMemory k h = tt
+fault_for (fail.Fault x) k h = k h
 
 -- ---- fields
 -- what follows a field that was read
@@ -123,49 +138,67 @@ full_read v end old l new p = record {
 
 -- neither a claim in full nor a difference
 pub no_spelling : (v : ℕ) (end old : List ℕ) → HasNoList pair_text end old →
-    (v ≡ 2 → (r : List ℕ) → old ≡ 64 ∷ r → ⊥) → HasNoSpelling v end old
+    (v ≡ 2 → HasNoBase old) → HasNoSpelling v end old
 no_spelling v end old h n = λ s r f e. go s r f e
   where
     go : (s : Spelling) (r : List ℕ) → IsSpellingFormed v s → old ≡ spelling_text s ++ (end ++ r) → ⊥
     go (Full l) r f e = h l r f e
     go (From base changes) r f e = n f _ e
 
--- a difference
-pub difference_read : (v : ℕ) (end old mid rest new : List ℕ) (base : ℕ) (changes : List Change) → v ≡ 2 →
-    old ≡ 64 ∷ mid → IsItemRead numeral capped mid base rest → AreChangesRead end rest changes new →
-    IsSpellingRead v end old (From base changes) new
-difference_read v end old mid rest new base changes q e p t = record {
-  spelling = From p.item t.items;
-  formed = q;
-  text = e ∙ ap (λ u. 64 ∷ u) (p.text ∙ (ap (λ u. numeral p.item ++ u) t.text
-      ∙ sym (append_assoc (numeral p.item) (changes_text t.items) (end ++ new))));
+-- a difference after its first byte
+pub difference_read : (end old mid new : List ℕ) (base : ℕ) (changes : List Change) →
+    IsItemRead numeral capped old base mid → AreChangesRead end mid changes new →
+    IsDifferenceRead end old (From base changes) new
+difference_read end old mid new base changes p t = record {
+  base = p.item;
+  changes = t.items;
+  text = p.text ∙ ap (λ u. numeral p.item ++ u) t.text;
   value_is = same p.value_is t.values_are;
 }
   where
     same : {a b : ℕ} {x y : List Change} → a ≡ b → x ≡ y → From a x ≡ From b y
     same p q = cc
 
--- no claim in full begins so
-pub not_in_full : (v : ℕ) (end old mid : List ℕ) → EndsChanges end → old ≡ 64 ∷ mid →
-    ((base : ℕ) (changes : List Change) (r : List ℕ) → mid ≡ numeral base ++ (changes_text changes ++ (end ++ r)) → ⊥) →
+-- digits end where a difference's changes begin
+changes_stop_here : (end : List ℕ) → EndsChanges end → (changes : List Change) (r : List ℕ) →
+    Stops (changes_text changes ++ (end ++ r))
+changes_stop_here end l changes r = changes_stop changes (end ++ r) (ends_stop (end ++ r) (l r).ends)
+
+pub no_base_number : (end old : List ℕ) → EndsChanges end → HasNoNumber old → HasNoDifference end old
+no_base_number end old l h = λ base changes r q. h base _ (changes_stop_here end l changes r) q
+
+pub no_difference : (end old mid : List ℕ) (base : ℕ) → EndsChanges end → IsItemRead numeral capped old base mid →
+    HasNoChanges end mid → HasNoDifference end old
+no_difference end old mid base l p h = λ b changes r q.
+    h changes r (number_split p.item b mid _ p.stops (changes_stop_here end l changes r) (sym p.text ∙ q)).1
+
+-- the difference with its first byte
+pub spelling_read : (end old mid : List ℕ) (s : Spelling) (new : List ℕ) (v : ℕ) → v ≡ 2 → old ≡ 64 ∷ mid →
+    IsDifferenceRead end mid s new → IsSpellingRead v end old s new
+spelling_read end old mid s new v q e p = record {
+  spelling = From p.base p.changes;
+  formed = q;
+  text = e ∙ ap (λ u. 64 ∷ u) (p.text ∙ sym (append_assoc (numeral p.base) (changes_text p.changes) (end ++ new)));
+  value_is = p.value_is;
+}
+
+pub none_read : (end old mid : List ℕ) (v : ℕ) → EndsChanges end → old ≡ 64 ∷ mid → HasNoDifference end mid →
     HasNoSpelling v end old
-not_in_full v end old mid l e h = λ s r f q. go s r f q
+none_read end old mid v l e h = λ s r f q. go s r q
   where
-    go : (s : Spelling) (r : List ℕ) → IsSpellingFormed v s → old ≡ spelling_text s ++ (end ++ r) → ⊥
-    go (Full k) r f q = full_no_base k (end ++ r) (l r) mid (sym q ∙ e)
-    go (From base changes) r f q = h base changes r (tail_of 64 64 _ _ (sym e ∙ q)
+    go : (s : Spelling) (r : List ℕ) → old ≡ spelling_text s ++ (end ++ r) → ⊥
+    go (Full k) r q = full_no_base k (end ++ r) (l r) mid (sym q ∙ e)
+    go (From base changes) r q = h base changes r (tail_of 64 64 _ _ (sym e ∙ q)
         ∙ append_assoc (numeral base) (changes_text changes) (end ++ r))
 
-pub no_base_number : (v : ℕ) (end old mid : List ℕ) → EndsChanges end → old ≡ 64 ∷ mid → HasNoNumber mid →
-    HasNoSpelling v end old
-no_base_number v end old mid l e h = not_in_full v end old mid l e (λ base changes r q.
-    h base _ (changes_stop changes (end ++ r) (ends_stop (end ++ r) (l r).ends)) q)
-
-pub no_difference : (v : ℕ) (end old mid rest : List ℕ) (base : ℕ) → EndsChanges end → old ≡ 64 ∷ mid →
-    IsItemRead numeral capped mid base rest → HasNoChanges end rest → HasNoSpelling v end old
-no_difference v end old mid rest base l e p h = not_in_full v end old mid l e (λ b changes r q.
-    h changes r (number_split p.item b rest _ p.stops
-    (changes_stop changes (end ++ r) (ends_stop (end ++ r) (l r).ends)) (sym p.text ∙ q)).1)
+-- what is read after the first byte is read with it
+pub with_first_byte : (end old mid new : List ℕ) (v : ℕ) (r : Result ReadClaim (Fail NoForm)) → EndsChanges end → v ≡ 2 →
+    old ≡ 64 ∷ mid →
+    UnlessNoMemory r (λ c. IsDifferenceRead end mid (spelling_value c) new) (λ _. HasNoDifference end mid) →
+    UnlessNoMemory r (λ c. IsSpellingRead v end old (spelling_value c) new) (λ _. HasNoSpelling v end old)
+with_first_byte end old mid new v (Ok c) l q e h = spelling_read end old mid (spelling_value c) new v q e h
+with_first_byte end old mid new v (Err (fail.Fault f)) l q e h = none_read end old mid v l e h
+with_first_byte end old mid new v (Err fail.NoMemory) l q e h = tt
 
 -- ---- Cases lines
 pub cases_no_claim : (v : ℕ) (old : List ℕ) → HasNoSpelling v (codes " : ") old → HasNoCases v old
@@ -270,36 +303,56 @@ row_falls v lines old value new k q p w h = λ bytes g.
     (fault.falls lines p.row new (is_met v bytes lines old value new g p) (subst IsWithin e w)
     (λ r. h (subst IsRising (sym e) r)))
 
-pub row_no_base : (v : ℕ) (lines : List RawLine) (old : List ℕ) (value : Read) (new : List ℕ) (k : ℕ) → k ≡ length lines →
-    IsRowRead v old value new → IsWithin (row_value value) → IsRising (row_value value) →
-    (HasBase lines (row_value value) → ⊥) → IsFaultAfter v lines old (BadBase k)
-row_no_base v lines old value new k q p w r h = λ bytes g.
-    let e = as_it_stands v old value new p w in rw q
-    (fault.no_base lines p.row new (is_met v bytes lines old value new g p) (subst IsWithin e w) (subst IsRising e r)
-    (λ b. h (subst (HasBase lines) (sym e) b)))
-
-pub row_no_change : (v : ℕ) (lines : List RawLine) (old : List ℕ) (value : Read) (new : List ℕ) (k : ℕ) →
+-- a line with a difference of no earlier line
+pub row_no_base : (v : ℕ) (lines : List RawLine) (old : List ℕ) (value : Read) (new : List ℕ) (k : ℕ) (line : ReadLine) →
     k ≡ length lines → IsRowRead v old value new → IsWithin (row_value value) → IsRising (row_value value) →
-    HasBase lines (row_value value) → (HasChanges lines (row_value value) → ⊥) → IsFaultAfter v lines old (BadChange k)
-row_no_change v lines old value new k q p w r b h = λ bytes g.
-    let e = as_it_stands v old value new p w in rw q
-    (fault.no_change lines p.row new (is_met v bytes lines old value new g p) (subst IsWithin e w) (subst IsRising e r)
-    (subst (HasBase lines) e b) (λ c. h (subst (HasChanges lines) (sym e) c)))
+    value ≡ read.Line line → IsUnsaid lines (spelling_of (spelled_value line)) unsaid.NoBase →
+    IsFaultAfter v lines old (BadBase k)
+row_no_base v lines old value new k line q p w r is h = λ bytes g.
+    let e = as_it_stands v old value new p w in
+    let f : LineRow (spelled_value line) ≡ p.row = ap row_value (sym is) ∙ e in rw q
+    (fault.no_base lines p.row new (is_met v bytes lines old value new g p) (subst IsWithin e w) (subst IsRising e r)
+    (λ b. h (subst (HasBase lines) (sym f) b)))
 
-pub row_good : (v : ℕ) (lines : List RawLine) (old : List ℕ) (value : Read) (new : List ℕ) (x : Said) →
-    IsRowRead v old value new → IsWithin (row_value value) → IsRising (row_value value) →
-    HasBase lines (row_value value) → HasChanges lines (row_value value) → x ≡ row_said lines (row_value value) →
-    IsGoodRead v lines old x new
-row_good v lines old value new x p w r b c q =
-    let e = as_it_stands v old value new p w in record {
+-- a line with changes that change nothing, or leave none
+pub row_no_change : (v : ℕ) (lines : List RawLine) (old : List ℕ) (value : Read) (new : List ℕ) (k : ℕ)
+    (line : ReadLine) → k ≡ length lines → IsRowRead v old value new → IsWithin (row_value value) →
+    IsRising (row_value value) → value ≡ read.Line line →
+    IsUnsaid lines (spelling_of (spelled_value line)) unsaid.NoChange → IsFaultAfter v lines old (BadChange k)
+row_no_change v lines old value new k line q p w r is h = λ bytes g.
+    let e = as_it_stands v old value new p w in
+    let f : LineRow (spelled_value line) ≡ p.row = ap row_value (sym is) ∙ e in rw q
+    (fault.no_change lines p.row new (is_met v bytes lines old value new g p) (subst IsWithin e w) (subst IsRising e r)
+    (subst (HasBase lines) f h.0) (λ c. h.1 (subst (HasChanges lines) (sym f) c)))
+
+row_good : (v : ℕ) (lines : List RawLine) (old : List ℕ) (value : Read) (new : List ℕ) (row : Row) →
+    (p : IsRowRead v old value new) → IsWithin (row_value value) → IsRising (row_value value) → row_value value ≡ row →
+    HasBase lines row → HasChanges lines row → (x : Said) → x ≡ row_said lines row → IsGoodRead v lines old x new
+row_good v lines old value new row p w r is b c x q =
+    let e = as_it_stands v old value new p w in
+    let f : row ≡ p.row = sym is ∙ e in record {
       row = p.row;
       good = record {
         formed = p.is_row.formed;
         within = subst IsWithin e w;
         rising = subst IsRising e r;
-        base = subst (HasBase lines) e b;
-        changes = subst (HasChanges lines) e c;
+        base = subst (HasBase lines) f b;
+        changes = subst (HasChanges lines) f c;
       };
       text = p.is_row.text;
-      says = q ∙ ap (row_said lines) e;
+      says = q ∙ ap (row_said lines) f;
     }
+
+-- a good line
+pub line_good : (v : ℕ) (lines : List RawLine) (old : List ℕ) (value : Read) (new : List ℕ) (line : ReadLine)
+    (x : RawLine) → IsRowRead v old value new → IsWithin (row_value value) → IsRising (row_value value) →
+    value ≡ read.Line line → IsLineSaid lines (spelled_value line) x → IsGoodRead v lines old (said.Line x) new
+line_good v lines old value new line x p w r is h = row_good v lines old value new (LineRow (spelled_value line)) p w r
+    (ap row_value is) h.base h.changes (said.Line x) (ap said.Line h.line_is)
+
+-- an end
+pub end_good : (v : ℕ) (lines : List RawLine) (old : List ℕ) (value : Read) (new : List ℕ) (k : ℕ) →
+    IsRowRead v old value new → IsWithin (row_value value) → IsRising (row_value value) → value ≡ read.End k →
+    IsGoodRead v lines old (said.End k) new
+end_good v lines old value new k p w r is = row_good v lines old value new (EndRow k) p w r (ap row_value is) tt tt
+    (said.End k) refl

@@ -386,7 +386,7 @@ good_more v earlier [] s a g = (g, tt)
 good_more v earlier (x ∷ ss) s a g = (a.0, good_more v (earlier ++ line_said earlier x ∷ []) ss s a.1 g)
 
 -- a further line was read
-pub goes_on_more : (v : ℕ) (bytes : List ℕ) (lines : List RawLine) (mid rest : List ℕ) (s : Spelled) →
+unfoldable pub goes_on_more : (v : ℕ) (bytes : List ℕ) (lines : List RawLine) (mid rest : List ℕ) (s : Spelled) →
     GoesOn v bytes lines mid → IsGood v lines (LineRow s) → mid ≡ spelled_text s ++ rest →
     GoesOn v bytes (lines ++ line_said lines s ∷ []) rest
 goes_on_more v bytes lines mid rest s p g t = record {

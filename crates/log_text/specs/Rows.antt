@@ -1,8 +1,10 @@
 -- What the reader gives for a claim, a line, a row and a header.
 use Rattle.std.specs.Prelude.{◌≡◌, ℕ, Option, codes, List, [], ◌∷◌, ◌++◌, map}
 use Rattle.dsa_terms.specs.Claims.{Claim}
-use Rattle.log_text.specs.Edits.{capped_change, change_value}
+use Rattle.log_text.specs.Changes.{Change}
+use Rattle.log_text.specs.Edits.{capped_change, change_value, changes_text}
 use Rattle.log_text.specs.Faults.{GoesOn, HasHeader, HasRow, IsFirstFault, IsVersion}
+use Rattle.log_text.specs.Numerals.{numeral}
 use Rattle.log_text.specs.RawTexts.{cite_text, header_text, spaced}
 use Rattle.log_text.specs.Reading.{capped, capped_cite, capped_pair, fitting, over_start}
 use Rattle.log_text.specs.Says.{EndRow, HasSpellingBase, HasSpellingChanges, IsCited, IsGood, IsLineFormed, IsSpellingFormed, LineRow, Row, row_text}
@@ -65,6 +67,22 @@ pub record IsSpellingRead (version : ℕ) (end old : List ℕ) (value : Spelling
 abbrev pub HasNoSpelling : ℕ → List ℕ → List ℕ → Type 0
 HasNoSpelling version end old =
     (s : Spelling) (r : List ℕ) → IsSpellingFormed version s → old ≡ spelling_text s ++ (end ++ r) → ⊥
+
+-- no difference begins here
+abbrev pub HasNoBase : List ℕ → Type 0
+HasNoBase old = (r : List ℕ) → old ≡ 64 ∷ r → ⊥
+
+-- a difference was read after its first byte, and the bytes that have to follow it
+pub record IsDifferenceRead (end old : List ℕ) (value : Spelling) (new : List ℕ) : Type 0 where
+  pub base : ℕ
+  pub changes : List Change
+  pub text : old ≡ numeral base ++ (changes_text changes ++ (end ++ new))
+  pub value_is : value ≡ capped_spelling (From base changes)
+
+-- no difference with these bytes after it stands here after its first byte
+abbrev pub HasNoDifference : List ℕ → List ℕ → Type 0
+HasNoDifference end old = (base : ℕ) (changes : List Change) (r : List ℕ) →
+    old ≡ numeral base ++ (changes_text changes ++ (end ++ r)) → ⊥
 
 -- ---- lines
 -- an Over line after its first word

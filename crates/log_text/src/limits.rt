@@ -57,7 +57,7 @@ fn is_change_within(change: Edit) -> bool
 
 /// Whether each number of the changes is within its limit.
 fn changes_within(changes: &[Edit]) -> bool
-    ensures { IsTrue result ↔ All IsChangeWithin (map change_value changes.now) }
+    ensures { IsTrue result ↔ All (λ c. IsChangeWithin (change_value c)) changes.now }
 {
     changes.iter().all(|change| is_change_within(*change))
 }
@@ -131,7 +131,7 @@ fn cites_rise(cites: &[(u64, RawCite)]) -> bool
 
 /// Whether each changed buffer is above the one before it.
 fn changes_rise(changes: &[Edit]) -> bool
-    ensures { IsTrue result ↔ Rises (map buffer_of (map change_value changes.now)) }
+    ensures { IsTrue result ↔ Rises (map (λ c. buffer_of (change_value c)) changes.now) }
 {
     for place in 1..changes.len() {
         if changed_buffer(changes[place]) <= changed_buffer(changes[place - 1]) {

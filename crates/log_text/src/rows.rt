@@ -1,11 +1,11 @@
 //! Reading a line of the log, or its end.
 
-ghost use Rattle.std.specs.Prelude.{◌≡◌, ◌++◌, IfNone, IfSome};
+ghost use Rattle.std.specs.Prelude.{◌≡◌, ◌++◌, IfNone, IfSome, ℕ};
 ghost use Rattle.dsa_model.specs.Fails.{UnlessNoMemory};
 ghost use Rattle.log_text.specs.Faults.{HasNoRow};
 ghost use Rattle.log_text.specs.Edits.{EndsChanges};
 ghost use Rattle.log_text.specs.Reading.{HasNoStart, IsStartRead};
-ghost use Rattle.log_text.specs.Rows.{HasNoCases, HasNoOver, HasNoSpelling, IsCasesRead, IsOverRead, IsRowRead, IsSpellingRead, spelled_value, spelling_value};
+ghost use Rattle.log_text.specs.Rows.{HasNoBase, HasNoCases, HasNoDifference, HasNoOver, HasNoSpelling, IsCasesRead, IsDifferenceRead, IsOverRead, IsRowRead, IsSpellingRead, spelled_value, spelling_value};
 
 use crate::changes::{Edit, read_changes};
 use crate::cursor::{Cursor, cap};
@@ -70,6 +70,39 @@ fn read_start(cursor: &mut Cursor) -> Option<Start>
     })
 }
 
+/// Reads a claim in full and these bytes after it, where no version has a difference.
+fn read_full(alloc: Global, cursor: &mut Cursor, end: &[u8]) -> Result<ReadClaim, Fail<NoForm>>
+    requires { EndsChanges end.now }
+    ensures { (version : ℕ) → (version ≡ 2 → HasNoBase cursor.old) → UnlessNoMemory result
+        (λ claim. IsSpellingRead version end.now cursor.old (spelling_value claim) cursor.new)
+        (λ _. HasNoSpelling version end.now cursor.old) }
+{
+    match read_claim(alloc, cursor, end) {
+        Ok(claim) => Ok(ReadClaim::Full(claim)),
+        Err(fault) => Err(fault),
+    }
+}
+
+/// Reads a difference after its first byte, and these bytes after it.
+fn read_difference(
+    alloc: Global,
+    cursor: &mut Cursor,
+    end: &[u8],
+) -> Result<ReadClaim, Fail<NoForm>>
+    requires { EndsChanges end.now }
+    ensures { UnlessNoMemory result
+        (λ claim. IsDifferenceRead end.now cursor.old (spelling_value claim) cursor.new)
+        (λ _. HasNoDifference end.now cursor.old) }
+{
+    let Some(base) = cursor.capped_number() else {
+        return Err(Fail::Fault(NoForm));
+    };
+    match read_changes(alloc, cursor, end) {
+        Ok(changes) => Ok(ReadClaim::From(base, changes)),
+        Err(fault) => Err(fault),
+    }
+}
+
 /// Reads a claim of that version and these bytes after it.
 fn read_spelling(
     alloc: Global,
@@ -82,14 +115,13 @@ fn read_spelling(
         (λ claim. IsSpellingRead version end.now cursor.old (spelling_value claim) cursor.new)
         (λ _. HasNoSpelling version end.now cursor.old) }
 {
-    if version != DIFFERENCES || !cursor.take(b"@") {
-        return Ok(ReadClaim::Full(read_claim(alloc, cursor, end)?));
+    if version != DIFFERENCES {
+        return read_full(alloc, cursor, end);
     }
-    let Some(base) = cursor.capped_number() else {
-        return Err(Fail::Fault(NoForm));
-    };
-    let changes = read_changes(alloc, cursor, end)?;
-    Ok(ReadClaim::From(base, changes))
+    if !cursor.take(b"@") {
+        return read_full(alloc, cursor, end);
+    }
+    read_difference(alloc, cursor, end)
 }
 
 /// Reads an Over line after its first word.
