@@ -1,8 +1,8 @@
-//! Carrying out the changes of a difference.
+//! The changes of a difference: carrying them out, finding them, and reading them.
 
 ghost use Rattle.std.specs.Prelude.{◌≡◌, ◌↔◌, ◌++◌, ◌∷◌, [], ◌≤◌, ◌<◌, IfOk, OnOk, IfNone, IfSome, IsTrue, All, drop, length, map, true, false, ◌≢◌, ◌⊎◌, slice_index_or};
 ghost use Rattle.dsa_terms.specs.Claims.{Rises, buffers_of};
-ghost use Rattle.log_text.specs.Changes.{AreChanges, DoesChange, above, below, buffer_of, carried_out, left_by};
+ghost use Rattle.log_text.specs.Changes.{AreChanges, DoesChange, above, below, buffer_of, carried_out, difference as difference_of, left_by};
 ghost use Rattle.dsa_model.specs.Fails.{UnlessNoMemory};
 ghost use Rattle.log_text.specs.Digits.{Stops};
 ghost use Rattle.log_text.specs.Edits.{AreChangesRead, EndsChanges, HasNoChanges, capped_change, change_value};
@@ -157,6 +157,39 @@ pub(crate) fn changed(
     }
     pairs.shrink_to_fit();
     Ok(Some(pairs))
+}
+
+/// The changes that lead from one claim to the other, in one pass over both.
+pub(crate) fn difference(
+    alloc: Global,
+    base: &[(u64, u64)],
+    claim: &[(u64, u64)],
+) -> Result<Vec<Edit>, AllocError>
+    requires { Rises (buffers_of base.now) }
+    ensures { IfOk result
+        (λ edits. map change_value edits.items ≡ difference_of base.now claim.now) }
+{
+    let mut changes = Vec::new(alloc);
+    let mut place = 0;
+    let mut next = 0;
+    while next < claim.len() {
+        let (b, bound) = claim[next];
+        if stays(base, place, b) {
+            changes.push(Edit::Drops(base[place].0))?;
+            place += 1;
+            continue;
+        }
+        let change = Edit::Puts(b, bound);
+        if does_change(base, place, change) {
+            changes.push(change)?;
+        }
+        place = past(base, place, b);
+        next += 1;
+    }
+    for k in place..base.len() {
+        changes.push(Edit::Drops(base[k].0))?;
+    }
+    Ok(changes)
 }
 
 /// Reads a change: a buffer and its bound, or a dash and a buffer.

@@ -5,8 +5,8 @@ ghost use Rattle.dsa_terms.specs.Claims.{Rises, buffers_of};
 ghost use Rattle.log_text.specs.Changes.{buffer_of};
 ghost use Rattle.log_text.specs.Edits.{change_value};
 ghost use Rattle.log_text.specs.RawLogs.{IsRawCiteWithin, IsPairWithin, number_of_cite};
-ghost use Rattle.log_text.specs.Rows.{row_value, spelling_value};
-ghost use Rattle.log_text.specs.Says.{IsChangeWithin, IsRising, IsSpellingRising, IsSpellingWithin, IsWithin};
+ghost use Rattle.log_text.specs.Rows.{row_value, spelled_value, spelling_value};
+ghost use Rattle.log_text.specs.Says.{IsChangeWithin, IsLineRising, IsRising, IsSpellingRising, IsSpellingWithin, IsWithin};
 
 use crate::RawCite;
 use crate::changes::{Edit, changed_buffer};
@@ -151,18 +151,27 @@ fn is_claim_rising(claim: &ReadClaim) -> bool
     }
 }
 
-/// Whether each list of the row rises.
-pub(crate) fn is_rising(row: &Read) -> bool
-    ensures { IsTrue result ↔ IsRising (row_value row.now) }
+/// Whether each list of the line rises.
+fn is_line_rising(line: &ReadLine) -> bool
+    ensures { IsTrue result ↔ IsLineRising (spelled_value line.now) }
 {
-    match row {
-        Read::Line(ReadLine::Over { claim, .. }) => is_claim_rising(claim),
-        Read::Line(ReadLine::Cases { claim, cites }) => {
+    match line {
+        ReadLine::Over { claim, .. } => is_claim_rising(claim),
+        ReadLine::Cases { claim, cites } => {
             if !is_claim_rising(claim) {
                 return false;
             }
             cites_rise(cites.as_slice())
         }
+    }
+}
+
+/// Whether each list of the row rises.
+pub(crate) fn is_rising(row: &Read) -> bool
+    ensures { IsTrue result ↔ IsRising (row_value row.now) }
+{
+    match row {
+        Read::Line(line) => is_line_rising(line),
         Read::End(_) => true,
     }
 }

@@ -125,11 +125,7 @@ fn read_spelling(
 }
 
 /// Reads an Over line after its first word.
-fn read_over(
-    alloc: Global,
-    cursor: &mut Cursor,
-    version: u64,
-) -> Result<ReadLine, Fail<NoForm>>
+fn read_over(alloc: Global, cursor: &mut Cursor, version: u64) -> Result<ReadLine, Fail<NoForm>>
     ensures { UnlessNoMemory result
         (λ line. IsOverRead version cursor.old (spelled_value line) cursor.new)
         (λ _. HasNoOver version cursor.old) }
@@ -147,11 +143,7 @@ fn read_over(
 }
 
 /// Reads a Cases line after its first word.
-fn read_cases(
-    alloc: Global,
-    cursor: &mut Cursor,
-    version: u64,
-) -> Result<ReadLine, Fail<NoForm>>
+fn read_cases(alloc: Global, cursor: &mut Cursor, version: u64) -> Result<ReadLine, Fail<NoForm>>
     ensures { UnlessNoMemory result
         (λ line. IsCasesRead version cursor.old (spelled_value line) cursor.new)
         (λ _. HasNoCases version cursor.old) }

@@ -41,11 +41,7 @@ fn pairs_of(line: &RawLine) -> &[(u64, u64)]
 
 /// The claim that is spelled after these lines, in time and memory of the changes and of what they
 /// give.
-fn claim_said(
-    alloc: Global,
-    lines: &[RawLine],
-    claim: ReadClaim,
-) -> Result<RawClaim, Fail<Unsaid>>
+fn claim_said(alloc: Global, lines: &[RawLine], claim: ReadClaim) -> Result<RawClaim, Fail<Unsaid>>
     requires kept { All IsRawLineKept lines.now }
     requires rising { IsSpellingRising (spelling_value claim) }
     ensures { UnlessNoMemory result
