@@ -13,7 +13,7 @@ use Rattle.dsa_model.specs.Buffer.{is_ever_live}
 use Rattle.csv_instance.specs.Layout.{layout_text}
 use Rattle.csv_instance.specs.Parse.{parse}
 use Rattle.csv_instance.specs.Records.{Record}
-use Rattle.log_text.specs.Faults.{HasCite}
+use Rattle.log_text.specs.RawTexts.{HasCite}
 use Rattle.log_text.specs.Numerals.{numeral}
 use Rattle.log_text.specs.RawLogs.{IsRawLineKept, IsPairWithin}
 use Rattle.log_text.specs.Text.{log_text}

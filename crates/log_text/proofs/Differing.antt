@@ -1,7 +1,7 @@
 -- Differences found in one pass: what is left of both claims.
-use Rattle.std.proofs.Common.{◌≡◌, ◌↔◌, ◌⊎◌, inl, inr, ℕ, zero, suc, ◌+◌, ◌<◌, ◌≤◌, Bool, IsTrue, true, false, cond, List, [], ◌∷◌, ◌++◌, map, drop, length, get_or, refl, sym, ap, ◌∙◌, subst, arith, append_assoc}
+use Rattle.std.proofs.Common.{◌≡◌, ◌↔◌, ◌⊎◌, inl, inr, ℕ, ◌+◌, ◌<◌, ◌≤◌, Bool, IsTrue, true, false, cond, List, [], ◌∷◌, ◌++◌, map, drop, length, get_or, refl, sym, ap, ◌∙◌, subst, arith, append_assoc}
 use Rattle.std.proofs.lemmas.List.{append-nil}
-use Rattle.dsa_terms.specs.Claims.{Claim, Entry, IsIn}
+use Rattle.dsa_terms.specs.Claims.{Claim, Entry}
 use Rattle.dsa_terms.proofs.Lists.{true_or_false}
 use Rattle.log_text.specs.Changes.{Change, DoesChange, Drops, Puts, above, below, difference, has_entry}
 use Rattle.log_text.proofs.Carrying.{drop_index, drop_past}

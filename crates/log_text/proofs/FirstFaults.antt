@@ -1,5 +1,5 @@
 -- Bytes of either version: they say at most one log, have at most one first fault, and not both.
-use Rattle.std.proofs.Common.{◌≡◌, ℕ, ◌^◌, ◌≤◌, ◌≢◌, ◌⊎◌, inl, inr, subst, List, [], ◌∷◌, ◌++◌, codes, length, refl, sym, ap, ◌∙◌, arith, append_assoc, append-nil}
+use Rattle.std.proofs.Common.{◌≡◌, ℕ, ◌^◌, ◌≤◌, ◌≢◌, inl, inr, subst, List, [], ◌∷◌, ◌++◌, codes, length, refl, sym, ap, ◌∙◌, arith, append_assoc, append-nil}
 use Rattle.std.specs.List.{flat_map}
 use Rattle.log_text.specs.Faults.{GoesOn, HasHeader, HasNoRow, HasRow, IsFirstFault, IsVersion, Meets}
 use Rattle.log_text.specs.Faults as fault

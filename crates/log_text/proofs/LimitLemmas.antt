@@ -2,7 +2,7 @@
 use Rattle.std.proofs.Common.{◌≡◌, ◌↔◌, ◌^◌, ◌≤◌, ℕ, Bool, IsTrue, List, [], ◌∷◌, map, All, sym, subst, ◌∙◌}
 use Rattle.std.proofs.lemmas.List.Elements.{All-cons, All-head, All-map, All-nil, All-tail}
 use Rattle.dsa_terms.specs.Claims.{Rises}
-use Rattle.log_text.specs.Changes.{Change, buffer_of}
+use Rattle.log_text.specs.Changes.{buffer_of}
 use Rattle.log_text.specs.Edits.{change_value}
 use Rattle.log_text.specs.Says.{IsChangeWithin, IsLineRising, IsSpellingRising, IsSpellingWithin}
 use Rattle.log_text.specs.Spellings.{CasesAs, From, Spelled, Spelling}

@@ -13,7 +13,7 @@ use Rattle.log_text.specs.RawTexts.{end_text, header_text}
 use Rattle.log_text.specs.Reading.{HasNoField, IsFieldRead}
 use Rattle.log_text.specs.Rows.{HasNoHeader, IsGoodRead, IsHeaderRead, IsStarted, row_said}
 use Rattle.log_text.specs.Says.{EndRow, IsGood, LineRow, Row, Says, SaysBy, row_text}
-use Rattle.log_text.specs.Spellings.{line_said, spelled_log, spelled_text}
+use Rattle.log_text.specs.Spellings.{line_said, spelled_text}
 use Rattle.log_text.specs.declared.fault.TextFault.{TextFault}
 use Rattle.log_text.specs.declared.fault.TextFault.TheVariants.{AfterEnd, BadVersion, NoEnd, NotLog}
 use Rattle.log_text.specs.declared.raw.RawLine.{RawLine}

@@ -4,14 +4,14 @@ use Rattle.std.proofs.lemmas.List.{append-nil}
 use Rattle.std.proofs.lemmas.List.Concat.{flat_map-append}
 use Rattle.log_text.specs.Changes.{Change, Drops, Puts}
 use Rattle.log_text.specs.Digits.{Stops}
-use Rattle.log_text.specs.Edits.{AreChangesRead, EndsChanges, EndsSpelling, HasNoChanges, capped_change, change_value, changes_text}
+use Rattle.log_text.specs.Edits.{AreChangesRead, EndsChanges, HasNoChanges, capped_change, change_value, changes_text}
 use Rattle.dsa_terms.specs.Claims.{Entry}
 use Rattle.log_text.specs.Numerals.{numeral}
 use Rattle.log_text.specs.RawTexts.{pair_text}
 use Rattle.log_text.specs.Reading.{HasNoItem, HasNoNumber, IsItemRead, capped, capped_pair}
 use Rattle.log_text.specs.Spellings.{change_text}
 use Rattle.log_text.specs.declared.changes.Edit.{Edit}
-use Rattle.log_text.proofs.PrefixFree.{cut, ends_stop, head_of, pairs_are_items, tail_of}
+use Rattle.log_text.proofs.PrefixFree.{ends_stop, head_of, pairs_are_items, tail_of}
 use Rattle.log_text.proofs.Splits.{change_split, changes_stop, digit_clash}
 
 -- these changes were read

@@ -1,5 +1,5 @@
 -- Rows that are read, and where no row stands.
-use Rattle.std.proofs.Common.{◌≡◌, ◌≢◌, ◌^◌, ◌-◌, ℕ, Option, length, map, Result, Ok, Err, List, [], ◌∷◌, ◌++◌, codes, refl, sym, ap, ◌∙◌, arith, append_assoc, subst}
+use Rattle.std.proofs.Common.{◌≡◌, ◌≢◌, ◌^◌, ◌-◌, ℕ, Option, length, Result, Ok, Err, List, [], ◌∷◌, ◌++◌, codes, refl, sym, ap, ◌∙◌, arith, append_assoc, subst}
 use Rattle.std.specs.Option.{unwrap_or}
 use Rattle.std.specs.Result.{IsErrAnd}
 use Rattle.dsa_model.specs.Fails.{IfFault, UnlessNoMemory}
@@ -8,19 +8,17 @@ use Rattle.dsa_model.specs.declared.fail.Fail.TheVariants as fail
 use Rattle.dsa_terms.specs.Claims.{Claim}
 use Rattle.log_text.specs.Digits.{Stops}
 use Rattle.log_text.specs.Changes.{Change}
-use Rattle.log_text.specs.Edits.{AreChangesRead, EndsChanges, HasNoChanges, capped_change, changes_text}
+use Rattle.log_text.specs.Edits.{AreChangesRead, EndsChanges, HasNoChanges, changes_text}
 use Rattle.log_text.specs.Faults.{GoesOn, HasNoRow, HasRow, Meets}
 use Rattle.log_text.specs.Faults as fault
 use Rattle.log_text.specs.Numerals.{numeral}
-use Rattle.log_text.specs.RawLogs.{IsRawLineKept}
 use Rattle.log_text.specs.RawTexts.{cite_text, pair_text, spaced}
 use Rattle.log_text.specs.Reading.{HasNoField, HasNoList, HasNoNumber, HasNoStart, IsBreak, IsFieldRead, IsItemRead, IsListRead, IsStartRead, capped, capped_cite, capped_pair, over_start}
 use Rattle.log_text.specs.Rows.{HasNoBase, HasNoCases, HasNoDifference, HasNoOver, HasNoSpelling, IsCasesRead, IsDifferenceRead, IsFaultAfter, IsGoodRead, IsLineSaid, IsOverRead, IsRowRead, IsSpellingRead, IsUnsaid, row_said, row_value, spelled_value, spelling_value}
-use Rattle.log_text.specs.Says.{EndRow, HasBase, HasChanges, IsFormed, IsGood, IsRising, IsSpellingFormed, IsWithin, LineRow, Row, row_text}
-use Rattle.log_text.specs.Spellings.{CasesAs, From, Full, OverAs, Spelled, Spelling, line_said, spelling_of, spelling_text}
+use Rattle.log_text.specs.Says.{EndRow, HasBase, HasChanges, IsFormed, IsRising, IsSpellingFormed, IsWithin, LineRow, Row, row_text}
+use Rattle.log_text.specs.Spellings.{CasesAs, From, Full, OverAs, Spelling, spelling_of, spelling_text}
 use Rattle.log_text.specs.declared.raw.RawCite.{RawCite}
 use Rattle.log_text.specs.declared.raw.RawLine.{RawLine}
-use Rattle.log_text.specs.declared.fault.TextFault.{TextFault}
 use Rattle.log_text.specs.declared.fault.TextFault.TheVariants.{BadBase, BadChange, BadLine, NumberTooLarge, NotRising}
 use Rattle.log_text.specs.declared.rows.Read.{Read}
 use Rattle.log_text.specs.declared.rows.Read.TheVariants as read
@@ -31,7 +29,7 @@ use Rattle.log_text.specs.declared.said.Said.{Said}
 use Rattle.log_text.specs.declared.said.Said.TheVariants as said
 use Rattle.log_text.specs.declared.said.Unsaid.TheVariants as unsaid
 use Rattle.log_text.proofs.Capped.{within_back, within_same}
-use Rattle.log_text.proofs.PrefixFree.{cut, ends_stop, head_of, number_split, spaced_split, tail_of}
+use Rattle.log_text.proofs.PrefixFree.{cut, ends_stop, head_of, number_split, tail_of}
 use Rattle.log_text.proofs.ReadLemmas.{break_stops, unwrap-fitting}
 use Rattle.log_text.proofs.Splits.{cases_form, changes_stop, colon_ends_spelling, full_no_base, over_form, spelling_split}
 use Rattle.log_text.proofs.Unique.{end_form}

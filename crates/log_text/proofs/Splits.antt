@@ -4,7 +4,7 @@ use Rattle.std.specs.List.{flat_map}
 use Rattle.dsa_terms.specs.Claims.{Claim}
 use Rattle.log_text.specs.Changes.{Change, Drops, Puts}
 use Rattle.log_text.specs.Edits.{EndsSpelling, changes_text}
-use Rattle.log_text.specs.Digits.{Ends, Stops, is_digit}
+use Rattle.log_text.specs.Digits.{Stops, is_digit}
 use Rattle.log_text.specs.Numerals.{numeral}
 use Rattle.log_text.specs.RawTexts.{cite_text, pair_text, spaced}
 use Rattle.log_text.specs.Says.{EndRow, LineRow, Row, row_text}

@@ -21,3 +21,11 @@ not_rising = refl
 
 no_end : text_fault_text text.NoEnd ≡ codes "no end"
 no_end = refl
+
+bad_base : text_fault_text (text.BadBase 1) ≡ codes "bad base 1"
+unfolding digits
+bad_base = refl
+
+bad_change : text_fault_text (text.BadChange 1) ≡ codes "bad change 1"
+unfolding digits
+bad_change = refl

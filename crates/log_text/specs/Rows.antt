@@ -1,5 +1,5 @@
 -- What the reader gives for a claim, a line, a row and a header.
-use Rattle.std.specs.Prelude.{◌≡◌, ℕ, Option, codes, List, [], ◌∷◌, ◌++◌, map}
+use Rattle.std.specs.Prelude.{◌≡◌, ℕ, Option, codes, List, ◌∷◌, ◌++◌, map}
 use Rattle.dsa_terms.specs.Claims.{Claim}
 use Rattle.log_text.specs.Changes.{Change}
 use Rattle.log_text.specs.Edits.{capped_change, change_value, changes_text}
@@ -7,7 +7,7 @@ use Rattle.log_text.specs.Faults.{GoesOn, HasHeader, HasRow, IsFirstFault, IsVer
 use Rattle.log_text.specs.Numerals.{numeral}
 use Rattle.log_text.specs.RawTexts.{cite_text, header_text, spaced}
 use Rattle.log_text.specs.Reading.{capped, capped_cite, capped_pair, fitting, over_start}
-use Rattle.log_text.specs.Says.{EndRow, HasSpellingBase, HasSpellingChanges, IsCited, IsGood, IsLineFormed, IsSpellingFormed, LineRow, Row, row_text}
+use Rattle.log_text.specs.Says.{EndRow, HasSpellingBase, HasSpellingChanges, IsGood, IsLineFormed, IsSpellingFormed, LineRow, Row, row_text}
 use Rattle.log_text.specs.Spellings.{CasesAs, From, Full, OverAs, Spelled, Spelling, claim_said, line_said, spelling_of, spelling_text}
 use Rattle.log_text.specs.declared.fault.TextFault.{TextFault}
 use Rattle.log_text.specs.declared.raw.RawCite.{RawCite}

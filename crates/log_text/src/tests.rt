@@ -152,7 +152,7 @@ fn a_log_is_written_byte_for_byte(rt: HostRuntime) {
 #[test]
 fn the_first_fault_of_a_header_is_answered(rt: HostRuntime) {
     let alloc = rt.alloc();
-    let rows: [(&[u8], TextFault); 11] = [
+    let rows: [(&[u8], TextFault); 12] = [
         (b"", TextFault::NotLog),
         (b"dsalog 1 3 4", TextFault::NotLog),
         (b"dsalog 1 3  4\n", TextFault::NotLog),
@@ -163,6 +163,7 @@ fn the_first_fault_of_a_header_is_answered(rt: HostRuntime) {
         ),
         (b"dsalog 18446744073709551616 3 4\n", TextFault::NotLog),
         (b"dsalog 2 1152921504606846977 4\n", TextFault::NotLog),
+        (b"dsalog 2 3 4\n", TextFault::NoEnd),
         (
             b"dsalog 18446744073709551615 3 4\n",
             TextFault::BadVersion { version: u64::MAX },

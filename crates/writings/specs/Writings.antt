@@ -3,7 +3,7 @@ use Rattle.std.specs.Prelude.{ℕ, List}
 use Rattle.dsa_terms.specs.Logs.{Log}
 use Rattle.csv_instance.specs.Records.{Record}
 use Rattle.csv_instance.specs.Layout.{layout_text}
-use Rattle.log_text.specs.Faults.{IsTextOf}
+use Rattle.log_text.specs.RawTexts.{IsTextOf}
 use Rattle.log_text.specs.Text.{log_text, raw_log_of}
 use Rattle.command_words.specs.Options.{Word}
 use Rattle.run_status.specs.declared.status.Role.TheVariants as role

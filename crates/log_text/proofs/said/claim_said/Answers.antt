@@ -1,9 +1,8 @@
-use Rattle.std.proofs.Common.{◌≡◌, ◌∙◌, List, ap, sym, map}
-use Rattle.dsa_terms.specs.Claims.{Claim}
+use Rattle.std.proofs.Common.{◌∙◌, List, ap, sym, map}
 use Rattle.log_text.specs.Edits.{change_value}
 use Rattle.log_text.specs.RawLogs.{raw_claim_of}
 use Rattle.log_text.specs.Rows.{spelling_value}
-use Rattle.log_text.specs.Spellings.{From, Spelling, claim_at}
+use Rattle.log_text.specs.Spellings.{From}
 use Rattle.log_text.specs.declared.changes.Edit.{Edit}
 use Rattle.log_text.proofs.SaidLemmas.{claim_there, is_claim_said, is_none, is_some, no_change_said}
 use Rattle.log_text.proofs.said.claim_said.Goals as goal

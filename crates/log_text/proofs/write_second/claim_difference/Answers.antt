@@ -1,4 +1,4 @@
-use Rattle.std.proofs.Common.{◌∙◌, sym, subst, List}
+use Rattle.std.proofs.Common.{◌∙◌, sym, subst}
 use Rattle.dsa_terms.specs.Claims.{Claim, Rises, buffers_of}
 use Rattle.log_text.proofs.write_second.claim_difference.Goals as goal
 

@@ -1,4 +1,4 @@
-use Rattle.std.proofs.Common.{arith, refl}
+use Rattle.std.proofs.Common.{arith}
 use Rattle.log_text.specs.Spellings.{spelled_text}
 use Rattle.log_text.proofs.Left.{put_next}
 use Rattle.log_text.proofs.WrittenSecond.{says_back, whole_put}
