@@ -1,2 +1,3 @@
 mod TrimmedLogs
+mod UpgradedLogs
 mod ExampleFacts

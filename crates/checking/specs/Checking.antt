@@ -2,9 +2,10 @@
 use Rattle.std.specs.Prelude.{ℕ, List, [], ◌∷◌, length}
 use Rattle.dsa_terms.specs.Logs.{Log}
 use Rattle.dsa_terms.specs.Trims.{trimmed}
+use Rattle.log_text.specs.Spellings.{log_text2}
 use Rattle.log_text.specs.Text.{log_text}
 use Rattle.command_words.specs.Options.{Word}
-use Rattle.run_status.specs.declared.status.Status.TheVariants.{Accepted, Trimmed}
+use Rattle.run_status.specs.declared.status.Status.TheVariants.{Accepted, Trimmed, Upgraded}
 use Rattle.run_status.specs.declared.status.Role.TheVariants as role
 use Rattle.run_course.specs.Course.{Course, Outcome, says, writes}
 use Rattle.readings.specs.Input.{opened}
@@ -33,3 +34,18 @@ trimming output log = writes (record { role = role.Output; name = output; bytes 
 -- how `trim` goes
 abbrev pub trim : Trim → Course
 trim t = opened t.input (λ table I. checked t.log I (trimming t.output))
+
+-- the words of `upgrade`
+pub record Upgrade : Type 0 where
+  pub input : Word
+  pub log : Word
+  pub output : Word
+
+-- an accepted log is written to the output in version 2
+abbrev pub upgrading : Word → Log → Outcome
+upgrading output log = writes (record { role = role.Output; name = output; bytes = log_text2 log } ∷ [])
+    (Upgraded (length log.lines))
+
+-- how `upgrade` goes
+abbrev pub upgrade : Upgrade → Course
+upgrade u = opened u.input (λ table I. checked u.log I (upgrading u.output))

@@ -1,8 +1,10 @@
-//! The commands that check a log's file: `refute` and `trim`.
+//! The commands that check a log's file: `refute`, `trim` and `upgrade`.
 #![tactic(auto)]
 
 mod refute;
 mod trim;
+mod upgrade;
 
 pub use refute::Refute;
 pub use trim::Trim;
+pub use upgrade::Upgrade;

@@ -29,14 +29,14 @@ no_log old new name I s accepted (inl failed) = inl (failed, refl)
 no_log old new name I s accepted (inr (inl holds)) =
     inr (holds.bytes, holds.whole, (subst IsSpoken (sym holds.told) tt, no_text holds.fault holds.refused (ap says holds.told)))
 no_log old new name I s accepted (inr (inr holds)) =
-    inr (holds.bytes, holds.whole, (subst IsSpoken (sym holds.told) tt, not_accepted holds.raw holds.fault holds.text holds.refused (ap says holds.told)))
+    inr (holds.bytes, holds.whole, (subst IsSpoken (sym holds.told) tt, not_accepted holds.raw holds.fault holds.says holds.refused (ap says holds.told)))
 
 -- the file gives an accepted log, by which the course concludes
 pub with_log : (old new : FilesSeen) (name : Word) (I : Instance) (g : Log) (accepted : Log → Outcome) →
     HoldsAccepted old name I g → (o : Outcome) → IsSpoken o.status → o ≡ accepted g →
     Comes old new (checked name I accepted) o
 with_log old new name I g accepted holds o spoken is =
-    inr (holds.bytes, holds.whole, (spoken, is_accepted g holds.text holds.accepted is))
+    inr (holds.bytes, holds.whole, (spoken, is_accepted g holds.says holds.accepted is))
 
 -- the input gives an instance, and then the log's file is checked
 module _ (old mid new : FilesSeen) (input log : Word) (accepted : Log → Outcome) (table : List Record) (J : Instance)

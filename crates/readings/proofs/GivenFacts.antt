@@ -10,7 +10,7 @@ use Rattle.csv_instance.specs.declared.fault.OffsetsFault.TheVariants as offsets
 use Rattle.csv_instance.proofs.FileFacts.{high_file, high_offsets, low_file, low_offsets, no_bytes, short_file, two, two_file, two_parse, two_reads, two_rows, without_y}
 use Rattle.command_words.specs.Options.{Word}
 use Rattle.log_check.specs.declared.fault.CheckFault.TheVariants as check
-use Rattle.log_text.specs.Faults.{IsTextOf}
+use Rattle.log_text.specs.Says.{Says}
 use Rattle.log_text.specs.Text.{raw_log_of}
 use Rattle.log_text.specs.declared.fault.TextFault.TheVariants as text
 use Rattle.refute_log.specs.declared.reason.Reason.TheVariants as reason
@@ -92,11 +92,11 @@ module _ (files : FilesSeen) (name : Word) where
 
   -- ---- files of logs
   module _ (bytes : List ℕ) (whole : IsWholeFile files name log_limit bytes) where
-    accepts_sample : IsAccepted evens sample → IsTextOf bytes (raw_log_of sample) →
+    accepts_sample : IsAccepted evens sample → Says bytes (raw_log_of sample) →
         ChecksLog files files name evens (checked.Accepted sample)
-    accepts_sample legal is = record { bytes = bytes; whole = whole; text = is; accepted = legal }
+    accepts_sample legal is = record { bytes = bytes; whole = whole; says = is; accepted = legal }
 
-    refuses_forged : IsTextOf bytes forged → ChecksLog files files name evens
+    refuses_forged : Says bytes forged → ChecksLog files files name evens
         (checked.Unaccepted (status.LogRefused (cause.Check (check.Illegal 0 reason.NotOver))))
     refuses_forged is = inr (inr (record {
       bytes = bytes;
@@ -104,7 +104,7 @@ module _ (files : FilesSeen) (name : Word) where
       fault = check.Illegal 0 reason.NotOver;
       told = refl;
       whole = whole;
-      text = is;
+      says = is;
       refused = too_low;
     }))
 

@@ -6,7 +6,9 @@ use Rattle.dsa_terms.specs.Logs.{IsAccepted, Log, is_stacked, rounded, rounding}
 use Rattle.dsa_terms.proofs.Examples.{evens, sample}
 use Rattle.log_check.specs.Faults.{check_fault}
 use Rattle.log_check.specs.declared.fault.CheckFault.TheVariants as check
-use Rattle.log_text.specs.Faults.{IsFirstFault, IsTextOf}
+use Rattle.log_text.specs.Faults.{IsFirstFault}
+use Rattle.log_text.specs.Faults as fault
+use Rattle.log_text.specs.Says.{Says}
 use Rattle.log_text.specs.Text.{raw_log_of}
 use Rattle.log_text.specs.declared.fault.TextFault.TheVariants as text
 use Rattle.log_text.specs.declared.raw.RawLine.TheVariants as raw_line
@@ -26,14 +28,17 @@ unfolding is_stacked rounded rounding up is_live buffer
 too_low = refl
 
 pub no_header : IsFirstFault [] text.NotLog
-no_header version count capacity rest h = let e = h.text in cc
+no_header = fault.no_header (λ version count capacity rest h. none h.text)
+  where
+    none : {x : ℕ} {xs : List ℕ} → [] ≡ x ∷ xs → ⊥
+    none e = cc
 
 module _ (bytes : List ℕ) (accepted : Log → Outcome) where
-  sample_goes_on : IsAccepted evens sample → IsTextOf bytes (raw_log_of sample) →
+  sample_goes_on : IsAccepted evens sample → Says bytes (raw_log_of sample) →
       Checks evens bytes accepted (accepted sample)
   sample_goes_on legal is = is_accepted sample is legal refl
 
-  forged_is_refused : IsTextOf bytes forged →
+  forged_is_refused : Says bytes forged →
       Checks evens bytes accepted (says (status.LogRefused (cause.Check (check.Illegal 0 reason.NotOver))))
   forged_is_refused is = not_accepted forged (check.Illegal 0 reason.NotOver) is too_low refl
 

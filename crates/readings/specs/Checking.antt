@@ -3,7 +3,8 @@ use Rattle.std.specs.Prelude.{◌≡◌, ◌^◌, ℕ, List, Some}
 use Rattle.dsa_terms.specs.Buffers.{Instance}
 use Rattle.dsa_terms.specs.Logs.{Log, IsAccepted}
 use Rattle.log_text.specs.Text.{raw_log_of}
-use Rattle.log_text.specs.Faults.{IsFirstFault, IsTextOf}
+use Rattle.log_text.specs.Faults.{IsFirstFault}
+use Rattle.log_text.specs.Says.{Says}
 use Rattle.log_text.specs.declared.raw.RawLog.{RawLog}
 use Rattle.log_text.specs.declared.fault.TextFault.{TextFault}
 use Rattle.log_check.specs.Faults.{check_fault}
@@ -18,16 +19,16 @@ use Rattle.run_course.specs.Course.{Course, Outcome, Reads, Concludes, says}
 abbrev pub log_limit : ℕ
 log_limit = 2 ^ 40
 
--- the bytes are no log's text, or the text of a log that is not accepted for the instance, each told by its first fault;
--- or they are the text of an accepted log, from which this follows
+-- the bytes say no log, or a log that is not accepted for the instance, each told by its first fault; or they say an
+-- accepted log, from which this follows
 pub data Checks (I : Instance) (bytes : List ℕ) (accepted : Log → Outcome) (o : Outcome) : Type 0 where
   no_text : (fault : TextFault) → IsFirstFault bytes fault → o ≡ says (LogRefused (Text fault)) →
       Checks I bytes accepted o
-  not_accepted : (raw : RawLog) (fault : CheckFault) → IsTextOf bytes raw → check_fault I raw ≡ Some fault →
+  not_accepted : (raw : RawLog) (fault : CheckFault) → Says bytes raw → check_fault I raw ≡ Some fault →
       o ≡ says (LogRefused (Check fault)) → Checks I bytes accepted o
-  is_accepted : (log : Log) → IsTextOf bytes (raw_log_of log) → IsAccepted I log → o ≡ accepted log →
+  is_accepted : (log : Log) → Says bytes (raw_log_of log) → IsAccepted I log → o ≡ accepted log →
       Checks I bytes accepted o
 
--- reads a log's file, and concludes by the accepted log that it is the text of
+-- reads a log's file, and concludes by the accepted log that it says
 abbrev pub checked : Word → Instance → (Log → Outcome) → Course
 checked name I accepted = Reads role.Log name log_limit (λ bytes. Concludes (Checks I bytes accepted))

@@ -3,7 +3,8 @@ use Rattle.std.specs.Prelude.{◌≡◌, ◌⊎◌, ℕ, List, Some}
 use Rattle.dsa_terms.specs.Buffers.{Instance}
 use Rattle.dsa_terms.specs.Logs.{Log, IsAccepted}
 use Rattle.log_text.specs.Text.{raw_log_of}
-use Rattle.log_text.specs.Faults.{IsFirstFault, IsTextOf}
+use Rattle.log_text.specs.Faults.{IsFirstFault}
+use Rattle.log_text.specs.Says.{Says}
 use Rattle.log_text.specs.declared.raw.RawLog.{RawLog}
 use Rattle.log_text.specs.declared.fault.TextFault.{TextFault}
 use Rattle.log_check.specs.Faults.{check_fault}
@@ -20,14 +21,14 @@ use Rattle.readings.specs.Checking.{log_limit}
 use Rattle.readings.specs.declared.log_file.Checked.{Checked}
 use Rattle.readings.specs.declared.log_file.Checked.TheVariants as checked
 
--- the file is the text of a log that is accepted for the instance
+-- the file says a log that is accepted for the instance
 pub record HoldsAccepted (files : FilesSeen) (name : Word) (I : Instance) (log : Log) : Type 0 where
   pub bytes : List ℕ
   pub whole : IsWholeFile files name log_limit bytes
-  pub text : IsTextOf bytes (raw_log_of log)
+  pub says : Says bytes (raw_log_of log)
   pub accepted : IsAccepted I log
 
--- the file is no log's text, for its first fault
+-- the file says no log, for its first fault
 pub record HoldsNoText (files : FilesSeen) (name : Word) (s : Status) : Type 0 where
   pub bytes : List ℕ
   pub fault : TextFault
@@ -35,14 +36,14 @@ pub record HoldsNoText (files : FilesSeen) (name : Word) (s : Status) : Type 0 w
   pub whole : IsWholeFile files name log_limit bytes
   pub refused : IsFirstFault bytes fault
 
--- the file is the text of a log that is not accepted for the instance, for its first fault
+-- the file says a log that is not accepted for the instance, for its first fault
 pub record HoldsNoRefutation (files : FilesSeen) (name : Word) (I : Instance) (s : Status) : Type 0 where
   pub bytes : List ℕ
   pub raw : RawLog
   pub fault : CheckFault
   pub told : s ≡ LogRefused (Check fault)
   pub whole : IsWholeFile files name log_limit bytes
-  pub text : IsTextOf bytes raw
+  pub says : Says bytes raw
   pub refused : check_fault I raw ≡ Some fault
 
 -- the accepted log, or why there is none

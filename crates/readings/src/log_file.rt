@@ -16,14 +16,14 @@ use std::alloc::Global;
 /// The greatest number of bytes of a log's file.
 const LOG_LIMIT: u64 = 1 << 40;
 
-/// The log of a file, accepted for the instance, or the status that the run ends with.
+/// The log that a file says, accepted for the instance, or the status that the run ends with.
 #[derive(Drop)]
 pub enum Checked {
     Accepted(ClosedLog),
     Unaccepted(Status),
 }
 
-/// Reads the log of a file and checks it against the instance.
+/// Reads the log that a file says, in either version, and checks it against the instance.
 pub fn read_checked_log<F: Files>(
     alloc: Global,
     files: &mut F,
