@@ -1,14 +1,13 @@
--- A log's file that holds the text of an accepted log is accepted.
-use Rattle.std.proofs.Common.{◌≡◌, ◌++◌, [], ℕ, List, Ok, Err, refl, sym, ap, ◌∙◌, subst, inl, inr}
+-- A log's file that says an accepted log is accepted.
+use Rattle.std.proofs.Common.{◌≡◌, [], ℕ, List, Ok, Err, refl, sym, ap, subst, inl, inr}
 use Rattle.dsa_terms.specs.Buffers.{Instance}
 use Rattle.dsa_terms.specs.Logs.{Log}
 use Rattle.dsa_model.specs.declared.fail.Fail.TheVariants.{Fault}
 use Rattle.dsa_outside.specs.Seen.{FilesSeen, SinkSeen}
-use Rattle.log_text.specs.Faults.{IsTextOf}
-use Rattle.log_text.specs.Text.{log_text, raw_log_of}
+use Rattle.log_text.specs.Says.{Says}
+use Rattle.log_text.specs.Text.{raw_log_of}
 use Rattle.log_text.specs.declared.raw.RawLog.{RawLog}
-use Rattle.log_text.proofs.FirstFault.{text_has_no_fault}
-use Rattle.log_text.proofs.Unique.{log_split}
+use Rattle.log_text.proofs.Saying.{no_fault_said, says_prefix_free}
 use Rattle.log_check.proofs.AcceptedLogs.{faulty_is_not_accepted}
 use Rattle.command_words.specs.Options.{Word}
 use Rattle.command_words.specs.Pairs.{Pair, word_at}
@@ -27,29 +26,29 @@ use Rattle.dsaplan_core.proofs.Answered.{answered, words_give}
 use Rattle.dsaplan_core.proofs.Concluded.{not_broken}
 use Rattle.dsaplan_core.proofs.Served.{checked_served, opened_served, same_bytes}
 
--- a text is that of one log
-same_raw : (bytes : List ℕ) (r s : RawLog) → IsTextOf bytes r → IsTextOf bytes s → r ≡ s
-same_raw bytes r s one two = (log_split r s [] [] (ap (λ t. t ++ []) (sym one.text ∙ two.text))).0
+-- bytes say one log
+same_raw : (bytes : List ℕ) (r s : RawLog) → Says bytes r → Says bytes s → r ≡ s
+same_raw bytes r s one two = (says_prefix_free bytes bytes r s [] [] one two refl).0
 
 module _ (old : FilesSeen) (name : Word) (I : Instance) (g : Log) (holds : HoldsLog I g old name) where
   at_capacity : (log : Log) → HoldsAccepted old name I log → log.capacity ≡ g.capacity
   at_capacity log read =
-      let same = same_bytes old name log_limit read.bytes (log_text g) holds.held read.whole in
-      let raws = same_raw (log_text g) (raw_log_of log) (raw_log_of g)
-      (subst (λ b. IsTextOf b (raw_log_of log)) same read.text) holds.text in
+      let same = same_bytes old name log_limit read.bytes holds.bytes holds.held read.whole in
+      let raws = same_raw holds.bytes (raw_log_of log) (raw_log_of g)
+      (subst (λ b. Says b (raw_log_of log)) same read.says) holds.says in
       ap (λ (r : RawLog). r.capacity) raws
 
-  is_text : (s : Status) → HoldsNoText old name s → ⊥
-  is_text s read =
-      let same = same_bytes old name log_limit read.bytes (log_text g) holds.held read.whole in
-      text_has_no_fault read.bytes read.fault (raw_log_of g)
-      (read.refused) (subst (λ b. IsTextOf b (raw_log_of g)) (sym same) holds.text)
+  is_said : (s : Status) → HoldsNoText old name s → ⊥
+  is_said s read =
+      let same = same_bytes old name log_limit read.bytes holds.bytes holds.held read.whole in
+      no_fault_said read.bytes read.fault (raw_log_of g)
+      (read.refused) (subst (λ b. Says b (raw_log_of g)) (sym same) holds.says)
 
   is_accepted : (s : Status) → HoldsNoRefutation old name I s → ⊥
   is_accepted s read =
-      let same = same_bytes old name log_limit read.bytes (log_text g) holds.held read.whole in
-      let raws = same_raw (log_text g) read.raw (raw_log_of g) (subst (λ b. IsTextOf b read.raw) same read.text)
-      holds.text in
+      let same = same_bytes old name log_limit read.bytes holds.bytes holds.held read.whole in
+      let raws = same_raw holds.bytes read.raw (raw_log_of g) (subst (λ b. Says b read.raw) same read.says)
+      holds.says in
       faulty_is_not_accepted I read.raw (Err (Fault read.fault)) tt read.refused g (sym raws) holds.accepted
 
 module _ (words : List Word) (old new : FilesSeen) (before after : SinkSeen) (pairs : List Pair) (I : Instance) (g : Log)
@@ -68,7 +67,7 @@ module _ (words : List Word) (old new : FilesSeen) (before after : SinkSeen) (pa
       (λ table J. checked (word_at pairs option.Log) J (λ log. says (status.Accepted log.capacity)))
       (λ table. checked_served old new before after I request ready calm (inr (inl refl)) P
       (λ log. says (status.Accepted log.capacity))
-      (λ fault read. absurd (is_text old (word_at pairs option.Log) I g holds _ read))
+      (λ fault read. absurd (is_said old (word_at pairs option.Log) I g holds _ read))
       (λ fault read. absurd (is_accepted old (word_at pairs option.Log) I g holds _ read))
       (λ log read. at_capacity old (word_at pairs option.Log) I g holds log read))
 

@@ -110,17 +110,17 @@ module _ (old new : FilesSeen) (P : Outcome → Type 0) where
       told : Checks I bytes accepted o → P o
       told (no_text fault first is) = subst P (sym is)
           (no_log fault (record { bytes = bytes; fault = fault; told = refl; whole = whole; refused = first }))
-      told (not_accepted raw fault text first is) = subst P (sym is) (no_proof fault (record {
+      told (not_accepted raw fault said first is) = subst P (sym is) (no_proof fault (record {
         bytes = bytes;
         raw = raw;
         fault = fault;
         told = refl;
         whole = whole;
-        text = text;
+        says = said;
         refused = first;
       }))
-      told (is_accepted log text accepted is) = subst P (sym is)
-          (given log (record { bytes = bytes; whole = whole; text = text; accepted = accepted }))
+      told (is_accepted log said accepted is) = subst P (sym is)
+          (given log (record { bytes = bytes; whole = whole; says = said; accepted = accepted }))
 
   -- a trial
   pub trial_gives : (t : Trial) → (buffer_limit < t.count → P (says (status.TooMany t.count))) →

@@ -1,9 +1,11 @@
 -- What the commands promise that judge a layout file or check a log's file.
-use Rattle.std.proofs.Common.{◌≡◌, ◌^◌, ℕ, List, Ok, refl, sym, subst, inl, inr}
+use Rattle.std.proofs.Common.{◌≡◌, ◌≤◌, ◌^◌, ℕ, List, length, arith, Ok, refl, sym, subst, inl, inr}
 use Rattle.dsa_terms.specs.Logs.{Log}
 use Rattle.dsa_search_laws.proofs.Logs.{accepted_is_infeasible}
 use Rattle.dsa_trim_laws.proofs.Trims.{trimmed_is_accepted}
 use Rattle.dsa_model.proofs.LayoutFaults.{layout_exactly}
+use Rattle.log_text.specs.Text.{raw_log_of}
+use Rattle.log_text.proofs.SaidLogs.{says_again}
 use Rattle.readings.specs.GivenLayouts.{GivesLayout}
 use Rattle.readings.specs.GivenLogs.{HoldsAccepted}
 use Rattle.readings.specs.Judging.{judged}
@@ -28,6 +30,10 @@ use Rattle.dsaplan_core.specs.Theorem.{GivesLayoutAt, GivesLog}
 use Rattle.dsaplan_core.proofs.ParsedInstances.{parsed_is_instance}
 use Rattle.dsaplan_core.proofs.TrimmedTexts.{trimmed_reads_back}
 
+-- a log's file is short
+short_bytes : (bytes : List ℕ) → length bytes ≤ 2 ^ 40 → length bytes ≤ 2 ^ 60
+short_bytes bytes short = omega (arith, short)
+
 module _ (words : List Word) (old new : FilesSeen) where
   abbrev gives_layout : (a : Asked words old) (C : ℕ) (offsets : List ℕ) →
       GivesLayout old (word_at a.pairs option.Layout) a.table a.instance C offsets → GivesLayoutAt a C
@@ -44,7 +50,7 @@ module _ (words : List Word) (old new : FilesSeen) where
   gives_log a log holds = record {
     bytes = holds.bytes;
     whole = holds.whole;
-    text = holds.text;
+    says = holds.says;
     accepted = holds.accepted;
     infeasible = accepted_is_infeasible a.instance log (parsed_is_instance a.table a.instance a.input.parsed)
         holds.accepted;
@@ -159,7 +165,7 @@ module _ (words : List Word) (old new : FilesSeen) where
                     refl,
                     record {
                       accepted = trimmed_is_accepted I log holds.accepted;
-                      readable = trimmed_reads_back I log holds.bytes holds.accepted holds.text;
+                      readable = trimmed_reads_back I log holds.bytes holds.accepted holds.says;
                       files = files;
                     },
                   ),
@@ -186,7 +192,7 @@ module _ (words : List Word) (old new : FilesSeen) where
                 (
                   a,
                   refl,
-                  (log, gives_log a log holds, refl, record { readable = ?; files = files }),
+                  (log, gives_log a log holds, refl, record { readable = says_again holds.bytes (raw_log_of log) holds.says (short_bytes holds.bytes holds.whole.short); files = files }),
                 ),
                 tt,
                 tt,

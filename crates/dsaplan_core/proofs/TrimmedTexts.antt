@@ -1,4 +1,4 @@
--- The text of a trimmed log reads back, where that of the log does.
+-- The text of a trimmed log reads back, where bytes say the log.
 use Rattle.std.proofs.Common.{◌≡◌, ◌≢◌, ◌≤◌, ◌+◌, ℕ, suc, Bool, true, false, not, cond, List, [], ◌∷◌, map, length, zip, All, refl, ap, subst, inl, inr, arith}
 use Rattle.std.specs.List.{range_with_len}
 use Rattle.std.proofs.lemmas.List.{length-map}
@@ -13,11 +13,14 @@ use Rattle.dsa_terms.specs.Trims.{kept_lines, moved_cite, moved_line, needed, pi
 use Rattle.dsa_terms.proofs.Lists.{has_in, true_or_false}
 use Rattle.dsa_trim_laws.proofs.Picked.{get_in, length-picked, passing, passing_ends}
 use Rattle.dsa_trim_laws.proofs.Needed.{cites_earlier, kept_up_to}
-use Rattle.log_text.specs.Faults.{HasCite, IsTextOf}
+use Rattle.log_text.specs.RawTexts.{HasCite, IsTextOf}
+use Rattle.log_text.specs.Says.{Says}
 use Rattle.log_text.specs.RawLogs.{IsRawCiteWithin, IsRawLineKept}
 use Rattle.log_text.specs.Text.{log_text, raw_cite_of, raw_line_of, raw_log_of}
 use Rattle.log_text.specs.declared.raw.RawCite.{RawCite}
 use Rattle.log_text.specs.declared.raw.RawLine.{RawLine}
+use Rattle.log_text.proofs.Saying.{says_kept}
+use Rattle.log_text.proofs.SaidLogs.{says_cited}
 
 -- ---- numbers fall
 few_pass : (p : ℕ → Bool) (n k : ℕ) → passing p n k ≤ k
@@ -106,21 +109,23 @@ module _ (to : ℕ → ℕ) (less : (k : ℕ) → to k ≤ k) where
 
 -- ---- the log
 pub trimmed_reads_back : (I : Instance) (log : Log) (bytes : List ℕ) → IsAccepted I log →
-    IsTextOf bytes (raw_log_of log) → IsTextOf (log_text (trimmed log)) (raw_log_of (trimmed log))
+    Says bytes (raw_log_of log) → IsTextOf (log_text (trimmed log)) (raw_log_of (trimmed log))
 unfolding trimmed kept_lines
-trimmed_reads_back I log bytes accepted text =
+trimmed_reads_back I log bytes accepted says =
+    let kept = says_kept bytes (raw_log_of log) says in
     let to = renumbered (needed log) in
     let falls = less (needed log) in
     let end = final_falls I log accepted in
-    let limit = text.kept.end_limit in
+    let limit = kept.end_limit in
     record {
       kept = record {
-        count_limit = text.kept.count_limit;
-        capacity_limit = text.kept.capacity_limit;
+        count_limit = kept.count_limit;
+        capacity_limit = kept.capacity_limit;
         end_limit = omega (arith, end, limit);
         lines = moved_all to falls IsRawLineKept (moved_kept to falls) (λ k. has k (needed log)) 0 log.lines
-            text.kept.lines;
+            kept.lines;
       };
-      cited = moved_all to falls HasCite (moved_cited to falls) (λ k. has k (needed log)) 0 log.lines text.cited;
+      cited = moved_all to falls HasCite (moved_cited to falls) (λ k. has k (needed log)) 0 log.lines
+          (says_cited bytes (raw_log_of log) says);
       text = refl;
     }

@@ -9,8 +9,8 @@ use Rattle.dsa_outside.specs.Seen.{FilesSeen, SinkSeen}
 use Rattle.dsa_model.specs.Counts.{Rose}
 use Rattle.csv_instance.specs.Records.{file_limit, table_of}
 use Rattle.csv_instance.specs.Parse.{parse, buffer_limit}
-use Rattle.log_text.specs.Faults.{IsTextOf}
-use Rattle.log_text.specs.Text.{log_text, raw_log_of}
+use Rattle.log_text.specs.Says.{Says}
+use Rattle.log_text.specs.Text.{raw_log_of}
 use Rattle.size_classes.specs.Plain.{IsPlain, first_rough}
 use Rattle.command_words.specs.Options.{Word}
 use Rattle.command_words.specs.Forms.{form_of}
@@ -42,10 +42,11 @@ pub record IsReady (seen : FilesSeen) (r : Request) (I : Instance) : Type 0 wher
   pub files : (o : OptionName) → IsIn o (form_of r.verb).reads → IsReadable seen (word_at r.pairs o) (limit_of o)
   pub input : ReadsInstance r.verb → HoldsInstance I seen (word_at r.pairs option.Input)
 
--- the name holds the text of this log, which is accepted for the instance
+-- the name holds bytes that say this log, which is accepted for the instance
 pub record HoldsLog (I : Instance) (log : Log) (files : FilesSeen) (name : Word) : Type 0 where
-  pub held : file_at files.held name ≡ Some (log_text log)
-  pub text : IsTextOf (log_text log) (raw_log_of log)
+  pub bytes : List ℕ
+  pub held : file_at files.held name ≡ Some bytes
+  pub says : Says bytes (raw_log_of log)
   pub accepted : IsAccepted I log
 
 -- the status says that a log is accepted at the capacity, or that memory ran out

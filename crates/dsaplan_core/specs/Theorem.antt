@@ -17,7 +17,9 @@ use Rattle.csv_instance.specs.Chosen.{chosen_text}
 use Rattle.csv_instance.specs.Layout.{layout_text}
 use Rattle.csv_instance.specs.Parse.{parse}
 use Rattle.csv_instance.specs.Offsets.{ids_of, parsed_offsets}
-use Rattle.log_text.specs.Faults.{IsTextOf}
+use Rattle.log_text.specs.RawTexts.{IsTextOf}
+use Rattle.log_text.specs.Says.{Says}
+use Rattle.log_text.specs.Spellings.{log_text2}
 use Rattle.log_text.specs.Text.{log_text, raw_log_of}
 use Rattle.dsa_model.specs.Chosen.{some_of}
 use Rattle.core_find.specs.Cores.{IsCore, without}
@@ -81,11 +83,11 @@ pub record GivesLayoutAt {words : List Word} {old : FilesSeen} (a : Asked words 
   pub parsed : parsed_offsets (ids_of a.table) (table_of bytes) ≡ Ok offsets
   pub layout : IsLayout a.instance C offsets
 
--- the log's file that was read is the text of this log, which is accepted
+-- the log's file that was read says this log, which is accepted
 pub record GivesLog {words : List Word} {old : FilesSeen} (a : Asked words old) (log : Log) : Type 0 where
   pub bytes : List ℕ
   pub whole : IsWholeFile old (word_at a.pairs option.Log) log_limit bytes
-  pub text : IsTextOf bytes (raw_log_of log)
+  pub says : Says bytes (raw_log_of log)
   pub accepted : IsAccepted a.instance log
   pub infeasible : IsInfeasible a.instance log.capacity
 
@@ -95,7 +97,7 @@ pub record HoldsTrimmed {words : List Word} {old : FilesSeen} (a : Asked words o
   pub readable : IsTextOf (log_text (trimmed log)) (raw_log_of (trimmed log))
   pub files : new.held ≡ with_file old.held (word_at a.pairs option.Output) (log_text (trimmed log))
 
--- the output holds the log's second text, whose bytes say the log
+-- the output holds the log's text of version 2, which says it
 pub record HoldsUpgraded {words : List Word} {old : FilesSeen} (a : Asked words old) (new : FilesSeen) (log : Log) : Type 0 where
   pub readable : Says (log_text2 log) (raw_log_of log)
   pub files : new.held ≡ with_file old.held (word_at a.pairs option.Output) (log_text2 log)

@@ -35,7 +35,7 @@ pub fn shown()
         Shows words old new before after }
 {}
 
-/// Where `refute` reads the text of an accepted log from a file within its limit, and nothing
+/// Where `refute` reads bytes that say an accepted log from a file within its limit, and nothing
 /// outside fails, the log is accepted, unless memory runs out.
 pub fn checks()
     ensures { (words : List Word) (old new : FilesSeen) (before after : SinkSeen)
@@ -76,7 +76,7 @@ pub fn missed()
 /// What is refused is refused for its first fault, and nothing is written: words only where they
 /// are no command; too many buffers only by a trial; an input only where it was read whole and is
 /// no instance; a layout file only where it gives no layout at the command's capacity; a log's file
-/// only where it is no text of an accepted log.
+/// only where it says no accepted log.
 pub fn causes()
     ensures { (words : List Word) (old new : FilesSeen) (before after : SinkSeen) (s : Status) →
         Answers (course words) old new before after s → IsCaused words old new s }

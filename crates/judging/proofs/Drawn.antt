@@ -1,6 +1,6 @@
 -- From what drawing a layout gives to what the course comes to.
-use Rattle.std.proofs.Common.{◌≡◌, ◌^◌, ◌≤◌, ◌<◌, ◌+◌, ℕ, List, [], ◌∷◌, length, slice_index, refl, subst, sym}
-use Rattle.dsa_terms.specs.Buffers.{Instance, buffer}
+use Rattle.std.proofs.Common.{◌≡◌, ◌^◌, ℕ, List, [], ◌∷◌, length, refl, subst, sym}
+use Rattle.dsa_terms.specs.Buffers.{Instance}
 use Rattle.dsa_terms.specs.Layouts.{IsLayout}
 use Rattle.csv_instance.specs.Records.{Record}
 use Rattle.csv_instance.specs.Offsets.{ids_of}

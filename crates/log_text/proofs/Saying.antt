@@ -172,7 +172,7 @@ line_kept v earlier (CasesAs s cites) a g = let k = spelling_kept v earlier s a 
   g.formed.1,
 )
 
-lines_kept : (v : ℕ) (earlier : List RawLine) (ss : List Spelled) → All IsRawLineKept earlier →
+pub lines_kept : (v : ℕ) (earlier : List RawLine) (ss : List Spelled) → All IsRawLineKept earlier →
     All HasCite earlier → AreGood v earlier ss →
     All IsRawLineKept (lines_said earlier ss) × All HasCite (lines_said earlier ss)
 lines_kept v earlier [] a b g = (a, b)
@@ -362,7 +362,7 @@ text2_says raw k c lim = let t = go raw.lines k.lines c lim in record {
         )
 
 -- ---- laws
-by_version : (bytes : List ℕ) (raw : RawLog) → Says bytes raw → (v : ℕ) × IsVersion v × SaysBy v bytes raw
+pub by_version : (bytes : List ℕ) (raw : RawLog) → Says bytes raw → (v : ℕ) × IsVersion v × SaysBy v bytes raw
 by_version bytes raw (inl t) = (1, inl refl, text_says bytes raw t)
 by_version bytes raw (inr t) = (2, inr refl, t)
 
