@@ -18,6 +18,8 @@ pub mod LayoutLaw
 pub mod OffsetRows
 pub mod SomeRows
 pub mod SomeBack
+pub mod RowLemmas
+pub mod KeptLemmas
 mod KeptFacts
 mod TextFacts
 pub mod FileFacts

@@ -17,7 +17,7 @@ use Rattle.csv_instance.proofs.Left.{from_none, from_some, option_cases}
 abbrev Within : ℕ → List (List ℕ) → Type 0
 Within n fields = All (λ field. length field ≤ n) fields
 
-all_cons : {X : Type 0} (P : X → Type 0) (x : X) (xs : List X) → P x → All P xs → All P (x ∷ xs)
+pub all_cons : {X : Type 0} (P : X → Type 0) (x : X) (xs : List X) → P x → All P xs → All P (x ∷ xs)
 all_cons P x xs h t zero d k = h
 all_cons P x xs h t (suc i) d k = t i d (omega arith)
 

@@ -13,3 +13,6 @@ pub mod Offsets
 pub mod Found
 pub mod FaultTexts
 pub mod Chosen
+pub mod Rows
+pub mod KeptRows
+pub mod Changed

@@ -83,12 +83,18 @@ id_faults header before row =
 abbrev pub id_fault : Record → List Record → Record → Option InstanceFault
 id_fault header before row = first_fault (id_faults header before row)
 
+-- what can be wrong with the numbers and the gaps that a row writes
+abbrev pub form_faults : Record → ℕ → Record → List (Option InstanceFault)
+form_faults header number row =
+    option_map (fault.BadNumber number) (bad_column header row)
+    ∷ when (not (is_some (gaps_of (field_of header row Gaps)))) (fault.BadGap number)
+    ∷ []
+
 -- the first fault of what a row says of its buffer
 abbrev pub content_fault : Record → ℕ → Record → Option InstanceFault
 content_fault header number row = first_fault (
-    option_map (fault.BadNumber number) (bad_column header row)
-    ∷ when (not (is_some (gaps_of (field_of header row Gaps)))) (fault.BadGap number)
-    ∷ option_map (fault.BadBuffer number) (buffer_fault (row_buffer header row))
+    form_faults header number row
+    ++ option_map (fault.BadBuffer number) (buffer_fault (row_buffer header row))
     ∷ [])
 
 -- the first fault of a row, given the rows before it

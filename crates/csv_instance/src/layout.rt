@@ -14,6 +14,19 @@ use csv::{ByteRecord, Writer, WriterBuilder};
 use dsa_model::NoMemory;
 use std::alloc::Global;
 
+/// The fields of a record.
+pub(crate) fn all_fields<'a>(alloc: Global, row: &'a ByteRecord) -> Result<Vec<&'a [u8]>, NoMemory>
+    ensures { IfOk result (λ v. map (λ f. f.now) v.items ≡ fields_of row.now) }
+{
+    let mut fields = Vec::new(alloc);
+    for place in 0..row.len() {
+        if fields.push(field_at(row, place)).is_err() {
+            return Err(NoMemory);
+        }
+    }
+    Ok(fields)
+}
+
 /// The fields of a record, and one more.
 fn fields_and<'a>(
     alloc: Global,
@@ -22,12 +35,7 @@ fn fields_and<'a>(
 ) -> Result<Vec<&'a [u8]>, NoMemory>
     ensures { IfOk result (λ v. map (λ f. f.now) v.items ≡ fields_of row.now ++ last.now ∷ []) }
 {
-    let mut fields = Vec::new(alloc);
-    for place in 0..row.len() {
-        if fields.push(field_at(row, place)).is_err() {
-            return Err(NoMemory);
-        }
-    }
+    let mut fields = all_fields(alloc, row)?;
     if fields.push(last).is_err() {
         return Err(NoMemory);
     }
@@ -35,7 +43,7 @@ fn fields_and<'a>(
 }
 
 /// Writes a record with one more field put last.
-fn write_with(
+pub(crate) fn write_with(
     alloc: Global,
     writer: &mut Writer<Vec<u8>>,
     row: &ByteRecord,

@@ -9,6 +9,7 @@ ghost use Rattle.csv_instance.specs.Records.{HasShortFields, Record};
 ghost use Rattle.csv_instance.specs.Numbers.{time_limit};
 ghost use Rattle.csv_instance.specs.Parse.{alignment_of, bad_column, row_buffer, content_fault, id_fault};
 ghost use Rattle.csv_instance.specs.Row.{AreNumbers, length_fault};
+ghost use Rattle.csv_instance.specs.Rows.{AreKeptValues, form_fault, value_of};
 ghost use Rattle.std.specs.Option.{option_map_or};
 ghost use Rattle.csv_instance.specs.declared.columns.Column.TheVariants.{Id};
 
@@ -88,11 +89,11 @@ fn read_alignment(row: &ByteRecord, place: Option<usize>) -> Option<u64>
 
 /// The numbers of a row.
 #[derive(Clone, Copy)]
-struct Numbers {
-    lower: u64,
-    upper: u64,
-    size: u64,
-    alignment: u64,
+pub(crate) struct Numbers {
+    pub(crate) lower: u64,
+    pub(crate) upper: u64,
+    pub(crate) size: u64,
+    pub(crate) alignment: u64,
 }
 
 /// The numbers of a row, or the first column without one.
@@ -124,6 +125,43 @@ fn read_numbers(places: &ColumnPlaces, row: &ByteRecord) -> Result<Numbers, Colu
     })
 }
 
+/// What a row says.
+#[derive(Drop)]
+pub(crate) struct RowValues {
+    pub(crate) numbers: Numbers,
+    pub(crate) gaps: Vec<(u64, u64)>,
+}
+
+/// What a row says, or the first fault of its numbers and its gaps.
+pub(crate) fn read_values(
+    alloc: Global,
+    places: &ColumnPlaces,
+    number: u32,
+    row: &ByteRecord,
+) -> Result<RowValues, Fail<InstanceFault>>
+    requires { HasShortFields (fields_of row.now) }
+    ensures value { let fields = fields_of row.now in (header : Record) →
+        places.now ≡ column_places header → UnlessNoMemory result
+        (λ v. (form_fault header number fields ≡ None) × (value_of v ≡ row_buffer header fields))
+        (λ f. form_fault header number fields ≡ Some f) }
+    ensures limits { IfOk result AreKeptValues }
+{
+    let numbers = match read_numbers(places, row) {
+        Ok(numbers) => numbers,
+        Err(column) => {
+            return Err(Fail::Fault(InstanceFault::BadNumber {
+                row: number,
+                column,
+            }));
+        }
+    };
+    match read_gaps(alloc, field_under(row, places.gaps)) {
+        Ok(Some(gaps)) => Ok(RowValues { numbers, gaps }),
+        Ok(None) => Err(Fail::Fault(InstanceFault::BadGap { row: number })),
+        Err(NoMemory) => Err(Fail::NoMemory),
+    }
+}
+
 /// The buffer that a row tells of, or the first fault of what it says.
 pub(crate) fn read_buffer(
     alloc: Global,
@@ -137,25 +175,16 @@ pub(crate) fn read_buffer(
         (λ b. (content_fault header number fields ≡ None) × (b ≡ row_buffer header fields))
         (λ f. content_fault header number fields ≡ Some f) }
 {
+    let RowValues { numbers, gaps } = match read_values(alloc, places, number, row) {
+        Ok(values) => values,
+        Err(failure) => return Err(failure),
+    };
     let Numbers {
         lower,
         upper,
         size,
         alignment,
-    } = match read_numbers(places, row) {
-        Ok(numbers) => numbers,
-        Err(column) => {
-            return Err(Fail::Fault(InstanceFault::BadNumber {
-                row: number,
-                column,
-            }));
-        }
-    };
-    let gaps = match read_gaps(alloc, field_under(row, places.gaps)) {
-        Ok(Some(gaps)) => gaps,
-        Ok(None) => return Err(Fail::Fault(InstanceFault::BadGap { row: number })),
-        Err(NoMemory) => return Err(Fail::NoMemory),
-    };
+    } = numbers;
     match Buffer::new(alloc, lower, upper, size, alignment, &gaps) {
         Ok(buffer) => Ok(buffer),
         Err(Fail::Fault(fault)) => {

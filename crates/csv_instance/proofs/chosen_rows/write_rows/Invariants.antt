@@ -3,7 +3,7 @@ use Rattle.csv.specs.Records.{fields_of}
 use Rattle.csv_instance.specs.Chosen.{chosen_text, rows_at}
 use Rattle.csv_instance.specs.Layout.{text_of}
 use Rattle.csv_instance.specs.Wrote.{Wrote}
-use Rattle.csv_instance.proofs.rows.write_rows.Given as goal
+use Rattle.csv_instance.proofs.chosen_rows.write_rows.Given as goal
 
 abbrev pub invariant-loop-member : goal.invariant-loop-member
 invariant-loop-member l = (text : List ℕ) × Wrote l.writer text

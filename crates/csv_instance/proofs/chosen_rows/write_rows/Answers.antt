@@ -7,7 +7,7 @@ use Rattle.csv_instance.specs.Chosen.{chosen_text, rows_at}
 use Rattle.csv_instance.specs.Layout.{text_of}
 use Rattle.csv_instance.specs.Records.{Record}
 use Rattle.csv_instance.proofs.SomeBack.{chosen_back, chosen_parse, chosen_text-at}
-use Rattle.csv_instance.proofs.rows.write_rows.Goals as goal
+use Rattle.csv_instance.proofs.chosen_rows.write_rows.Goals as goal
 
 pub loop-member-preserved : goal.loop-member-preserved
 loop-member-preserved c =

@@ -17,7 +17,7 @@ use dsa_model::NoMemory;
 use std::alloc::Global;
 
 /// Writes a record as it is.
-fn write_record(writer: &mut Writer<Vec<u8>>, row: &ByteRecord) -> Result<(), NoMemory>
+pub(crate) fn write_record(writer: &mut Writer<Vec<u8>>, row: &ByteRecord) -> Result<(), NoMemory>
     ensures { (text : List ℕ) → Wrote writer.old text → OnOk result
         (Wrote writer.new (text ++ row_text default_writer (fields_of row.now))) }
 {

@@ -3,7 +3,7 @@ use Rattle.std.proofs.lemmas.List.{map-append, take_more}
 use Rattle.std.specs.Result.{is_ok}
 use Rattle.csv.specs.Records.{fields_of}
 use Rattle.csv_instance.specs.Records.{Record}
-use Rattle.csv_instance.proofs.layout.fields_and.Goals as goal
+use Rattle.csv_instance.proofs.layout.all_fields.Goals as goal
 
 pub loop-place-preserved : goal.loop-place-preserved
 loop-place-preserved c =

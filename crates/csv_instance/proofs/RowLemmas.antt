@@ -1,0 +1,82 @@
+-- Rows that can be read, row by row.
+use Rattle.std.proofs.Common.{◌≡◌, ◌++◌, ◌∷◌, ◌∙◌, ℕ, List, [], Option, Some, None, Ok, Err, length, map, option_map, refl, sym, ap, append_assoc, not, is_some}
+use Rattle.std.proofs.lemmas.List.{append-nil}
+use Rattle.std.specs.Option.{option_or}
+use Rattle.csv_instance.specs.Columns.{field_of}
+use Rattle.csv_instance.specs.Gaps.{gaps_of}
+use Rattle.csv_instance.specs.Records.{Record}
+use Rattle.csv_instance.specs.Parse.{bad_column, content_fault, header_fault, id_fault, row_buffer}
+use Rattle.csv_instance.specs.Rows.{form_fault, parse_rows, row_form_fault, rows_form_fault}
+use Rattle.csv_instance.specs.declared.columns.Column.TheVariants.{Gaps}
+use Rattle.csv_instance.specs.declared.fault.InstanceFault.{InstanceFault}
+use Rattle.csv_instance.specs.declared.fault.InstanceFault.TheVariants as fault
+use Rattle.dsa_model.specs.Buffer.{buffer_fault, first_fault, when}
+use Rattle.dsa_model.specs.declared.buffer_fault.BufferFault.{BufferFault}
+use Rattle.csv_instance.proofs.TableLemmas.{option_or-assoc}
+
+-- the first fault of rows is that of the first rows, or else that of the others
+pub form-append : (header : Record) (before xs ys : List Record)
+    → rows_form_fault header before (xs ++ ys) ≡ option_or (rows_form_fault header before xs)
+    (rows_form_fault header (before ++ xs) ys)
+form-append header before [] ys = ap (λ (t : List Record). rows_form_fault header t ys) (sym (append-nil before))
+form-append header before (x ∷ xs) ys =
+    ap (λ (t : Option InstanceFault). option_or (row_form_fault header before x) t)
+    (form-append header (before ++ x ∷ []) xs ys
+    ∙ ap (λ (t : List Record). option_or (rows_form_fault header (before ++ x ∷ []) xs) (rows_form_fault header t ys))
+    (append_assoc before (x ∷ []) xs))
+    ∙ option_or-assoc (row_form_fault header before x) (rows_form_fault header (before ++ x ∷ []) xs)
+    (rows_form_fault header (before ++ (x ∷ xs)) ys)
+
+-- rows without a fault
+pub rows-good : (header : Record) (rows : List Record) → header_fault header ≡ None
+    → rows_form_fault header [] rows ≡ None
+    → parse_rows (header ∷ rows) ≡ Ok (map (row_buffer header) rows)
+rows-good header rows h r = rw (h, r) refl
+
+-- one more row without a fault
+pub form-more : (header : Record) (rows : List Record) (row : Record) → rows_form_fault header [] rows ≡ None
+    → row_form_fault header rows row ≡ None → rows_form_fault header [] (rows ++ row ∷ []) ≡ None
+form-more header rows row r e = form-append header [] rows (row ∷ []) ∙ rw (r, e) refl
+
+-- the first row with a fault
+pub rows-fault : (header : Record) (rows : List Record) (row : Record) (rest : List Record) (f : InstanceFault)
+    → header_fault header ≡ None → rows_form_fault header [] rows ≡ None
+    → row_form_fault header rows row ≡ Some f → parse_rows ((header ∷ rows) ++ row ∷ rest) ≡ Err f
+rows-fault header rows row rest f h r e =
+    let whole : rows_form_fault header [] (rows ++ row ∷ rest) ≡ Some f = form-append header [] rows (row ∷ rest)
+    ∙ rw (r, e) refl in
+    rw (h, whole) refl
+
+pub form-id : (header : Record) (rows : List Record) (row : Record) (f : InstanceFault)
+    → id_fault header rows row ≡ Some f → row_form_fault header rows row ≡ Some f
+form-id header rows row f e = rw e refl
+
+pub form-content : (header : Record) (rows : List Record) (row : Record) (o : Option InstanceFault)
+    → id_fault header rows row ≡ None → form_fault header (length rows) row ≡ o → row_form_fault header rows row ≡ o
+form-content header rows row o e g = rw (e, g) refl
+
+-- the first of three is the first of two, or else the last
+first_of_three : {A : Type 0} (a b c : Option A)
+    → first_fault (a ∷ b ∷ c ∷ []) ≡ option_or (first_fault (a ∷ b ∷ [])) c
+first_of_three (Some x) b c = refl
+first_of_three None (Some x) c = refl
+first_of_three None None (Some x) = refl
+first_of_three None None None = refl
+
+-- what is wrong with a row's content is what is wrong with its numbers and gaps, or else with its buffer
+pub content-by : (header : Record) (number : ℕ) (row : Record) → content_fault header number row
+    ≡ option_or (form_fault header number row)
+    (option_map (fault.BadBuffer number) (buffer_fault (row_buffer header row)))
+content-by header number row =
+    first_of_three (option_map (fault.BadNumber number) (bad_column header row))
+    (when (not (is_some (gaps_of (field_of header row Gaps)))) (fault.BadGap number))
+    (option_map (fault.BadBuffer number) (buffer_fault (row_buffer header row)))
+
+pub content-form : (header : Record) (number : ℕ) (row : Record) (f : InstanceFault)
+    → form_fault header number row ≡ Some f → content_fault header number row ≡ Some f
+content-form header number row f e = content-by header number row ∙ rw e refl
+
+pub content-buffer : (header : Record) (number : ℕ) (row : Record) (f : BufferFault)
+    → form_fault header number row ≡ None → buffer_fault (row_buffer header row) ≡ Some f
+    → content_fault header number row ≡ Some (fault.BadBuffer number f)
+content-buffer header number row f e b = content-by header number row ∙ rw (e, b) refl

@@ -1,0 +1,19 @@
+use Rattle.std.proofs.Common.{◌<◌, ◌+◌, ◌∙◌, ap, arith, length, sym}
+use Rattle.dsa_terms.specs.Buffers.{Buffer}
+use Rattle.csv_instance.specs.KeptRows.{records_of}
+use Rattle.csv_instance.proofs.KeptLemmas.{kept_limits, kept_value}
+use Rattle.csv_instance.proofs.row_list.Rows.gaps.Goals as goal
+
+pub returns-clause-value : goal.returns-clause-value
+returns-clause-value c =
+    let within : c.args.r + 1 < length (records_of c.self.inside) =
+    (let all = ap length c.self.view_is in let r = c.requires in omega arith) in
+    let is = kept_value c.self.inside c.args.r c.index.result.now c.self.invariant within c.index.ensures in
+    rw (← c.self.view_is) (c.as_slice.ensures.value ∙ sym (ap (λ (b : Buffer). b.gaps) is))
+
+pub returns-clause-few : goal.returns-clause-few
+returns-clause-few c =
+    let within : c.args.r + 1 < length (records_of c.self.inside) =
+    (let all = ap length c.self.view_is in let r = c.requires in omega arith) in
+    rw c.as_slice.ensures.value
+    (kept_limits c.self.inside c.args.r c.index.result.now c.self.invariant within c.index.ensures).few_gaps

@@ -1,0 +1,18 @@
+use Rattle.std.proofs.Common.{◌<◌, ◌+◌, ap, arith, length, sym}
+use Rattle.dsa_terms.specs.Buffers.{Buffer}
+use Rattle.csv_instance.specs.KeptRows.{records_of}
+use Rattle.csv_instance.proofs.KeptLemmas.{kept_limits, kept_value}
+use Rattle.csv_instance.proofs.row_list.Rows.upper.Goals as goal
+
+pub returns-clause-value : goal.returns-clause-value
+returns-clause-value c =
+    let within : c.args.r + 1 < length (records_of c.self.inside) =
+    (let all = ap length c.self.view_is in let r = c.requires in omega arith) in
+    let is = kept_value c.self.inside c.args.r c.index.result.now c.self.invariant within c.index.ensures in
+    rw (← c.self.view_is) (sym (ap (λ (b : Buffer). b.upper) is))
+
+pub returns-clause-limit : goal.returns-clause-limit
+returns-clause-limit c =
+    let within : c.args.r + 1 < length (records_of c.self.inside) =
+    (let all = ap length c.self.view_is in let r = c.requires in omega arith) in
+    (kept_limits c.self.inside c.args.r c.index.result.now c.self.invariant within c.index.ensures).upper

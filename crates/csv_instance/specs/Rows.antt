@@ -1,0 +1,46 @@
+-- The rows of an instance file as they are read, before anything is asked of them as buffers.
+use Rattle.std.specs.Prelude.{◌≡◌, ◌≤◌, ◌<◌, ◌^◌, ℕ, List, [], ◌∷◌, ◌++◌, Option, None, Result, Ok, Err, length, map}
+use Rattle.std.specs.Option.{option_or, option_map_or}
+use Rattle.dsa_terms.specs.Buffers.{Buffer}
+use Rattle.dsa_model.specs.Buffer.{buffer_of, first_fault}
+use Rattle.csv_instance.specs.Numbers.{time_limit}
+use Rattle.csv_instance.specs.Parse.{form_faults, header_fault, id_fault, row_buffer}
+use Rattle.csv_instance.specs.Records.{Record}
+use Rattle.csv_instance.specs.declared.fault.InstanceFault.{InstanceFault}
+use Rattle.csv_instance.specs.declared.fault.InstanceFault.TheVariants as fault
+use Rattle.csv_instance.specs.declared.row.RowValues.{RowValues}
+
+-- the first fault of the numbers and the gaps that a row writes
+abbrev pub form_fault : Record → ℕ → Record → Option InstanceFault
+form_fault header number row = first_fault (form_faults header number row)
+
+-- the first fault of a row, given the rows before it, whatever its buffer would be
+abbrev pub row_form_fault : Record → List Record → Record → Option InstanceFault
+row_form_fault header before row = option_or (id_fault header before row) (form_fault header (length before) row)
+
+-- the first such fault of rows, after those before them
+abbrev pub rows_form_fault : Record → List Record → List Record → Option InstanceFault
+rows_form_fault header before [] = None
+rows_form_fault header before (row ∷ rows) =
+    option_or (row_form_fault header before row) (rows_form_fault header (before ++ row ∷ []) rows)
+
+-- what the rows of a table say, row by row
+abbrev pub values_of : List Record → List Buffer
+values_of [] = []
+values_of (header ∷ rows) = map (row_buffer header) rows
+
+-- what the rows of a table say, or the table's first fault that is none of a buffer
+abbrev pub parse_rows : List Record → Result (List Buffer) InstanceFault
+parse_rows [] = Err fault.NoHeader
+parse_rows (header ∷ rows) = option_map_or Err (option_or (header_fault header) (rows_form_fault header [] rows))
+    (Ok (map (row_buffer header) rows))
+
+-- what a row says, once read
+abbrev pub value_of : RowValues → Buffer
+value_of v = buffer_of v.numbers.lower v.numbers.upper v.numbers.size v.numbers.alignment v.gaps.items
+
+-- its moments are within their limit, and its gaps are few
+pub record AreKeptValues (v : RowValues) : Type 0 where
+  pub lower : v.numbers.lower ≤ time_limit
+  pub upper : v.numbers.upper ≤ time_limit
+  pub few_gaps : length v.gaps.items < 2 ^ 31
