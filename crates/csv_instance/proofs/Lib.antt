@@ -20,6 +20,7 @@ pub mod SomeRows
 pub mod SomeBack
 pub mod RowLemmas
 pub mod KeptLemmas
+pub mod ChangedLemmas
 mod KeptFacts
 mod TextFacts
 pub mod FileFacts

@@ -1,9 +1,9 @@
 -- Rows that are written again with other moments and one gap more.
-use Rattle.std.specs.Prelude.{◌≡◌, ◌≤◌, ◌+◌, ◌==◌, ℕ, Bool, cond, List, [], ◌∷◌, ◌++◌, Option, Some, None, codes, decimal, find, length, map, set}
+use Rattle.std.specs.Prelude.{⊤, ◌≤◌, ◌+◌, ◌==◌, ℕ, cond, List, [], ◌∷◌, ◌++◌, Option, Some, None, codes, decimal, find, length, map, set}
 use Rattle.std.specs.List.{All}
 use Rattle.std.specs.Option.{option_map_or}
 use Rattle.dsa_terms.specs.Buffers.{Buffer}
-use Rattle.csv_instance.specs.Columns.{column_place, field_of, has_column, name_of}
+use Rattle.csv_instance.specs.Columns.{column_place, field_of, name_of}
 use Rattle.csv_instance.specs.Layout.{text_of}
 use Rattle.csv_instance.specs.Numbers.{time_limit}
 use Rattle.csv_instance.specs.Records.{Record}
@@ -21,6 +21,11 @@ changed_numbers changes = map (λ (c : Change). c.0) changes
 -- the change of the row of that number, if there is one
 abbrev pub change_of : List Change → ℕ → Option Change
 change_of changes number = find (λ (c : Change). c.0 == number) changes
+
+-- the changes are of rows from that number on, and their numbers rise
+abbrev pub AreFrom : ℕ → List Change → Type 0
+AreFrom number [] = ⊤
+AreFrom number (c ∷ cs) = (number ≤ c.0) × AreFrom (c.0 + 1) cs
 
 -- all that changes write are moments that an instance file can have
 abbrev pub AreMoments : List Change → Type 0
@@ -58,6 +63,10 @@ with_field header c field row = option_map_or (λ i. set row i field) (column_pl
 abbrev pub with_gaps : Record → List ℕ → Record → Record
 with_gaps header field row = option_map_or (λ i. set row i field) (column_place header Gaps) (row ++ field ∷ [])
 
+-- the row as it is, with this field put last where the header has no column of gaps
+abbrev pub carried : Record → List ℕ → Record → Record
+carried header field row = option_map_or (λ _. row) (column_place header Gaps) (row ++ field ∷ [])
+
 -- a field of gaps with one more, put after the others
 abbrev pub gap_added : List ℕ → ℕ → ℕ → List ℕ
 gap_added field from to =
@@ -65,7 +74,7 @@ gap_added field from to =
 
 -- the row after its change; where there is none it stays, with an empty field of gaps where it had none
 abbrev pub changed_row : Record → Option Change → Record → Record
-changed_row header None row = cond (has_column header Gaps) row (row ++ [] ∷ [])
+changed_row header None row = carried header [] row
 changed_row header (Some c) row =
     with_gaps header (gap_added (field_of header row Gaps) c.3 c.4)
     (with_field header Upper (decimal c.2) (with_field header Lower (decimal c.1) row))
@@ -78,7 +87,7 @@ changed_rows header changes number (row ∷ rows) =
 
 -- the header, with the column of gaps put last where there was none
 abbrev pub changed_header : Record → Record
-changed_header header = cond (has_column header Gaps) header (header ++ name_of Gaps ∷ [])
+changed_header header = carried header (name_of Gaps) header
 
 -- the records of a table whose rows change
 abbrev pub changed_records : List Record → List Change → List Record

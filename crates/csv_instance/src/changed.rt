@@ -6,7 +6,7 @@ ghost use Rattle.std.specs.Option.{option_map_or};
 ghost use Rattle.csv.specs.Records.{fields_of};
 ghost use Rattle.csv.specs.Writing.{default_writer, row_text};
 ghost use Rattle.dsa_terms.specs.Claims.{Rises};
-ghost use Rattle.csv_instance.specs.Changed.{AreMoments, Change as ChangeTerm, change_of, changed_header, changed_numbers, changed_records, changed_row, changed_text, changed_values, gap_added, with_field, with_gaps};
+ghost use Rattle.csv_instance.specs.Changed.{AreFrom, AreMoments, Change as ChangeTerm, carried, change_of, changed_numbers, changed_records, changed_row, changed_text, changed_values, gap_added, with_field, with_gaps};
 ghost use Rattle.csv_instance.specs.Places.{column_places};
 ghost use Rattle.csv_instance.specs.Records.{Record, table_of};
 ghost use Rattle.csv_instance.specs.Rows.{parse_rows, values_of};
@@ -118,9 +118,9 @@ fn write_carried(
     row: &ByteRecord,
     gaps: &[u8],
 ) -> Result<(), NoMemory>
-    ensures { (text : List ℕ) → Wrote writer.old text → OnOk result (Wrote writer.new
-        (text ++ row_text default_writer
-        (option_map_or (λ _. fields_of row.now) places.now.gaps (fields_of row.now ++ gaps.now ∷ [])))) }
+    ensures { (header : Record) → places.now ≡ column_places header → (text : List ℕ) →
+        Wrote writer.old text → OnOk result (Wrote writer.new
+        (text ++ row_text default_writer (carried header gaps.now (fields_of row.now)))) }
 {
     if places.gaps.is_some() {
         write_record(writer, row)
@@ -131,8 +131,7 @@ fn write_carried(
 
 /// The change of a row, where it is the first of those that are left.
 fn first_change(left: &[Change], number: u32) -> Option<Change>
-    ensures { Rises (changed_numbers left.now) → All (λ (c : ChangeTerm). number ≤ c.0) left.now →
-        result ≡ change_of left.now number }
+    ensures { AreFrom number left.now → result ≡ change_of left.now number }
 {
     match left.first() {
         Some(change) => {
