@@ -1,5 +1,5 @@
 -- The changes of rows, row by row.
-use Rattle.std.proofs.Common.{◌≡◌, ◌≢◌, ◌≤◌, ◌<◌, ◌+◌, ◌∷◌, ◌++◌, ◌∙◌, ◌==◌, ℕ, zero, suc, List, [], true, false, Option, Some, None, drop, take, ◌-◌, get_or, inl, inr, length, refl, sym, ap, subst, arith}
+use Rattle.std.proofs.Common.{◌≡◌, ◌≢◌, ◌≤◌, ◌<◌, ◌+◌, ◌∷◌, ◌++◌, ◌∙◌, ◌==◌, ℕ, List, [], Some, None, drop, take, ◌-◌, get_or, inl, inr, length, refl, sym, ap, subst, arith}
 use Rattle.std.proofs.lemmas.Bool.{cases_Bool, eqb-true}
 use Rattle.std.proofs.lemmas.List.{drop_all, drop_more, length-drop, take_all}
 use Rattle.csv.specs.Writing.{default_writer, row_text}

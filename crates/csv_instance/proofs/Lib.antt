@@ -4,6 +4,7 @@ pub mod OffsetFacts
 pub mod FoundLemmas
 pub mod Short
 pub mod GapLemmas
+pub mod GapTexts
 pub mod Left
 pub mod GivesLemmas
 pub mod FieldLemmas
@@ -21,6 +22,9 @@ pub mod SomeBack
 pub mod RowLemmas
 pub mod KeptLemmas
 pub mod ChangedLemmas
+pub mod ChangedFields
+pub mod ChangedBack
 mod KeptFacts
+mod RowFacts
 mod TextFacts
 pub mod FileFacts

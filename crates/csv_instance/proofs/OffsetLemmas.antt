@@ -65,12 +65,12 @@ from_within p i k (x ∷ xs) e = elim (cases_Bool (p x)) [
   | inr other ↦ let h = from_within p (i + 1) k xs (rw other at e) in omega arith
 ]
 
-get-append : {A : Type 0} (xs ys : List A) (i : ℕ) (d : A) → i < length xs → get_or (xs ++ ys) i d ≡ get_or xs i d
+pub get-append : {A : Type 0} (xs ys : List A) (i : ℕ) (d : A) → i < length xs → get_or (xs ++ ys) i d ≡ get_or xs i d
 get-append [] ys i d h = absurd (omega arith)
 get-append (x ∷ xs) ys zero d h = refl
 get-append (x ∷ xs) ys (suc i) d h = get-append xs ys i d (omega arith)
 
-get-last : {A : Type 0} (xs : List A) (y d : A) → get_or (xs ++ y ∷ []) (length xs) d ≡ y
+pub get-last : {A : Type 0} (xs : List A) (y d : A) → get_or (xs ++ y ∷ []) (length xs) d ≡ y
 get-last [] y d = refl
 get-last (x ∷ xs) y d = get-last xs y d
 

@@ -1,10 +1,10 @@
 -- Some rows of a table that is an instance read back as they are, under its header.
-use Rattle.std.proofs.Common.{◌≡◌, ◌+◌, ◌<◌, ◌≤◌, ◌∷◌, ◌++◌, ◌∙◌, ℕ, zero, suc, List, [], true, false, not, Bool, Option, None, Some, Result, Ok, Err, length, map, drop, position, slice_index_or, All, inl, inr, refl, sym, ap, subst, arith, nat_eq, codes}
+use Rattle.std.proofs.Common.{◌≡◌, ◌+◌, ◌<◌, ◌≤◌, ◌∷◌, ◌++◌, ◌∙◌, ℕ, zero, suc, List, [], true, false, not, None, Result, Ok, length, map, drop, slice_index_or, All, inl, inr, refl, sym, ap, subst, arith, nat_eq}
 use Rattle.std.proofs.lemmas.Bool.{cases_Bool, eqb-true}
-use Rattle.std.proofs.lemmas.List.{drop_more, get_or-map, length-map}
+use Rattle.std.proofs.lemmas.List.{drop_more, length-map}
 use Rattle.std.proofs.lemmas.Slice.Eq.{bytes_eq-Decides}
 use Rattle.std.specs.List.{starts_with}
-use Rattle.std.specs.Option.{option_map_or, option_or}
+use Rattle.std.specs.Option.{option_or}
 use Rattle.std.specs.Str.{bytes_eq}
 use Rattle.csv.specs.Reading.{default_config, records}
 use Rattle.csv.specs.Writing.{default_writer, read_back, row_text}
@@ -38,7 +38,7 @@ pub chosen_text-at : (rows : List Record) (members : List ℕ) (p : ℕ) → p <
 chosen_text-at rows members p lt = ap (λ ms. text_of (rows_at rows ms)) (drop_more members p 0 lt)
 
 -- ---- rows without a fault have fields
-reads_back : (row : Record) → 1 ≤ length row → read_back row ≡ row
+pub reads_back : (row : Record) → 1 ≤ length row → read_back row ≡ row
 reads_back [] some = absurd (omega arith)
 reads_back (x ∷ xs) some = refl
 
@@ -82,23 +82,34 @@ has_columns header e =
     (not_false _ missing.0, not_false _ later.0)
 
 -- ---- the text reads back
-faultless : (header : Record) (rows : List Record) (I : List Buffer) → parse (header ∷ rows) ≡ Ok I →
+pub faultless : (header : Record) (rows : List Record) (I : List Buffer) → parse (header ∷ rows) ≡ Ok I →
     (header_fault header ≡ None) × (rows_fault header [] rows ≡ None)
 faultless header rows I e =
     neither (header_fault header) (rows_fault header [] rows)
     (parsed (option_or (header_fault header) (rows_fault header [] rows)) (map (row_buffer header) rows) I e)
 
-read_chosen : (header : Record) (rows : List Record) (members : List ℕ) → header_fault header ≡ None →
-    rows_fault header [] rows ≡ None → ((b : ℕ) → IsIn b members → b < length rows) →
-    table_of (chosen_text (header ∷ rows) members) ≡ header ∷ rows_at rows members
-read_chosen [] rows members e r h = let g = good [] e in cc g.id_there
-read_chosen (f ∷ []) rows members e r h = let both = has_columns (f ∷ []) e in absurd (one_field f both.0 both.1)
-read_chosen (f ∷ g ∷ fs) rows members e r h =
-    ap (records default_config) (no_mark f g fs (text_of (rows_at rows members)) plain)
-    ∙ text-read ((f ∷ g ∷ fs) ∷ rows_at rows members) (refl, rows_read (f ∷ g ∷ fs) rows members (omega arith) r h)
+-- records under a header without a fault read back, where each has a field
+pub records_read : (header : Record) (rows : List Record) → header_fault header ≡ None → AllReadBack rows →
+    table_of (text_of (header ∷ rows)) ≡ header ∷ rows
+records_read [] rows e r = let g = good [] e in cc g.id_there
+records_read (f ∷ []) rows e r = let both = has_columns (f ∷ []) e in absurd (one_field f both.0 both.1)
+records_read (f ∷ g ∷ fs) rows e r =
+    ap (records default_config) (no_mark f g fs (text_of rows) plain)
+    ∙ text-read ((f ∷ g ∷ fs) ∷ rows) (refl, r)
   where
     plain : starts_with nat_eq f mark ≡ false
     plain = not_so _ fault.MarkedHeader (all_none (header_faults (f ∷ g ∷ fs)) e).0
+
+-- a header without a fault has a field
+pub some_columns : (header : Record) → header_fault header ≡ None → 1 ≤ length header
+some_columns [] e = let g = good [] e in cc g.id_there
+some_columns (f ∷ fs) e = omega arith
+
+read_chosen : (header : Record) (rows : List Record) (members : List ℕ) → header_fault header ≡ None →
+    rows_fault header [] rows ≡ None → ((b : ℕ) → IsIn b members → b < length rows) →
+    table_of (chosen_text (header ∷ rows) members) ≡ header ∷ rows_at rows members
+read_chosen header rows members e r h =
+    records_read header (rows_at rows members) e (rows_read header rows members (some_columns header e) r h)
 
 below_count : (table : List Record) (members : List ℕ) → All (λ b. b + 1 < length table) members → (b : ℕ) →
     IsIn b members → b + 1 < length table

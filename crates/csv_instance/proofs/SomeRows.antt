@@ -1,20 +1,20 @@
 -- Some rows of a table that is an instance are an instance too: that of their buffers.
-use Rattle.std.proofs.Common.{◌≡◌, ◌≢◌, ℕ, zero, suc, ◌+◌, ◌-◌, ◌<◌, ◌≤◌, ◌⊎◌, inl, inr, Bool, true, false, not, cond, ◌==◌, List, [], ◌∷◌, ◌++◌, length, map, position, slice_index_or, Option, Some, None, Ok, Err, option_map, is_some, refl, sym, ap, ◌∙◌, subst, arith}
+use Rattle.std.proofs.Common.{◌≡◌, ◌≢◌, ℕ, suc, ◌+◌, ◌-◌, ◌<◌, ◌≤◌, ◌⊎◌, inl, inr, Bool, false, not, ◌==◌, List, [], ◌∷◌, ◌++◌, length, map, position, slice_index_or, Option, Some, None, Ok, Err, option_map, is_some, refl, sym, ap, ◌∙◌, subst, arith}
 use Rattle.std.proofs.lemmas.Iterator.Adapters.{position_from-zero}
 use Rattle.std.proofs.lemmas.List.{get_or-map, length-map}
-use Rattle.std.specs.List.{list_any, position_from}
+use Rattle.std.specs.List.{position_from}
 use Rattle.std.specs.Option.{option_map_or, option_or}
 use Rattle.std.specs.Str.{bytes_eq}
-use Rattle.dsa_terms.specs.Buffers.{Buffer, Instance, buffer, no_buffer}
+use Rattle.dsa_terms.specs.Buffers.{Buffer, buffer, no_buffer}
 use Rattle.dsa_terms.specs.Claims.{IsIn, Rises}
-use Rattle.dsa_terms.specs.Firsts.{when, first_fault}
+use Rattle.dsa_terms.specs.Firsts.{when}
 use Rattle.dsa_terms.proofs.Lists.{from_append, left_append, none_passes, right_append}
 use Rattle.dsa_terms.proofs.NumberTests.{apart, differ}
 use Rattle.dsa_model.specs.Buffer.{buffer_fault}
 use Rattle.dsa_model.proofs.Faults.{map_none, neither, not_so}
 use Rattle.csv_instance.specs.Columns.{field_of}
 use Rattle.csv_instance.specs.Gaps.{gaps_of}
-use Rattle.csv_instance.specs.Parse.{bad_column, buffer_limit, content_fault, header_fault, id_fault, id_faults, id_limit, parse, row_buffer, row_fault, rows_fault}
+use Rattle.csv_instance.specs.Parse.{bad_column, buffer_limit, content_fault, header_fault, id_fault, id_faults, parse, row_buffer, row_fault, rows_fault}
 use Rattle.csv_instance.specs.Records.{Record}
 use Rattle.csv_instance.specs.declared.columns.Column.TheVariants.{Gaps, Id}
 use Rattle.csv_instance.specs.declared.fault.InstanceFault.TheVariants as fault

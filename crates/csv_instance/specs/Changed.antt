@@ -4,6 +4,7 @@ use Rattle.std.specs.List.{All}
 use Rattle.std.specs.Option.{option_map_or}
 use Rattle.dsa_terms.specs.Buffers.{Buffer}
 use Rattle.csv_instance.specs.Columns.{column_place, field_of, name_of}
+use Rattle.csv_instance.specs.Gaps.{gap_pair_text}
 use Rattle.csv_instance.specs.Layout.{text_of}
 use Rattle.csv_instance.specs.Numbers.{time_limit}
 use Rattle.csv_instance.specs.Records.{Record}
@@ -69,8 +70,7 @@ carried header field row = option_map_or (λ _. row) (column_place header Gaps) 
 
 -- a field of gaps with one more, put after the others
 abbrev pub gap_added : List ℕ → ℕ → ℕ → List ℕ
-gap_added field from to =
-    cond (length field == 0) [] (field ++ codes " ") ++ decimal from ++ codes "-" ++ decimal to
+gap_added field from to = cond (length field == 0) [] (field ++ codes " ") ++ gap_pair_text from to
 
 -- the row after its change; where there is none it stays, with an empty field of gaps where it had none
 abbrev pub changed_row : Record → Option Change → Record → Record

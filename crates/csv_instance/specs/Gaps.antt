@@ -1,5 +1,5 @@
 -- The gaps that a field writes.
-use Rattle.std.specs.Prelude.{ℕ, ◌+◌, List, [], ◌∷◌, ◌==◌, if◌then◌else◌, Option, Some, option_map, option_and_then, length, take, drop, map, position}
+use Rattle.std.specs.Prelude.{ℕ, ◌+◌, ◌++◌, codes, decimal, List, [], ◌∷◌, ◌==◌, if◌then◌else◌, Option, Some, option_map, option_and_then, length, take, drop, map, position}
 use Rattle.std.specs.List.{slice_split}
 use Rattle.dsa_model.specs.Numbers.{written_number}
 use Rattle.csv_instance.specs.Numbers.{time_limit}
@@ -27,3 +27,7 @@ pieces_of field = slice_split (λ c. c == 32) field
 -- the gaps that a field writes: none where it is empty, and else one for each piece between its spaces
 abbrev pub gaps_of : List ℕ → Option (List (ℕ × ℕ))
 gaps_of field = if length field == 0 then Some [] else all_some (map gap_of (pieces_of field))
+
+-- a gap's two moments, as they are written
+abbrev pub gap_pair_text : ℕ → ℕ → List ℕ
+gap_pair_text from to = decimal from ++ codes "-" ++ decimal to

@@ -1,5 +1,5 @@
 -- The rows of an instance file as they are read, before anything is asked of them as buffers.
-use Rattle.std.specs.Prelude.{◌≡◌, ◌≤◌, ◌<◌, ◌^◌, ℕ, List, [], ◌∷◌, ◌++◌, Option, None, Result, Ok, Err, length, map}
+use Rattle.std.specs.Prelude.{◌≤◌, ◌<◌, ◌^◌, ℕ, List, [], ◌∷◌, ◌++◌, Option, None, Result, Ok, Err, length, map}
 use Rattle.std.specs.Option.{option_or, option_map_or}
 use Rattle.dsa_terms.specs.Buffers.{Buffer}
 use Rattle.dsa_model.specs.Buffer.{buffer_of, first_fault}

@@ -1,5 +1,4 @@
-use Rattle.std.proofs.Common.{◌≡◌, ap, get_or, sym}
-use Rattle.csv_instance.specs.Changed.{Change}
+use Rattle.std.proofs.Common.{sym}
 use Rattle.csv_instance.proofs.ChangedLemmas.{none_here}
 use Rattle.csv_instance.proofs.changed.first_change.Goals as goal
 

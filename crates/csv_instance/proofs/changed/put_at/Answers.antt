@@ -1,4 +1,3 @@
-use Rattle.std.proofs.Common.{List, ℕ}
 use Rattle.std.proofs.lemmas.List.{map-set}
 use Rattle.csv_instance.proofs.changed.put_at.Goals as goal
 

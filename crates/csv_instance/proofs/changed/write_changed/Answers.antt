@@ -1,15 +1,14 @@
-use Rattle.std.proofs.Common.{◌≡◌, ◌<◌, ◌+◌, ◌++◌, ◌∷◌, ◌∙◌, [], ℕ, List, Option, Some, None, length, map, drop, get_or, sym, ap, append_assoc, arith, refl, rules}
+use Rattle.std.proofs.Common.{◌≡◌, ◌<◌, ◌+◌, ◌++◌, ◌∙◌, [], ℕ, List, Option, Some, None, length, map, drop, get_or, sym, ap, append_assoc, arith, refl, rules}
+use Rattle.std.proofs.lemmas.Grind.{common_steps}
 use Rattle.std.proofs.lemmas.List.{get_or-map, length-map}
 use Rattle.csv.specs.Records.{Row, fields_of}
 use Rattle.csv.specs.Writing.{default_writer, row_text}
-use Rattle.csv_instance.specs.Changed.{Change, carried, change_of, changed_header, changed_row, changed_rows, changed_text}
-use Rattle.csv_instance.specs.Columns.{name_of}
+use Rattle.csv_instance.specs.Changed.{Change, change_of, changed_header, changed_row, changed_rows, changed_text}
 use Rattle.csv_instance.specs.Layout.{text_of}
 use Rattle.csv_instance.specs.Records.{Record}
 use Rattle.csv_instance.specs.Wrote.{Wrote}
-use Rattle.csv_instance.specs.declared.columns.Column.TheVariants.{Gaps}
 use Rattle.csv_instance.proofs.ChangedLemmas.{changed_text-at, from_first, later_text, next_change, none_then, to_the_end}
-use Rattle.csv_instance.proofs.TableLemmas.{none_left}
+use Rattle.csv_instance.proofs.ChangedBack.{changed_back, changed_parse}
 use Rattle.csv_instance.proofs.changed.write_changed.Goals.{in-Some+in_ok-write_change-in-Some, in-None+in_ok-write_carried-in-None}
 use Rattle.csv_instance.proofs.changed.write_changed.Goals as goal
 
@@ -86,7 +85,11 @@ loop-place-preserved c =
     ]
 
 pub returns-in-Ok-clause-back : goal.returns-in-Ok-clause-back
-returns-in-Ok-clause-back c = ?
+returns-in-Ok-clause-back c =
+    let text : c.in-Ok.text.items ≡ changed_text c.args.rows.now c.args.changes.now = grind (arith, common_steps) in
+    rw text (changed_back c.args.rows.now c.args.changes.now c.records.ensures.parsed)
 
 pub returns-in-Ok-clause-parsed : goal.returns-in-Ok-clause-parsed
-returns-in-Ok-clause-parsed c = ?
+returns-in-Ok-clause-parsed c = λ moments.
+    let text : c.in-Ok.text.items ≡ changed_text c.args.rows.now c.args.changes.now = grind (arith, common_steps) in
+    rw text (changed_parse c.args.rows.now c.args.changes.now c.records.ensures.parsed moments)

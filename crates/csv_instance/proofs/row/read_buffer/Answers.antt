@@ -1,6 +1,6 @@
 use Rattle.std.proofs.Common.{◌≡◌, Some, subst}
 use Rattle.csv.specs.Records.{fields_of}
-use Rattle.csv_instance.specs.Parse.{content_fault, row_buffer}
+use Rattle.csv_instance.specs.Parse.{content_fault}
 use Rattle.csv_instance.specs.Rows.{form_fault}
 use Rattle.csv_instance.specs.declared.fault.InstanceFault.{InstanceFault}
 use Rattle.csv_instance.proofs.FailLemmas.{IfFault-map}

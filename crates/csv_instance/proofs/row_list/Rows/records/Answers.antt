@@ -1,6 +1,3 @@
-use Rattle.std.proofs.Common.{map}
-use Rattle.csv.specs.Records.{fields_of}
-use Rattle.csv_instance.specs.Parse.{row_buffer}
 use Rattle.csv_instance.proofs.RowLemmas.{rows-good}
 use Rattle.csv_instance.proofs.row_list.Rows.records.Goals as goal
 

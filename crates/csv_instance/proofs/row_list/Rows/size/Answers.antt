@@ -9,4 +9,4 @@ returns c =
     let within : c.args.r + 1 < length (records_of c.self.inside) =
     (let all = ap length c.self.view_is in let r = c.requires in omega arith) in
     let is = kept_value c.self.inside c.args.r c.index.result.now c.self.invariant within c.index.ensures in
-    rw (← c.self.view_is) (sym (ap (λ (b : Buffer). b.size) is))
+    record { value = rw (← c.self.view_is) (sym (ap (λ (b : Buffer). b.size) is)) }

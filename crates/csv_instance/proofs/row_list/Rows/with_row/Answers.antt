@@ -1,10 +1,9 @@
-use Rattle.std.proofs.Common.{List, ◌≡◌, ◌++◌, ◌∷◌, ◌∙◌, [], length, map, sym, ap, None, Some, arith, true, false, refl, rules, Err, length-append, Vec, vec_len}
+use Rattle.std.proofs.Common.{List, ◌≡◌, ◌++◌, ◌∷◌, ◌∙◌, [], length, map, sym, None, Some, arith, true, false, refl, rules, Err, length-append, Vec, vec_len}
 use Rattle.std.proofs.lemmas.List.{length-map, map-append}
 use Rattle.std.proofs.lemmas.List.Elements.{All-append, All-nil}
 use Rattle.std.specs.List.{list_any}
 use Rattle.std.specs.Result.{is_ok}
 use Rattle.csv.specs.Records.{Row, fields_of}
-use Rattle.csv.proofs.ReadFacts.{on-ok}
 use Rattle.std.specs.Str.{bytes_eq}
 use Rattle.csv_instance.specs.Columns.{field_of}
 use Rattle.csv_instance.specs.Records.{Record}
