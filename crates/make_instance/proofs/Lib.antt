@@ -1,6 +1,5 @@
 pub mod DrawLemmas
 pub mod LineLemmas
-pub mod GapLemmas
 pub mod MadeRows
 pub mod RowFaults
 pub mod TextLemmas

@@ -11,39 +11,8 @@ use Rattle.std.specs.Str.{all_ascii_digits}
 use Rattle.dsa_model.proofs.NumberLemmas.{own}
 use Rattle.csv.specs.Writing.{default_writer, field_text, fields_text, is_blank, needs_byte, row_text}
 use Rattle.csv_instance.specs.Records.{Record}
+pub use Rattle.csv_instance.proofs.GapTexts.{digit_other, digits_are, none_in_pair, none_of_digits}
 use Rattle.make_instance.specs.Made.{record_line, gap_pair_text}
-
--- the digits of a number
-pub digits_are : (n : ℕ) → n < 2 ^ 64 → all_ascii_digits (decimal n) ≡ true
-digits_are n word = digits_decimal own n word
-
--- a digit is no other byte
-pub digit_other : (c k : ℕ) → is_ascii_digit c ≡ true → is_ascii_digit k ≡ false → (c == k) ≡ false
-digit_other c k h e = grind (arith, nat_tests)
-
--- a test that no digit passes, digits do not pass
-pub none_of_digits : (p : ℕ → Bool) → ((c : ℕ) → is_ascii_digit c ≡ true → p c ≡ false) → (ds : List ℕ)
-    → all_ascii_digits ds ≡ true → list_any p ds ≡ false
-none_of_digits p h [] e = refl
-none_of_digits p h (d ∷ ds) e =
-    let (first, rest) = both (is_ascii_digit d) (all_ascii_digits ds) e in
-    rw (h d first) (none_of_digits p h ds rest)
-  where
-    both : (a b : Bool) → (a && b) ≡ true → (a ≡ true) × (b ≡ true)
-    both true b e = (refl, e)
-    both false b e = cc e
-
-none_after : (p : ℕ → Bool) (xs ys : List ℕ) → list_any p xs ≡ false → list_any p ys ≡ false
-    → list_any p (xs ++ ys) ≡ false
-none_after p xs ys h k = rw (list_any-append p xs ys, h) k
-
--- nor do two numbers with a hyphen between them
-pub none_in_pair : (p : ℕ → Bool) (a b : ℕ) → ((c : ℕ) → is_ascii_digit c ≡ true → p c ≡ false) → p 45 ≡ false
-    → a < 2 ^ 64 → b < 2 ^ 64 → list_any p (gap_pair_text a b) ≡ false
-none_in_pair p a b h e wa wb =
-    none_after p (decimal a ++ (45 ∷ [])) (decimal b)
-    (none_after p (decimal a) (45 ∷ []) (none_of_digits p h (decimal a) (digits_are a wa)) (rw e refl))
-    (none_of_digits p h (decimal b) (digits_are b wb))
 
 -- a digit needs no quotes
 digit_plain : (c : ℕ) → is_ascii_digit c ≡ true → needs_byte default_writer c ≡ false

@@ -17,7 +17,7 @@ use Rattle.csv_instance.proofs.IdLemmas.{AllNone}
 use Rattle.csv_instance.proofs.OffsetLemmas.{number-decimal}
 use Rattle.make_instance.specs.Made.{gap_text, header, record_of}
 use Rattle.make_instance.specs.declared.row.Row.{Row}
-use Rattle.make_instance.proofs.GapLemmas.{gaps-read}
+use Rattle.csv_instance.proofs.GapTexts.{gaps-read}
 use Rattle.make_instance.proofs.MadeRows.{IsGapIn, IsMade}
 
 -- ---- lists of faults, none of which holds

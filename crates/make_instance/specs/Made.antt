@@ -2,13 +2,10 @@
 use Rattle.std.specs.Prelude.{ℕ, List, [], ◌∷◌, ◌++◌, codes, decimal, map, Option, Some, None}
 use Rattle.std.specs.List.{flat_map, join_with_byte}
 use Rattle.dsa_terms.specs.Parts.{numbers}
+pub use Rattle.csv_instance.specs.Gaps.{gap_pair_text}
 use Rattle.csv_instance.specs.Records.{Record}
 use Rattle.make_instance.specs.Rows.{made_row}
 use Rattle.make_instance.specs.declared.row.Row.{Row}
-
--- a gap's two moments
-abbrev pub gap_pair_text : ℕ → ℕ → List ℕ
-gap_pair_text from to = decimal from ++ codes "-" ++ decimal to
 
 -- what stands in the field of gaps
 abbrev pub gap_text : Option (ℕ × ℕ) → List ℕ
