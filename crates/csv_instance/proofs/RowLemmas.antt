@@ -1,18 +1,22 @@
 -- Rows that can be read, row by row.
-use Rattle.std.proofs.Common.{◌≡◌, ◌++◌, ◌∷◌, ◌∙◌, ℕ, List, [], Option, Some, None, Ok, Err, length, map, option_map, refl, sym, ap, append_assoc, not, is_some}
+use Rattle.std.proofs.Common.{◌≡◌, ◌++◌, ◌∷◌, ◌∙◌, ℕ, List, [], Option, Some, None, Ok, Err, length, map, option_map, refl, sym, ap, subst, inl, inr, append_assoc, not, is_some}
 use Rattle.std.proofs.lemmas.List.{append-nil}
 use Rattle.std.specs.Option.{option_or}
 use Rattle.csv_instance.specs.Columns.{field_of}
 use Rattle.csv_instance.specs.Gaps.{gaps_of}
 use Rattle.csv_instance.specs.Records.{Record}
-use Rattle.csv_instance.specs.Parse.{bad_column, content_fault, header_fault, id_fault, row_buffer}
+use Rattle.csv_instance.specs.Parse.{bad_column, content_fault, header_fault, id_fault, parse, row_buffer, rows_fault}
 use Rattle.csv_instance.specs.Rows.{form_fault, parse_rows, row_form_fault, rows_form_fault}
 use Rattle.csv_instance.specs.declared.columns.Column.TheVariants.{Gaps}
 use Rattle.csv_instance.specs.declared.fault.InstanceFault.{InstanceFault}
 use Rattle.csv_instance.specs.declared.fault.InstanceFault.TheVariants as fault
 use Rattle.dsa_model.specs.Buffer.{buffer_fault, first_fault, when}
 use Rattle.dsa_model.specs.declared.buffer_fault.BufferFault.{BufferFault}
-use Rattle.csv_instance.proofs.TableLemmas.{option_or-assoc}
+use Rattle.csv_instance.proofs.SomeRows.{parsed}
+use Rattle.csv_instance.proofs.TableLemmas.{option_or-assoc, parse-good}
+use Rattle.dsa_model.proofs.Faults.{neither}
+use Rattle.dsa_terms.specs.Buffers.{Buffer}
+use Rattle.dsa_terms.specs.Claims.{IsIn}
 
 -- the first fault of rows is that of the first rows, or else that of the others
 pub form-append : (header : Record) (before xs ys : List Record)
@@ -80,3 +84,31 @@ pub content-buffer : (header : Record) (number : ℕ) (row : Record) (f : Buffer
     → form_fault header number row ≡ None → buffer_fault (row_buffer header row) ≡ Some f
     → content_fault header number row ≡ Some (fault.BadBuffer number f)
 content-buffer header number row f e b = content-by header number row ∙ rw (e, b) refl
+
+content-none : (header : Record) (number : ℕ) (row : Record) → form_fault header number row ≡ None
+    → buffer_fault (row_buffer header row) ≡ None → content_fault header number row ≡ None
+content-none header number row e b = content-by header number row ∙ rw (e, b) refl
+
+-- rows that can be read and are all buffers have no fault
+buffers-good : (header : Record) (before rows : List Record) → rows_form_fault header before rows ≡ None
+    → ((b : Buffer) → IsIn b (map (row_buffer header) rows) → buffer_fault b ≡ None)
+    → rows_fault header before rows ≡ None
+buffers-good header before [] e sound = refl
+buffers-good header before (row ∷ rows) e sound =
+    let (here, later) = neither (row_form_fault header before row) (rows_form_fault header (before ++ row ∷ []) rows) e in
+    let (id, form) = neither (id_fault header before row) (form_fault header (length before) row) here in
+    let content = content-none header (length before) row form (sound (row_buffer header row) (inl refl)) in
+    let rest = buffers-good header (before ++ row ∷ []) rows later (λ b i. sound b (inr i)) in
+    rw (id, content) rest
+
+-- a table whose rows are all buffers is an instance
+pub rows-parse : (table : List Record) (I : List Buffer) → parse_rows table ≡ Ok I
+    → ((b : Buffer) → IsIn b I → buffer_fault b ≡ None) → parse table ≡ Ok I
+rows-parse [] I e sound = cc e
+rows-parse (header ∷ rows) I e sound =
+    let none = parsed (option_or (header_fault header) (rows_form_fault header [] rows)) (map (row_buffer header) rows) I e in
+    let (good, fine) = neither (header_fault header) (rows_form_fault header [] rows) none in
+    let is : map (row_buffer header) rows ≡ I =
+    (let q : parse_rows (header ∷ rows) ≡ Ok (map (row_buffer header) rows) = rows-good header rows good fine in cc) in
+    parse-good header rows good (buffers-good header [] rows fine (λ b i. sound b (subst (λ (J : List Buffer). IsIn b J) is i)))
+    ∙ ap Ok is

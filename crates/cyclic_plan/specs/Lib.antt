@@ -1,1 +1,3 @@
 pub mod FaultTexts
+pub mod Cycles
+pub mod Unrolled
