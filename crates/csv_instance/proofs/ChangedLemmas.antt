@@ -24,7 +24,7 @@ from_less m n [] le h = tt
 from_less m n (c ∷ cs) le h = (let k = h.0 in omega arith, h.1)
 
 -- no change of a row before them
-none_before : (m n : ℕ) (cs : List Change) → m < n → AreFrom n cs → change_of cs m ≡ None
+pub none_before : (m n : ℕ) (cs : List Change) → m < n → AreFrom n cs → change_of cs m ≡ None
 none_before m n [] lt h = refl
 none_before m n (c ∷ cs) lt h =
     let least = h.0 in

@@ -6,7 +6,7 @@ use Rattle.csv_instance.specs.Columns.{field_of}
 use Rattle.csv_instance.specs.Gaps.{gaps_of}
 use Rattle.csv_instance.specs.Records.{Record}
 use Rattle.csv_instance.specs.Parse.{bad_column, content_fault, header_fault, id_fault, parse, row_buffer, rows_fault}
-use Rattle.csv_instance.specs.Rows.{form_fault, parse_rows, row_form_fault, rows_form_fault}
+use Rattle.csv_instance.specs.Rows.{form_fault, parse_rows, row_form_fault, rows_form_fault, values_of}
 use Rattle.csv_instance.specs.declared.columns.Column.TheVariants.{Gaps}
 use Rattle.csv_instance.specs.declared.fault.InstanceFault.{InstanceFault}
 use Rattle.csv_instance.specs.declared.fault.InstanceFault.TheVariants as fault
@@ -112,3 +112,11 @@ rows-parse (header ∷ rows) I e sound =
     (let q : parse_rows (header ∷ rows) ≡ Ok (map (row_buffer header) rows) = rows-good header rows good fine in cc) in
     parse-good header rows good (buffers-good header [] rows fine (λ b i. sound b (subst (λ (J : List Buffer). IsIn b J) is i)))
     ∙ ap Ok is
+
+-- what rows say is what is read of them
+pub values-are : (table : List Record) (rows : List Buffer) → parse_rows table ≡ Ok rows → values_of table ≡ rows
+values-are [] rows e = cc e
+values-are (header ∷ rs) rows e =
+    let none = parsed (option_or (header_fault header) (rows_form_fault header [] rs)) (map (row_buffer header) rs) rows e in
+    let (good, fine) = neither (header_fault header) (rows_form_fault header [] rs) none in
+    let q : parse_rows (header ∷ rs) ≡ Ok (map (row_buffer header) rs) = rows-good header rs good fine in cc

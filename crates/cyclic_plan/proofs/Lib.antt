@@ -1,1 +1,4 @@
 pub mod Rounds
+pub mod Wraps
+pub mod Tables
+mod ExampleFacts
