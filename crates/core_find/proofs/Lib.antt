@@ -5,5 +5,6 @@ pub mod Looked
 pub mod LeftOut
 pub mod Steps
 pub mod Named
+pub mod Without
 mod ExampleFacts
 mod FoundFacts

@@ -1,5 +1,5 @@
 -- One more member is looked at, in the words of the code.
-use Rattle.std.proofs.Common.{◌≡◌, ℕ, ◌+◌, ◌-◌, ◌<◌, ◌≤◌, List, [], ◌∷◌, ◌++◌, length, map, All, refl, sym, ap, ◌∙◌, subst, arith}
+use Rattle.std.proofs.Common.{◌≡◌, ℕ, ◌+◌, ◌-◌, ◌<◌, ◌≤◌, List, [], ◌∷◌, ◌++◌, length, map, All, Option, Some, None, unwrap_or, refl, sym, ap, ◌∙◌, subst, arith}
 use Rattle.std.proofs.lemmas.List.{length-map, map_push, with_items_is}
 use Rattle.std.proofs.lemmas.List.Edits.{length-remove}
 use Rattle.std.specs.Global.{Vec}
@@ -10,7 +10,7 @@ use Rattle.dsa_terms.specs.Layouts.{IsInfeasible, IsLayout}
 use Rattle.dsa_terms.specs.Parts.{numbers}
 use Rattle.dsa_model.specs.Chosen.{some_of}
 use Rattle.core_find.specs.Found.{rests_of}
-use Rattle.core_find.specs.Looking.{IsLooked}
+use Rattle.core_find.specs.Looking.{IsLooked, members_before}
 use Rattle.core_find.proofs.Looked.{drop_next, has_place, kept_next, none_looked}
 
 counted : (I : Instance) (C : ℕ) (members : List ℕ) (rests : List (Vec ℕ)) (place : ℕ) →
@@ -83,3 +83,9 @@ pub at_first : (I : Instance) (C : ℕ) (members : List ℕ) (rests : List (Vec 
     rests ≡ [] → IsLooked I C members (rests_of rests) (length rests)
 at_first I C members rests all none =
     rw none (none_looked I C members [] all refl)
+
+-- ---- the members that the last log is of
+pub before_stays : (before : Option (Vec ℕ)) (members : Vec ℕ) →
+    (unwrap_or before members).items ≡ members_before before members.items
+before_stays None members = refl
+before_stays (Some v) members = refl

@@ -1,13 +1,14 @@
 -- What is known of the members while they are looked at in order.
-use Rattle.std.specs.Prelude.{◌≡◌, ℕ, ◌-◌, ◌≤◌, List, [], ◌<◌, length, map, take, drop, slice_get, slice_index, Some, IfSome}
+use Rattle.std.specs.Prelude.{◌≡◌, ℕ, ◌+◌, ◌-◌, ◌≤◌, List, [], ◌<◌, length, map, take, drop, slice_get, slice_index, Option, Some, None, cond, is_some}
+use Rattle.std.specs.Global.{Vec}
 use Rattle.std.specs.List.{All}
 use Rattle.dsa_terms.specs.Buffers.{Instance}
-use Rattle.dsa_terms.specs.Claims.{Claim, Entry, Rises}
+use Rattle.dsa_terms.specs.Claims.{Claim, Entry, IsIn, Rises}
 use Rattle.dsa_terms.specs.Layouts.{IsInfeasible}
-use Rattle.dsa_terms.specs.Logs.{IsAccepted, Line, Log}
-use Rattle.dsa_terms.specs.Parts.{numbers}
+use Rattle.dsa_terms.specs.Logs.{IsAccepted, IsLegal, Line, Log, Over, Cases}
+use Rattle.dsa_terms.specs.Parts.{numbers, whole}
 use Rattle.dsa_model.specs.Chosen.{some_of}
-use Rattle.core_find.specs.Cores.{AreAmong, IsLeft}
+use Rattle.core_find.specs.Cores.{AreAmong, IsLeft, without}
 use Rattle.core_find.specs.Found.{AreRests, rests_of}
 use Rattle.core_find.specs.declared.looking.Looking.{Looking}
 
@@ -39,12 +40,42 @@ pub record AreNamed (I : Instance) (C : ℕ) (members few : List ℕ) : Type 0 w
 abbrev pub IsLogOf : Instance → ℕ → List ℕ → Log → Type 0
 IsLogOf I C members log = IsAccepted (some_of I members) log × (log.capacity ≡ C)
 
--- the members are looked at so far, those that are named do not fit, and the log, if there is one, is of the members
+-- the stack of a line is over at C with just these buffers of the instance, each with the bound 0
+abbrev pub IsStackOver : Instance → ℕ → Line → List ℕ → Type 0
+IsStackOver I C (Over l T H G) few = IsLegal I C [] (Over (whole few) T 0 G)
+IsStackOver I C (Cases l cites) few = ⊥
+
+-- the members before some were dropped, or where none were, those that there are now
+abbrev pub members_before : Option (Vec ℕ) → List ℕ → List ℕ
+members_before None members = members
+members_before (Some before) members = before.items
+
+-- the members that the last log is of
+abbrev pub log_members : Looking → List ℕ
+log_members at = members_before at.before at.members.items
+
+-- the members are looked at so far, those that are named do not fit, and the last log is of members that there were
 pub record IsLooking (I : Instance) (C : ℕ) (at : Looking) : Type 0 where
   pub looked : IsLooked I C at.members.items (rests_of at.rests.items) (length at.rests.items)
   pub names : AreNamed I C at.members.items at.named.items
-  pub log_of : IfSome at.log (IsLogOf I C at.members.items)
+  pub log_rises : Rises (log_members at)
+  pub log_of : IsLogOf I C (log_members at) at.log
+
+-- the member that is looked at next
+abbrev pub next_member : Looking → ℕ
+next_member at = slice_index at.members.items (length at.rests.items)
+
+-- the last log does not say whether the others fit without the next member: it names it, and its stack, if its end has
+-- one, is not over without it
+pub record IsUnknown (I : Instance) (C : ℕ) (at : Looking) : Type 0 where
+  pub named : IsIn (next_member at) at.named.items
+  pub not_over : (line : Line) → IsEnd at.log line →
+      IsStackOver I C line (without (next_member at) at.named.items) → ⊥
 
 -- how many members are still to be looked at
 abbrev pub ahead : Looking → ℕ
 ahead at = length at.members.items - length at.rests.items
+
+-- how often may still be asked: once for each of these, and once more where the last log is of more members
+abbrev pub asks_left : Looking → ℕ
+asks_left at = ahead at + cond (is_some at.before) 1 0

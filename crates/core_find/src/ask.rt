@@ -1,6 +1,6 @@
 //! What is asked of an instance at a capacity.
 
-ghost use Rattle.std.specs.Prelude.{◌^◌, ◌≤◌, IfOk};
+ghost use Rattle.std.specs.Prelude.{◌^◌, ◌+◌, ◌≤◌, ℕ, IfOk};
 ghost use Rattle.core_find.specs.Found.{IsAnswer};
 
 use dsa_model::{Instance, NoMemory};
@@ -18,9 +18,13 @@ pub enum Asked {
 
 /// What decides capacities of any instance, each to its end. Nothing is said of it after a call.
 pub trait Ask {
+    /// How often it has been asked, of an asker that counts that.
+    ghost asks: { Self → ℕ } = { λ _. 0 };
+
     /// A layout of the instance at the capacity in bytes, which is at most 2^60, or an accepted log
     /// at it.
     fn ask(&mut self, alloc: Global, instance: &Instance, capacity: u64) -> Result<Asked, NoMemory>
         requires { capacity ≤ 2 ^ 60 }
-        ensures right { IfOk result (IsAnswer instance.now capacity) };
+        ensures right { IfOk result (IsAnswer instance.now capacity) }
+        ensures counted { asks self.new ≤ asks self.old + 1 };
 }

@@ -1,10 +1,12 @@
 //! The search for a core.
 
-ghost use Rattle.std.specs.Prelude.{◌≡◌, ◌^◌, ◌≤◌, IfOk};
+ghost use Rattle.std.specs.Prelude.{◌≡◌, ◌^◌, ◌+◌, ◌≤◌, IfOk, length};
 ghost use Rattle.dsa_terms.specs.Logs.{IsAccepted};
 ghost use Rattle.core_find.specs.Found.{IsExplained, IsFound};
 
-use crate::looking::{Looking, log_of, look_on, refutes, start};
+use crate::last_log::log_of;
+use crate::looking::{Looking, refutes, start};
+use crate::stepping::look_on;
 use crate::{Ask, Asked, Core, Found};
 use dsa_model::{Instance, NoMemory};
 use refute_log::ClosedLog;
@@ -22,7 +24,8 @@ fn core_of<A: Ask>(
     requires limit { capacity ≤ 2 ^ 60 }
     requires accepted { IsAccepted instance.now log }
     requires at { log.capacity ≡ capacity }
-    ensures { IfOk result (IsExplained instance.now capacity) }
+    ensures explained { IfOk result (IsExplained instance.now capacity) }
+    ensures asks { A.asks asker.new ≤ A.asks asker.old + length instance.now }
 {
     refutes(instance);
     let mut looking = start(alloc, instance, log)?;
@@ -33,9 +36,10 @@ fn core_of<A: Ask>(
         members,
         rests,
         log,
+        before,
         ..
     } = looking;
-    let log = log_of(alloc, instance, capacity, asker, &members, log)?;
+    let log = log_of(alloc, instance, capacity, asker, &members, log, before)?;
     Ok(Core {
         members,
         log,
@@ -58,6 +62,7 @@ pub fn find_core<A: Ask>(
 ) -> Result<Found, NoMemory>
     requires { capacity ≤ 2 ^ 60 }
     ensures found { IfOk result (IsFound instance.now capacity) }
+    ensures asks { A.asks asker.new ≤ A.asks asker.old + length instance.now + 1 }
 {
     match asker.ask(alloc, instance, capacity)? {
         Asked::Layout(offsets) => Ok(Found::Fits(offsets)),

@@ -5,10 +5,14 @@
 mod ask;
 mod find;
 mod found;
+mod known;
+mod last_log;
 mod laws;
 mod looking;
 mod members;
 mod rests;
+mod stack;
+mod stepping;
 #[cfg(test)]
 mod tests;
 

@@ -5,6 +5,7 @@ ghost use Rattle.std.specs.List.{remove};
 ghost use Rattle.dsa_terms.specs.Claims.{Rises};
 ghost use Rattle.dsa_terms.specs.Parts.{numbers};
 ghost use Rattle.dsa_model.specs.Chosen.{some_of};
+ghost use Rattle.core_find.specs.Cores.{without};
 
 use dsa_model::{Instance, NoMemory};
 use std::alloc::Global;
@@ -45,4 +46,12 @@ pub(crate) fn others(alloc: Global, members: &[u32], place: usize) -> Result<Vec
     let mut others = members.to_vec(alloc)?;
     others.remove(place);
     Ok(others)
+}
+
+/// These members without b.
+pub(crate) fn without(alloc: Global, members: &[u32], b: u32) -> Result<Vec<u32>, NoMemory>
+    ensures { IfOk result (λ few. few.items ≡ without b members.now) }
+{
+    let few = members.iter().copied().filter(|c| *c != b).collect(alloc)?;
+    Ok(few)
 }

@@ -12,9 +12,11 @@ use refute_log::{ClosedLog, Line, Log};
 use std::alloc::Global;
 
 /// Answers where all buffers stand on one another, and where an Over line of all at moment 0 shows
-/// that they don't fit.
+/// that they don't fit. It counts how often it is asked.
 #[derive(Drop)]
-struct Stacker;
+struct Stacker {
+    asks: u64,
+}
 
 /// The offsets of buffers on one another.
 fn stacked(alloc: Global, instance: &Instance) -> Result<Vec<u64>, NoMemory> {
@@ -65,12 +67,15 @@ fn closed_by(
 }
 
 impl Ask for Stacker {
+    ghost asks = { λ s. s.asks };
+
     fn ask(
         &mut self,
         alloc: Global,
         instance: &Instance,
         capacity: u64,
     ) -> Result<Asked, NoMemory> {
+        self.asks = self.asks.saturating_add(1);
         let offsets = stacked(alloc, instance)?;
         if judge(instance, capacity, &offsets).is_ok() {
             return Ok(Asked::Layout(offsets));
@@ -82,8 +87,8 @@ impl Ask for Stacker {
 }
 
 /// The members of the core of buffers of these sizes, all live at moment 0, and none where they
-/// fit.
-fn core_members(alloc: Global, sizes: &[u64], capacity: u64) -> Result<Vec<u32>, NoMemory>
+/// fit; and how often was asked.
+fn core_members(alloc: Global, sizes: &[u64], capacity: u64) -> Result<(Vec<u32>, u64), NoMemory>
     requires { capacity ≤ 2 ^ 60 }
 {
     let mut instance = Instance::new(alloc);
@@ -95,23 +100,26 @@ fn core_members(alloc: Global, sizes: &[u64], capacity: u64) -> Result<Vec<u32>,
             instance.push(buffer)?;
         }
     }
-    match find_core(alloc, &instance, capacity, &mut Stacker)? {
-        Found::Fits(_offsets) => Ok(Vec::new(alloc)),
-        Found::Core(core) => Ok(core.members),
-    }
+    let mut stacker = Stacker { asks: 0 };
+    let members = match find_core(alloc, &instance, capacity, &mut stacker)? {
+        Found::Fits(_offsets) => Vec::new(alloc),
+        Found::Core(core) => core.members,
+    };
+    Ok((members, stacker.asks))
 }
 
 #[test]
 fn buffers_are_dropped_in_order_while_the_others_do_not_fit(rt: HostRuntime) {
     let alloc = rt.alloc();
-    let rows: [([u64; 4], u64, &[u32]); 4] = [
-        ([4, 4, 4, 4], 16, &[]),
-        ([4, 4, 4, 4], 11, &[1, 2, 3]),
-        ([9, 1, 1, 1], 8, &[0]),
-        ([1, 3, 5, 3], 7, &[2, 3]),
+    let rows: [([u64; 4], u64, &[u32], u64); 4] = [
+        ([4, 4, 4, 4], 16, &[], 1),
+        ([4, 4, 4, 4], 11, &[1, 2, 3], 5),
+        ([9, 1, 1, 1], 8, &[0], 3),
+        ([1, 3, 5, 3], 7, &[2, 3], 4),
     ];
-    for (sizes, capacity, want) in rows {
-        let members = core_members(alloc, &sizes, capacity).expect(&rt, "memory");
+    for (sizes, capacity, want, asks) in rows {
+        let (members, asked) = core_members(alloc, &sizes, capacity).expect(&rt, "memory");
         assert_eq!(rt; members.as_slice(), want, "at {capacity}");
+        assert_eq!(rt; asked, asks, "asked at {capacity}");
     }
 }

@@ -1,4 +1,5 @@
-use Rattle.std.proofs.Common.{◌∙◌, ap, refl, sym}
+use Rattle.std.proofs.Common.{◌∙◌, length, ap, arith, refl, sym}
+use Rattle.std.proofs.lemmas.List.FromFn.{length-range_with_len}
 use Rattle.dsa_terms.specs.Claims.{Rises}
 use Rattle.dsa_terms.proofs.Ranges.{rises-range}
 use Rattle.dsa_model.specs.Chosen.{some_of}
@@ -14,8 +15,8 @@ named_by-requires c =
     ends_in_range I I members _ c.args.log (sym (ap (some_of I) c.in_ok-members.ensures ∙ some_of_all I))
     c.deref.ensures.value c.requires
 
-pub returns : goal.returns
-returns c =
+pub returns-clause-looking : goal.returns-clause-looking
+returns-clause-looking c =
     let I = c.args.instance.now in
     let members = c.in_ok-members.members.items in
     let rises : Rises members = rw c.in_ok-members.ensures (rises-range _ 0) in
@@ -25,5 +26,13 @@ returns c =
     record {
       looked = at_first I c.args.log.capacity members c.new.result.items c.in_ok-members.ensures c.new.ensures.items;
       names = found.0;
+      log_rises = rises;
       log_of = found.1;
     }
+
+pub returns-clause-asks : goal.returns-clause-asks
+returns-clause-asks c =
+    let all = ap length c.in_ok-members.ensures in
+    let none = ap length c.new.ensures.items in
+    let n = length-range_with_len 0 (length c.args.instance.now) in
+    omega (arith, all, none, n)

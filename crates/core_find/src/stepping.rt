@@ -1,0 +1,127 @@
+//! One member more is looked at.
+
+ghost use Rattle.std.specs.Prelude.{◌≡◌, ◌^◌, ◌+◌, ◌<◌, ◌≤◌, ℕ, List, All, IfOk, MatchResult, length};
+ghost use Rattle.std.specs.List.{remove};
+ghost use Rattle.dsa_terms.specs.Buffers.{Instance as InstanceTerm};
+ghost use Rattle.core_find.specs.Found.{rests_of};
+ghost use Rattle.core_find.specs.Looking.{AreNamed, IsLooking, IsUnknown, ahead, asks_left};
+
+use crate::known::known_without;
+use crate::looking::{Looking, named_by};
+use crate::members::{others, sub_instance};
+use crate::rests::leave_out;
+use crate::{Ask, Asked};
+use dsa_model::{Instance, NoMemory};
+use std::alloc::Global;
+
+/// The next member is dropped without asking, since the few of the others do not fit. `fewer` are
+/// the members without it.
+fn dropped(looking: Looking, fewer: Vec<u32>, few: Vec<u32>) -> Looking
+    requires more { length looking.rests.items < length looking.members.items }
+    requires fewer { fewer.items ≡ remove looking.members.items (length looking.rests.items) }
+    requires there { All (λ (rest : List ℕ). length looking.rests.items ≤ length rest)
+        (rests_of looking.rests.items) }
+    ensures looking { (I : InstanceTerm) (C : ℕ) → IsLooking I C looking →
+        AreNamed I C fewer.items few.items → IsLooking I C result }
+    ensures nearer { ahead result < ahead looking }
+    ensures asks { asks_left result ≤ asks_left looking }
+{
+    let Looking {
+        members,
+        mut rests,
+        log,
+        before,
+        ..
+    } = looking;
+    let place = rests.len();
+    leave_out(&mut rests, place);
+    Looking {
+        members: fewer,
+        rests,
+        named: few,
+        log,
+        before: Some(before.unwrap_or(members)),
+    }
+}
+
+/// It is asked whether the others of the next member fit. It is kept, with a layout of them, if
+/// they do, and dropped if not. `fewer` are the members without it.
+fn asked<A: Ask>(
+    alloc: Global,
+    instance: &Instance,
+    capacity: u64,
+    asker: &mut A,
+    looking: Looking,
+    fewer: Vec<u32>,
+) -> Result<Looking, NoMemory>
+    requires limit { capacity ≤ 2 ^ 60 }
+    requires looking { IsLooking instance.now capacity looking }
+    requires more { length looking.rests.items < length looking.members.items }
+    requires fewer { fewer.items ≡ remove looking.members.items (length looking.rests.items) }
+    ensures looking { IfOk result (IsLooking instance.now capacity) }
+    ensures nearer { IfOk result (λ next. ahead next < ahead looking) }
+    ensures asks { let most = A.asks asker.old + asks_left looking in
+        MatchResult result
+        (λ next. A.asks asker.new + asks_left next ≤ most) (λ _. A.asks asker.new ≤ most) }
+{
+    let Looking {
+        members,
+        mut rests,
+        named,
+        log,
+        before,
+    } = looking;
+    let place = rests.len();
+    let some = sub_instance(alloc, instance, &fewer)?;
+    let _count = some.len();
+    match asker.ask(alloc, &some, capacity)? {
+        Asked::Layout(rest) => {
+            rests.push(rest)?;
+            Ok(Looking {
+                members,
+                rests,
+                named,
+                log,
+                before,
+            })
+        }
+        Asked::Refuted(smaller) => {
+            leave_out(&mut rests, place);
+            let named = named_by(alloc, &fewer, &smaller)?;
+            Ok(Looking {
+                members: fewer,
+                rests,
+                named,
+                log: smaller,
+                before: None,
+            })
+        }
+    }
+}
+
+/// Looks at the next member. It is kept, with a layout of the others, if they fit, and dropped if
+/// they do not. Nothing is asked where the last log says that they do not.
+pub(crate) fn look_on<A: Ask>(
+    alloc: Global,
+    instance: &Instance,
+    capacity: u64,
+    asker: &mut A,
+    looking: Looking,
+) -> Result<Looking, NoMemory>
+    requires limit { capacity ≤ 2 ^ 60 }
+    requires looking { IsLooking instance.now capacity looking }
+    requires more { length looking.rests.items < length looking.members.items }
+    ensures looking { IfOk result (IsLooking instance.now capacity) }
+    ensures nearer { IfOk result (λ next. ahead next < ahead looking) }
+    ensures asks { let most = A.asks asker.old + asks_left looking in
+        MatchResult result
+        (λ next. A.asks asker.new + asks_left next ≤ most) (λ _. A.asks asker.new ≤ most) }
+    ensures unasked { (IsUnknown instance.now capacity looking → ⊥) →
+        A.asks asker.new ≡ A.asks asker.old }
+{
+    let fewer = others(alloc, &looking.members, looking.rests.len())?;
+    match known_without(alloc, instance, capacity, &looking, &fewer)? {
+        Some(few) => Ok(dropped(looking, fewer, few)),
+        None => asked(alloc, instance, capacity, asker, looking, fewer),
+    }
+}
