@@ -6,5 +6,7 @@ pub mod LeftOut
 pub mod Steps
 pub mod Named
 pub mod Without
+pub mod Carried
 mod ExampleFacts
 mod FoundFacts
+mod StackFacts

@@ -7,8 +7,8 @@ use Rattle.dsa_terms.specs.Claims.{Entry, IsClaim, IsIn, IsRefuted, IsWhole, Ris
 use Rattle.dsa_terms.specs.Layouts.{IsInfeasible}
 use Rattle.dsa_terms.specs.Logs.{IsLegal, Line, Over, Cases}
 use Rattle.dsa_terms.specs.Parts.{numbers, whole}
-use Rattle.dsa_terms.proofs.Lists.{any_gives, from_map, into_map, none_passes, same_some}
-use Rattle.dsa_terms.proofs.NumberTests.{differ, equal}
+use Rattle.dsa_terms.proofs.Lists.{any_gives, from_map, into_map, same_some}
+use Rattle.dsa_terms.proofs.NumberTests.{equal}
 use Rattle.dsa_terms.proofs.Places.{all_from_in, any_default, in_from_all}
 use Rattle.dsa_terms.proofs.Ranges.{rises-filter_numbers, rises-range}
 use Rattle.dsa_search_laws.proofs.Logs.{legal_is_refuted}

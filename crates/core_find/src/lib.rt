@@ -3,6 +3,7 @@
 #![tactic(auto)]
 
 mod ask;
+mod fewer_log;
 mod find;
 mod found;
 mod known;

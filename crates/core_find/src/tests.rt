@@ -113,9 +113,9 @@ fn buffers_are_dropped_in_order_while_the_others_do_not_fit(rt: HostRuntime) {
     let alloc = rt.alloc();
     let rows: [([u64; 4], u64, &[u32], u64); 4] = [
         ([4, 4, 4, 4], 16, &[], 1),
-        ([4, 4, 4, 4], 11, &[1, 2, 3], 5),
-        ([9, 1, 1, 1], 8, &[0], 3),
-        ([1, 3, 5, 3], 7, &[2, 3], 4),
+        ([4, 4, 4, 4], 11, &[1, 2, 3], 4),
+        ([9, 1, 1, 1], 8, &[0], 2),
+        ([1, 3, 5, 3], 7, &[2, 3], 3),
     ];
     for (sizes, capacity, want, asks) in rows {
         let (members, asked) = core_members(alloc, &sizes, capacity).expect(&rt, "memory");

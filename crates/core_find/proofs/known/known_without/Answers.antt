@@ -2,8 +2,7 @@ use Rattle.std.proofs.Common.{◌≡◌, ◌==◌, ◌<◌, ◌∙◌, ℕ, true
 use Rattle.std.specs.List.{list_any, remove}
 use Rattle.dsa_terms.specs.Layouts.{IsInfeasible}
 use Rattle.dsa_terms.proofs.Moments.{not_true}
-use Rattle.dsa_terms.proofs.Places.{all_from_in, any_default, in_from_all}
-use Rattle.dsa_terms.proofs.Ranges.{rises-filter_numbers}
+use Rattle.dsa_terms.proofs.Places.{any_default}
 use Rattle.dsa_model.specs.Chosen.{some_of}
 use Rattle.refute_log.specs.Lines.{line_value}
 use Rattle.core_find.specs.Cores.{without}

@@ -1,11 +1,10 @@
-use Rattle.std.proofs.Common.{◌≡◌, ◌∙◌, ◌==◌, ◌<◌, ℕ, false, List, length, sym, ap, subst, arith, rules}
-use Rattle.std.specs.List.{list_any, remove}
+use Rattle.std.proofs.Common.{◌≡◌, ◌∙◌, ◌<◌, length, sym, ap, subst, arith}
+use Rattle.std.specs.List.{remove}
 use Rattle.dsa_terms.specs.Buffers.{Instance}
 use Rattle.dsa_terms.specs.Claims.{Rises}
 use Rattle.dsa_terms.specs.Layouts.{IsLayout}
-use Rattle.dsa_terms.proofs.Moments.{not_true}
 use Rattle.dsa_model.specs.Chosen.{some_of}
-use Rattle.core_find.proofs.Named.{ends_in_range, found_names, names_stay, others_do_not_fit}
+use Rattle.core_find.proofs.Named.{ends_in_range, found_names, others_do_not_fit}
 use Rattle.core_find.proofs.Removed.{all_removed, rises_removed}
 use Rattle.core_find.proofs.Steps.{drop_looked, dropped_nearer, kept_step, step_has_place}
 use Rattle.core_find.proofs.stepping.asked.Goals as goal

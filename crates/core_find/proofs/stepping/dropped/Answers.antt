@@ -1,5 +1,4 @@
-use Rattle.std.proofs.Common.{◌≡◌, ◌∙◌, ◌≤◌, ℕ, ◌+◌, List, Option, Some, None, cond, is_some, length, ap, arith}
-use Rattle.std.specs.List.{remove}
+use Rattle.std.proofs.Common.{◌≡◌, ◌∙◌, length, arith}
 use Rattle.core_find.proofs.Named.{others_do_not_fit}
 use Rattle.core_find.proofs.Steps.{before_stays, drop_looked, dropped_nearer}
 use Rattle.core_find.proofs.stepping.dropped.Goals as goal

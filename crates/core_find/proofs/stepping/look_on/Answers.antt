@@ -1,5 +1,4 @@
-use Rattle.std.proofs.Common.{◌≡◌, ◌∙◌, List, ap, refl}
-use Rattle.std.specs.List.{remove}
+use Rattle.std.proofs.Common.{refl}
 use Rattle.core_find.proofs.Steps.{step_has_place}
 use Rattle.core_find.proofs.stepping.look_on.Goals as goal
 
