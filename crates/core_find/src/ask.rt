@@ -16,7 +16,8 @@ pub enum Asked {
     Refuted(ClosedLog),
 }
 
-/// What decides capacities of any instance, each to its end. Nothing is said of it after a call.
+/// What decides capacities of any instance, each to its end. Nothing is said of it after a call but
+/// how often it was asked.
 pub trait Ask {
     /// How often it has been asked, of an asker that counts that.
     ghost asks: { Self → ℕ } = { λ _. 0 };

@@ -51,9 +51,10 @@ fn core_of<A: Ask>(
 /// of those that do not fit. The core is what is left where each buffer in order of number is
 /// dropped if the others that remain do not fit.
 ///
-/// The asker is asked of the instance, and then of each buffer that the end of the last log names
-/// whether the others fit; and once more of the core, where a buffer was dropped without asking
-/// since the last log. So it is asked at most once more than there are buffers.
+/// The asker is asked of the instance, and then, for each buffer that the last log needs, whether
+/// the others fit without it: its end names the buffer, and the stack of the end, if it has one, is
+/// not over without it. The log is what is left of the last one for the core; where that were none,
+/// the core would be asked for once more. So it is asked at most once more than there are buffers.
 pub fn find_core<A: Ask>(
     alloc: Global,
     instance: &Instance,
