@@ -1,6 +1,6 @@
-use Rattle.std.proofs.Common.{◌≡◌, ◌∙◌, ◌^◌, ◌≤◌, ℕ, List, length, ap, sym, arith}
+use Rattle.std.proofs.Common.{◌∙◌, ◌^◌, ℕ, List, length, ap, arith}
 use Rattle.std.proofs.lemmas.List.FromFn.{length-range_with_len}
-use Rattle.dsa_terms.specs.Parts.{numbers, whole}
+use Rattle.dsa_terms.specs.Parts.{whole}
 use Rattle.dsa_terms.proofs.Lists.{from_map}
 use Rattle.dsa_terms.proofs.Ranges.{rises-range}
 use Rattle.canonical_order.specs.Claims.{IsBoundedBy}
