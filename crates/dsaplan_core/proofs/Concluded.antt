@@ -27,7 +27,7 @@ use Rattle.trace_import.specs.Traces.{Trace}
 use Rattle.trace_import.specs.declared.fault.TraceFault.{TraceFault}
 use Rattle.importing.specs.Importing.{imports}
 use Rattle.importing.specs.Unrolling.{unrolls}
-use Rattle.cyclic_plan.specs.Texts.{unrolled_of}
+use Rattle.cyclic_plan.specs.Unrolled.{unrolled_of}
 use Rattle.cyclic_plan.specs.declared.fault.CycleFault.{CycleFault}
 use Rattle.planning.specs.Planning.{Plans}
 use Rattle.explaining.specs.Explaining.{ExplainsOrFits}
@@ -97,10 +97,10 @@ imports_conclude : (pairs : List Pair) (J : Instance) (r : Result Trace TraceFau
 imports_conclude pairs J (Ok trace) = tt
 imports_conclude pairs J (Err fault) = tt
 
-unrolls_conclude : (pairs : List Pair) (bytes : List ℕ) (J : Instance) (r : Result Instance CycleFault) →
-    IsConcluded verb.Unroll pairs J (unrolls (unroll_of pairs) bytes r).status
-unrolls_conclude pairs bytes J (Ok I) = tt
-unrolls_conclude pairs bytes J (Err fault) = tt
+unrolls_conclude : (pairs : List Pair) (table : List Record) (J : Instance) (r : Result Instance CycleFault) →
+    IsConcluded verb.Unroll pairs J (unrolls (unroll_of pairs) table r).status
+unrolls_conclude pairs table J (Ok I) = tt
+unrolls_conclude pairs table J (Err fault) = tt
 
 module _ (old new : FilesSeen) (before after : SinkSeen) (I : Instance) where
   -- a request whose files are readable and are not disturbed
@@ -127,7 +127,7 @@ module _ (old new : FilesSeen) (before after : SinkSeen) (I : Instance) where
       (IsDone verb.Unroll pairs) role.Input option.Input (inl refl)) o failed.0 failed.1
   unrolled_done pairs (ready, calm) o (inr (bytes, whole, comes)) =
       subst (IsDone verb.Unroll pairs) (sym comes.1)
-      (unrolls_conclude pairs bytes I (unrolled_of (number_at pairs option.Period) (table_of bytes)))
+      (unrolls_conclude pairs (table_of bytes) I (unrolled_of (number_at pairs option.Period) (table_of bytes)))
 
   done : (v : Verb) (pairs : List Pair) → IsServed (record { verb = v; pairs = pairs }) → (o : Outcome) →
       Comes old new (course_with v pairs) o → IsDone v pairs o

@@ -21,7 +21,7 @@ use Rattle.judging.specs.Judging.{verify}
 use Rattle.judging.specs.Drawing.{draw}
 use Rattle.checking.specs.Checking.{upgrade}
 use Rattle.importing.specs.Importing.{import_course}
-use Rattle.importing.specs.Unrolling.{unroll}
+use Rattle.importing.specs.Unrolling.{unroll_course}
 use Rattle.planning.specs.Planning.{classes}
 use Rattle.explaining.specs.Explaining.{core}
 use Rattle.explaining.proofs.ExampleFacts.{laid_at_8, none_at_7}
@@ -65,7 +65,7 @@ upgrade_goes : course (codes "upgrade" ∷ upgrade_values)
 upgrade_goes = refl
 
 unroll_goes : course (codes "unroll" ∷ unroll_values)
-    ≡ unroll (record { period = 10; input = codes "i"; output = codes "o" })
+    ≡ unroll_course (record { period = 10; input = codes "i"; output = codes "o" })
 unroll_goes = refl
 
 no_words_go : course [] ≡ Ends (says (status.Usage usage.NoCommand))

@@ -1,11 +1,14 @@
 -- What `unroll` promises.
-use Rattle.std.proofs.Common.{◌≡◌, ℕ, List, Result, Ok, Err, refl, sym, subst, inl, inr}
+use Rattle.std.proofs.Common.{◌≡◌, ◌≤◌, ◌&&◌, ℕ, Bool, true, false, if◌then◌else◌, List, Some, None, Result, Ok, Err, unwrap_or, refl, sym, subst, inl, inr, arith, nat_tests}
+use Rattle.std.specs.Str.Parse.{digits_value}
 use Rattle.dsa_terms.specs.Buffers.{Instance}
 use Rattle.dsa_outside.specs.Seen.{FilesSeen}
 use Rattle.csv_instance.specs.Records.{file_limit, table_of}
-use Rattle.cyclic_plan.specs.Texts.{unrolled_of}
+use Rattle.cyclic_plan.specs.Unrolled.{unrolled_of}
 use Rattle.cyclic_plan.specs.declared.fault.CycleFault.{CycleFault}
-use Rattle.command_words.specs.Options.{Word}
+use Rattle.cyclic_plan.proofs.Tables.{unrolled_gives}
+use Rattle.dsa_model.specs.Numbers.{is_number, written_number}
+use Rattle.command_words.specs.Options.{Word, number_limit}
 use Rattle.command_words.specs.Pairs.{Pair, number_at, word_at}
 use Rattle.command_words.specs.Requests.{Request, request_of}
 use Rattle.command_words.specs.declared.option.OptionName.TheVariants as option
@@ -19,6 +22,19 @@ use Rattle.dsaplan_core.proofs.Gives as gives
 use Rattle.dsaplan_core.proofs.Promises.{Promises}
 use Rattle.dsaplan_core.proofs.Refusals.{unreadable}
 
+-- ---- the number of a word is within its limit
+and_last : (a b : Bool) → (a && b) ≡ true → b ≡ true
+and_last true b is = is
+and_last false b is = absurd cc
+
+number_within : (word : Word) → unwrap_or (written_number number_limit word) 0 ≤ number_limit
+number_within word = go (is_number number_limit word) refl
+  where
+    go : (b : Bool) → is_number number_limit word ≡ b →
+        unwrap_or (if b then Some (digits_value 10 word) else None) 0 ≤ number_limit
+    go true is = let last = and_last _ _ is in grind (arith, nat_tests, last)
+    go false is = omega arith
+
 module _ (words : List Word) (old new : FilesSeen) (pairs : List Pair)
     (is : request_of words ≡ Ok (record { verb = verb.Unroll; pairs = pairs })) where
   abbrev request : Request
@@ -26,7 +42,7 @@ module _ (words : List Word) (old new : FilesSeen) (pairs : List Pair)
 
   unrolled : (bytes : List ℕ) → IsWholeFile old (word_at pairs option.Input) file_limit bytes →
       (r : Result Instance CycleFault) → unrolled_of (number_at pairs option.Period) (table_of bytes) ≡ r →
-      Promises words old new request (unrolls (unroll_of pairs) bytes r)
+      Promises words old new request (unrolls (unroll_of pairs) (table_of bytes) r)
   unrolled bytes whole (Ok I) read = (
     λ files. (
       record {
@@ -36,8 +52,8 @@ module _ (words : List Word) (old new : FilesSeen) (pairs : List Pair)
         words_ask = is;
         whole = whole;
         its_count = refl;
-        unrolled = ?;
-        parsed = ?;
+        unrolled = unrolled_gives (number_at pairs option.Period) (table_of bytes) I
+            (number_within (word_at pairs option.Period)) read;
         files = files;
       },
       tt,

@@ -14,7 +14,7 @@ use Rattle.judging.specs.Drawing.{Draw, draw}
 use Rattle.checking.specs.Checking.{Refute, Trim, Upgrade, refute, trim, upgrade}
 use Rattle.fact_reports.specs.Reporting.{Bounds, Trial, bounds, trial}
 use Rattle.importing.specs.Importing.{Import, import_course}
-use Rattle.importing.specs.Unrolling.{Unroll, unroll}
+use Rattle.importing.specs.Unrolling.{Unroll, unroll_course}
 use Rattle.planning.specs.Planning.{Classes, classes}
 use Rattle.explaining.specs.Explaining.{Core, core}
 use Rattle.deciding.specs.Deciding.{LeastOf, Solve, least, solve}
@@ -128,7 +128,7 @@ course_with verb.Report pairs = report (report_of pairs)
 course_with verb.Draw pairs = draw (draw_of pairs)
 course_with verb.Trial pairs = trial (trial_of pairs)
 course_with verb.Import pairs = import_course (import_of pairs)
-course_with verb.Unroll pairs = unroll (unroll_of pairs)
+course_with verb.Unroll pairs = unroll_course (unroll_of pairs)
 course_with verb.Classes pairs = classes (classes_of pairs)
 course_with verb.Core pairs = core (core_of pairs)
 

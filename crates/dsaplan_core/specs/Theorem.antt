@@ -23,7 +23,7 @@ use Rattle.log_text.specs.Spellings.{log_text2}
 use Rattle.log_text.specs.Text.{log_text, raw_log_of}
 use Rattle.dsa_model.specs.Chosen.{some_of}
 use Rattle.core_find.specs.Cores.{IsCore, without}
-use Rattle.cyclic_plan.specs.Texts.{IsUnrolled, unrolled_of, unrolled_text}
+use Rattle.cyclic_plan.specs.Unrolled.{IsUnrolled, unrolled_of, unrolled_text}
 use Rattle.cyclic_plan.specs.declared.fault.CycleFault.{CycleFault}
 use Rattle.layout_picture.specs.Rectangles.{rectangles}
 use Rattle.layout_picture.specs.Texts.{picture_text}
@@ -164,7 +164,7 @@ pub record RefusesTrace (words : List Word) (old new : FilesSeen) (fault : Trace
   pub files : new.held ≡ old.held
 
 -- the words ask to unroll buffers whose moments repeat with the period; the output holds the text of their instance of
--- one period, whose layouts are just those that hold at every moment of endless time
+-- one period, which has just the layouts that hold at every moment of endless time
 pub record HoldsUnrolled (words : List Word) (old new : FilesSeen) (count : ℕ) : Type 0 where
   pub pairs : List Pair
   pub bytes : List ℕ
@@ -173,7 +173,6 @@ pub record HoldsUnrolled (words : List Word) (old new : FilesSeen) (count : ℕ)
   pub whole : IsWholeFile old (word_at pairs option.Input) file_limit bytes
   pub its_count : length instance ≡ count
   pub unrolled : IsUnrolled (number_at pairs option.Period) (table_of bytes) instance
-  pub parsed : parse (table_of (unrolled_text (number_at pairs option.Period) (table_of bytes))) ≡ Ok instance
   pub files : new.held ≡ with_file old.held (word_at pairs option.Output)
       (unrolled_text (number_at pairs option.Period) (table_of bytes))
 
