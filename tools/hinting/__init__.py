@@ -1,0 +1,1 @@
+"""Where the fault of a run is, in words."""

@@ -1,0 +1,80 @@
+"""What the system says of files that could not be read or written."""
+
+import errno
+import os
+import stat
+
+REASONS = {
+    errno.ENOENT: "is missing",
+    errno.EISDIR: "is a folder",
+    errno.EACCES: "may not be read, for want of leave",
+    errno.ENOTDIR: "lies below what is no folder",
+    errno.ELOOP: "is a link that leads to itself",
+    errno.ENAMETOOLONG: "has a name that is too long",
+}
+LIMITS = {"--input": 67108864, "--layout": 67108864, "--trace": 67108864, "--log": 2**40}
+
+
+def is_regular(name):
+    """Whether a name leads to a regular file."""
+    try:
+        return stat.S_ISREG(os.stat(name).st_mode)
+    except (OSError, ValueError):
+        return False
+
+
+def why_unread(name):
+    """Why a file cannot be read, or nothing."""
+    try:
+        mode = os.stat(name).st_mode
+        if stat.S_ISDIR(mode):
+            return REASONS[errno.EISDIR]
+        if stat.S_ISREG(mode):
+            with open(name, "rb"):
+                pass
+    except OSError as fault:
+        return REASONS.get(fault.errno, f"cannot be read: {os.strerror(fault.errno or 0)}")
+    return ""
+
+
+def why_unwritten(name):
+    """Why a file cannot be written, or nothing."""
+    folder = os.path.dirname(name) or "."
+    if os.path.isdir(name):
+        return "is a folder"
+    if not os.path.isdir(folder):
+        return f"lies in {folder}, which is no folder"
+    if os.path.exists(name) and not os.access(name, os.W_OK):
+        return "may not be written, for want of leave"
+    if not os.path.exists(name) and not os.access(folder, os.W_OK):
+        return f"may not be made: {folder} gives no leave"
+    if is_regular(name) or not os.path.exists(name):
+        room = os.statvfs(folder)
+        if room.f_bavail == 0 or (room.f_files and room.f_favail == 0):
+            return "finds no room on its disk"
+        return ""
+    return "is no regular file, and took no text"
+
+
+def file_hint(call):
+    """Which file could not be read or written, and why."""
+    for option, name in call.reads():
+        why = why_unread(name)
+        if why:
+            return f"{option}: {name} {why}"
+    for option, name in call.writes():
+        why = why_unwritten(name)
+        if why:
+            return f"{option}: {name} {why}"
+    return "the system refused a read or a write that it would take now, or standard output could not be written"
+
+
+def length_hint(call):
+    """Which file is longer than it may be."""
+    for option, name in call.reads():
+        limit = LIMITS[option]
+        if is_regular(name) and os.stat(name).st_size > limit:
+            return f"{option}: {name} has {os.stat(name).st_size} bytes, where {limit} are the most"
+        if not is_regular(name):
+            return f"{option}: {name} has more bytes than {limit}"
+    return None

@@ -1,0 +1,184 @@
+"""Faults of instance files, of layout files and of rows with a period."""
+
+import re
+
+from .tables import LONGEST_NAME, MOST_NAMES, READ, is_near, is_same_word
+from .texts import TIME_LIMIT, WORD_LIMIT, shown, why_no_number
+
+LIMITS = {"lower": TIME_LIMIT, "upper": TIME_LIMIT, "size": TIME_LIMIT, "alignment": TIME_LIMIT}
+# What is wrong with the value of one column.
+VALUES = {
+    "empty id": ("id", "is empty: an identifier has 1 to 255 bytes"),
+    "id too long": ("id", "has more than 255 bytes"),
+    "zero size": ("size", "is no size of 1 to 2^40"),
+    "too large": ("size", "is above 2^40"),
+    "zero alignment": ("alignment", "is no alignment of 1 to 2^32"),
+    "alignment too large": ("alignment", "is above 2^32"),
+    "bad gap": ("gaps", "has a piece that is no gap, as 4-6: two numbers of at most 2^62 - 1, pieces with one space between"),
+    "too many gaps": ("gaps", "has more than 8 gaps"),
+    "never live": ("gaps", "leaves no moment of the lifetime"),
+}
+
+
+def header_hint(table, fault):
+    """Where the fault of a header is, or None where the fault is none of a header."""
+    name, names = table.name, table.names()
+    if fault == "no header":
+        return f"{name}: has no record; the first line is to be id,lower,upper,size"
+    if fault == "marked header":
+        return f"{name}:1: {shown(names[0])} begins with a second byte order mark; take it off"
+    if fault == "offset column":
+        at = table.at(table.header[names.index(b"offset")])
+        return f"{at}: 'offset': a file with offsets is a layout and no instance; take the column off"
+    duplicate = re.fullmatch(r"duplicate column (\w+)", fault)
+    if duplicate:
+        places = [k for k, it in enumerate(names) if it == duplicate[1].encode()]
+        said = " and ".join(str(k + 1) for k in places[:2])
+        return f"{table.at(table.header[places[0]])}: {duplicate[1]}: the columns {said} both have this name"
+    missing = re.fullmatch(r"missing column (\w+)", fault)
+    if missing:
+        column = missing[1].encode()
+        near = [it for it in names[:MOST_NAMES] if len(it) <= LONGEST_NAME and it not in READ]
+        near = [it for it in near if is_same_word(it, column) or is_near(it, column)]
+        instead = f"; {shown(near[0])} is another name" if near else ""
+        return f"{table.at(table.header[0])}: no column has the name {missing[1]}{instead}"
+    return None
+
+
+def field_count_hint(table, number):
+    """Where a row has more or fewer fields than the header."""
+    row = table.row(number)
+    is_open = " (a quote is not closed)" if row[-1].is_open else ""
+    return f"{table.at(row[0])}: {len(row)} fields, where the header has {len(table.header)}{is_open}"
+
+
+def gaps_of(field):
+    """The gaps that a field writes."""
+    return [tuple(map(int, piece.split(b"-"))) for piece in field.split(b" ")] if field else []
+
+
+def row_hint(table, number, fault):
+    """Where the fault of a row is."""
+    if fault == "field count":
+        return field_count_hint(table, number)
+    duplicate = re.fullmatch(r"duplicate id (\d+)", fault)
+    if duplicate:
+        field, earlier = table.field(number, b"id"), table.field(int(duplicate[1]), b"id")
+        return f"{table.at(field)}: id: {shown(field.text)} stands on line {earlier.line} too"
+    bad = re.fullmatch(r"bad number (\w+)", fault)
+    if bad:
+        field = table.field(number, bad[1].encode())
+        why = why_no_number(field.text, LIMITS.get(bad[1], WORD_LIMIT)) or "is no number that may stand there"
+        return f"{table.at(field)}: {bad[1]}: {shown(field.text)} {why}"
+    if fault == "unknown id":
+        field = table.field(number, b"id")
+        return f"{table.at(field)}: id: {shown(field.text)} is no buffer of the input"
+    if fault == "empty lifetime":
+        field, lower = table.field(number, b"upper"), table.text(number, b"lower")
+        return f"{table.at(field)}: upper: {shown(field.text)} is not above lower, {shown(lower)}"
+    gap = re.fullmatch(r"gap (\d+) (empty|outside)", fault)
+    if gap:
+        return gap_hint(table, number, int(gap[1]), gap[2])
+    if fault in VALUES:
+        column, why = VALUES[fault]
+        field = table.field(number, column.encode())
+        return f"{table.at(field)}: {column}: {shown(field.text)} {why}"
+    return f"{table.at(table.row(number)[0])}: {shown(table.text(number, b'id'))}: {fault}"
+
+
+def gap_hint(table, number, gap, kind):
+    """Where a gap is empty, or outside of its buffer's lifetime."""
+    field = table.field(number, b"gaps")
+    first, last = gaps_of(field.text)[gap]
+    lower, upper = table.number(number, b"lower"), table.number(number, b"upper")
+    why = "does not end after it begins" if kind == "empty" else f"is not within the lifetime {lower}-{upper}"
+    return f"{table.at(field)}: gaps: '{first}-{last}' {why}"
+
+
+def instance_hint(table, fault):
+    """Where an instance file has the fault that the program prints."""
+    row = re.fullmatch(r"row (\d+) (.*)", fault)
+    if row:
+        return row_hint(table, int(row[1]), row[2])
+    if fault == "too many buffers":
+        row = table.row(512)
+        return f"{table.at(row[0])}: one buffer more than 512" if row else f"{table.name}: more buffers than may be"
+    return header_hint(table, fault)
+
+
+def cycle_hint(table, period, fault):
+    """Where rows with a period have the fault that the program prints."""
+    row = re.fullmatch(r"row (\d+) outside", fault)
+    if not row:
+        return instance_hint(table, fault)
+    number = int(row[1])
+    lower = table.field(number, b"lower")
+    if table.number(number, b"lower") >= int(period):
+        return f"{table.at(lower)}: lower: {shown(lower.text)} is not below the period, {int(period)}"
+    upper = table.field(number, b"upper")
+    return f"{table.at(upper)}: upper: {shown(upper.text)} is above the period, {int(period)}"
+
+
+def plain_hint(table, number):
+    """Why a buffer has no plan by size class."""
+    if table.number(number, b"alignment", 1) > 1:
+        field = table.field(number, b"alignment")
+        return f"{table.at(field)}: alignment: {shown(field.text)}: classes takes no alignment above 1"
+    field = table.field(number, b"gaps")
+    return f"{table.at(field)}: gaps: {shown(field.text)}: classes takes no gaps"
+
+
+def layout_hint(table, layout, capacity, fault):
+    """Where a layout file has the fault that the program prints."""
+    row = re.fullmatch(r"row (\d+) (.*)", fault)
+    if row:
+        return row_hint(layout, int(row[1]), row[2])
+    missing = re.fullmatch(r"missing id (\d+)", fault)
+    if missing:
+        return f"{layout.name}: no row has the id {shown(table.text(int(missing[1]), b'id'))}"
+    judged = re.fullmatch(r"(unaligned|above|overlap) (\d+)(?: (\d+) (\d+))?", fault)
+    if not judged:
+        return header_hint(layout, fault) or buffer_hint(table, layout, fault)
+    if judged[1] == "overlap":
+        return overlap_hint(table, layout, int(judged[2]), int(judged[3]), int(judged[4]))
+    number = int(judged[2])
+    field = offset_of(table, layout, number)
+    who = shown(table.text(number, b"id"))
+    if judged[1] == "unaligned":
+        why = f"is no multiple of the alignment of {who}, {table.number(number, b'alignment', 1)}"
+    else:
+        end = int(field.text) + table.number(number, b"size")
+        why = f"is too high: {who} ends at {end}, above {capacity}"
+    return f"{layout.at(field)}: offset: {shown(field.text)} {why}"
+
+
+def buffer_hint(table, layout, fault):
+    """The buffer of a fault that has no words of its own here."""
+    number = re.search(r"(\d+)", fault)
+    field = offset_of(table, layout, int(number[1])) if number else None
+    if field is None:
+        return None
+    who = shown(table.text(int(number[1]), b"id"))
+    return f"{layout.at(field)}: offset: {shown(field.text)} of {who}: {fault}"
+
+
+def offset_of(table, layout, number):
+    """The field of a layout file that gives a buffer its offset, or None."""
+    who, row = table.text(number, b"id"), 0
+    while layout.row(row) is not None:
+        if layout.text(row, b"id") == who:
+            return layout.field(row, b"offset")
+        row += 1
+    return None
+
+
+def overlap_hint(table, layout, first, second, moment):
+    """Which two buffers share bytes, and when."""
+    said = []
+    for number in (first, second):
+        start = int(offset_of(table, layout, number).text)
+        end = start + table.number(number, b"size")
+        said.append(f"{shown(table.text(number, b'id'))} at {start}-{end}")
+    fields = [offset_of(table, layout, it) for it in (first, second)]
+    also = f" of line {fields[1].line}"
+    return f"{layout.at(fields[0])}: offset: {said[0]} and {said[1]}{also} share bytes at moment {moment}"

@@ -1,0 +1,44 @@
+"""Faults of words."""
+
+from .commands import NUMBERS, needed_options, options_of_commands
+from .texts import shown, nearest, why_no_number, WORD_LIMIT
+
+
+def word_hint(words):
+    """The command that is nearest to a word that is none."""
+    near = nearest(words[0], options_of_commands(), 2)
+    instead = f"; the nearest is {shown(near)}" if near else ""
+    return f"{shown(words[0])} is no command{instead}; 'dsaplan help' lists them"
+
+
+def usage_hint(call, fault):
+    """What is wrong with words, by the fault that the program prints."""
+    words, options = call.words, options_of_commands()
+    if fault == "no command":
+        return "no command; 'dsaplan help' lists them"
+    if fault == "unknown command":
+        return word_hint(words)
+    more = f"; see 'dsaplan help {call.command}'"
+    if fault == "same name":
+        names = [it for it in call.reads() + call.writes()]
+        one, other = next((a, b) for k, a in enumerate(names) for b in names[:k] if a[1] == b[1])
+        return f"{other[0]} and {one[0]} both name {shown(one[1])}"
+    kind, _, place = fault.rpartition(" ")
+    if kind == "missing":
+        return f"{call.command} needs {' '.join(it for it in needed_options(call.command) if it == place)}{more}"
+    word = words[int(place)]
+    if kind == "unknown option":
+        near = nearest(word, options[call.command], 3)
+        return f"{shown(word)} is no option of {call.command}" + (f"; the nearest is {near}" if near else "") + more
+    if kind == "repeated option":
+        return f"{word} stands twice"
+    if kind == "missing value":
+        return f"{word} is the last word, and has no value"
+    value = words[int(place) + 1]
+    why = why_no_number(value.encode(), WORD_LIMIT) if word in NUMBERS else "is no name of a file"
+    return f"{word}: {shown(value)} {why}"
+
+
+def count_hint(fault):
+    """A trial of too many buffers."""
+    return f"--count: '{fault}' is above 512, the most buffers of an instance"

@@ -1,0 +1,342 @@
+"""A hint for each fault that the program prints. A stub stands for the program: it prints the line of the case and ends
+with its status. Where the program is built, it must print that line itself."""
+
+import glob
+import os
+import re
+import stat
+import subprocess
+import tempfile
+import unittest
+
+TOOLS = os.path.dirname(os.path.dirname(os.path.abspath(__file__)))
+TOP = os.path.dirname(TOOLS)
+BUILT = f"{TOP}/crates/dsaplan/out/dsaplan"
+
+HEAD = "id,lower,upper,size,alignment,gaps\n"
+TWO = "id,lower,upper,size\nb1,0,3,4\nb2,2,9,4\n"
+LOG = "dsalog 1 2 7\nover 2 0 1 : 0=0 1=0\nend 0\n"
+BOUNDS = "bounds --input i"
+VERIFY = "verify --capacity 8 --input i --layout a"
+REFUTE = "refute --input i --log l"
+IMPORT = "import --trace t --output o"
+UNROLL = "unroll --period 10 --input i --output o"
+
+
+def row(text):
+    """An instance whose second row, on line 4, is this."""
+    return {"i": HEAD + "b0,0,5,1,,\n\n" + text + "\n"}
+
+
+def layout(text, instance=TWO):
+    return {"i": instance, "a": text}
+
+
+def log(text, instance=TWO):
+    return {"i": instance, "l": text}
+
+
+# What lies there, the words, the status, the printed line, and the hint.
+CASES = [
+    # words
+    ({}, "", 3, "usage no command", "no command; 'dsaplan help' lists them"),
+    ({}, "slove --input i", 3, "usage unknown command",
+     "'slove' is no command; the nearest is 'solve'; 'dsaplan help' lists them"),
+    ({}, "plan", 3, "usage unknown command", "'plan' is no command; 'dsaplan help' lists them"),
+    ({}, "bounds --inptu i", 3, "usage unknown option 1",
+     "'--inptu' is no option of bounds; the nearest is --input; see 'dsaplan help bounds'"),
+    ({}, "bounds --input i --input i", 3, "usage repeated option 3", "--input stands twice"),
+    ({}, "bounds --input", 3, "usage missing value 1", "--input is the last word, and has no value"),
+    ({}, "verify --capacity 4K --input i --layout a", 3, "usage bad value 1",
+     "--capacity: '4K' is no number of 1 to 20 digits"),
+    ({}, "verify --capacity 1152921504606846977 --input i --layout a", 3, "usage bad value 1",
+     "--capacity: '1152921504606846977' is above 2^60"),
+    ({}, ["bounds", "--input", ""], 3, "usage bad value 1", "--input: '' is no name of a file"),
+    ({}, "least --input i --output o", 3, "usage missing --log", "least needs --log; see 'dsaplan help least'"),
+    ({}, "least --input i --output o --log o", 3, "usage same name", "--output and --log both name 'o'"),
+    ({}, "trial --seed 1 --count 513 --steps 1", 3, "too many 513",
+     "--count: '513' is above 512, the most buffers of an instance"),
+    # headers of instances
+    ({"i": "\n"}, BOUNDS, 4, "malformed no header", "i: has no record; the first line is to be id,lower,upper,size"),
+    ({"i": "\ufeff\ufeffid,lower,upper,size\n"}, BOUNDS, 4, "malformed marked header",
+     "i:1: '\\ufeffid' begins with a second byte order mark; take it off"),
+    ({"i": "\nid,lower,upper,size,lower\n"}, BOUNDS, 4, "malformed duplicate column lower",
+     "i:2: lower: the columns 2 and 5 both have this name"),
+    ({"i": "id,lower,upper,size,offset\n"}, BOUNDS, 4, "malformed offset column",
+     "i:1: 'offset': a file with offsets is a layout and no instance; take the column off"),
+    ({"i": "id,lower,upper,sizes\n"}, BOUNDS, 4, "malformed missing column size",
+     ["i:1: the column 'sizes' is carried, and not read; 'size' would be",
+      "i:1: no column has the name size; 'sizes' is another name"]),
+    ({"i": "id,lower,upper,bytes\n"}, BOUNDS, 4, "malformed missing column size", "i:1: no column has the name size"),
+    # rows of instances
+    ({"i": "id,lower,upper,size\n" + "".join(f"b{k},0,1,1\n" for k in range(513))}, BOUNDS, 4,
+     "malformed too many buffers", "i:514: one buffer more than 512"),
+    (row("b1,0,1"), BOUNDS, 4, "malformed row 1 field count", "i:4: 3 fields, where the header has 6"),
+    (row('b1,0,1,1,,"0-1'), BOUNDS, 4, "malformed row 1 bad gap",
+     "i:4: gaps: '0-1\\n' has a piece that is no gap, as 4-6: two numbers of at most 2^62 - 1, pieces with one space"
+     " between"),
+    (row('"b1,0,1'), BOUNDS, 4, "malformed row 1 field count",
+     "i:4: 1 fields, where the header has 6 (a quote is not closed)"),
+    (row(",0,1,1,,"), BOUNDS, 4, "malformed row 1 empty id",
+     "i:4: id: '' is empty: an identifier has 1 to 255 bytes"),
+    (row("b" * 256 + ",0,1,1,,"), BOUNDS, 4, "malformed row 1 id too long",
+     f"i:4: id: '{'b' * 60}..' has more than 255 bytes"),
+    (row("b0,0,1,1,,"), BOUNDS, 4, "malformed row 1 duplicate id 0", "i:4: id: 'b0' stands on line 2 too"),
+    (row("b1,0,1,4K,,"), BOUNDS, 4, "malformed row 1 bad number size",
+     "i:4: size: '4K' is no number of 1 to 20 digits"),
+    (row("b1,0,4611686018427387904,1,,"), BOUNDS, 4, "malformed row 1 bad number upper",
+     "i:4: upper: '4611686018427387904' is above 2^62 - 1"),
+    (row('"b\n1",0,1,4K,,'), BOUNDS, 4, "malformed row 1 bad number size",
+     "i:5: size: '4K' is no number of 1 to 20 digits"),
+    (row("b1,0,9,1,,4-6  7-8"), BOUNDS, 4, "malformed row 1 bad gap",
+     "i:4: gaps: '4-6  7-8' has a piece that is no gap, as 4-6: two numbers of at most 2^62 - 1, pieces with one space"
+     " between"),
+    (row("b1,5,5,1,,"), BOUNDS, 4, "malformed row 1 empty lifetime", "i:4: upper: '5' is not above lower, '5'"),
+    (row("b1,0,1,0,,"), BOUNDS, 4, "malformed row 1 zero size", "i:4: size: '0' is no size of 1 to 2^40"),
+    (row("b1,0,1,1099511627777,,"), BOUNDS, 4, "malformed row 1 too large", "i:4: size: '1099511627777' is above 2^40"),
+    (row("b1,0,1,1,0,"), BOUNDS, 4, "malformed row 1 zero alignment",
+     "i:4: alignment: '0' is no alignment of 1 to 2^32"),
+    (row("b1,0,1,1,4294967297,"), BOUNDS, 4, "malformed row 1 alignment too large",
+     "i:4: alignment: '4294967297' is above 2^32"),
+    (row("b1,0,9,1,,1-2 4-4"), BOUNDS, 4, "malformed row 1 gap 1 empty",
+     "i:4: gaps: '4-4' does not end after it begins"),
+    (row("b1,0,9,1,,8-10"), BOUNDS, 4, "malformed row 1 gap 0 outside",
+     "i:4: gaps: '8-10' is not within the lifetime 0-9"),
+    (row("b1,0,99,1,," + " ".join(f"{k}-{k + 1}" for k in range(1, 18, 2))), BOUNDS, 4,
+     "malformed row 1 too many gaps", "i:4: gaps: '1-2 3-4 5-6 7-8 9-10 11-12 13-14 15-16 17-18' has more than 8 gaps"),
+    (row("b1,0,9,1,,0-9"), BOUNDS, 4, "malformed row 1 never live",
+     "i:4: gaps: '0-9' leaves no moment of the lifetime"),
+    ({**row("b1,0,1,4K,,"), "a": ""}, VERIFY, 4, "malformed row 1 bad number size",
+     "i:4: size: '4K' is no number of 1 to 20 digits"),
+    # plans by size class
+    (row("b1,0,9,1,4,"), "classes --input i --output o", 4, "not plain 1",
+     "i:4: alignment: '4': classes takes no alignment above 1"),
+    (row("b1,0,9,1,,2-3"), "classes --input i --output o", 4, "not plain 1",
+     "i:4: gaps: '2-3': classes takes no gaps"),
+    # rows with a period
+    (row("b1,10,3,1,,"), UNROLL, 4, "cycle row 1 outside", "i:4: lower: '10' is not below the period, 10"),
+    (row("b1,0,11,1,,"), UNROLL, 4, "cycle row 1 outside", "i:4: upper: '11' is above the period, 10"),
+    (row("b1,0,4K,1,,"), UNROLL, 4, "cycle row 1 bad number upper",
+     "i:4: upper: '4K' is no number of 1 to 20 digits"),
+    (row("b1,0,3,0,,"), UNROLL, 4, "cycle row 1 zero size", "i:4: size: '0' is no size of 1 to 2^40"),
+    # layout files
+    (layout("\n"), VERIFY, 1, "wrong no header", "a: has no record; the first line is to be id,lower,upper,size"),
+    (layout("id,offset,id\n"), VERIFY, 1, "wrong duplicate column id",
+     "a:1: id: the columns 1 and 3 both have this name"),
+    (layout("id,offsets\n"), VERIFY, 1, "wrong missing column offset",
+     "a:1: no column has the name offset; 'offsets' is another name"),
+    (layout("id,offset\nb1\n"), VERIFY, 1, "wrong row 0 field count", "a:2: 1 fields, where the header has 2"),
+    (layout("id,offset\nb3,0\n"), VERIFY, 1, "wrong row 0 unknown id", "a:2: id: 'b3' is no buffer of the input"),
+    (layout("id,offset\nb1,0\nb1,4\n"), VERIFY, 1, "wrong row 1 duplicate id 0",
+     "a:3: id: 'b1' stands on line 2 too"),
+    (layout("id,offset\nb1,-4\n"), VERIFY, 1, "wrong row 0 bad number offset",
+     "a:2: offset: '-4' is no number of 1 to 20 digits"),
+    (layout("id,offset\nb1,1152921504606846977\n"), VERIFY, 1, "wrong row 0 bad number offset",
+     "a:2: offset: '1152921504606846977' is above 2^60"),
+    (layout("id,offset\nb1,0\n"), VERIFY, 1, "wrong missing id 1", "a: no row has the id 'b2'"),
+    (layout("id,offset\nb0,0\nb1,3\n", row("b1,0,1,1,2,")["i"]), VERIFY, 1, "wrong unaligned 1",
+     "a:3: offset: '3' is no multiple of the alignment of 'b1', 2"),
+    (layout("id,offset\nb2,5\nb1,0\n"), VERIFY, 1, "wrong above 1",
+     "a:2: offset: '5' is too high: 'b2' ends at 9, above 8"),
+    (layout("id,offset\nb2,2\nb1,0\n"), VERIFY, 1, "wrong overlap 0 1 2",
+     "a:3: offset: 'b1' at 0-4 and 'b2' at 2-6 of line 2 share bytes at moment 2"),
+    (layout("id,offset\nb2,2\nb1,0\n"), "report --input i --layout a", 1, "wrong overlap 0 1 2",
+     "a:3: offset: 'b1' at 0-4 and 'b2' at 2-6 of line 2 share bytes at moment 2"),
+    (layout("id,offset\nb2,2\nb1,0\n"), "draw --input i --layout a --output p", 1, "wrong overlap 0 1 2",
+     "a:3: offset: 'b1' at 0-4 and 'b2' at 2-6 of line 2 share bytes at moment 2"),
+    # logs
+    (log("dsalog 1 2\n"), REFUTE, 1, "refused not a log",
+     "l:1: 'dsalog 1 2' is no header, as 'dsalog 1 COUNT CAPACITY'"),
+    (log("dsalog 3 2 7\nend 0\n"), REFUTE, 1, "refused version 3", "l:1: 'dsalog 3 2 7' has a version that is not read"),
+    (log(LOG[:-6]), REFUTE, 1, "refused no end", "l:2: the file ends without a line 'end K'"),
+    (log(LOG.replace("over", "under")), REFUTE, 1, "refused bad line 0",
+     "l:2: 'under 2 0 1 : 0=0 1=0' has the form of no line and of no end"),
+    (log(LOG.replace("0=0", "0=1152921504606846977")), REFUTE, 1, "refused number too large 0",
+     "l:2: 'over 2 0 1 : 0=1152921504606846977 1=0' has a number above its limit"),
+    (log(LOG.replace("0=0 1=0", "1=0 0=0")), REFUTE, 1, "refused not rising 0",
+     "l:2: 'over 2 0 1 : 1=0 0=0' has buffers that do not rise"),
+    (log(LOG + "end 0\n"), REFUTE, 1, "refused after end", "l:4: 'end 0' comes after the end"),
+    (log(LOG.replace("1 2 7", "1 3 7")), REFUTE, 1, "refused count 3 2", "l:1: 'dsalog 1 3 7' is of 3 buffers, where i has 2"),
+    (log(LOG.replace("1=0", "5=0")), REFUTE, 1, "refused line 0 buffer range 5",
+     "l:2: 'over 2 0 1 : 0=0 5=0': buffer 5: the claim names a buffer that the input does not have"),
+    (log(LOG.replace("2 0 1", "2 0 0")), REFUTE, 1, "refused line 0 zero modulus",
+     "l:2: 'over 2 0 0 : 0=0 1=0': the modulus is 0"),
+    (log(LOG.replace("2 0 1", "2 3 2")), REFUTE, 1, "refused line 0 not multiple",
+     "l:2: 'over 2 3 2 : 0=0 1=0': the height is no multiple of the modulus"),
+    (log(LOG.replace("2 0 1", "9 0 1")), REFUTE, 1, "refused line 0 empty set",
+     "l:2: 'over 9 0 1 : 0=0 1=0': no buffer of the claim is stacked at this moment from this height on"),
+    (log(LOG.replace("2 7", "2 8")), REFUTE, 1, "refused line 0 not over",
+     "l:2: 'over 2 0 1 : 0=0 1=0': what is stacked does not pass the capacity"),
+    (log(LOG.replace("end 0", "case : 0=0 1=0 : 0>0\nend 1")), REFUTE, 1, "refused line 1 cites differ",
+     "l:3: 'case : 0=0 1=0 : 0>0': the cites are not of just the buffers of the claim"),
+    (log(LOG.replace("end 0", "case : 0=0 1=0 : 0>1 1>0\nend 1")), REFUTE, 1, "refused line 1 not earlier 0",
+     "l:3: 'case : 0=0 1=0 : 0>1 1>0': buffer 0, 'b1': the line that is cited for it does not stand before this one"),
+    (log(LOG.replace("end 0", "case : 0=0 1=0 : 0>0 1>0\nend 1")), REFUTE, 1, "refused line 1 not covered 0",
+     "l:3: 'case : 0=0 1=0 : 0>0 1>0': buffer 0, 'b1': the line that is cited for it does not cover what is left where"
+     " it comes first"),
+    (log(LOG.replace("end 0", "case : 0=0 1=0 : 0<1 1<0\nend 1")), REFUTE, 1, "refused line 1 not below 0",
+     "l:3: 'case : 0=0 1=0 : 0<1 1<0': buffer 0, 'b1': the buffer that is cited for it is not in the claim, or does not"
+     " end below it"),
+    (log(LOG.replace("end 0", "case : 0=0 1=0 : 0~1 1~0\nend 1")), REFUTE, 1, "refused line 1 not twin 0",
+     "l:3: 'case : 0=0 1=0 : 0~1 1~0': buffer 0, 'b1': the buffer that is cited for it is not in the claim, or is no"
+     " twin before it"),
+    (log(LOG.replace("end 0", "end 1")), REFUTE, 1, "refused end 1", "l:3: 'end 1' names line 1, which is not there"),
+    (log(LOG.replace("0=0", "0=1")), "trim --input i --log l --output o", 1, "refused end 0 bound 0",
+     "l:3: 'end 0' names line 0, whose claim has a bound above 0 for buffer 0, 'b1'"),
+    (log("dsalog 2 2 7\nover 2 0 1 : 0=0 1=0\ncase ^5\nend 0\n"), "upgrade --input i --log l --output o", 1,
+     "refused bad base 1", "l:3: 'case ^5' names a base that is no earlier line"),
+    (log("dsalog 2 2 7\nover 2 0 1 : 0=0 1=0\ncase ^0 -7\nend 0\n"), REFUTE, 1, "refused bad change 1",
+     "l:3: 'case ^0 -7' has changes that its base does not allow"),
+    # traces
+    ({"t": "alloc a 4\n"}, IMPORT, 4, "trace bad line 0",
+     "t:1: 'alloc a 4' is neither 'alloc ID SIZE ALIGNMENT' nor 'free ID' with an end of line"),
+    ({"t": "alloc a 0 1\n"}, IMPORT, 4, "trace bad size 0", "t:1: 'alloc a 0 1' has a size that is not 1 to 2^40"),
+    ({"t": "alloc a 1 0\n"}, IMPORT, 4, "trace bad alignment 0",
+     "t:1: 'alloc a 1 0' has an alignment that is not 1 to 2^32"),
+    ({"t": "alloc a 1 1\nalloc a 1 1\n"}, IMPORT, 4, "trace still live 1 0",
+     "t:2: 'alloc a 1 1' allocates what line 1 holds"),
+    ({"t": "free a\n"}, IMPORT, 4, "trace not live 0", "t:1: 'free a' frees what is not live"),
+    ({"t": "".join(f"alloc {k} 1 1\n" for k in range(513))}, IMPORT, 4, "trace too many buffers 512",
+     "t:513: 'alloc 512 1 1' allocates one buffer more than an instance may have"),
+    # files
+    ({}, BOUNDS, 5, "unread --input", "--input: i is missing"),
+    ({"i": None}, BOUNDS, 5, "unread --input", "--input: i is a folder"),
+    ({"i": ""}, "bounds --input i/j", 5, "unread --input", "--input: i/j lies below what is no folder"),
+    ({"i": TWO}, VERIFY, 5, "unread --layout", "--layout: a is missing"),
+    ({"i": TWO, "o": None}, "least --input i --output o --log l", 5, "unwritten --output", "--output: o is a folder"),
+    ({"i": TWO}, "least --input i --output o --log f/l", 5, "unwritten --log",
+     "--log: f/l lies in f, which is no folder"),
+    ({"i": TWO}, "classes --input i --output /dev/full", 5, "unwritten --output",
+     "--output: /dev/full is no regular file, and took no text"),
+    ({"i": 67108865}, BOUNDS, 7, "too long --input", "--input: i has 67108865 bytes, where 67108864 are the most"),
+    # what prints nothing
+    ({"i": TWO}, BOUNDS, 6, "", "memory ran out"),
+    ({"i": TWO}, BOUNDS, 8, "", "the words are no UTF-8, or memory ran out while they were taken"),
+]
+
+# Words of the program's texts that no run prints, as FORMATS says.
+NEVER = {"count", "empty claim"}
+# Commands that the built program may not have yet, and faults that real runs do not show here.
+NOT_HAD = ("draw", "unroll", "upgrade")
+
+
+class Hints(unittest.TestCase):
+    def setUp(self):
+        self.folder = tempfile.TemporaryDirectory()
+        self.addCleanup(self.folder.cleanup)
+        self.work = f"{self.folder.name}/work"
+        os.mkdir(self.work)
+
+    def lay(self, files):
+        for name, text in files.items():
+            path = f"{self.work}/{name}"
+            if text is None:
+                os.mkdir(path)
+            elif isinstance(text, int):
+                with open(path, "wb") as file:
+                    file.truncate(text)
+            else:
+                with open(path, "w", encoding="utf-8", newline="") as file:
+                    file.write(text)
+
+    def stub(self, line, status):
+        path = f"{self.folder.name}/stub"
+        with open(path, "w", encoding="utf-8") as file:
+            file.write(f"#!/bin/sh\necho \"$@\" >>{self.folder.name}/asked\nprintf '%s\\n' '{line}'\nexit {status}\n")
+        os.chmod(path, 0o755)
+        return path
+
+    def hints(self, program, status, words):
+        how = {"cwd": self.work, "capture_output": True, "text": True, "check": False}
+        ran = subprocess.run([f"{TOOLS}/hints", program, str(status), *words], **how)
+        self.assertEqual(ran.stderr, "")
+        return ran.stdout.splitlines()
+
+    def asked(self):
+        path = f"{self.folder.name}/asked"
+        if not os.path.exists(path):
+            return ""
+        with open(path, encoding="utf-8") as file:
+            return file.read()
+
+    def left(self):
+        return sorted(os.listdir(self.work))
+
+    def test_each_fault_has_its_hint(self):
+        for files, words, status, line, hint in CASES:
+            words = words.split() if isinstance(words, str) else words
+            with self.subTest(line=line, words=words):
+                self.setUp()
+                self.lay(files)
+                before = self.left()
+                wanted = [f"dsaplan: {it}" for it in ([hint] if isinstance(hint, str) else hint)]
+                self.assertEqual(self.hints(self.stub(line, status), status, words), wanted)
+                self.assertEqual(self.left(), before)
+
+    @unittest.skipUnless(os.access(BUILT, os.X_OK), "the program is not built")
+    def test_the_program_prints_these_faults(self):
+        for files, words, status, line, _ in CASES:
+            words = words.split() if isinstance(words, str) else words
+            if not line or (words and words[0] in NOT_HAD) or "base" in line or "change" in line:
+                continue
+            with self.subTest(line=line, words=words):
+                self.setUp()
+                self.lay(files)
+                how = {"cwd": self.work, "capture_output": True, "text": True, "check": False}
+                ran = subprocess.run([BUILT, *words], **how)
+                self.assertEqual((ran.stdout, ran.returncode), (f"{line}\n", status))
+
+    def test_no_fault_is_left_out(self):
+        said = "\n".join(case[3] for case in CASES)
+        for path in glob.glob(f"{TOP}/crates/*/specs/*Texts.antt"):
+            if os.path.basename(path) not in ("FaultTexts.antt", "ReasonTexts.antt"):
+                continue
+            with open(path, encoding="utf-8") as file:
+                for word in re.findall(r'codes "([a-z ]+)"', file.read()):
+                    if word.strip() not in NEVER and word.strip() not in ("row", "gap", "line", "outside"):
+                        with self.subTest(path=path, word=word):
+                            self.assertRegex(said, rf"\b{word.strip()}\b")
+
+    def test_a_command_that_writes_is_not_made_again(self):
+        self.lay(row("b1,0,1,4K,,"))
+        self.hints(self.stub("malformed row 1 bad number size", 4), 4, "least --input i --output o --log l".split())
+        self.assertEqual(self.asked(), "bounds --input i\n")
+
+    def test_an_answer_that_is_no_fault_has_no_hint(self):
+        self.lay({"i": TWO})
+        for words in ("solve --capacity 7 --input i --output o --log l", "core --capacity 7 --input i --output o --log l"):
+            self.assertEqual(self.hints(self.stub("infeasible 7", 1), 1, words.split()), [])
+        self.assertEqual(self.hints(self.stub("open 7 8", 2), 2, "least --input i --output o --log l".split()), [])
+        self.assertEqual(self.asked(), "")
+
+    def test_a_pipe_is_not_read_again(self):
+        os.mkfifo(f"{self.work}/i")
+        self.assertTrue(stat.S_ISFIFO(os.stat(f"{self.work}/i").st_mode))
+        self.assertEqual(self.hints(self.stub("malformed no header", 4), 4, BOUNDS.split()), [])
+        self.assertEqual(self.hints(self.stub("", 0), 0, BOUNDS.split()), [])
+        self.assertEqual(self.asked(), "")
+
+    def test_a_column_that_may_be_misspelt_is_told(self):
+        for header, near in [
+            ("id,lower,upper,size,Alignment", "alignment"),
+            ("id,lower,upper,size,align", "alignment"),
+            ("id,lower,upper,size,alignement", "alignment"),
+            ("id,lower,upper,size, gaps", "gaps"),
+            ("id,lower,upper,size,gap", "gaps"),
+            ("id,lower,upper,size,sizes", "size"),
+            ("id,lower,upper,size,Size", "size"),
+        ]:
+            with self.subTest(header=header):
+                self.setUp()
+                self.lay({"i": f"{header}\n"})
+                name = header.split(",")[-1]
+                wanted = f"dsaplan: i:1: the column '{name}' is carried, and not read; '{near}' would be"
+                self.assertEqual(self.hints(self.stub("", 0), 0, BOUNDS.split()), [wanted])
+
+    def test_other_columns_are_carried_without_a_word(self):
+        self.lay({"i": "id,lower,upper,size,alignment,gaps,name,kind,layer,lowest,note,op,stage\n"})
+        self.assertEqual(self.hints(self.stub("", 0), 0, BOUNDS.split()), [])
+
+
+if __name__ == "__main__":
+    unittest.main()
