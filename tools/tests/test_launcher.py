@@ -1,0 +1,218 @@
+"""The launcher, over a copy of it with a stub for the program and one for rt."""
+
+import os
+import re
+import shutil
+import signal
+import subprocess
+import tempfile
+import time
+import unittest
+
+TOOLS = os.path.dirname(os.path.dirname(os.path.abspath(__file__)))
+TOP = os.path.dirname(TOOLS)
+MALFORMED = "malformed row 0 bad number size"
+RT = """#!/bin/bash
+echo "$*" >>"$RT_ASKED"
+case $1 in
+version) echo 'rattle-kit-0 logic 0123' ;;
+all) printf '== low\\nproved\\n== high\\n== dsaplan\\n== summary\\nlow: ok\\n' ;;
+run) if [ "${RT_FAILS-}" ]; then echo 'a proof fails'; exit 1; fi
+    mkdir -p out && cp ../../stub out/dsaplan; exit 3 ;;
+esac
+"""
+
+
+class Launcher(unittest.TestCase):
+    def setUp(self):
+        folder = tempfile.TemporaryDirectory()
+        self.addCleanup(folder.cleanup)
+        self.top = f"{folder.name}/top"
+        self.work = f"{folder.name}/work"
+        for name in (f"{self.top}/crates/dsaplan/src", self.work, f"{folder.name}/bin"):
+            os.makedirs(name)
+        shutil.copy(f"{TOP}/dsaplan", self.top)
+        shutil.copytree(TOOLS, f"{self.top}/tools", ignore=shutil.ignore_patterns("__pycache__"))
+        self.write(f"{self.top}/crates.txt", "dsaplan: high std\nhigh: low csv  # above\nlow:\nother: low\n")
+        self.write(f"{self.top}/crates/dsaplan/src/main.rt", "fn main() {}\n")
+        self.write(f"{folder.name}/bin/rt", RT, 0o755)
+        self.write(f"{self.work}/i", "id,lower,upper,size\nb1,0,3,4K\n")
+        self.program = f"{self.top}/crates/dsaplan/out/dsaplan"
+        self.environment = {
+            **os.environ,
+            "PATH": f"{folder.name}/bin:{os.environ['PATH']}",
+            "RT_ASKED": f"{folder.name}/asked",
+        }
+        self.environment.pop("DSAPLAN_HINTS", None)
+        self.asked = f"{folder.name}/asked"
+
+    def write(self, path, text, mode=0o644):
+        with open(path, "w", encoding="utf-8") as file:
+            file.write(text)
+        os.chmod(path, mode)
+
+    def stand_in(self, script):
+        """Puts a script in the program's place, newer than all sources."""
+        os.makedirs(os.path.dirname(self.program), exist_ok=True)
+        self.write(self.program, f"#!/bin/bash\n{script}\n", 0o755)
+
+    def run_it(self, *words, before="", environment=(), **how):
+        command = f'{before} exec "$0" "$@"' if before else 'exec "$0" "$@"'
+        how = {"capture_output": True, "text": True, "cwd": self.work, "check": False, **how}
+        environment = {**self.environment, **dict(environment)}
+        return subprocess.run(["bash", "-c", command, f"{self.top}/dsaplan", *words], env=environment, **how)
+
+    def test_help_tells_the_commands(self):
+        for words in (["--help"], ["-h"], ["help"]):
+            ran = self.run_it(*words)
+            self.assertEqual((ran.returncode, ran.stderr), (0, ""))
+            for command in self.forms():
+                self.assertRegex(ran.stdout, rf"(?m)^  {command} +[a-z]")
+        self.assertFalse(os.path.exists(self.asked), "help builds nothing")
+
+    def test_help_tells_of_one_command(self):
+        for command in self.forms():
+            ran = self.run_it("help", command)
+            self.assertEqual((ran.returncode, ran.stderr), (0, ""))
+            self.assertTrue(ran.stdout.startswith(f"dsaplan {command} --"))
+
+    def test_help_of_another_word_names_the_nearest(self):
+        ran = self.run_it("help", "slove")
+        self.assertEqual((ran.returncode, ran.stdout), (3, ""))
+        self.assertIn("the nearest is 'solve'", ran.stderr)
+
+    def forms(self):
+        """The options of each command, as the definitions have them: those that are needed and those that are not."""
+        with open(f"{TOP}/crates/command_words/specs/Forms.antt", encoding="utf-8") as file:
+            text = file.read()
+        forms = {}
+        for command, needed, optional in re.findall(
+            r'word = codes "(\w+)";\s+needed = (.*?);\s+optional = (.*?);', text
+        ):
+            forms[command] = [
+                [f"--{it.lower()}" for it in re.findall(r"[A-Z]\w+", options)] for options in (needed, optional)
+            ]
+        return forms
+
+    def test_help_has_the_options_of_the_definitions(self):
+        with open(f"{TOOLS}/help.txt", encoding="utf-8") as file:
+            said = dict(re.findall(r"^dsaplan ([a-z]+) (--.*)$", file.read(), re.M))
+        self.assertEqual(sorted(said), sorted(self.forms()))
+        for command, (needed, optional) in self.forms().items():
+            without = re.sub(r"\[.*?\]", "", said[command])
+            self.assertEqual(re.findall(r"--\w+", without), needed, command)
+            self.assertEqual(re.findall(r"\[(--\w+) \w\]", said[command]), optional, command)
+
+    def test_a_build_says_how_far_it_is_and_notes_the_toolchain(self):
+        self.write(f"{self.top}/stub", "#!/bin/sh\necho right\n", 0o755)
+        ran = self.run_it("verify", environment={"DSAPLAN_JOBS": "2"})
+        self.assertEqual((ran.returncode, ran.stdout), (0, "right\n"))
+        self.assertEqual(
+            ran.stderr.splitlines()[1:],
+            [
+                "dsaplan: 0 of 3 crates proved; proving low",
+                "dsaplan: 1 of 3 crates proved; proving high",
+                "dsaplan: 2 of 3 crates proved; proving dsaplan",
+            ],
+        )
+        with open(self.asked, encoding="utf-8") as file:
+            self.assertEqual(file.read().splitlines()[:2], ["all check --jobs 2", "run"])
+        version = self.run_it("--version")
+        self.assertEqual((version.returncode, version.stderr), (0, ""))
+        self.assertRegex(version.stdout, r"\Adsaplan commit \S+\nproved with rattle-kit-0 logic 0123\n\Z")
+        again = self.run_it("verify")
+        self.assertEqual((again.returncode, again.stdout, again.stderr), (0, "right\n", ""))
+
+    def test_a_build_that_fails_ends_with_9(self):
+        ran = self.run_it("verify", environment={"RT_FAILS": "1"})
+        self.assertEqual((ran.returncode, ran.stdout), (9, ""))
+        self.assertIn("a proof fails", ran.stderr)
+        self.assertIn("not built", self.run_it("--version").stdout)
+
+    def test_a_newer_source_is_built_again(self):
+        self.stand_in("echo old")
+        later = time.time() + 5
+        os.utime(f"{self.top}/crates/dsaplan/src/main.rt", (later, later))
+        self.write(f"{self.top}/stub", "#!/bin/sh\necho new\n", 0o755)
+        self.assertEqual(self.run_it("verify").stdout, "new\n")
+
+    def test_hints_change_neither_output_nor_status(self):
+        self.stand_in(f"echo '{MALFORMED}'; exit 4")
+        with_hints = self.run_it("bounds", "--input", "i")
+        without = self.run_it("bounds", "--input", "i", environment={"DSAPLAN_HINTS": "0"})
+        self.assertEqual((with_hints.stdout, with_hints.returncode), (without.stdout, without.returncode))
+        self.assertEqual(with_hints.stdout, f"{MALFORMED}\n")
+        self.assertEqual(with_hints.stderr, "dsaplan: i:2: size: '4K' is no number of 1 to 20 digits\n")
+        self.assertEqual(without.stderr, "")
+
+    def test_a_misspelt_column_is_told_where_all_is_well(self):
+        self.write(f"{self.work}/i", "id,lower,upper,size,align\nb1,0,3,4,8\n")
+        self.stand_in("echo 'least 4'")
+        ran = self.run_it("least", "--input", "i", "--output", "o", "--log", "l")
+        self.assertEqual((ran.returncode, ran.stdout), (0, "least 4\n"))
+        self.assertIn("'align' is carried, and not read; 'alignment' would be", ran.stderr)
+
+    def test_without_python_there_is_no_hint(self):
+        self.stand_in(f"echo '{MALFORMED}'; exit 4")
+        found = f"{self.work}/found"
+        os.mkdir(found)
+        for name in ("bash", "sh", "env", "dirname", "readlink", "find", "awk", "setpriv", "true"):
+            path = shutil.which(name)
+            if path:
+                os.symlink(path, f"{found}/{name}")
+        ran = self.run_it("bounds", "--input", "i", environment={"PATH": found})
+        self.assertEqual((ran.stdout, ran.returncode, ran.stderr), (f"{MALFORMED}\n", 4, ""))
+
+    def test_output_that_is_closed_or_full_stays_so(self):
+        self.stand_in("echo right || exit 5")
+        for before in ("exec >&-;", "exec >/dev/full;"):
+            for hints in ("0", "1"):
+                ran = self.run_it("verify", before=before, environment={"DSAPLAN_HINTS": hints})
+                self.assertEqual((ran.returncode, ran.stdout), (5, ""))
+
+    def test_standard_input_is_the_caller_s(self):
+        self.stand_in("cat")
+        self.assertEqual(self.run_it("verify", input="all of it").stdout, "all of it")
+
+    def test_words_come_as_they_are(self):
+        self.stand_in("printf '%s.' \"$@\"")
+        self.assertEqual(self.run_it("a b", "", "*", "--input").stdout, "a b..*.--input.")
+
+    def test_a_signal_that_ends_the_program_ends_the_launcher(self):
+        for number in (signal.SIGXFSZ, signal.SIGKILL, signal.SIGTERM):
+            self.stand_in(f"kill -{number.value} $$")
+            for hints in ("0", "1"):
+                ran = self.run_it("verify", environment={"DSAPLAN_HINTS": hints})
+                self.assertEqual((ran.returncode, ran.stdout, ran.stderr), (-number.value, "", ""))
+
+    @unittest.skipUnless(shutil.which("setpriv"), "there is no setpriv")
+    def test_a_launcher_that_is_killed_takes_the_program_along(self):
+        self.stand_in(f"echo $$ >{self.work}/number; exec sleep 60")
+        run = subprocess.Popen([f"{self.top}/dsaplan", "verify"], env=self.environment, cwd=self.work)
+        number = self.wait_for(self.number_told)
+        run.kill()
+        run.wait()
+        self.wait_for(lambda: not os.path.exists(f"/proc/{number}") or self.is_dead(number))
+
+    def number_told(self):
+        with open(f"{self.work}/number", encoding="utf-8") as file:
+            return file.read().strip()
+
+    def is_dead(self, number):
+        with open(f"/proc/{number}/stat", encoding="utf-8") as file:
+            return file.read().split()[2] == "Z"
+
+    def wait_for(self, test):
+        for _ in range(200):
+            try:
+                found = test()
+            except OSError:
+                found = None
+            if found:
+                return found
+            time.sleep(0.05)
+        self.fail("it did not come")
+
+
+if __name__ == "__main__":
+    unittest.main()
