@@ -30,8 +30,8 @@ def why_unread(name):
         if stat.S_ISDIR(mode):
             return REASONS[errno.EISDIR]
         if stat.S_ISREG(mode):
-            with open(name, "rb"):
-                pass
+            with open(name, "rb") as file:
+                file.read(1)
     except OSError as fault:
         return REASONS.get(fault.errno, f"cannot be read: {os.strerror(fault.errno or 0)}")
     return ""

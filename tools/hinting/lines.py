@@ -26,12 +26,18 @@ REASONS = {
     "not twin": "the buffer that is cited for it is not in the claim, or is no twin before it",
 }
 TRACE_TEXTS = {
-    "bad line": "is neither 'alloc ID SIZE ALIGNMENT' nor 'free ID' with an end of line",
+    "bad line": "is neither 'alloc ID SIZE ALIGNMENT' nor 'free ID'",
     "bad size": "has a size that is not 1 to 2^40",
     "bad alignment": "has an alignment that is not 1 to 2^32",
     "not live": "frees what is not live",
     "too many buffers": "allocates one buffer more than an instance may have",
 }
+
+
+def is_cut_short(name, number):
+    """Whether a file's line, from 1, lacks its end."""
+    with open(name, "rb") as file:
+        return next((not text.endswith(b"\n") for place, text in enumerate(file, 1) if place == number), False)
 
 
 def line_of(name, number):
@@ -89,7 +95,9 @@ def log_hint(table, name, fault):
         return f"{at(name, end_line(name))} {why}"
     text = re.fullmatch(r"([a-z ]+) (\d+)", fault)
     if text:
-        return f"{at(name, int(text[2]) + 2)} {LOG_TEXTS.get(text[1], text[1])}"
+        number = int(text[2]) + 2
+        why = "has no end of line" if is_cut_short(name, number) else LOG_TEXTS.get(text[1], text[1])
+        return f"{at(name, number)} {why}"
     return None
 
 
@@ -99,4 +107,9 @@ def trace_hint(name, fault):
     if live:
         return f"{at(name, int(live[1]) + 1)} allocates what line {int(live[2]) + 1} holds"
     text = re.fullmatch(r"([a-z ]+) (\d+)", fault)
-    return f"{at(name, int(text[2]) + 1)} {TRACE_TEXTS.get(text[1], text[1])}" if text else None
+    if text:
+        number = int(text[2]) + 1
+        is_short = text[1] == "bad line" and is_cut_short(name, number)
+        why = "has no end of line" if is_short else TRACE_TEXTS.get(text[1], text[1])
+        return f"{at(name, number)} {why}"
+    return None

@@ -14,17 +14,16 @@ VALUES = {
     "too large": ("size", "is above 2^40"),
     "zero alignment": ("alignment", "is no alignment of 1 to 2^32"),
     "alignment too large": ("alignment", "is above 2^32"),
-    "bad gap": ("gaps", "has a piece that is no gap, as 4-6: two numbers of at most 2^62 - 1, pieces with one space between"),
     "too many gaps": ("gaps", "has more than 8 gaps"),
     "never live": ("gaps", "leaves no moment of the lifetime"),
 }
 
 
-def header_hint(table, fault):
+def header_hint(table, fault, wanted="id,lower,upper,size"):
     """Where the fault of a header is, or None where the fault is none of a header."""
     name, names = table.name, table.names()
     if fault == "no header":
-        return f"{name}: has no record; the first line is to be id,lower,upper,size"
+        return f"{name}: has no record; the first line is to be {wanted}"
     if fault == "marked header":
         return f"{name}:1: {shown(names[0])} begins with a second byte order mark; take it off"
     if fault == "offset column":
@@ -76,6 +75,9 @@ def row_hint(table, number, fault):
     if fault == "empty lifetime":
         field, lower = table.field(number, b"upper"), table.text(number, b"lower")
         return f"{table.at(field)}: upper: {shown(field.text)} is not above lower, {shown(lower)}"
+    if fault == "bad gap":
+        field = table.field(number, b"gaps")
+        return f"{table.at(field)}: gaps: {shown(field.text)}: {why_no_gaps(field.text)}"
     gap = re.fullmatch(r"gap (\d+) (empty|outside)", fault)
     if gap:
         return gap_hint(table, number, int(gap[1]), gap[2])
@@ -84,6 +86,17 @@ def row_hint(table, number, fault):
         field = table.field(number, column.encode())
         return f"{table.at(field)}: {column}: {shown(field.text)} {why}"
     return f"{table.at(table.row(number)[0])}: {shown(table.text(number, b'id'))}: {fault}"
+
+
+def why_no_gaps(field):
+    """What keeps a field from being gaps."""
+    for piece in field.split(b" "):
+        numbers = piece.split(b"-")
+        if len(numbers) != 2 or not all(re.fullmatch(rb"[0-9]{1,20}", it) for it in numbers):
+            return f"{shown(piece)} is no gap as 4-6, and there is one space between two"
+        if any(int(it) > TIME_LIMIT for it in numbers):
+            return f"{shown(piece)} has a number above 2^62 - 1"
+    return "these are no gaps as 4-6 8-9"
 
 
 def gap_hint(table, number, gap, kind):
@@ -138,7 +151,7 @@ def layout_hint(table, layout, capacity, fault):
         return f"{layout.name}: no row has the id {shown(table.text(int(missing[1]), b'id'))}"
     judged = re.fullmatch(r"(unaligned|above|overlap) (\d+)(?: (\d+) (\d+))?", fault)
     if not judged:
-        return header_hint(layout, fault) or buffer_hint(table, layout, fault)
+        return header_hint(layout, fault, "id,offset") or buffer_hint(table, layout, fault)
     if judged[1] == "overlap":
         return overlap_hint(table, layout, int(judged[2]), int(judged[3]), int(judged[4]))
     number = int(judged[2])
