@@ -90,9 +90,10 @@ def log_hint(table, name, fault):
         return f"{at(name, int(legal[1]) + 2)}: {who}{': ' if who else ''}{why}"
     end = re.fullmatch(r"end (\d+)(?: (?:\w+) (\d+))?", fault)
     if end:
-        why = f"claim has a bound above 0 for buffer {end[2]}, {shown(table.text(int(end[2]), b'id'))}" if end[2] else ""
-        why = f"names line {end[1]}, whose {why}" if end[2] else f"names line {end[1]}, which is not there"
-        return f"{at(name, end_line(name))} {why}"
+        why = "which is not there"
+        if end[2]:
+            why = f"whose claim has a bound above 0 for buffer {end[2]}, {shown(table.text(int(end[2]), b'id'))}"
+        return f"{at(name, end_line(name))} names line {end[1]}, {why}"
     text = re.fullmatch(r"([a-z ]+) (\d+)", fault)
     if text:
         number = int(text[2]) + 2

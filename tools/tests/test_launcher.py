@@ -170,6 +170,12 @@ class Launcher(unittest.TestCase):
                 ran = self.run_it("verify", before=before, environment={"DSAPLAN_HINTS": hints})
                 self.assertEqual((ran.returncode, ran.stdout), (5, ""))
 
+    def test_standard_error_that_is_closed_or_full_changes_nothing(self):
+        self.stand_in(f"echo '{MALFORMED}'; exit 4")
+        for before in ("exec 2>&-;", "exec 2>/dev/full;"):
+            ran = self.run_it("bounds", "--input", "i", before=before)
+            self.assertEqual((ran.returncode, ran.stdout), (4, f"{MALFORMED}\n"))
+
     def test_standard_input_is_the_caller_s(self):
         self.stand_in("cat")
         self.assertEqual(self.run_it("verify", input="all of it").stdout, "all of it")
