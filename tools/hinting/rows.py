@@ -3,7 +3,7 @@
 import re
 
 from .tables import LONGEST_NAME, MOST_NAMES, READ, is_near, is_same_word
-from .texts import TIME_LIMIT, WORD_LIMIT, shown, why_no_number
+from .texts import MOST_BUFFERS, MOST_GAPS, TIME_LIMIT, WORD_LIMIT, shown, why_no_number
 
 LIMITS = {"lower": TIME_LIMIT, "upper": TIME_LIMIT, "size": TIME_LIMIT, "alignment": TIME_LIMIT}
 # What is wrong with the value of one column.
@@ -14,7 +14,7 @@ VALUES = {
     "too large": ("size", "is above 2^40"),
     "zero alignment": ("alignment", "is no alignment of 1 to 2^32"),
     "alignment too large": ("alignment", "is above 2^32"),
-    "too many gaps": ("gaps", "has more than 8 gaps"),
+    "too many gaps": ("gaps", f"has more than {MOST_GAPS} gaps"),
     "never live": ("gaps", "leaves no moment of the lifetime"),
 }
 
@@ -114,8 +114,9 @@ def instance_hint(table, fault):
     if row:
         return row_hint(table, int(row[1]), row[2])
     if fault == "too many buffers":
-        row = table.row(512)
-        return f"{table.at(row[0])}: one buffer more than 512" if row else f"{table.name}: more buffers than may be"
+        row = table.row(MOST_BUFFERS)
+        at = table.at(row[0]) if row else table.name
+        return f"{at}: one buffer more than {MOST_BUFFERS}"
     return header_hint(table, fault)
 
 

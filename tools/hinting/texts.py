@@ -3,8 +3,11 @@
 import re
 
 NUMBER = re.compile(rb"[0-9]{1,20}")
+# The limits of docs/FORMATS.md that a run's line does not tell.
 TIME_LIMIT = 2**62 - 1
 WORD_LIMIT = 2**60
+MOST_BUFFERS = 512
+MOST_GAPS = 8
 
 
 def shown(text, most=60):

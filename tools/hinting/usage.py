@@ -1,7 +1,7 @@
 """Faults of words."""
 
 from .commands import NUMBERS, needed_options, options_of_commands
-from .texts import shown, nearest, why_no_number, WORD_LIMIT
+from .texts import MOST_BUFFERS, WORD_LIMIT, nearest, shown, why_no_number
 
 
 def word_hint(words):
@@ -41,4 +41,4 @@ def usage_hint(call, fault):
 
 def count_hint(fault):
     """A trial of too many buffers."""
-    return f"--count: '{fault}' is above 512, the most buffers of an instance"
+    return f"--count: '{fault}' is above {MOST_BUFFERS}, the most buffers of an instance"
