@@ -1,0 +1,46 @@
+"""The documents name the commands that there are, and their links lead somewhere."""
+
+import glob
+import os
+import re
+import unittest
+
+TOP = os.path.dirname(os.path.dirname(os.path.dirname(os.path.abspath(__file__))))
+PAGES = ["README.md", "examples/README.md", "bench/README.md", *(os.path.relpath(it, TOP) for it in glob.glob(f"{TOP}/docs/*.md"))]
+
+
+def text_of(name):
+    with open(f"{TOP}/{name}", encoding="utf-8") as file:
+        return file.read()
+
+
+def anchors(name):
+    heads = re.findall(r"(?m)^#+ (.*)$", text_of(name))
+    return {re.sub(r"[^a-z0-9 _-]", "", it.lower()).replace(" ", "-") for it in heads}
+
+
+class Documents(unittest.TestCase):
+    def test_help_readme_and_formats_have_the_same_commands(self):
+        options = dict(re.findall(r"(?m)^dsaplan ([a-z]+) (--.*)$", text_of("tools/help.txt")))
+        formats = dict(re.findall(r"(?m)^    ([a-z]+) (--.*)$", text_of("docs/FORMATS.md").split("## The launcher")[0]))
+        readme = re.findall(r"(?m)^\| `([a-z]+)` \|", text_of("README.md"))
+        self.assertEqual(formats, options)
+        self.assertEqual(sorted(readme), sorted(options))
+
+    def test_links_lead_somewhere(self):
+        for page in PAGES:
+            for target in re.findall(r"(?<!!)\[[^\]]*\]\(([^)]+)\)", text_of(page)):
+                name, _, anchor = target.partition("#")
+                with self.subTest(page=page, target=target):
+                    path = os.path.normpath(os.path.join(os.path.dirname(page), name)) if name else page
+                    self.assertTrue(os.path.exists(f"{TOP}/{path}"))
+                    self.assertTrue(not anchor or anchor in anchors(path))
+
+    def test_the_log_that_is_explained_is_the_one_of_the_row(self):
+        log = text_of("rows/a_log_that_is_explained/before/l").splitlines()
+        shown = text_of("docs/FORMATS.md").split("## A log explained")[1].split("\n## ")[0]
+        self.assertEqual([it[4:] for it in re.findall(r"(?m)^    (?:dsalog|over|case|end) .*$", shown)], log)
+
+
+if __name__ == "__main__":
+    unittest.main()
