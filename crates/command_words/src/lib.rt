@@ -11,8 +11,6 @@ mod option;
 mod pair;
 mod read;
 mod request;
-#[cfg(test)]
-mod tests;
 mod value;
 mod verb;
 

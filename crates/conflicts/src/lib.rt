@@ -11,6 +11,3 @@ mod stack;
 
 pub use easing::ease;
 pub use lemmas::Lemmas;
-
-#[cfg(test)]
-mod tests;

@@ -7,8 +7,6 @@ mod orders;
 mod places;
 mod spans;
 mod start_list;
-#[cfg(test)]
-mod tests;
 
 pub use fits::{best_fit, first_fit};
 pub use start_list::{Start, best_start, first_within, starts};

@@ -65,36 +65,3 @@ pub fn bounds_report(alloc: Global, facts: &Facts) -> Result<Vec<u8>, NoMemory>
     let text = format!(in alloc; "{first}{rest}")?;
     Ok(text.into_bytes())
 }
-
-#[cfg(test)]
-mod tests {
-    use super::*;
-
-    #[test]
-    fn a_report_has_a_line_for_each_fact(rt: HostRuntime) {
-        let four = Facts {
-            buffers: 4,
-            peak: Some((2, 4)),
-            parts: 2,
-            bound: 4,
-            modulus: 1,
-            best: 5,
-        };
-        let none = Facts {
-            buffers: 0,
-            peak: None,
-            parts: 0,
-            bound: 0,
-            modulus: 1,
-            best: 0,
-        };
-        let cases = [
-            (four, "buffers 4\npeak 2 4\nparts 2\nbound 4 1\nbest 5\n"),
-            (none, "buffers 0\npeak none\nparts 0\nbound 0 1\nbest 0\n"),
-        ];
-        for (facts, text) in cases {
-            let report = bounds_report(rt.alloc(), &facts).expect(&rt, "memory");
-            assert_eq!(rt; report.as_slice(), text.as_bytes());
-        }
-    }
-}

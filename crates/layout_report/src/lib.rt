@@ -6,8 +6,6 @@ mod layout;
 mod row;
 mod row_list;
 mod row_text;
-#[cfg(test)]
-mod tests;
 
 pub use facts::{Facts, bounds_report};
 pub use layout::report;

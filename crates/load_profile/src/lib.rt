@@ -3,7 +3,5 @@
 
 mod loads;
 mod profile;
-#[cfg(test)]
-mod tests;
 
 pub use profile::Profile;

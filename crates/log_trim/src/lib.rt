@@ -6,6 +6,3 @@ mod moving;
 mod trimming;
 
 pub use trimming::trim;
-
-#[cfg(test)]
-mod tests;

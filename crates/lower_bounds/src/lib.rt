@@ -5,8 +5,6 @@ mod highest;
 mod moduli;
 mod one_line;
 mod stacks;
-#[cfg(test)]
-mod tests;
 mod value;
 
 pub use highest::bound;

@@ -5,7 +5,5 @@
 mod draws;
 mod made;
 mod row;
-#[cfg(test)]
-mod tests;
 
 pub use made::{MakeFault, make};

@@ -3,4 +3,3 @@ pub mod Narrowing
 pub mod Counting
 pub mod ExampleFacts
 mod NarrowFacts
-mod PreparedFacts

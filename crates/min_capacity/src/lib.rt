@@ -3,8 +3,6 @@
 
 mod brackets;
 mod halving;
-#[cfg(test)]
-mod tests;
 
 pub use brackets::{Bracket, Least};
 pub use halving::least;

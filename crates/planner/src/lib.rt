@@ -11,8 +11,6 @@ mod one_stack;
 mod planning;
 mod searching;
 mod starting;
-#[cfg(test)]
-mod tests;
 
 pub use decision::Decision;
 pub use instance_facts::facts_of;

@@ -9,8 +9,6 @@ mod plan;
 mod pool;
 mod rows;
 mod sizes;
-#[cfg(test)]
-mod tests;
 mod turns;
 
 pub use colouring::slots;

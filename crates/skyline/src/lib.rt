@@ -8,6 +8,3 @@ mod rows;
 mod sky;
 
 pub use sky::Skyline;
-
-#[cfg(test)]
-mod tests;

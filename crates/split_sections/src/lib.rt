@@ -4,8 +4,6 @@
 
 mod part_list;
 mod split;
-#[cfg(test)]
-mod tests;
 
 pub use part_list::Parts;
 pub use split::parts;

@@ -10,8 +10,6 @@ mod line;
 mod read;
 mod request;
 mod split;
-#[cfg(test)]
-mod tests;
 mod trace;
 
 pub use fault::TraceFault;

@@ -1,0 +1,43 @@
+//! Each call that takes memory, with memory.
+
+use canonical_order::Claim;
+use dsa_model::{BUFFER_LIMIT, Buffer, Fail, Instance};
+use refute_log::{Cite, Cites, Line, Log, Reason};
+
+#[test]
+fn a_log_takes_legal_lines_and_closes_at_a_whole_claim(rt: HostRuntime) {
+    let alloc = rt.alloc();
+    let mut three = Instance::new(alloc);
+    for alignment in [2, 2, 1] {
+        let buffer = Buffer::new(alloc, 0, 1, 3 - alignment, alignment, &[]).expect(&rt, "memory");
+        if three.len() < BUFFER_LIMIT {
+            three.push(buffer).expect(&rt, "memory");
+        }
+    }
+    let mut log = Log::new(alloc, &three, 3);
+    let claim = Claim::whole(alloc, &[0, 1, 2]).expect(&rt, "memory");
+    let line = Line::Over {
+        claim,
+        moment: 0,
+        height: 0,
+        modulus: 1,
+    };
+    let copied = line.copy(alloc).expect(&rt, "memory");
+    let first = log.push(&three, copied);
+    assert_eq!(rt; first, Ok(0));
+    let claim = Claim::from_pairs(alloc, &[(1, 1), (2, 1)]).expect(&rt, "memory");
+    let cites = Cites::from_vec(
+        [Cite::Line(0), Cite::Below(1)]
+            .to_vec(alloc)
+            .expect(&rt, "memory"),
+    );
+    let line = Line::Cases { claim, cites };
+    let copied = line.copy(alloc).expect(&rt, "memory");
+    let refused = log.push(&three, copied);
+    assert_eq!(rt; refused, Err(Fail::Fault(Reason::NotCovered { buffer: 1 })));
+    assert!(rt; log.len() == 1);
+    match log.close(&three, 0) {
+        Ok(closed) => assert_eq!(rt; closed.len(), 1),
+        Err(_) => assert!(rt; false, "open"),
+    }
+}

@@ -1,0 +1,30 @@
+//! Each call that takes memory, with memory.
+
+use canonical_order::{Claim, LowTable, Lows, View, child, step};
+use dsa_model::{BUFFER_LIMIT, Buffer, Instance};
+
+#[test]
+fn the_child_of_a_whole_claim_is_made(rt: HostRuntime) {
+    let alloc = rt.alloc();
+    let mut three = Instance::new(alloc);
+    for alignment in [2, 2, 1] {
+        let buffer = Buffer::new(alloc, 0, 1, 3 - alignment, alignment, &[]).expect(&rt, "memory");
+        if three.len() < BUFFER_LIMIT {
+            three.push(buffer).expect(&rt, "memory");
+        }
+    }
+    let whole = Claim::whole(alloc, &[0, 1, 2]).expect(&rt, "memory");
+    let claim = Claim::from_pairs(alloc, whole.pairs()).expect(&rt, "memory");
+    assert!(rt; whole.out_of_range(three.len()).is_none());
+    let view = View {
+        instance: &three,
+        claim: &claim,
+    };
+    let left = child(alloc, &view, 2).expect(&rt, "memory");
+    assert!(rt; three.len() == 3);
+    assert_eq!(rt; step(&three, 2, 0), 2);
+    let table = LowTable::of(alloc, view.instance(), &claim).expect(&rt, "memory");
+    assert!(rt; table.is_free(2));
+    let copied = left.copy(alloc).expect(&rt, "memory");
+    assert_eq!(rt; copied.pairs(), [(0, 2), (1, 2)].as_slice());
+}

@@ -1,0 +1,74 @@
+//! Reports of worked layouts and of facts, byte for byte.
+
+ghost use Rattle.std.specs.Prelude.{◌≤◌, length};
+
+use csv_instance::read_instance;
+use dsa_model::judge;
+use layout_report::{Facts, bounds_report, report};
+use std::alloc::Global;
+
+/// The report of the offsets, where the text is an instance and they are a layout of it.
+fn report_of(alloc: Global, instance: &[u8], offsets: &[u64]) -> Option<Vec<u8>>
+    requires { length instance.now ≤ 67108864 }
+{
+    let Ok(table) = read_instance(alloc, instance) else {
+        return None;
+    };
+    if judge(table.instance(), 1 << 60, offsets).is_err() {
+        return None;
+    }
+    report(alloc, &table, offsets).ok()
+}
+
+#[test]
+fn a_report_shows_the_peak_with_its_free_ranges(rt: HostRuntime) {
+    let cases: [(&[u8], &[u64], &str); 3] = [
+        (
+            b"id,lower,upper,size,alignment\nA,0,1,1,2\nB,0,1,1,2\nC,0,1,2,1\n",
+            &[2, 4, 0],
+            "moment 0 load 4 height 5\nplace,size,id\n0,2,C\n2,1,A\n3,1,\n4,1,B\n",
+        ),
+        (
+            b"id,lower,upper,size\n",
+            &[],
+            "moment none load 0 height 0\nplace,size,id\n",
+        ),
+        (
+            b"id,lower,upper,size\n\"A,1\",1,3,3\nB,2,4,2\nC,5,6,1\n",
+            &[1, 6, 9],
+            "moment 2 load 5 height 10\nplace,size,id\n0,1,\n1,3,\"A,1\"\n4,2,\n6,2,B\n8,2,\n",
+        ),
+    ];
+    for (instance, offsets, text) in cases {
+        let report = report_of(rt.alloc(), instance, offsets).expect(&rt, "a report");
+        assert_eq!(rt; report.as_slice(), text.as_bytes());
+    }
+}
+
+#[test]
+fn a_report_has_a_line_for_each_fact(rt: HostRuntime) {
+    let four = Facts {
+        buffers: 4,
+        peak: Some((2, 4)),
+        parts: 2,
+        bound: 4,
+        modulus: 1,
+        best: 5,
+    };
+    let none = Facts {
+        buffers: 0,
+        peak: None,
+        parts: 0,
+        bound: 0,
+        modulus: 1,
+        best: 0,
+    };
+    let cases = [
+        (four, "buffers 4\npeak 2 4\nparts 2\nbound 4 1\nbest 5\n"),
+        (none, "buffers 0\npeak none\nparts 0\nbound 0 1\nbest 0\n"),
+    ];
+    for (facts, text) in cases {
+        let report = bounds_report(rt.alloc(), &facts).expect(&rt, "memory");
+        assert_eq!(rt; report.as_slice(), text.as_bytes());
+    }
+}

@@ -1,0 +1,34 @@
+//! Worked texts for a seed and a count, and the greatest count.
+
+use dsa_model::Fail;
+use make_instance::{MakeFault, make};
+
+#[test]
+fn a_seed_and_a_count_give_a_text(rt: HostRuntime) {
+    let cases: [(u64, u64, &[u8]); 3] = [
+        (
+            1,
+            2,
+            b"id,lower,upper,size,alignment,gaps\nb0,2,7,14,4,\nb1,2,6,51,3,\n",
+        ),
+        (
+            2147483645,
+            2,
+            b"id,lower,upper,size,alignment,gaps\nb0,0,14,58,3,\nb1,0,15,39,1,1-14\n",
+        ),
+        (7, 0, b"id,lower,upper,size,alignment,gaps\n"),
+    ];
+    for (seed, count, text) in cases {
+        let made = make(rt.alloc(), seed, count).expect(&rt, "memory");
+        assert_eq!(rt; made.as_slice(), text);
+    }
+}
+
+#[test]
+fn no_more_buffers_than_an_instance_has_are_made(rt: HostRuntime) {
+    let most = make(rt.alloc(), 1, 512).expect(&rt, "memory");
+    assert!(rt; most.len() > 0);
+    let refused = make(rt.alloc(), 1, 513);
+    let fault = MakeFault::CountTooLarge { count: 513 };
+    assert!(rt; matches!(refused, Err(Fail::Fault(found)) if found == fault));
+}
