@@ -35,7 +35,9 @@ impl<'a> Command<'a> for Upgrade<'a> {
             Checked::Accepted(original) => original,
             Checked::Unaccepted(status) => return silent(alloc, status),
         };
-        let status = Status::Upgraded { lines: original.len() };
+        let status = Status::Upgraded {
+            lines: original.len(),
+        };
         let file = Writing {
             role: Role::Output,
             name: self.output,
