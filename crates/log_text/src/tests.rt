@@ -1,6 +1,6 @@
 //! Texts, and their first faults as a reader by hand finds them.
 
-use crate::{RawLine, TextFault, read_log, write_log};
+use crate::{RawLine, TextFault, read_log, write_log, write_log2};
 use canonical_order::Claim;
 use dsa_model::{Buffer, Fail, Instance};
 use refute_log::{Line, Log};
@@ -90,6 +90,75 @@ const ROW_FAULTS: [(&[u8], TextFault); 20] = [
     ),
 ];
 
+/// The sample log in version 2, one claim of it as a difference.
+const SECOND_SAMPLE: &[u8] = b"dsalog 2 3 4\n\
+over 0 3 1 : 2=3\n\
+over 0 4 1 : 1=4\n\
+case : 1=1 2=1 : 1>0 2>1\n\
+over 0 2 2 : @2 0=2 1=2 -2\n\
+case : 0=0 1=0 2=0 : 0>2 1~0 2>3\n\
+end 4\n";
+
+/// Texts of version 2, each with its first fault.
+const SECOND_FAULTS: [(&[u8], TextFault); 14] = [
+    (
+        b"dsalog 2 5 11\nover 0 0 1 : @0\nend 0\n",
+        TextFault::BadBase { line: 0 },
+    ),
+    (
+        b"dsalog 2 5 11\nover 0 0 1 : 0=0 2=0\nover 0 0 1 : @1\nend 1\n",
+        TextFault::BadBase { line: 1 },
+    ),
+    (
+        b"dsalog 2 5 11\nover 0 0 1 : 0=0 2=0\ncase : @1 : 2>0 0>0\nend 1\n",
+        TextFault::NotRising { line: 1 },
+    ),
+    (
+        b"dsalog 2 5 11\nover 0 0 1 : 0=0 2=0\nover 0 0 1 : @0 0=0\nend 1\n",
+        TextFault::BadChange { line: 1 },
+    ),
+    (
+        b"dsalog 2 5 11\nover 0 0 1 : 0=0 2=0\nover 0 0 1 : @0 -1\nend 1\n",
+        TextFault::BadChange { line: 1 },
+    ),
+    (
+        b"dsalog 2 5 11\nover 0 0 1 : 0=0 2=0\nover 0 0 1 : @0 -0 -2\nend 1\n",
+        TextFault::BadChange { line: 1 },
+    ),
+    (
+        b"dsalog 2 5 11\nover 0 0 1 : 0=0 2=0\nover 0 0 1 : @0 2=1 -0\nend 1\n",
+        TextFault::NotRising { line: 1 },
+    ),
+    (
+        b"dsalog 2 5 11\nover 0 0 1 : @1152921504606846977\nend 0\n",
+        TextFault::NumberTooLarge { line: 0 },
+    ),
+    (
+        b"dsalog 2 5 11\nover 0 0 1 : @0 -1152921504606846977\nend 0\n",
+        TextFault::NumberTooLarge { line: 0 },
+    ),
+    (
+        b"dsalog 2 5 11\nover 0 0 1 : @\nend 0\n",
+        TextFault::BadLine { line: 0 },
+    ),
+    (
+        b"dsalog 2 5 11\nover 0 0 1 : @0 \nend 0\n",
+        TextFault::BadLine { line: 0 },
+    ),
+    (
+        b"dsalog 2 5 11\nover 0 0 1 : @0 -01\nend 0\n",
+        TextFault::BadLine { line: 0 },
+    ),
+    (
+        b"dsalog 2 5 11\nover 0 0 1 : 0=0 -2\nend 0\n",
+        TextFault::BadLine { line: 0 },
+    ),
+    (
+        b"dsalog 1 5 11\nover 0 0 1 : 0=0 2=0\nover 0 0 1 : @0\nend 1\n",
+        TextFault::BadLine { line: 1 },
+    ),
+];
+
 /// The fault of the text, where it has one.
 fn fault(alloc: Global, text: &[u8]) -> Option<Fail<TextFault>> {
     read_log(alloc, text).err()
@@ -146,6 +215,63 @@ fn a_log_is_written_byte_for_byte(rt: HostRuntime) {
             let want = b"dsalog 1 3 3\nover 0 0 1 : 0=0 1=0 2=0\nend 0\n";
             assert_eq!(rt; text.as_slice(), want.as_slice());
         }
+    }
+}
+
+#[test]
+fn a_claim_that_is_a_difference_is_read_in_full(rt: HostRuntime) {
+    match read_log(rt.alloc(), SECOND_SAMPLE) {
+        Err(_) => assert!(rt; false, "the text has no fault"),
+        Ok(log) => {
+            let lines = log.lines.as_slice();
+            assert_eq!(rt; lines.len(), 5);
+            match &lines[3] {
+                RawLine::Cases { .. } => assert!(rt; false, "an over line"),
+                RawLine::Over { claim, .. } => {
+                    assert_eq!(rt; claim.as_slice(), [(0, 2), (1, 2)].as_slice());
+                }
+            }
+        }
+    }
+}
+
+#[test]
+fn a_line_like_the_one_before_it_is_written_as_a_difference(rt: HostRuntime) {
+    let alloc = rt.alloc();
+    let mut three = Instance::new(alloc);
+    for size in [1, 1, 2] {
+        let buffer = Buffer::new(alloc, 0, 1, size, 1, &[]).expect(&rt, "memory");
+        if three.len() < 512 {
+            three.push(buffer).expect(&rt, "memory");
+        }
+    }
+    let mut log = Log::new(alloc, &three, 3);
+    for _ in 0..2 {
+        let claim = Claim::whole(alloc, &[0, 1, 2]).expect(&rt, "memory");
+        let line = Line::Over {
+            claim,
+            moment: 0,
+            height: 0,
+            modulus: 1,
+        };
+        let _number = log.push(&three, line);
+    }
+    assert!(rt; log.len() == 2);
+    match log.close(&three, 1) {
+        Err(_) => assert!(rt; false, "open"),
+        Ok(closed) => {
+            let text = write_log2(alloc, &closed).expect(&rt, "memory");
+            let want = b"dsalog 2 3 3\nover 0 0 1 : 0=0 1=0 2=0\nover 0 0 1 : @0\nend 1\n";
+            assert_eq!(rt; text.as_slice(), want.as_slice());
+        }
+    }
+}
+
+#[test]
+fn the_first_fault_of_version_2_is_answered(rt: HostRuntime) {
+    let alloc = rt.alloc();
+    for (text, want) in SECOND_FAULTS {
+        assert_eq!(rt; fault(alloc, text), Some(Fail::Fault(want)));
     }
 }
 
