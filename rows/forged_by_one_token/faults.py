@@ -1,9 +1,10 @@
 #!/usr/bin/env python3
-"""What is printed for each log that differs from the sample log in one token.
+"""What is printed for each log that differs in one token from the sample log, or from the same log in version 2, `second`.
 
 Written from the definitions of a log's text and of a legal line alone, apart from the program: `changes` lists the changes, each
 with the place of the token in bytes, its length and what stands in its place, and `printed` judges a log. `python3
-faults.py steps` prints the steps of this case, `python3 faults.py changes` its file of changes.
+faults.py steps` prints the steps of this case, `python3 faults.py changes` and `python3 faults.py changes2` its files of
+changes.
 """
 import re
 import sys
@@ -12,11 +13,12 @@ NUMBER_LIMIT = 2**60
 MOMENT_LIMIT = 2**62 - 1
 # lower, upper, size, alignment
 BUFFERS = [(0, 1, 1, 2), (0, 1, 1, 2), (0, 1, 2, 1)]
-NUM = "(0|[1-9][0-9]*)"
+NUM = "(?:0|[1-9][0-9]*)"
 PAIR = f"{NUM}={NUM}"
 CITE = f"{NUM}[><~]{NUM}"
-CLAIM = f"{PAIR}( {PAIR})*"
-CITES = f"{CITE}( {CITE})*"
+CLAIM = f"{PAIR}(?: {PAIR})*"
+DIFFERENCE = f"@{NUM}(?: (?:{PAIR}|-{NUM}))*"
+CITES = f"{CITE}(?: {CITE})*"
 
 
 class Fault(Exception):
@@ -27,8 +29,18 @@ def rises(numbers):
     return all(a < b for a, b in zip(numbers, numbers[1:]))
 
 
-def pairs_of(text):
-    return [tuple(int(n) for n in pair.split("=")) for pair in text.split(" ")]
+def claim_of(text):
+    """What a claim has: its base, or None, and its pairs or changes, where a dropped buffer has None for a bound."""
+    words = text.split(" ")
+    base = int(words.pop(0)[1:]) if text.startswith("@") else None
+    items = []
+    for word in words:
+        if word.startswith("-"):
+            items.append((int(word[1:]), None))
+        else:
+            b, bound = word.split("=")
+            items.append((int(b), int(bound)))
+    return base, items
 
 
 def cites_of(text):
@@ -39,18 +51,43 @@ def cites_of(text):
     return found
 
 
+def claim_numbers(claim):
+    base, items = claim
+    return [n for item in items for n in item if n is not None] + ([] if base is None else [base])
+
+
+def in_full(claim, lines):
+    """The claim with its changes carried out, after these lines."""
+    base, items = claim
+    if base is None:
+        return items
+    k = len(lines)
+    if base >= k:
+        raise Fault(f"bad base {k}")
+    before = dict(lines[base][1])
+    after = dict(before)
+    for b, bound in items:
+        if (b not in before) if bound is None else (before.get(b) == bound):
+            raise Fault(f"bad change {k}")
+        after[b] = bound
+    kept = sorted((b, bound) for b, bound in after.items() if bound is not None)
+    if not kept:
+        raise Fault(f"bad change {k}")
+    return kept
+
+
 def read(text):
     if "\n" not in text:
         raise Fault("not a log")
     first, rest = text.split("\n", 1)
-    head = re.fullmatch(f"dsalog {NUM} {NUM} {NUM}", first)
-    if not head:
+    if not re.fullmatch(f"dsalog {NUM} {NUM} {NUM}", first):
         raise Fault("not a log")
-    version, count, capacity = (int(n) for n in head.groups())
+    version, count, capacity = (int(n) for n in first.split(" ")[1:])
     if version >= 2**64 or count > NUMBER_LIMIT or capacity > NUMBER_LIMIT:
         raise Fault("not a log")
-    if version != 1:
+    if version not in (1, 2):
         raise Fault(f"version {version}")
+    claim_form = CLAIM if version == 1 else f"(?:{CLAIM}|{DIFFERENCE})"
     lines = []
     while True:
         k = len(lines)
@@ -59,35 +96,30 @@ def read(text):
         if "\n" not in rest:
             raise Fault(f"bad line {k}")
         line, rest = rest.split("\n", 1)
-        over = re.fullmatch(f"over {NUM} {NUM} {NUM} : ({CLAIM})", line)
-        case = re.fullmatch(f"case : ({CLAIM}) : ({CITES})", line)
-        end = re.fullmatch(f"end {NUM}", line)
-        if over:
-            moment, height, modulus = (int(n) for n in over.groups()[:3])
-            claim = pairs_of(over.group(4))
-            if moment > MOMENT_LIMIT or max([height, modulus] + [n for pair in claim for n in pair]) > NUMBER_LIMIT:
-                raise Fault(f"number too large {k}")
-            if not rises([pair[0] for pair in claim]):
-                raise Fault(f"not rising {k}")
-            lines.append(("over", claim, moment, height, modulus))
-        elif case:
-            claim_text, cites_text = line[len("case : "):].split(" : ")
-            claim, cites = pairs_of(claim_text), cites_of(cites_text)
-            numbers = [n for pair in claim for n in pair] + [n for cite in cites for n in (cite[0], cite[2])]
-            if max(numbers) > NUMBER_LIMIT:
-                raise Fault(f"number too large {k}")
-            if not (rises([pair[0] for pair in claim]) and rises([cite[0] for cite in cites])):
-                raise Fault(f"not rising {k}")
-            lines.append(("case", claim, cites))
-        elif end:
-            final = int(end.group(1))
+        if re.fullmatch(f"end {NUM}", line):
+            final = int(line[len("end "):])
             if final > NUMBER_LIMIT:
                 raise Fault(f"number too large {k}")
             if rest:
                 raise Fault("after end")
             return count, capacity, lines, final
+        if re.fullmatch(f"over {NUM} {NUM} {NUM} : {claim_form}", line):
+            start, claim_text = line[len("over "):].split(" : ")
+            moment, *numbers = (int(n) for n in start.split(" "))
+            cites = []
+        elif re.fullmatch(f"case : {claim_form} : {CITES}", line):
+            claim_text, cites_text = line[len("case : "):].split(" : ")
+            cites = cites_of(cites_text)
+            moment, numbers = 0, [n for cite in cites for n in (cite[0], cite[2])]
         else:
             raise Fault(f"bad line {k}")
+        claim = claim_of(claim_text)
+        if moment > MOMENT_LIMIT or max(numbers + claim_numbers(claim)) > NUMBER_LIMIT:
+            raise Fault(f"number too large {k}")
+        if not (rises([item[0] for item in claim[1]]) and rises([cite[0] for cite in cites])):
+            raise Fault(f"not rising {k}")
+        claim = in_full(claim, lines)
+        lines.append(("case", claim, cites) if cites else ("over", claim, moment, *numbers))
 
 
 def rounded(n, modulus):
@@ -175,7 +207,7 @@ def printed(text):
 
 
 def changes(sample):
-    tokens = re.findall(r"[0-9]+|[a-z]+|[=><~:]|[ \n]", sample)
+    tokens = re.findall(r"[0-9]+|[a-z]+|[=><~:@-]|[ \n]", sample)
     assert "".join(tokens) == sample
     found, texts, at = [], [sample], 0
     for place, token in enumerate(tokens):
@@ -187,6 +219,8 @@ def changes(sample):
             others += [str(MOMENT_LIMIT), str(MOMENT_LIMIT + 1), str(2**64)] if place % 5 == 0 else []
         elif token in "=><~":
             others = [other for other in "=><~" if other != token]
+        elif token in "@-":
+            others = ["", "=", "-" if token == "@" else "@"]
         elif token == ":":
             others = ["", ";"]
         elif token in " \n":
@@ -203,16 +237,17 @@ def changes(sample):
 
 
 def main():
-    with open(sys.path[0] + "/before/sample", encoding="ascii") as file:
-        sample = file.read()
-    assert printed(sample) == ("accepted 4", 0)
-    for number, (at, length, other, text) in enumerate(changes(sample)):
-        if sys.argv[1] == "steps":
-            line, status = printed(text)
-            print(f"$ refute --input i --log c{number}\n{line}\n? {status}")
-        else:
-            other = other.replace("\t", "\\t")
-            print(f"{at}|{length}|{other}|")
+    for name, made in (("sample", "c"), ("second", "d")):
+        with open(f"{sys.path[0]}/before/{name}", encoding="ascii") as file:
+            sample = file.read()
+        assert printed(sample) == ("accepted 4", 0)
+        for number, (at, length, other, text) in enumerate(changes(sample)):
+            if sys.argv[1] == "steps":
+                line, status = printed(text)
+                print(f"$ refute --input i --log {made}{number}\n{line}\n? {status}")
+            elif (sys.argv[1], name) in (("changes", "sample"), ("changes2", "second")):
+                other = other.replace("\t", "\\t")
+                print(f"{at}|{length}|{other}|")
 
 
 main()
