@@ -1,10 +1,13 @@
 //! Texts, and their first faults as a reader by hand finds them.
 
+ghost use Rattle.refute_log.specs.Lines.{IsWithin, line_value};
+
 use crate::{RawLine, TextFault, read_log, write_log, write_log2};
 use canonical_order::Claim;
 use dsa_model::{Buffer, Fail, Instance};
 use refute_log::{Line, Log};
 use std::alloc::Global;
+use std::process::Abort;
 
 /// A log of three buffers at 4.
 const SAMPLE: &[u8] = b"dsalog 1 3 4\n\
@@ -164,6 +167,18 @@ fn fault(alloc: Global, text: &[u8]) -> Option<Fail<TextFault>> {
     read_log(alloc, text).err()
 }
 
+/// The line that the three buffers together are too large for 3.
+fn whole_line(rt: &impl Abort, alloc: Global) -> Line
+    ensures { IsWithin (line_value result) }
+{
+    Line::Over {
+        claim: Claim::whole(alloc, &[0, 1, 2]).expect(rt, "memory"),
+        moment: 0,
+        height: 0,
+        modulus: 1,
+    }
+}
+
 /// How many pairs and cites a line has.
 fn counts(line: &RawLine) -> (usize, usize) {
     match line {
@@ -198,14 +213,7 @@ fn a_log_is_written_byte_for_byte(rt: HostRuntime) {
         }
     }
     let mut log = Log::new(alloc, &three, 3);
-    let claim = Claim::whole(alloc, &[0, 1, 2]).expect(&rt, "memory");
-    let line = Line::Over {
-        claim,
-        moment: 0,
-        height: 0,
-        modulus: 1,
-    };
-    let first = log.push(&three, line);
+    let first = log.push(&three, whole_line(&rt, alloc));
     assert_eq!(rt; first, Ok(0));
     assert!(rt; log.len() == 1);
     match log.close(&three, 0) {
@@ -246,16 +254,10 @@ fn a_line_like_the_one_before_it_is_written_as_a_difference(rt: HostRuntime) {
         }
     }
     let mut log = Log::new(alloc, &three, 3);
-    for _ in 0..2 {
-        let claim = Claim::whole(alloc, &[0, 1, 2]).expect(&rt, "memory");
-        let line = Line::Over {
-            claim,
-            moment: 0,
-            height: 0,
-            modulus: 1,
-        };
-        let _number = log.push(&three, line);
-    }
+    let first = log.push(&three, whole_line(&rt, alloc));
+    assert_eq!(rt; first, Ok(0));
+    let second = log.push(&three, whole_line(&rt, alloc));
+    assert_eq!(rt; second, Ok(1));
     assert!(rt; log.len() == 2);
     match log.close(&three, 1) {
         Err(_) => assert!(rt; false, "open"),
