@@ -1,2 +1,4 @@
 mod Importing
+mod Unrolling
 mod ExampleFacts
+mod UnrollFacts

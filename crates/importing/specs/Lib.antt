@@ -1,2 +1,3 @@
 pub mod Importing
+pub mod Unrolling
 pub mod Words

@@ -1,0 +1,60 @@
+//! `unroll`: the instance of one period of buffers whose moments repeat.
+
+ghost use Rattle.std.specs.Prelude.{◌≡◌, ◌≤◌, IfOk, length};
+ghost use Rattle.command_words.specs.Options.{number_limit};
+ghost use Rattle.csv_instance.specs.Records.{table_of};
+ghost use Rattle.cyclic_plan.specs.Unrolled.{unrolled_of};
+ghost use Rattle.run_course.specs.Prepares.{outcome_of};
+ghost use Rattle.importing.specs.Unrolling.{unroll_course, unrolls};
+ghost use Rattle.importing.specs.Words.{unroll_of};
+
+use cyclic_plan::unroll;
+use dsa_model::{Fail, NoMemory};
+use dsa_outside::Files;
+use readings::FILE_LIMIT;
+use run_course::{Command, Content, Prepared, Writing, one_write, read_file, silent};
+use run_status::{Role, Status};
+use std::alloc::Global;
+
+/// Writes the instance of one period (in moments, at most 2^60) of the input to the output.
+#[derive(Clone, Copy)]
+pub struct Unroll<'a> {
+    pub period: u64,
+    pub input: &'a str,
+    pub output: &'a str,
+}
+
+/// What is written and told of the input's bytes.
+fn unrolled<'a>(alloc: Global, words: &Unroll<'a>, bytes: &[u8]) -> Result<Prepared<'a>, NoMemory>
+    requires period { words.now.period ≤ number_limit }
+    requires length { length bytes.now ≤ 67108864 }
+    ensures { let table = table_of bytes.now in IfOk result (λ p. outcome_of p
+        ≡ unrolls (unroll_of words.now) table (unrolled_of words.now.period table)) }
+{
+    let unrolled = match unroll(alloc, bytes, words.period) {
+        Ok(unrolled) => unrolled,
+        Err(Fail::Fault(fault)) => return silent(alloc, Status::CycleRefused(fault)),
+        Err(Fail::NoMemory) => return Err(NoMemory),
+    };
+    let buffers = unrolled.buffers;
+    let file = Writing {
+        role: Role::Output,
+        name: words.output,
+        bytes: unrolled.text,
+    };
+    one_write(alloc, file, Status::Unrolled { buffers })
+}
+
+impl<'a> Command<'a> for Unroll<'a> {
+    ghost course = { λ u. unroll_course (unroll_of u) };
+
+    ghost is_asked = { λ u. u.period ≤ number_limit };
+
+    fn conclude<F: Files>(&self, alloc: Global, files: &mut F) -> Result<Prepared<'a>, NoMemory> {
+        let bytes = match read_file(files, self.input, FILE_LIMIT, Role::Input)? {
+            Content::Bytes(bytes) => bytes,
+            Content::Unreadable(status) => return silent(alloc, status),
+        };
+        unrolled(alloc, self, bytes.as_slice())
+    }
+}
