@@ -1,5 +1,5 @@
 -- Rectangles of two buffers are apart, and scaling keeps order.
-use Rattle.std.proofs.Common.{◌≡◌, ◌≢◌, ℕ, ◌+◌, ◌*◌, ◌/◌, ◌<◌, ◌≤◌, ◌⊎◌, inl, inr, max, min, List, get_or, ap, arith}
+use Rattle.std.proofs.Common.{◌≡◌, ◌≢◌, ℕ, ◌+◌, ◌-◌, ◌*◌, ◌/◌, ◌<◌, ◌≤◌, ◌⊎◌, inl, inr, max, min, List, get_or, ap, arith}
 use Rattle.std.proofs.Math.Nat.{div-mul-le_self, le-div_iff_mul-le}
 use Rattle.dsa_terms.specs.Buffers.{Instance}
 use Rattle.dsa_terms.specs.Claims.{IsIn}
@@ -33,6 +33,36 @@ x_rises u j k le = product (column_width u) j k le
   where
     product : (w j k : ℕ) → j ≤ k → 200 + j * w ≤ 200 + k * w
     product w j k le = grind arith
+
+-- each column has a width
+pub x_grows : (u : Scale) (j k : ℕ) → j < k → x_of u j < x_of u k
+unfolding x_of
+x_grows u j k lt = product (column_width u) j k (omega arith) lt
+  where
+    product : (w j k : ℕ) → 1 ≤ w → j < k → 200 + j * w < 200 + k * w
+    product w j k some lt = grind arith
+
+-- place 0 is drawn at the base, and the height at the top
+pub at_base : (u : Scale) → y_of u 0 ≡ 624
+unfolding y_of scaled
+at_base u = none (min 0 u.height * 600) (max u.height 1) (omega arith) (omega arith)
+  where
+    none : (a m : ℕ) → a ≡ 0 → 1 ≤ m → 624 - a / m ≡ 624
+    none a m e some = elim (below_or_from (a / m) 1) [
+      | inl lt ↦ omega arith
+      | inr le ↦ absurd (let k = (le-div_iff_mul-le {k = m} {x = 1} {y = a} some).0 le in omega arith)
+    ]
+
+pub at_top : (u : Scale) → 1 ≤ u.height → y_of u u.height ≡ 24
+unfolding y_of scaled
+at_top u some = all (min u.height u.height * 600) (max u.height 1) (omega arith) (omega arith)
+  where
+    all : (a m : ℕ) → a ≡ m * 600 → 1 ≤ m → 624 - a / m ≡ 24
+    all a m e some = let h = (le-div_iff_mul-le {k = m} {x = 600} {y = a} some).1 (omega arith) in
+        elim (below_or_from (a / m) 601) [
+          | inl lt ↦ omega arith
+          | inr le ↦ absurd (let k = (le-div_iff_mul-le {k = m} {x = 601} {y = a} some).0 le in omega arith)
+        ]
 
 pub touches : (u : Scale) (r s : Rectangle) → s.place ≡ r.top → s.place ≤ s.top →
     (area_of u s).y + (area_of u s).height ≡ (area_of u r).y

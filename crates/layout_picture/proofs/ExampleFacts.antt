@@ -8,7 +8,7 @@ use Rattle.layout_picture.specs.Columns.{columns_of, turns_at}
 use Rattle.layout_picture.specs.Escape.{char_text, escaped, is_allowed}
 use Rattle.layout_picture.specs.Rectangles.{begins_at, rectangles, rectangles_of, run_end}
 use Rattle.layout_picture.specs.Scale.{area_of, column_width, scaled, spans, x_of, y_of}
-use Rattle.layout_picture.specs.Texts.{attribute, colour_of, has_room, id_text, is_marked, label_text, load_step, mark_text, moment_text, title_text}
+use Rattle.layout_picture.specs.Texts.{area_text, attribute, colour_of, has_room, id_text, is_marked, label_text, load_step, mark_text, moment_text, picture_width, title_text}
 use Rattle.layout_picture.specs.declared.rectangle.Rectangle.{Rectangle}
 use Rattle.layout_picture.specs.declared.scale.Scale.{Scale}
 
@@ -101,6 +101,9 @@ no_zero_byte = refl
 no_noncharacter : is_allowed 0xFFFE ≡ false
 no_noncharacter = refl
 
+a_return_is_escaped : char_text 13 ≡ codes "&#13;"
+a_return_is_escaped = refl
+
 -- two bytes that are no UTF-8, the first as if three more were to come
 one_for_one : escaped (97 ∷ 240 ∷ 159 ∷ 38 ∷ []) ≡
     97 ∷ 239 ∷ 191 ∷ 189 ∷ 239 ∷ 191 ∷ 189 ∷ 38 ∷ 97 ∷ 109 ∷ 112 ∷ 59 ∷ []
@@ -117,7 +120,16 @@ an_attribute : attribute (codes "x") 42 ≡ codes " x='42'"
 unfolding digits
 an_attribute = refl
 
-a_title : title_text (codes "b<1") (lasting 0 3 4) 8 ≡ codes "b&lt;1: 4 bytes at 8, live 0-3"
+an_outline : area_text (record { x = 200; y = 224; width = 800; height = 200 }) ≡ codes " d='M200 224h800v200h-800z'"
+unfolding digits
+an_outline = refl
+
+-- what is too low for a unit is drawn all the same, as a line
+a_flat_outline : area_text (record { x = 200; y = 224; width = 400; height = 0 }) ≡ codes " d='M200 224h400v0h-400z'"
+unfolding digits
+a_flat_outline = refl
+
+a_title : title_text (codes "b<1") (lasting 0 3 4) 8 ≡ codes "4 bytes at 8, live 0-3: b&lt;1"
 unfolding digits escaped encode
 a_title = refl
 
@@ -148,6 +160,10 @@ a_mark : mark_text (codes "height ") 12 24 22 ≡ codes "<path stroke='#000' d='
 unfolding digits
 a_mark = refl
 
+a_width : picture_width twelve ≡ 1472
+unfolding x_of
+a_width = refl
+
 each_wide_column_is_marked : is_marked twelve 1 ≡ true
 each_wide_column_is_marked = refl
 
@@ -155,6 +171,6 @@ not_each_narrow_one : is_marked (record { columns = 31; height = 12 }) 3 ≡ fal
 not_each_narrow_one = refl
 
 a_moment : moment_text twelve (0 ∷ 3 ∷ 9 ∷ 21 ∷ []) 2 ≡
-    codes "<path stroke='#000' d='M1000 624v6'/><text x='1000' y='642'>9</text>\n"
+    codes "<path stroke='#000' d='M1000 624v6'/><text x='1000' y='650'>9</text>\n"
 unfolding digits moment_text x_of
 a_moment = refl

@@ -1,13 +1,14 @@
 -- What is drawn is what is live, and the other way round.
-use Rattle.std.proofs.Common.{◌≡◌, ℕ, zero, suc, ◌+◌, ◌-◌, ◌<◌, ◌≤◌, ◌⊎◌, inl, inr, Bool, true, false, not, ◌&&◌, ◌||◌, ◌==◌, List, [], ◌∷◌, length, map, filter, drop, get_or, refl, ap, sym, subst, ◌∙◌, arith}
+use Rattle.std.proofs.Common.{◌≡◌, ℕ, zero, suc, ◌+◌, ◌-◌, ◌<◌, ◌≤◌, ◌⊎◌, inl, inr, Bool, true, false, not, ◌&&◌, ◌||◌, ◌==◌, List, [], ◌∷◌, cond, length, map, filter, drop, get_or, refl, ap, ap₂, sym, subst, ◌∙◌, arith}
 use Rattle.std.specs.Bool.{beq}
-use Rattle.std.specs.List.{list_any}
+use Rattle.std.specs.List.{list_any, sum_by}
 use Rattle.std.proofs.lemmas.Bool.Decides.{nat_tests}
 use Rattle.std.proofs.lemmas.List.{get_or-map, get_or_past, length-map}
 use Rattle.dsa_terms.specs.Buffers.{Buffer, Instance, buffer, is_live, IsLive, no_buffer}
 use Rattle.dsa_terms.specs.Claims.{IsIn, Rises}
 use Rattle.dsa_terms.specs.Logs.{greatest}
 use Rattle.dsa_terms.specs.Parts.{numbers}
+use Rattle.dsa_terms.specs.Plans.{load}
 use Rattle.dsa_terms.proofs.Lists.{any_from, from_filter, from_flat, from_map, into_filter, into_flat, into_map, true_or_false}
 use Rattle.dsa_terms.proofs.Moments.{live_before}
 use Rattle.dsa_terms.proofs.NumberTests.{below_or_from}
@@ -289,6 +290,8 @@ shown I offsets b t lt live =
       drawn = is_drawn I offsets b r.start lt r.begins
           (let z = in_flags (flags_of I b) c.0 f in let a = r.from in omega arith);
       own = refl;
+      place = refl;
+      top = refl;
       of_moment = c.1;
       has = record { from = r.from; to = r.to };
     }
@@ -298,3 +301,21 @@ lives I offsets b t lt s =
     let o = of_buffer I offsets s.rectangle s.drawn in
     live_in_column I b t s.column lt s.of_moment
     ∙ ap (λ (c : ℕ). is_live (buffer I c) (get_or (columns_of I) s.column 0)) (sym s.own) ∙ o.live s.column s.has
+
+-- ---- the load between columns
+same_filter : (p q : Buffer → Bool) (I : Instance) →
+    ((b : ℕ) → b < length I → p (get_or I b no_buffer) ≡ q (get_or I b no_buffer)) → filter p I ≡ filter q I
+same_filter p q [] h = refl
+same_filter p q (x ∷ I) h = ap₂ (λ (b : Bool) (J : Instance). cond b (x ∷ J) J) (h 0 (omega arith))
+    (same_filter p q I (λ b lt. h (suc b) (omega arith)))
+
+-- the load at a moment is that of its column
+pub load_in_column : (I : Instance) (t k : ℕ) → IsInColumn (columns_of I) t k →
+    load I t ≡ load I (get_or (columns_of I) k 0)
+unfolding load buffer
+load_in_column I t k c = ap (λ (J : Instance). sum_by (λ (b : Buffer). b.size) J)
+    (same_filter (λ b. is_live b t) (λ b. is_live b (get_or (columns_of I) k 0)) I (λ b lt. own b lt))
+  where
+    own : (b : ℕ) → b < length I →
+        is_live (get_or I b no_buffer) t ≡ is_live (get_or I b no_buffer) (get_or (columns_of I) k 0)
+    own b lt = live_in_column I b t k lt c

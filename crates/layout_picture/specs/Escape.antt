@@ -7,7 +7,8 @@ abbrev pub is_allowed : ℕ → Bool
 is_allowed c =
     (c == 9) || (c == 10) || (c == 13) || (nat_le 32 c && not (c == 0xFFFE) && not (c == 0xFFFF))
 
--- what stands for a character: itself in UTF-8, but for the five that XML gives a meaning
+-- what stands for a character: itself in UTF-8, but for the five that XML gives a meaning and the return, which a
+-- reader of XML takes for a new line
 abbrev pub char_text : ℕ → List ℕ
 char_text c =
     if c == 60 then codes "&lt;"
@@ -15,6 +16,7 @@ char_text c =
     else if c == 38 then codes "&amp;"
     else if c == 34 then codes "&quot;"
     else if c == 39 then codes "&#39;"
+    else if c == 13 then codes "&#13;"
     else encode_utf8 c
 
 -- U+FFFD in UTF-8

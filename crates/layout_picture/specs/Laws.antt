@@ -1,6 +1,6 @@
 -- What the picture shows.
-use Rattle.std.specs.Prelude.{◌≡◌, ℕ, ◌+◌, ◌<◌, ◌≤◌, ◌⊎◌, List}
-use Rattle.dsa_terms.specs.Buffers.{Instance}
+use Rattle.std.specs.Prelude.{◌≡◌, ℕ, ◌+◌, ◌<◌, ◌≤◌, ◌⊎◌, List, slice_index}
+use Rattle.dsa_terms.specs.Buffers.{Instance, buffer}
 use Rattle.dsa_terms.specs.Claims.{IsIn}
 use Rattle.layout_picture.specs.Columns.{IsInColumn, columns_of}
 use Rattle.layout_picture.specs.Rectangles.{rectangles}
@@ -18,12 +18,14 @@ pub record HasPoint (r : Rectangle) (k a : ℕ) : Type 0 where
   pub from : r.place ≤ a
   pub to : a < r.top
 
--- one of the buffer's rectangles has the column of moment t
+-- one of the buffer's rectangles, from its offset to its end, has the column of moment t
 pub record IsShownAt (I : Instance) (offsets : List ℕ) (b t : ℕ) : Type 0 where
   pub rectangle : Rectangle
   pub column : ℕ
   pub drawn : IsIn rectangle (rectangles I offsets)
   pub own : rectangle.buffer ≡ b
+  pub place : rectangle.place ≡ slice_index offsets b
+  pub top : rectangle.top ≡ slice_index offsets b + (buffer I b).size
   pub of_moment : IsInColumn (columns_of I) t column
   pub has : HasColumn rectangle column
 

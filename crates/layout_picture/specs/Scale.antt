@@ -8,7 +8,7 @@ use Rattle.layout_picture.specs.declared.scale.Scale.{Scale}
 abbrev pub spans : Scale → ℕ
 spans s = max (s.columns - 1) 1
 
--- the width of each: together 1200 or a little less, and at least 1 each
+-- the width of each: 1200 shared out and rounded down, and at least 1
 abbrev pub column_width : Scale → ℕ
 column_width s = max (1200 / spans s) 1
 

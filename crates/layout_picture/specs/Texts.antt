@@ -17,11 +17,11 @@ use Rattle.layout_picture.specs.declared.scale.Scale.{Scale}
 abbrev pub attribute : List ℕ → ℕ → List ℕ
 attribute name n = codes " " ++ name ++ codes "='" ++ decimal n ++ codes "'"
 
--- the attributes of an area
+-- the outline of an area, which is drawn as a line where its height is 0
 abbrev pub area_text : Area → List ℕ
 area_text area =
-    attribute (codes "x") area.x ++ attribute (codes "y") area.y ++ attribute (codes "width") area.width
-    ++ attribute (codes "height") area.height
+    codes " d='M" ++ decimal area.x ++ codes " " ++ decimal area.y ++ codes "h" ++ decimal area.width ++ codes "v"
+    ++ decimal area.height ++ codes "h-" ++ decimal area.width ++ codes "z'"
 
 -- light tints of Okabe and Ito's colours, which the colour-blind tell apart
 abbrev pub palette : List (List ℕ)
@@ -33,17 +33,17 @@ palette =
 abbrev pub colour_of : ℕ → List ℕ
 colour_of b = slice_index_or palette (b % 8) []
 
--- a buffer's id, size, place and lifetime
+-- a buffer's size, place, lifetime and id; the id is last, so none is taken for the numbers
 abbrev pub title_text : List ℕ → Buffer → ℕ → List ℕ
 title_text id b place =
-    escaped id ++ codes ": " ++ decimal b.size ++ codes " bytes at " ++ decimal place ++ codes ", live "
-    ++ decimal b.lower ++ codes "-" ++ decimal b.upper
+    decimal b.size ++ codes " bytes at " ++ decimal place ++ codes ", live " ++ decimal b.lower ++ codes "-"
+    ++ decimal b.upper ++ codes ": " ++ escaped id
 
 -- a rectangle with its title
 unfoldable pub rectangle_text : Scale → Instance → List (List ℕ) → Rectangle → List ℕ
 rectangle_text s I ids r =
-    codes "<rect" ++ area_text (area_of s r) ++ codes " fill='#" ++ colour_of r.buffer ++ codes "'><title>"
-    ++ title_text (slice_index_or ids r.buffer []) (buffer I r.buffer) r.place ++ codes "</title></rect>\n"
+    codes "<path" ++ area_text (area_of s r) ++ codes " fill='#" ++ colour_of r.buffer ++ codes "'><title>"
+    ++ title_text (slice_index_or ids r.buffer []) (buffer I r.buffer) r.place ++ codes "</title></path>\n"
 
 -- whether an id of so many bytes has room in the area
 abbrev pub has_room : ℕ → Area → Bool
@@ -68,7 +68,7 @@ load_step s loads k = codes "H" ++ decimal (x_of s k) ++ codes "V" ++ decimal (y
 -- the load's line, in steps
 abbrev pub load_text : Scale → List ℕ → List ℕ
 load_text s loads =
-    codes "<path fill='none' stroke='#000' stroke-width='2' stroke-dasharray='6 3' d='M200 624"
+    codes "<path fill='none' stroke='#a00' stroke-width='2' stroke-dasharray='6 3' d='M200 624"
     ++ flat_map (load_step s loads) (numbers (length loads)) ++ codes "'/>\n"
 
 -- the two axes
@@ -86,7 +86,7 @@ mark_text name n y beside =
 abbrev pub marks_text : Scale → ℕ → List ℕ
 marks_text s peak =
     mark_text (codes "height ") s.height (y_of s s.height) (y_of s s.height - 2)
-    ++ mark_text (codes "peak load ") peak (y_of s peak) (y_of s peak + 12)
+    ++ mark_text (codes "peak ") peak (y_of s peak) (y_of s peak + 12)
 
 -- whether column k has a mark on the lower axis: marks are further apart than their moments are long
 abbrev pub is_marked : Scale → ℕ → Bool
@@ -97,28 +97,40 @@ unfoldable pub moment_text : Scale → List ℕ → ℕ → List ℕ
 moment_text s moments k =
     if is_marked s k
     then codes "<path stroke='#000' d='M" ++ decimal (x_of s k) ++ codes " 624v6'/><text"
-    ++ attribute (codes "x") (x_of s k) ++ codes " y='642'>" ++ decimal (slice_index moments k)
+    ++ attribute (codes "x") (x_of s k) ++ codes " y='650'>" ++ decimal (slice_index moments k)
     ++ codes "</text>\n"
     else []
 
--- the size of the picture, in which lines and text are drawn
+-- how wide the picture is, with room for half of the longest moment at its right edge
+abbrev pub picture_width : Scale → ℕ
+picture_width s = x_of s (spans s) + 72
+
+-- the size of the picture, in which lines and text are drawn, each letter of an id as wide as any other
 abbrev pub head_text : Scale → List ℕ
 head_text s =
-    codes "<svg xmlns='http://www.w3.org/2000/svg' viewBox='0 0 " ++ decimal (x_of s (spans s) + 24)
-    ++ codes " 672' font-family='sans-serif' font-size='11'>\n<rect width='100%' height='100%' fill='#fff'/>\n"
+    codes "<svg xmlns='http://www.w3.org/2000/svg'" ++ attribute (codes "width") (picture_width s)
+    ++ codes " height='672' viewBox='0 0 " ++ decimal (picture_width s)
+    ++ codes " 672' font-family='monospace' font-size='11'>\n<rect width='100%' height='100%' fill='#fff'/>\n"
 
--- the rectangles, and the load's line and the ids over them
+-- the rectangles, and over them the load's line and the ids, which are edged in white
 unfoldable pub plot_text : Scale → Instance → List (List ℕ) → List ℕ → List Rectangle → List ℕ
 plot_text s I ids loads all =
-    codes "<g stroke='#333'>\n" ++ flat_map (rectangle_text s I ids) all ++ codes "</g>\n<g pointer-events='none'>\n"
-    ++ load_text s loads ++ flat_map (label_text s ids) all ++ codes "</g>\n"
+    codes "<g stroke='#333' stroke-width='.5'>\n" ++ flat_map (rectangle_text s I ids) all
+    ++ codes "</g>\n<g pointer-events='none'>\n" ++ load_text s loads
+    ++ codes "<g stroke='#fff' stroke-width='2' paint-order='stroke'>\n" ++ flat_map (label_text s ids) all
+    ++ codes "</g>\n</g>\n"
 
--- the axes with their marks
+-- what the lines and the axes mean
+abbrev pub note_text : List ℕ
+note_text = codes "<text x='200' y='664'>dashed: load in bytes; "
+    ++ codes "a column for each moment at which something changes, not to scale</text>\n"
+
+-- the axes with their marks and what they mean; the pointer finds the rectangles under them
 unfoldable pub frame_text : Scale → List ℕ → List ℕ → List ℕ
 frame_text s moments loads =
-    axes_text s ++ codes "<g text-anchor='end'>\n" ++ marks_text s (greatest loads)
-    ++ codes "</g>\n<g text-anchor='middle'>\n" ++ flat_map (moment_text s moments) (numbers (length moments))
-    ++ codes "</g>\n"
+    codes "<g pointer-events='none'>\n" ++ axes_text s ++ codes "<g text-anchor='end'>\n"
+    ++ marks_text s (greatest loads) ++ codes "</g>\n<g text-anchor='middle'>\n"
+    ++ flat_map (moment_text s moments) (numbers (length moments)) ++ codes "</g>\n" ++ note_text ++ codes "</g>\n"
 
 -- the scale of a layout
 abbrev pub scale_of : Instance → List ℕ → Scale

@@ -19,7 +19,7 @@ fn is_allowed(c: char) -> bool
     }
 }
 
-/// Puts the character, or what stands for it where XML gives it a meaning.
+/// Puts the character, or what stands for it where XML gives it a meaning or takes it for another.
 fn put_char(text: &mut Vec<u8>, c: char) -> Result<(), AllocError>
     ensures { OnOk result (text.new.items ≡ text.old.items ++ char_text c) }
 {
@@ -29,6 +29,7 @@ fn put_char(text: &mut Vec<u8>, c: char) -> Result<(), AllocError>
         '&' => text.extend_from_slice(b"&amp;"),
         '"' => text.extend_from_slice(b"&quot;"),
         '\'' => text.extend_from_slice(b"&#39;"),
+        '\r' => text.extend_from_slice(b"&#13;"),
         _ => text.extend_from_slice(c.encode_utf8(&mut [0; 4]).as_bytes()),
     }
 }

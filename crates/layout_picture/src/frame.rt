@@ -5,7 +5,7 @@ ghost use Rattle.std.specs.List.{All};
 ghost use Rattle.std.specs.Prelude.{flat_map};
 ghost use Rattle.dsa_terms.specs.Logs.{greatest};
 ghost use Rattle.dsa_terms.specs.Parts.{numbers};
-ghost use Rattle.layout_picture.specs.Texts.{axes_text, frame_text, head_text, is_marked, mark_text, marks_text, moment_text};
+ghost use Rattle.layout_picture.specs.Texts.{axes_text, frame_text, head_text, is_marked, mark_text, marks_text, moment_text, note_text};
 
 use crate::put::{put, put_attribute, put_number};
 use crate::scale::Scale;
@@ -15,14 +15,14 @@ use std::alloc::AllocError;
 pub(crate) fn put_head(text: &mut Vec<u8>, scale: &Scale) -> Result<(), AllocError>
     ensures { OnOk result (text.new.items ≡ text.old.items ++ head_text scale.now) }
 {
+    let width = scale.x(scale.spans()) + 72;
+    put(text, b"<svg xmlns='http://www.w3.org/2000/svg'")?;
+    put_attribute(text, b"width", width)?;
+    put(text, b" height='672' viewBox='0 0 ")?;
+    put_number(text, width)?;
     put(
         text,
-        b"<svg xmlns='http://www.w3.org/2000/svg' viewBox='0 0 ",
-    )?;
-    put_number(text, scale.x(scale.spans()) + 24)?;
-    put(
-        text,
-        b" 672' font-family='sans-serif' font-size='11'>\n<rect width='100%' height='100%' fill='#fff'/>\n",
+        b" 672' font-family='monospace' font-size='11'>\n<rect width='100%' height='100%' fill='#fff'/>\n",
     )?;
     Ok(())
 }
@@ -59,7 +59,7 @@ fn put_marks(text: &mut Vec<u8>, scale: &Scale, peak: u64) -> Result<(), AllocEr
     let top = scale.y(scale.height);
     let most = scale.y(peak);
     put_mark(text, b"height ", scale.height, top, top - 2)?;
-    put_mark(text, b"peak load ", peak, most, most + 12)?;
+    put_mark(text, b"peak ", peak, most, most + 12)?;
     Ok(())
 }
 
@@ -84,7 +84,7 @@ fn put_moment(text: &mut Vec<u8>, scale: &Scale, moments: &[u64], k: u32) -> Res
     put_number(text, x)?;
     put(text, b" 624v6'/><text")?;
     put_attribute(text, b"x", x)?;
-    put(text, b" y='642'>")?;
+    put(text, b" y='650'>")?;
     put_number(text, moments[k as usize])?;
     put(text, b"</text>\n")?;
     Ok(())
@@ -113,7 +113,19 @@ fn greatest(numbers: &[u64]) -> u64
     most
 }
 
-/// Puts the axes with their marks.
+/// Puts what the lines and the axes mean.
+fn put_note(text: &mut Vec<u8>) -> Result<(), AllocError>
+    ensures { OnOk result (text.new.items ≡ text.old.items ++ note_text) }
+{
+    put(text, b"<text x='200' y='664'>dashed: load in bytes; ")?;
+    put(
+        text,
+        b"a column for each moment at which something changes, not to scale</text>\n",
+    )?;
+    Ok(())
+}
+
+/// Puts the axes with their marks and what they mean.
 pub(crate) fn put_frame(
     text: &mut Vec<u8>,
     scale: &Scale,
@@ -124,11 +136,14 @@ pub(crate) fn put_frame(
     ensures { OnOk result
         (text.new.items ≡ text.old.items ++ frame_text scale.now moments.now loads.now) }
 {
+    put(text, b"<g pointer-events='none'>\n")?;
     put_axes(text, scale)?;
     put(text, b"<g text-anchor='end'>\n")?;
     put_marks(text, scale, greatest(loads))?;
     put(text, b"</g>\n<g text-anchor='middle'>\n")?;
     put_moments(text, scale, moments)?;
+    put(text, b"</g>\n")?;
+    put_note(text)?;
     put(text, b"</g>\n")?;
     Ok(())
 }

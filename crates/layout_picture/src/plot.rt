@@ -30,12 +30,10 @@ fn colour(b: u32) -> &'static [u8]
     }
 }
 
-/// Puts a buffer's id, size, place and lifetime.
+/// Puts a buffer's size, place, lifetime and id.
 fn put_title(text: &mut Vec<u8>, id: &[u8], buffer: &Buffer, place: u64) -> Result<(), AllocError>
     ensures { OnOk result (text.new.items ≡ text.old.items ++ title_text id.now buffer.now place) }
 {
-    put_escaped(text, id)?;
-    put(text, b": ")?;
     put_number(text, buffer.size())?;
     put(text, b" bytes at ")?;
     put_number(text, place)?;
@@ -43,6 +41,8 @@ fn put_title(text: &mut Vec<u8>, id: &[u8], buffer: &Buffer, place: u64) -> Resu
     put_number(text, buffer.lower())?;
     put(text, b"-")?;
     put_number(text, buffer.upper())?;
+    put(text, b": ")?;
+    put_escaped(text, id)?;
     Ok(())
 }
 
@@ -60,13 +60,13 @@ fn put_rectangle(
         ++ rectangle_text scale.now instance.now (ids_of table.now) rectangle.now) }
 {
     let b = rectangle.buffer;
-    put(text, b"<rect")?;
+    put(text, b"<path")?;
     put_area(text, &scale.area(rectangle))?;
     put(text, b" fill='#")?;
     put(text, colour(b))?;
     put(text, b"'><title>")?;
     put_title(text, table.id(b), instance.buffer(b), rectangle.place)?;
-    put(text, b"</title></rect>\n")?;
+    put(text, b"</title></path>\n")?;
     Ok(())
 }
 
@@ -181,14 +181,14 @@ fn put_load(text: &mut Vec<u8>, scale: &Scale, loads: &[u64]) -> Result<(), Allo
 {
     put(
         text,
-        b"<path fill='none' stroke='#000' stroke-width='2' stroke-dasharray='6 3' d='M200 624",
+        b"<path fill='none' stroke='#a00' stroke-width='2' stroke-dasharray='6 3' d='M200 624",
     )?;
     put_steps(text, scale, loads)?;
     put(text, b"'/>\n")?;
     Ok(())
 }
 
-/// Puts the rectangles, and the load's line and the ids over them.
+/// Puts the rectangles, and over them the load's line and the ids, which are edged in white.
 pub(crate) fn put_plot(
     text: &mut Vec<u8>,
     scale: &Scale,
@@ -203,11 +203,15 @@ pub(crate) fn put_plot(
     ensures { OnOk result (text.new.items ≡ text.old.items
         ++ plot_text scale.now instance.now (ids_of table.now) loads.now rectangles.now) }
 {
-    put(text, b"<g stroke='#333'>\n")?;
+    put(text, b"<g stroke='#333' stroke-width='.5'>\n")?;
     put_rectangles(text, scale, table, instance, rectangles)?;
     put(text, b"</g>\n<g pointer-events='none'>\n")?;
     put_load(text, scale, loads)?;
+    put(
+        text,
+        b"<g stroke='#fff' stroke-width='2' paint-order='stroke'>\n",
+    )?;
     put_labels(text, scale, table, rectangles)?;
-    put(text, b"</g>\n")?;
+    put(text, b"</g>\n</g>\n")?;
     Ok(())
 }

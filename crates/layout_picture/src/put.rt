@@ -33,12 +33,20 @@ pub(crate) fn put_attribute(text: &mut Vec<u8>, name: &[u8], n: u64) -> Result<(
     put(text, b"'")
 }
 
-/// Puts the attributes of an area.
+/// Puts the outline of an area.
 pub(crate) fn put_area(text: &mut Vec<u8>, area: &Area) -> Result<(), AllocError>
     ensures { OnOk result (text.new.items ≡ text.old.items ++ area_text area.now) }
 {
-    put_attribute(text, b"x", area.x)?;
-    put_attribute(text, b"y", area.y)?;
-    put_attribute(text, b"width", area.width)?;
-    put_attribute(text, b"height", area.height)
+    put(text, b" d='M")?;
+    put_number(text, area.x)?;
+    put(text, b" ")?;
+    put_number(text, area.y)?;
+    put(text, b"h")?;
+    put_number(text, area.width)?;
+    put(text, b"v")?;
+    put_number(text, area.height)?;
+    put(text, b"h-")?;
+    put_number(text, area.width)?;
+    put(text, b"z'")?;
+    Ok(())
 }

@@ -10,5 +10,5 @@ returns c =
     (λ (y : ℕ). mark_text (codes "height ") c.args.scale.now.height y (y - 2)) _ _ c.y-top.ensures.value
     c.in_ok-put_mark.ensures)
     (put_same c.put_mark.new.text.items c.put_mark-2.new.text.items
-    (λ (y : ℕ). mark_text (codes "peak load ") c.args.peak y (y + 12)) _ _ c.y-most.ensures.value
+    (λ (y : ℕ). mark_text (codes "peak ") c.args.peak y (y + 12)) _ _ c.y-most.ensures.value
     c.in_ok-put_mark-2.ensures)

@@ -9,8 +9,9 @@ put_labels-requires c = λ k d lt. (let h = c.requires.buffers k d lt in let e =
 pub returns : goal.returns
 unfolding plot_text
 returns c =
-    then_put c.args.text.now.items c.put_labels.new.text.items c.put-3.new.text.items _ _
-    (then_put c.args.text.now.items c.put_load.new.text.items c.put_labels.new.text.items _ _
+    then_put c.args.text.now.items c.put_labels.new.text.items c.put-4.new.text.items _ _
+    (then_put c.args.text.now.items c.put-3.new.text.items c.put_labels.new.text.items _ _
+    (then_put c.args.text.now.items c.put_load.new.text.items c.put-3.new.text.items _ _
     (then_put c.args.text.now.items c.put-2.new.text.items c.put_load.new.text.items _ _
     (then_put c.args.text.now.items c.put_rectangles.new.text.items c.put-2.new.text.items _ _
     (then_put c.args.text.now.items c.put.new.text.items c.put_rectangles.new.text.items _ _
@@ -18,5 +19,6 @@ returns c =
     c.in_ok-put_rectangles.ensures)
     c.in_ok-put-2.ensures)
     c.in_ok-put_load.ensures)
+    c.in_ok-put-3.ensures)
     c.in_ok-put_labels.ensures)
-    c.in_ok-put-3.ensures
+    c.in_ok-put-4.ensures
