@@ -84,6 +84,14 @@ impl Levels {
         }
     }
 
+    /// The levels in order.
+    pub(crate) fn as_slice(&self) -> &[u64]
+        ensures value { result.now ≡ self.now }
+        ensures low { All (λ level. level ≤ 2 ^ 54) result.now }
+    {
+        self.numbers.as_slice()
+    }
+
     /// The claim with each bound at the buffer's low.
     pub(crate) fn lifted(&self, alloc: Global) -> Result<Claim, NoMemory>
         ensures value { (I : Instance) (l : ClaimTerm) → AreLevels I l self.now →

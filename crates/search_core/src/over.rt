@@ -32,6 +32,7 @@ pub(crate) fn over_line(
     requires subject { sky.now.instance ≡ task.now.instance.now }
     requires lifted { claim.now ≡ lifted task.now.instance.now (last_claim sky.now.claims) }
     requires levels { AreLevels task.now.instance.now claim.now levels.now }
+    requires own { AreLevels task.now.instance.now (last_claim sky.now.claims) levels.now }
     requires low { IsBoundedBy (2 ^ 60) claim.now }
     ensures none { let I = task.now.instance.now in let l = last_claim sky.now.claims in
         IfOk result (λ o. IfNone o (None ≡ least_buffer (is_tall I task.now.capacity) l)) }
@@ -48,7 +49,7 @@ pub(crate) fn over_line(
     if let Some(b) = tall(&view, task.capacity) {
         return Ok(Some(tall_line(alloc, task, b)?));
     }
-    match sky.overloaded(task.capacity) {
+    match sky.overloaded_at(task.capacity, levels.as_slice()) {
         None => Ok(None),
         Some((moment, height)) => {
             let claim = claim.copy(alloc)?;

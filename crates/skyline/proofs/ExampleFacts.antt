@@ -1,10 +1,11 @@
 -- Worked skylines: lows, bounds that lie above them, and sections that are too full.
-use Rattle.std.proofs.Common.{◌≡◌, ℕ, ◌+◌, List, [], ◌∷◌, Some, None, max, refl}
+use Rattle.std.proofs.Common.{◌≡◌, ℕ, ◌+◌, false, List, [], ◌∷◌, Some, None, max, refl}
 use Rattle.dsa_terms.specs.Buffers.{Buffer, Instance, is_live, buffer, do_share, some_before}
 use Rattle.dsa_terms.specs.Claims.{child, number_of, step, up}
 use Rattle.dsa_terms.specs.Parts.{whole}
 use Rattle.lifetime.specs.SectionList.{SectionList, section_with}
 use Rattle.skyline.specs.Carried.{claims_of, floor_at, heights_after, offsets_after}
+use Rattle.skyline.specs.LowsOf.{has_level, least_low, low_of}
 use Rattle.skyline.specs.Overloads.{free_load, is_left, least_of, least_up, over, overloaded}
 use Rattle.skyline.specs.Places.{at_places, set_each}
 use Rattle.skyline.specs.Skies.{last_claim}
@@ -121,3 +122,16 @@ least = refl
 
 least_of_none : least_of [] ≡ None
 least_of_none = refl
+
+-- ---- lows by levels: buffer 0 is not in the claim, and the others have the lows 4 and 2
+least_by_levels : least_low (0 ∷ 5 ∷ 3 ∷ []) all_three ≡ Some 2
+least_by_levels = refl
+
+none_by_levels : least_low (0 ∷ 5 ∷ 3 ∷ []) (0 ∷ []) ≡ None
+none_by_levels = refl
+
+low_by_level : low_of (0 ∷ 5 ∷ 3 ∷ []) 1 ≡ 4
+low_by_level = refl
+
+no_level : has_level (0 ∷ 5 ∷ 3 ∷ []) 0 ≡ false
+no_level = refl

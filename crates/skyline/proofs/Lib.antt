@@ -10,6 +10,7 @@ pub mod Loads
 pub mod LoadSteps
 pub mod Overloads
 pub mod ExampleFacts
+pub mod LowsBy
 pub mod Bounds
 pub mod Turns
 mod ClaimFacts

@@ -85,24 +85,24 @@ pub some_of : (o p : Option ℕ) → p ≡ o → IfSome o (λ h. p ≡ Some h)
 some_of None p e = tt
 some_of (Some h) p e = e
 
+-- a load that fits from one of the numbers fits from the least one
+pub fits_from_one : (f : ℕ → ℕ) (p : ℕ → Bool) (xs : List ℕ) (b load C : ℕ) → IsIn b xs → p b ≡ true → f b + load ≤ C →
+    FitsFrom load C (least_of (map f (filter p xs)))
+fits_from_one f p xs b load C i t le = go (least_of (map f (filter p xs))) refl
+  where
+    j : IsIn (f b) (map f (filter p xs))
+    j = into_map f (filter p xs) b (into_filter p xs b i t)
+
+    go : (o : Option ℕ) → least_of (map f (filter p xs)) ≡ o → FitsFrom load C o
+    go None e = tt
+    go (Some h) e = let k = least_is_least (map f (filter p xs)) h (f b) e j in omega arith
+
 -- a load that fits from one of the ups fits from the least one
 pub fits_from : (I : Instance) (S : SectionList) (l : Claim) (s b load C : ℕ) → IsIn b (members_of S s) →
     HasBuffer l b → up I (entry_of l b) + load ≤ C → FitsFrom load C (least_up I S l s)
 unfolding least_up
-fits_from I S l s b load C i has le = go (least_of (map f (filter (is_left l) (members_of S s)))) refl
-  where
-    f : ℕ → ℕ
-    f b = up I (entry_of l b)
-
-    j : IsIn (f b) (map f (filter (is_left l) (members_of S s)))
-    j = into_map f (filter (is_left l) (members_of S s)) b
-        (into_filter (is_left l) (members_of S s) b i (gives_left l b has))
-
-    go : (o : Option ℕ) → least_of (map f (filter (is_left l) (members_of S s))) ≡ o → FitsFrom load C o
-    go None e = tt
-    go (Some h) e =
-        let k = least_is_least (map f (filter (is_left l) (members_of S s))) h (f b) e j in
-        omega arith
+fits_from I S l s b load C i has le =
+    fits_from_one (λ b. up I (entry_of l b)) (is_left l) (members_of S s) b load C i (gives_left l b has) le
 
 pub none_of : (load C : ℕ) (o p : Option ℕ) → p ≡ o → IfNone o (FitsFrom load C p)
 none_of load C None p e = rw e tt

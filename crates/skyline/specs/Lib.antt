@@ -5,3 +5,4 @@ pub mod Places
 pub mod Carried
 pub mod Skylines
 pub mod Loads
+pub mod LowsOf

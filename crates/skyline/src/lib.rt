@@ -3,6 +3,7 @@
 
 mod floors;
 mod lows;
+mod lows_of;
 mod rooms;
 mod rows;
 mod sky;

@@ -5,11 +5,13 @@ ghost use Rattle.std.specs.List.{All};
 ghost use Rattle.dsa_terms.specs.Claims.{Rises, child, up};
 ghost use Rattle.lifetime.specs.SectionList.{AreSectionsOf, count_of};
 ghost use Rattle.canonical_order.specs.Claims.{HasBuffer, entry_of};
+ghost use Rattle.canonical_order.specs.Levels.{AreLevels};
 ghost use Rattle.canonical_order.specs.Stands.{Stands};
 ghost use Rattle.skyline.specs.Overloads.{FitsFrom, least_up, over, overloaded};
 ghost use Rattle.skyline.specs.Skies.{AreLow, at_first, last_claim};
 
 use crate::floors::{floor_above, lesser};
+use crate::lows_of::{greatest_level, least_low};
 use crate::rooms::{first_loads, make_rows, mark};
 use crate::rows::{burden, highest, lighten, raise, restore, save};
 use dsa_model::{Instance, NoMemory};
@@ -164,6 +166,28 @@ impl<'a> Skyline<'a> {
         None
     }
 
+    /// What `overloaded` answers, by the levels of the last claim, which the caller owes: one more
+    /// than a buffer's low, and 0 where it is not in the claim. No low is found anew, and a section
+    /// is passed by where its load fits even from the greatest low.
+    pub fn overloaded_at(&self, capacity: u64, levels: &[u64]) -> Option<(u64, u64)>
+        requires levels { let l = last_claim self.now.claims in
+            AreLevels self.now.instance l levels.now }
+        requires limit { All (λ level. level ≤ 2 ^ 55) levels.now }
+        ensures value { let l = last_claim self.now.claims in
+            result ≡ overloaded self.now.instance self.now.sections l capacity }
+        ensures limit { IfSome result (λ found. found.1 < 2 ^ 55) }
+        ensures belongs { AreSectionsOf self.now.instance self.now.sections }
+    {
+        let top = greatest_level(levels);
+        for s in 0..self.sections.count() {
+            let found = self.over_at(s, capacity, levels, top);
+            if found.is_some() {
+                return found;
+            }
+        }
+        None
+    }
+
     /// The instance.
     pub(crate) fn lent(&self) -> &Instance
         ensures value { result.now ≡ self.now.instance }
@@ -237,5 +261,27 @@ impl<'a> Skyline<'a> {
             None => None,
             Some(height) => Some((self.sections.start(s), height)),
         }
+    }
+
+    /// The start and the height of the section, where it is too full for the capacity, by the
+    /// levels of the last claim, of which none is above the top.
+    fn over_at(&self, s: u32, capacity: u64, levels: &[u64], top: u64) -> Option<(u64, u64)>
+        requires section { s < count_of self.now.sections }
+        requires levels { let l = last_claim self.now.claims in
+            AreLevels self.now.instance l levels.now }
+        requires limit { All (λ level. level ≤ 2 ^ 55) levels.now }
+        requires top { All (λ level. level ≤ top) levels.now }
+        requires top_limit { top ≤ 2 ^ 55 }
+        ensures value { let l = last_claim self.now.claims in
+            result ≡ over self.now.instance self.now.sections l capacity s }
+        ensures limit { IfSome result (λ found. found.1 < 2 ^ 55) }
+    {
+        let load = self.loads[s as usize];
+        if load + top <= capacity {
+            return None;
+        }
+        let start = self.sections.start(s);
+        let height = least_low(self.sections.members(s), levels, load, capacity)?;
+        Some((start, height))
     }
 }

@@ -52,26 +52,26 @@ returns-in-None-clause-none c =
     sym c.in_default.is ∙ (rw q at c.tall.ensures.value) ∙ lifted_tall I C l (is_instance I l s)
 
 -- ---- a section that is too full
-pub returns-in_ok-claim-in-Some-overloaded-clause-some : goal.returns-in_ok-claim-in-Some-overloaded-clause-some
-returns-in_ok-claim-in-Some-overloaded-clause-some c =
+pub returns-in_ok-claim-in-Some-overloaded_at-clause-some : goal.returns-in_ok-claim-in-Some-overloaded_at-clause-some
+returns-in_ok-claim-in-Some-overloaded_at-clause-some c =
     let I = c.args.task.now.instance.now in
     let C = c.args.task.now.capacity in
     let l = last_claim c.args.sky.now.claims in
     let S = c.args.sky.now.sections in
-    let T = c.in-Some-overloaded.moment in
-    let H = c.in-Some-overloaded.height in
+    let T = c.in-Some-overloaded_at.moment in
+    let H = c.in-Some-overloaded_at.height in
     let s = rw (c.instance.ensures.value, c.requires.subject) at c.instance.ensures.stands in
     let q = c.requires.lifted in
-    let v = rw c.requires.subject at c.in-Some-overloaded.ensures.value in
-    let p = rw c.requires.subject at c.in-Some-overloaded.ensures.belongs in
+    let v = rw c.requires.subject at c.in-Some-overloaded_at.ensures.value in
+    let p = rw c.requires.subject at c.in-Some-overloaded_at.ensures.belongs in
     let f = full_section I S l C T H (sym v) in
     let st = lifted_stands I l s (rw q at c.requires.low) in
     let live = some_live I S l C T H f.0 p s f.1 in
     let before = live_before (buffer I live.0) T live.2 in
     let last = (sound_buffer I live.0 s.buffers live.1).upper_limit in
-    let h = c.in-Some-overloaded.ensures.limit in
+    let h = c.in-Some-overloaded_at.ensures.limit in
     let low = rw q at c.requires.low in
-    rw (c.in_ok-claim-in-Some-overloaded.ensures, q) (record {
+    rw (c.in_ok-claim-in-Some-overloaded_at.ensures, q) (record {
       legal = λ earlier. full_is_legal I S l C T H f.0 p s f.1 earlier st.claim;
       within = (low, omega (arith, before, last), omega (arith, h), omega arith);
       covers = covers_lifted I l;

@@ -1,0 +1,47 @@
+//! Lows by the levels of a claim: one more than a buffer's low, and 0 where it is not in the claim.
+
+ghost use Rattle.std.specs.Prelude.{◌≡◌, ℕ, ◌+◌, ◌<◌, ◌≤◌, ◌^◌, IfNone, IfSome, Some, length};
+ghost use Rattle.std.specs.List.{All};
+ghost use Rattle.skyline.specs.LowsOf.{least_low};
+ghost use Rattle.skyline.specs.Overloads.{FitsFrom};
+
+use crate::floors::lesser;
+
+/// The greatest of the levels, and 0 for none.
+pub(crate) fn greatest_level(levels: &[u64]) -> u64
+    ensures top { All (λ level. level ≤ result) levels.now }
+    ensures limit { (most : ℕ) → All (λ level. level ≤ most) levels.now → result ≤ most }
+{
+    let mut top = 0;
+    for level in levels {
+        if top < *level {
+            top = *level;
+        }
+    }
+    top
+}
+
+/// The least low of the buffers that have a level, where there is one and the load on top of it
+/// passes the capacity. The first low from which the load fits decides that it does not.
+pub(crate) fn least_low(buffers: &[u32], levels: &[u64], load: u64, capacity: u64) -> Option<u64>
+    requires in_range { All (λ b. b < length levels.now) buffers.now }
+    requires limit { All (λ level. level ≤ 2 ^ 55) levels.now }
+    requires load { load ≤ 2 ^ 60 }
+    ensures some { IfSome result (λ height. least_low levels.now buffers.now ≡ Some height) }
+    ensures over { IfSome result (λ height. capacity < height + load) }
+    ensures none { IfNone result (FitsFrom load capacity (least_low levels.now buffers.now)) }
+    ensures limit { IfSome result (λ height. height < 2 ^ 55) }
+{
+    let mut least = None;
+    for i in 0..buffers.len() {
+        let level = levels[buffers[i] as usize];
+        if level > 0 {
+            let height = level - 1;
+            if height + load <= capacity {
+                return None;
+            }
+            least = Some(lesser(height, least));
+        }
+    }
+    least
+}
