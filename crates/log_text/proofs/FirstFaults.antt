@@ -293,7 +293,7 @@ says_no_fault v bytes f raw i a t = none f (way bytes f a)
         lines_no_fault v [] p.spelled t.spelled r raw.end g (subst (λ (u : ℕ). AreGood u [] p.spelled) h.0 p.good) t.good
         (at_same p.spelled p.spelled g h.0 refl refl (at_said w bytes xs r g p a)) t.end_limit h.3
 
-same_log : (g h : RawLog) → g.count ≡ h.count → g.capacity ≡ h.capacity → g.lines ≡ h.lines → g.end ≡ h.end → g ≡ h
+pub same_log : (g h : RawLog) → g.count ≡ h.count → g.capacity ≡ h.capacity → g.lines ≡ h.lines → g.end ≡ h.end → g ≡ h
 same_log g h p q u v = λ i. record { count = p i; capacity = q i; lines = u i; end = v i }
 
 -- bytes that say a log are not the beginning of others that say one, and say no other log

@@ -1,15 +1,20 @@
 -- A log is known by its numbers, where each Cases line has as many cites as buffers.
-use Rattle.std.proofs.Common.{◌≡◌, ℕ, suc, List, [], ◌∷◌, ◌++◌, map, length, refl, sym, ap, ◌∙◌, arith, All}
+use Rattle.std.proofs.Common.{◌≡◌, ℕ, suc, List, [], ◌∷◌, ◌++◌, codes, map, length, refl, sym, ap, ◌∙◌, arith, append_assoc, All}
 use Rattle.std.proofs.lemmas.List.Elements.{All-head, All-tail}
-use Rattle.std.specs.List.{zip}
+use Rattle.std.specs.List.{flat_map, zip}
 use Rattle.dsa_terms.specs.Claims.{Entry, buffers_of}
 use Rattle.dsa_terms.specs.Logs.{Line, Over, Cases, Cite, ByLine, Below, Twin, Log}
 use Rattle.refute_log.specs.Lines.{HasCites}
+use Rattle.log_text.specs.Numerals.{numeral}
+use Rattle.log_text.specs.RawTexts.{header_text, line_text, raw_text}
 use Rattle.log_text.specs.Text.{log_text, raw_cite_of, raw_line_of, raw_log_of}
 use Rattle.log_text.specs.declared.raw.RawCite.{RawCite}
 use Rattle.log_text.specs.declared.raw.RawLine.TheVariants as raw_line
-use Rattle.log_text.proofs.PrefixFree.{head_of, tail_of}
-use Rattle.log_text.proofs.Unique.{log_split}
+use Rattle.log_text.specs.declared.raw.RawLog.{RawLog}
+use Rattle.log_text.proofs.FirstFaults.{same_log as same_raw}
+use Rattle.log_text.proofs.PrefixFree.{cut, head_of, number_split, tail_of}
+use Rattle.log_text.proofs.Saying.{full_lines_split}
+use Rattle.log_text.proofs.Unique.{header_split}
 
 same_cite : (x y : Cite) → raw_cite_of x ≡ raw_cite_of y → x ≡ y
 same_cite (ByLine j) (ByLine k) e = let q : j ≡ k = cc in ap ByLine q
@@ -73,6 +78,23 @@ same_lines (x ∷ xs) (y ∷ ys) a b e =
 
 same_log : (g h : Log) → g.count ≡ h.count → g.capacity ≡ h.capacity → g.lines ≡ h.lines → g.final ≡ h.final → g ≡ h
 same_log g h p q u v = λ i. record { count = p i; capacity = q i; lines = u i; final = v i }
+
+log_form : (log : RawLog) (r : List ℕ) → raw_text log ++ r ≡
+    header_text 1 log.count log.capacity ++ (flat_map line_text log.lines ++
+    (codes "end " ++ (numeral log.end ++ (codes "\n" ++ r))))
+log_form log r = regroup (header_text 1 log.count log.capacity) (flat_map line_text log.lines) (codes "end ")
+    (numeral log.end) (codes "\n") r
+  where
+    regroup : (a b c d e r : List ℕ) → (a ++ b ++ (c ++ d ++ e)) ++ r ≡ a ++ (b ++ (c ++ (d ++ (e ++ r))))
+    regroup a b c d e r = simp append_assoc
+
+-- no text of a log that is given by its numbers is the beginning of another log's
+pub log_split : (g h : RawLog) (r s : List ℕ) → raw_text g ++ r ≡ raw_text h ++ s → (g ≡ h) × (r ≡ s)
+log_split g h r s e =
+    let one = header_split 1 1 g.count h.count g.capacity h.capacity _ _ (sym (log_form g r) ∙ (e ∙ log_form h s)) in
+    let two = full_lines_split g.lines h.lines _ _ one.3 in
+    let three = number_split g.end h.end _ _ refl refl (cut (110 ∷ 100 ∷ 32 ∷ []) _ _ two.1) in
+    (same_raw g h one.1 one.2 two.0 three.0, cut (codes "\n") r s three.1)
 
 -- no text of a log is the beginning of another log's
 pub text_split : (g h : Log) (r s : List ℕ) → All HasCites g.lines → All HasCites h.lines →

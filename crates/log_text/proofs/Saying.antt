@@ -17,6 +17,7 @@ use Rattle.log_text.specs.declared.raw.RawLine.TheVariants as raw_line
 use Rattle.log_text.specs.declared.raw.RawLog.{RawLog}
 use Rattle.log_text.specs.declared.fault.TextFault.{TextFault}
 use Rattle.log_text.proofs.FirstFaults.{says_no_fault, says_one}
+use Rattle.log_text.proofs.Splits.{lines_split}
 use Rattle.log_text.proofs.Differences.{carried_difference, in_carried, in_difference, rises_carried, rises_difference}
 
 -- ---- lists by their items
@@ -114,6 +115,22 @@ full_are_good v earlier (line ∷ lines) a b = (
   where
     k : IsRawLineKept line
     k = All-head IsRawLineKept line lines a
+
+-- lines and an end are told from what follows them, whatever their numbers
+pub full_lines_split : (xs ys : List RawLine) (u v : List ℕ) →
+    flat_map line_text xs ++ (101 ∷ u) ≡ flat_map line_text ys ++ (101 ∷ v) → (xs ≡ ys) × (u ≡ v)
+unfolding in_full
+full_lines_split xs ys u v e =
+    let t = lines_split (map in_full xs) (map in_full ys) u v (ap (λ (b : List ℕ). b ++ (101 ∷ u)) (full_texts xs)
+    ∙ (e ∙ ap (λ (b : List ℕ). b ++ (101 ∷ v)) (sym (full_texts ys)))) in
+    (sym (back xs) ∙ (ap (λ (ss : List Spelled). map (line_said []) ss) t.0 ∙ back ys), t.1)
+  where
+    back : (zs : List RawLine) → map (line_said []) (map in_full zs) ≡ zs
+    back [] = refl
+    back (z ∷ zs) = longer (said_as [] z (Full (raw_claim_of z)) refl) (back zs)
+      where
+        longer : {x y : RawLine} {xs ys : List RawLine} → x ≡ y → xs ≡ ys → x ∷ xs ≡ y ∷ ys
+        longer h k = cc
 
 -- the one text of version 1 says its log by version 1
 pub text_says : (bytes : List ℕ) (raw : RawLog) → IsTextOf bytes raw → SaysBy 1 bytes raw
