@@ -1,14 +1,15 @@
 -- Small pictures, worked out.
-use Rattle.std.proofs.Common.{◌≡◌, ℕ, true, false, [], ◌∷◌, codes, refl}
+use Rattle.std.proofs.Common.{◌≡◌, ℕ, true, false, List, [], ◌∷◌, codes, refl}
 use lib.Utf8.{encode}
 use Rattle.std.specs.Fmt.{digits}
-use Rattle.dsa_terms.specs.Buffers.{Buffer, Instance, buffer, is_live}
+use Rattle.dsa_terms.specs.Buffers.{Buffer, Instance, buffer, do_share, is_live, some_before}
 use Rattle.lifetime.specs.Runs.{was_live}
+use Rattle.layout_picture.specs.Colours.{colours_below, colours_of, is_taken, next_colour, touch}
 use Rattle.layout_picture.specs.Columns.{columns_of, turns_at}
 use Rattle.layout_picture.specs.Escape.{char_text, escaped, is_allowed}
 use Rattle.layout_picture.specs.Rectangles.{begins_at, rectangles, rectangles_of, run_end}
 use Rattle.layout_picture.specs.Scale.{area_of, column_width, scaled, spans, x_of, y_of}
-use Rattle.layout_picture.specs.Texts.{area_text, attribute, colour_of, has_room, id_text, is_marked, label_text, load_step, mark_text, moment_text, picture_width, title_text}
+use Rattle.layout_picture.specs.Texts.{area_text, attribute, colour_text, has_room, id_text, is_marked, label_text, load_step, mark_text, moment_text, picture_width, rectangle_text, title_text}
 use Rattle.layout_picture.specs.declared.rectangle.Rectangle.{Rectangle}
 use Rattle.layout_picture.specs.declared.scale.Scale.{Scale}
 
@@ -46,6 +47,39 @@ gap_rectangles = refl
 no_rectangles : rectangles [] [] ≡ []
 unfolding rectangles
 no_rectangles = refl
+
+-- ---- colours
+-- the first two of the five follow each other, and the third lies upon both
+abbrev five_offsets : List ℕ
+five_offsets = 0 ∷ 0 ∷ 4 ∷ 0 ∷ 8 ∷ []
+
+these_follow : touch five five_offsets 0 1 ≡ true
+unfolding touch buffer do_share some_before is_live
+these_follow = refl
+
+this_lies_upon : touch five five_offsets 0 2 ≡ true
+unfolding touch buffer do_share some_before is_live
+this_lies_upon = refl
+
+these_share_no_moment : touch five five_offsets 2 3 ≡ false
+unfolding touch buffer do_share some_before is_live
+these_share_no_moment = refl
+
+these_are_apart : touch five five_offsets 0 4 ≡ false
+unfolding touch buffer do_share some_before is_live
+these_are_apart = refl
+
+three_colours : colours_of five five_offsets ≡ 0 ∷ 1 ∷ 2 ∷ 0 ∷ 0 ∷ []
+unfolding colours_of colours_below next_colour is_taken touch buffer do_share some_before is_live
+three_colours = refl
+
+the_next_is_taken : is_taken five five_offsets (0 ∷ 1 ∷ []) 1 ≡ true
+unfolding is_taken touch buffer do_share some_before is_live
+the_next_is_taken = refl
+
+the_third_is_left : next_colour five five_offsets (0 ∷ 1 ∷ []) ≡ 2
+unfolding next_colour is_taken touch buffer do_share some_before is_live
+the_third_is_left = refl
 
 -- ---- runs
 a_run_begins : begins_at (false ∷ true ∷ true ∷ []) 1 ≡ true
@@ -133,8 +167,13 @@ a_title : title_text (codes "b<1") (lasting 0 3 4) 8 ≡ codes "4 bytes at 8, li
 unfolding digits escaped encode
 a_title = refl
 
-the_second_colour : colour_of 9 ≡ codes "aadaf4"
+the_second_colour : colour_text 1 ≡ codes "aadaf4"
 the_second_colour = refl
+
+a_rectangle : rectangle_text twelve five (codes "b1" ∷ codes "b2" ∷ codes "b3" ∷ []) (0 ∷ 1 ∷ 2 ∷ []) (drawn 2 0 2 4 8) ≡
+    codes "<path d='M200 224h800v200h-800z' fill='#80cfb9'><title>4 bytes at 4, live 0-9: b3</title></path>\n"
+unfolding rectangle_text area_of x_of y_of scaled buffer digits escaped encode
+a_rectangle = refl
 
 room : has_room 2 (record { x = 200; y = 24; width = 22; height = 14 }) ≡ true
 room = refl

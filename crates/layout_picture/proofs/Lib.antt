@@ -6,4 +6,5 @@ pub mod Putting
 pub mod Whole
 pub mod Showing
 pub mod Apart
+pub mod Colouring
 pub mod ExampleFacts

@@ -6,6 +6,7 @@ use Rattle.dsa_terms.specs.Buffers.{Buffer, Instance}
 use Rattle.dsa_terms.specs.Layouts.{IsLayout}
 use Rattle.dsa_terms.specs.Plans.{load}
 use Rattle.dsa_terms.proofs.Places.{any_default}
+use Rattle.layout_picture.specs.Colours.{colours_of}
 use Rattle.layout_picture.specs.Columns.{columns_of}
 use Rattle.layout_picture.specs.Rectangles.{EndsWithin, rectangles}
 use Rattle.layout_picture.specs.Texts.{frame_text, head_text, picture_text, plot_text, scale_of}
@@ -13,13 +14,13 @@ use Rattle.layout_picture.specs.declared.rectangle.Rectangle.{Rectangle}
 use Rattle.layout_picture.specs.declared.scale.Scale.{Scale}
 
 -- the pieces in order
-pub whole : (I : Instance) (ids : List (List ℕ)) (offsets columns loads again : List ℕ) (all : List Rectangle) (s : Scale)
+pub whole : (I : Instance) (ids : List (List ℕ)) (offsets columns loads again colours : List ℕ) (all : List Rectangle) (s : Scale)
     (text : List ℕ) → columns ≡ columns_of I → loads ≡ map (load I) (columns_of I) → again ≡ loads →
-    all ≡ rectangles I offsets → s ≡ scale_of I offsets →
-    text ≡ ((head_text s ++ plot_text s I ids loads all) ++ frame_text s columns again) ++ codes "</svg>\n" →
+    all ≡ rectangles I offsets → colours ≡ colours_of I offsets → s ≡ scale_of I offsets →
+    text ≡ ((head_text s ++ plot_text s I ids colours loads all) ++ frame_text s columns again) ++ codes "</svg>\n" →
     text ≡ picture_text I ids offsets
 unfolding picture_text
-whole I ids offsets columns loads again all s text c l a r e t = rw (a, c, l, r, e) at t
+whole I ids offsets columns loads again colours all s text c l a r k e t = rw (a, c, l, r, k, e) at t
 
 -- each offset is at most 2 ^ 60
 pub offsets_within : (I : Instance) (offsets : List ℕ) → EndsWithin I offsets →

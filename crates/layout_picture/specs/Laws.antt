@@ -1,7 +1,8 @@
 -- What the picture shows.
-use Rattle.std.specs.Prelude.{◌≡◌, ℕ, ◌+◌, ◌<◌, ◌≤◌, ◌⊎◌, List, slice_index}
+use Rattle.std.specs.Prelude.{◌≡◌, ◌≢◌, ℕ, ◌+◌, ◌<◌, ◌≤◌, ◌⊎◌, true, List, slice_index}
 use Rattle.dsa_terms.specs.Buffers.{Instance, buffer}
 use Rattle.dsa_terms.specs.Claims.{IsIn}
+use Rattle.layout_picture.specs.Colours.{colours_of, touch}
 use Rattle.layout_picture.specs.Columns.{IsInColumn, columns_of}
 use Rattle.layout_picture.specs.Rectangles.{rectangles}
 use Rattle.layout_picture.specs.declared.rectangle.Rectangle.{Rectangle}
@@ -28,6 +29,11 @@ pub record IsShownAt (I : Instance) (offsets : List ℕ) (b t : ℕ) : Type 0 wh
   pub top : rectangle.top ≡ slice_index offsets b + (buffer I b).size
   pub of_moment : IsInColumn (columns_of I) t column
   pub has : HasColumn rectangle column
+
+-- of eight colours, k is that of no lower-numbered buffer that touches buffer c
+pub record IsLeft (I : Instance) (offsets : List ℕ) (c k : ℕ) : Type 0 where
+  pub in_range : k < 8
+  pub not_taken : (b : ℕ) → b < c → touch I offsets b c ≡ true → slice_index (colours_of I offsets) b ≢ k
 
 -- one of the areas ends where the other begins, or before, in one of the two directions
 abbrev pub AreApart : Area → Area → Type 0

@@ -5,6 +5,7 @@ use Rattle.dsa_terms.specs.Buffers.{Buffer, Instance, buffer}
 use Rattle.dsa_terms.specs.Logs.{greatest}
 use Rattle.dsa_terms.specs.Parts.{numbers}
 use Rattle.dsa_terms.specs.Plans.{layout_height, load}
+use Rattle.layout_picture.specs.Colours.{colours_of}
 use Rattle.layout_picture.specs.Columns.{columns_of}
 use Rattle.layout_picture.specs.Escape.{escaped}
 use Rattle.layout_picture.specs.Rectangles.{rectangles}
@@ -29,9 +30,9 @@ palette =
     codes "f5cf80" ∷ codes "aadaf4" ∷ codes "80cfb9" ∷ codes "f7f1a0" ∷ codes "80b8d8" ∷ codes "eaae80"
     ∷ codes "e5bcd3" ∷ codes "dddddd" ∷ []
 
--- the colour of buffer b
-abbrev pub colour_of : ℕ → List ℕ
-colour_of b = slice_index_or palette (b % 8) []
+-- the digits of a colour
+abbrev pub colour_text : ℕ → List ℕ
+colour_text k = slice_index_or palette (k % 8) []
 
 -- a buffer's size, place, lifetime and id; the id is last, so none is taken for the numbers
 abbrev pub title_text : List ℕ → Buffer → ℕ → List ℕ
@@ -40,9 +41,10 @@ title_text id b place =
     ++ decimal b.upper ++ codes ": " ++ escaped id
 
 -- a rectangle with its title
-unfoldable pub rectangle_text : Scale → Instance → List (List ℕ) → Rectangle → List ℕ
-rectangle_text s I ids r =
-    codes "<path" ++ area_text (area_of s r) ++ codes " fill='#" ++ colour_of r.buffer ++ codes "'><title>"
+unfoldable pub rectangle_text : Scale → Instance → List (List ℕ) → List ℕ → Rectangle → List ℕ
+rectangle_text s I ids colours r =
+    codes "<path" ++ area_text (area_of s r) ++ codes " fill='#" ++ colour_text (slice_index colours r.buffer)
+    ++ codes "'><title>"
     ++ title_text (slice_index_or ids r.buffer []) (buffer I r.buffer) r.place ++ codes "</title></path>\n"
 
 -- whether an id of so many bytes has room in the area
@@ -113,9 +115,9 @@ head_text s =
     ++ codes " 672' font-family='monospace' font-size='11'>\n<rect width='100%' height='100%' fill='#fff'/>\n"
 
 -- the rectangles, and over them the load's line and the ids, which are edged in white
-unfoldable pub plot_text : Scale → Instance → List (List ℕ) → List ℕ → List Rectangle → List ℕ
-plot_text s I ids loads all =
-    codes "<g stroke='#333' stroke-width='.5'>\n" ++ flat_map (rectangle_text s I ids) all
+unfoldable pub plot_text : Scale → Instance → List (List ℕ) → List ℕ → List ℕ → List Rectangle → List ℕ
+plot_text s I ids colours loads all =
+    codes "<g stroke='#333' stroke-width='.5'>\n" ++ flat_map (rectangle_text s I ids colours) all
     ++ codes "</g>\n<g pointer-events='none'>\n" ++ load_text s loads
     ++ codes "<g stroke='#fff' stroke-width='2' paint-order='stroke'>\n" ++ flat_map (label_text s ids) all
     ++ codes "</g>\n</g>\n"
@@ -141,5 +143,5 @@ unfoldable pub picture_text : Instance → List (List ℕ) → List ℕ → List
 picture_text I ids offsets =
     let s = scale_of I offsets in
     let loads = map (load I) (columns_of I) in
-    head_text s ++ plot_text s I ids loads (rectangles I offsets) ++ frame_text s (columns_of I) loads
+    head_text s ++ plot_text s I ids (colours_of I offsets) loads (rectangles I offsets) ++ frame_text s (columns_of I) loads
     ++ codes "</svg>\n"

@@ -7,6 +7,7 @@ ghost use Rattle.csv_instance.specs.Parse.{parse};
 ghost use Rattle.layout_picture.specs.Rectangles.{EndsWithin, rectangles};
 ghost use Rattle.layout_picture.specs.Texts.{picture_text};
 
+use crate::colours::colours;
 use crate::columns::columns;
 use crate::drawn::Picture;
 use crate::frame::{put_frame, put_head};
@@ -23,7 +24,8 @@ use std::alloc::Global;
 ///
 /// A column is a moment at which some buffer begins or ends to be live, and is as wide as any
 /// other. Each buffer has a rectangle for each greatest run of columns at which it is live, from
-/// its offset to its end, with its id, size, place and lifetime as the title. The left axis marks
+/// its offset to its end, with its size, place, lifetime and id as the title. Buffers that touch
+/// differ in colour where one of the eight is left. The left axis marks
 /// the layout's height and the peak load, in bytes, the lower axis some moments; the load is a
 /// dashed line.
 ///
@@ -39,13 +41,22 @@ pub fn picture(alloc: Global, table: &Table, offsets: &[u64]) -> Result<Picture,
     let columns = columns(alloc, instance)?;
     let loads = loads(alloc, instance, &columns)?;
     let rectangles = rectangles(alloc, instance, offsets, &columns)?;
+    let colours = colours(alloc, instance, offsets)?;
     let scale = Scale {
         columns: columns.len() as u32,
         height: height(instance, offsets),
     };
     let mut text = Vec::new(alloc);
     put_head(&mut text, &scale)?;
-    put_plot(&mut text, &scale, table, instance, &loads, &rectangles)?;
+    put_plot(
+        &mut text,
+        &scale,
+        table,
+        instance,
+        &colours,
+        &loads,
+        &rectangles,
+    )?;
     put_frame(&mut text, &scale, &columns, &loads)?;
     put(&mut text, b"</svg>\n")?;
     Ok(Picture {

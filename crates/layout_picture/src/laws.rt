@@ -1,12 +1,13 @@
 //! Laws of the definitions: the picture shows what the layout is.
 
-ghost use Rattle.std.specs.Prelude.{◌≡◌, ◌≢◌, ◌+◌, ◌<◌, ◌≤◌, ◌↔◌, ℕ, List, length, slice_index};
+ghost use Rattle.std.specs.Prelude.{◌≡◌, ◌≢◌, ◌+◌, ◌<◌, ◌≤◌, ◌↔◌, ℕ, true, List, length, slice_index};
 ghost use Rattle.dsa_terms.specs.Buffers.{Instance, IsLive, buffer};
 ghost use Rattle.dsa_terms.specs.Claims.{IsIn};
 ghost use Rattle.dsa_terms.specs.Layouts.{IsLayout};
 ghost use Rattle.dsa_terms.specs.Plans.{load};
+ghost use Rattle.layout_picture.specs.Colours.{colours_of, touch};
 ghost use Rattle.layout_picture.specs.Columns.{IsInColumn, columns_of};
-ghost use Rattle.layout_picture.specs.Laws.{AreApart, HasPoint, IsShownAt};
+ghost use Rattle.layout_picture.specs.Laws.{AreApart, HasPoint, IsLeft, IsShownAt};
 ghost use Rattle.layout_picture.specs.Rectangles.{rectangles};
 ghost use Rattle.layout_picture.specs.Scale.{area_of, scaled, x_of, y_of};
 ghost use Rattle.layout_picture.specs.declared.rectangle.Rectangle.{Rectangle as Drawn};
@@ -33,6 +34,13 @@ pub fn rectangles_are_apart()
 pub fn loads_are_shown()
     ensures { (I : Instance) (t k : ℕ) → IsInColumn (columns_of I) t k →
         load I t ≡ load I (slice_index (columns_of I) k) }
+{}
+
+/// Buffers that touch differ in colour, where one of the eight is left for the later one.
+pub fn colours_tell_apart()
+    ensures { (I : Instance) (offsets : List ℕ) (b c k : ℕ) → b < c → c < length I →
+        IsLeft I offsets c k → touch I offsets b c ≡ true →
+        slice_index (colours_of I offsets) b ≢ slice_index (colours_of I offsets) c }
 {}
 
 /// Scaling keeps order: what lies above is drawn above, place 0 at the base and the height at the

@@ -2,6 +2,7 @@
 //! live, as an SVG file.
 #![tactic(auto)]
 
+mod colours;
 mod columns;
 mod draw;
 mod drawn;

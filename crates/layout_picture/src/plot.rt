@@ -4,7 +4,7 @@ ghost use Rattle.std.specs.Prelude.{◌≡◌, ◌+◌, ◌*◌, ◌^◌, ◌<�
 ghost use Rattle.std.specs.List.{All};
 ghost use Rattle.dsa_terms.specs.Parts.{numbers};
 ghost use Rattle.csv_instance.specs.Offsets.{ids_of};
-ghost use Rattle.layout_picture.specs.Texts.{colour_of, has_room, id_text, label_text, load_step, load_text, plot_text, rectangle_text, title_text};
+ghost use Rattle.layout_picture.specs.Texts.{colour_text, has_room, id_text, label_text, load_step, load_text, plot_text, rectangle_text, title_text};
 
 use crate::escape::put_escaped;
 use crate::put::{put, put_area, put_attribute, put_number};
@@ -14,11 +14,11 @@ use csv_instance::Table;
 use dsa_model::{Buffer, Instance};
 use std::alloc::AllocError;
 
-/// The colour of buffer b in six digits.
-fn colour(b: u32) -> &'static [u8]
-    ensures { result.now ≡ colour_of b }
+/// The six digits of a colour.
+fn colour_digits(k: u32) -> &'static [u8]
+    ensures { result.now ≡ colour_text k }
 {
-    match b % 8 {
+    match k % 8 {
         0 => b"f5cf80",
         1 => b"aadaf4",
         2 => b"80cfb9",
@@ -52,18 +52,20 @@ fn put_rectangle(
     scale: &Scale,
     table: &Table,
     instance: &Instance,
+    colours: &[u32],
     rectangle: &Rectangle,
 ) -> Result<(), AllocError>
     requires id { rectangle.now.buffer + 1 < length table.now }
     requires buffer { rectangle.now.buffer < length instance.now }
+    requires colours { length colours.now ≡ length instance.now }
     ensures { OnOk result (text.new.items ≡ text.old.items
-        ++ rectangle_text scale.now instance.now (ids_of table.now) rectangle.now) }
+        ++ rectangle_text scale.now instance.now (ids_of table.now) colours.now rectangle.now) }
 {
     let b = rectangle.buffer;
     put(text, b"<path")?;
     put_area(text, &scale.area(rectangle))?;
     put(text, b" fill='#")?;
-    put(text, colour(b))?;
+    put(text, colour_digits(colours[b as usize]))?;
     put(text, b"'><title>")?;
     put_title(text, table.id(b), instance.buffer(b), rectangle.place)?;
     put(text, b"</title></path>\n")?;
@@ -76,15 +78,17 @@ fn put_rectangles(
     scale: &Scale,
     table: &Table,
     instance: &Instance,
+    colours: &[u32],
     rectangles: &[Rectangle],
 ) -> Result<(), AllocError>
     requires ids { length table.now ≡ length instance.now + 1 }
+    requires colours { length colours.now ≡ length instance.now }
     requires buffers { All (λ r. r.buffer < length instance.now) rectangles.now }
     ensures { OnOk result (text.new.items ≡ text.old.items
-        ++ flat_map (rectangle_text scale.now instance.now (ids_of table.now)) rectangles.now) }
+        ++ flat_map (rectangle_text scale.now instance.now (ids_of table.now) colours.now) rectangles.now) }
 {
     for rectangle in rectangles {
-        put_rectangle(text, scale, table, instance, rectangle)?;
+        put_rectangle(text, scale, table, instance, colours, rectangle)?;
     }
     Ok(())
 }
@@ -194,17 +198,19 @@ pub(crate) fn put_plot(
     scale: &Scale,
     table: &Table,
     instance: &Instance,
+    colours: &[u32],
     loads: &[u64],
     rectangles: &[Rectangle],
 ) -> Result<(), AllocError>
     requires ids { length table.now ≡ length instance.now + 1 }
     requires few { length loads.now < 2 ^ 32 }
+    requires colours { length colours.now ≡ length instance.now }
     requires buffers { All (λ r. r.buffer < length instance.now) rectangles.now }
     ensures { OnOk result (text.new.items ≡ text.old.items
-        ++ plot_text scale.now instance.now (ids_of table.now) loads.now rectangles.now) }
+        ++ plot_text scale.now instance.now (ids_of table.now) colours.now loads.now rectangles.now) }
 {
     put(text, b"<g stroke='#333' stroke-width='.5'>\n")?;
-    put_rectangles(text, scale, table, instance, rectangles)?;
+    put_rectangles(text, scale, table, instance, colours, rectangles)?;
     put(text, b"</g>\n<g pointer-events='none'>\n")?;
     put_load(text, scale, loads)?;
     put(

@@ -17,7 +17,7 @@ returns c =
     c.in_ok-put.ensures
     (put_same c.put.new.text.items c.put_area.new.text.items area_text _ _ c.area.ensures.value c.in_ok-put_area.ensures))
     c.in_ok-put-2.ensures)
-    (put_same c.put-2.new.text.items c.put-3.new.text.items (λ (xs : List ℕ). xs) _ _ c.colour.ensures c.in_ok-put-3.ensures))
+    (put_same c.put-2.new.text.items c.put-3.new.text.items (λ (xs : List ℕ). xs) _ _ c.colour_digits.ensures c.in_ok-put-3.ensures))
     c.in_ok-put-4.ensures)
     (put_same c.put-4.new.text.items c.put_title.new.text.items
     (λ (x : Buffer). title_text (slice_index_or (ids_of c.args.table.now) c.args.rectangle.now.buffer []) x

@@ -6,4 +6,4 @@ use Rattle.layout_picture.proofs.plot.put_rectangles.Given as goal
 
 abbrev pub invariant-loop-rectangle : goal.invariant-loop-rectangle
 invariant-loop-rectangle l = l.text.items ≡ l.fn.text.items
-    ++ flat_map (rectangle_text l.scale l.instance (ids_of l.table)) (take l.rectangle-index l.rectangles)
+    ++ flat_map (rectangle_text l.scale l.instance (ids_of l.table) l.colours) (take l.rectangle-index l.rectangles)
