@@ -1,6 +1,8 @@
 -- Steps of the search: a choice deeper, and back.
-use Rattle.std.proofs.Common.{◌≡◌, ◌≢◌, ℕ, ◌+◌, ◌-◌, ◌*◌, ◌<◌, cond, List, [], ◌∷◌, ◌++◌, length, map, reverse, Option, Some, None, IfSome, IfNone, slice_get, is_some, refl, sym, ap, ◌∙◌, subst, arith, length-append}
+use Rattle.std.proofs.Common.{◌≡◌, ◌≢◌, ℕ, ◌+◌, ◌-◌, ◌*◌, ◌<◌, cond, List, [], ◌∷◌, ◌++◌, length, map, reverse, Option, Some, None, IfSome, IfNone, slice_get, slice_index_or, suc, is_some, refl, sym, ap, ◌∙◌, subst, arith, length-append}
+use Rattle.std.proofs.lemmas.List.{get_or-reverse, length-reverse}
 use Rattle.std.proofs.lemmas.List.Elements.{All-cons, All-nil, All-weaker}
+use Rattle.std.proofs.lemmas.Option.{slice_get-get_or}
 use Rattle.dsa_terms.specs.Buffers.{Instance, IsInstance}
 use Rattle.dsa_terms.specs.Claims.{Claim, Entry, child}
 use Rattle.dsa_terms.specs.Logs.{Line}
@@ -8,7 +10,7 @@ use Rattle.dsa_terms.specs.Search.{first, seated, work}
 use Rattle.canonical_order.specs.Claims.{HasBuffer, entry_of}
 use Rattle.canonical_order.specs.Levels.{AreLevels}
 use Rattle.skyline.specs.Skies.{last_claim}
-use Rattle.search_core.specs.Descents.{Descends, HasAskedAll, IsKnown, IsPath, IsPlace, IsStanding, IsTrying, Place, above_of, claim_at, left_of, owed, root_of, sky_root, through, turns_left}
+use Rattle.search_core.specs.Descents.{Descends, HasAskedAll, IsKnown, IsPath, IsPlace, IsStanding, IsTrying, IsUnder, IsUnderLast, Place, above_of, claim_at, left_of, owed, root_of, sky_root, through, turns_left}
 use Rattle.search_core.specs.Logs.{Extends}
 use Rattle.search_core.specs.Tries.{IsLeft, Tried, chosen_of, later_of, noted_by, rest_of}
 use Rattle.search_core.specs.Turns.{IsAhead, debt_of}
@@ -27,6 +29,10 @@ carried : {X Y Z : Type 0} (P : X → Y → Z → Type 0) {a x : X} {b y : Y} {c
     P a b c
 carried P {a = a} {x = x} {b = b} {y = y} {c = c} {z = z} e f g h =
     subst (λ s. P s b c) (sym e) (subst (λ t. P x t c) (sym f) (subst (λ u. P x y u) (sym g) h))
+
+nothing_in : {X : Type 0} (xs : List X) → length xs ≡ 0 → xs ≡ []
+nothing_in [] e = refl
+nothing_in (x ∷ xs) e = absurd (omega (arith, e))
 
 -- the frame that was put last is the last one
 last_asked : (lines : List Line) (frames : List Tried) (f : Tried) → f.asked ≡ length lines →
@@ -96,6 +102,37 @@ module _ (I : Instance) (C : ℕ) where
   are_raised lines l levels ps frames s d a =
       all_reversed (λ (f : Tried). AreRaised f.levels levels) frames
       (raised_down lines l levels ps (reverse frames) s d a)
+
+  -- the last claim is under the last frame
+  under_first : (lines : List Line) (l : Claim) (ps : List Claim) (f : Tried) (fs : List Tried) →
+      Descends I C lines l ps (f ∷ fs) → IsUnder I f l
+  under_first lines l [] f fs d = absurd d
+  under_first lines l (p ∷ ps) f fs d = record {
+    above = p;
+    levels = d.1.levels;
+    has = chosen_in I C p lines f d.1 d.0.is_left;
+    standing = d.0;
+  }
+
+  pub under_last : (lines : List Line) (l : Claim) (ps : List Claim) (frames : List Tried) →
+      Descends I C lines l ps (reverse frames) → IsUnderLast I frames l
+  under_last lines l ps frames d = go (reverse frames) refl
+    where
+      go : (fs : List Tried) → reverse frames ≡ fs → IsUnderLast I frames l
+      go [] q =
+          let n : length frames ≡ 0 = sym (length-reverse frames) ∙ ap length q in
+          subst (λ (xs : List Tried). IsUnderLast I xs l) (sym (nothing_in frames n)) tt
+      go (f ∷ fs) q =
+          let n : length frames ≡ suc (length fs) = sym (length-reverse frames) ∙ ap length q in
+          let lt : 0 < length frames = omega arith in
+          let last : length frames - 1 < length frames = omega arith in
+          let same : length frames - 1 ≡ length frames - 1 - 0 = omega arith in
+          let head : slice_index_or frames (length frames - 1) f ≡ f =
+          ap (λ (n : ℕ). slice_index_or frames n f) same ∙ sym (get_or-reverse frames 0 f lt) ∙ ap (λ (xs : List Tried). slice_index_or xs 0 f) q in
+          let got : slice_get frames (length frames - 1) ≡ Some f =
+          slice_get-get_or frames (length frames - 1) f last ∙ ap (λ (x : Tried). Some x) head in
+          subst (λ (o : Option Tried). IfSome o (λ (f : Tried). IsUnder I f l)) (sym got)
+          (under_first lines l ps f fs (subst (Descends I C lines l ps) q d))
 
   -- ---- a choice deeper
   pub ahead_deeper : (lines : List Line) (before after : Place) (f : Tried) → IsPath I C lines before →

@@ -1,5 +1,5 @@
 -- Which buffers another one ends below, by the least end of the claim.
-use Rattle.std.proofs.Common.{◌≡◌, ◌≢◌, inl, inr, ℕ, ◌+◌, ◌<◌, ◌≤◌, ◌^◌, ◌==◌, ◌&&◌, Bool, true, false, not, nat_le, List, length, refl, sym, ap, subst, arith}
+use Rattle.std.proofs.Common.{◌≡◌, ◌≢◌, ◌⊎◌, [], ◌∷◌, inl, inr, ℕ, ◌+◌, ◌<◌, ◌≤◌, ◌^◌, ◌==◌, ◌&&◌, Bool, true, false, not, nat_le, List, length, refl, sym, ap, subst, arith}
 use Rattle.std.specs.List.{list_any}
 use Rattle.dsa_terms.specs.Buffers.{Instance, buffer}
 use Rattle.dsa_terms.specs.Claims.{Claim, Entry, IsIn, Rises, buffers_of, up}
@@ -10,7 +10,7 @@ use Rattle.dsa_search_laws.proofs.Placing.{in_buffers}
 use Rattle.canonical_order.specs.Claims.{HasBuffer, entry_of}
 use Rattle.canonical_order.specs.Stands.{Stands}
 use Rattle.canonical_order.proofs.Entries.{entry_in, is_entry}
-use Rattle.dsa_terms.proofs.NumberTests.{apart, below_or_last, is_at_most, not_at_most}
+use Rattle.dsa_terms.proofs.NumberTests.{apart, is_at_most, not_at_most}
 use Rattle.conflicts.specs.Ends.{end_of}
 use Rattle.search_core.specs.declared.ending.Ending.{Ending}
 use Rattle.search_core.specs.Endings.{IsLeastEnding}
@@ -18,38 +18,49 @@ use Rattle.search_core.proofs.Descent.{is_instance}
 
 -- ---- the loop over the buffers
 
-pub least_skip : (I : Instance) (l : Claim) (n : ℕ) (x : Ending) → (HasBuffer l n → ⊥) → IsLeastEnding I l n x →
-    IsLeastEnding I l (n + 1) x
-least_skip I l n x out h = record {
-  least = λ e i lt. elim (below_or_last e.0 n lt) [
-    | inl below ↦ h.least e i below
-    | inr last ↦ absurd (out (subst (HasBuffer l) last (in_buffers l e i)))
+-- no buffer of the claim ends below x, but for those that are left; x ends where its buffer does
+pub record IsLeastBut (I : Instance) (l left : Claim) (x : Ending) : Type 0 where
+  pub least : (e : Entry) → IsIn e l → IsIn e left ⊎ (x.end ≤ end_of I e)
+  pub is_end : x.end < 2 ^ 63 → HasBuffer l x.buffer × (x.end ≡ end_of I (entry_of l x.buffer))
+
+module _ (I : Instance) (l left rest : Claim) (e : Entry) (x : Ending) (s : left ≡ e ∷ rest)
+    (h : IsLeastBut I l left x) where
+  pub least_keep : x.end ≤ end_of I e → IsLeastBut I l rest x
+  least_keep le = record {
+    least = λ f i. elim (h.least f i) [
+      | inl j ↦ elim (subst (IsIn f) s j) [
+        | inl p ↦ inr (subst (λ (e : Entry). x.end ≤ end_of I e) (sym p) le)
+        | inr k ↦ inl k
+      ]
+      | inr m ↦ inr m
+    ];
+    is_end = h.is_end;
+  }
+
+  pub least_take : (y : Ending) → Rises (buffers_of l) → IsIn e l → y.buffer ≡ e.0 →
+      y.end ≡ end_of I (entry_of l e.0) → y.end < x.end → IsLeastBut I l rest y
+  least_take y r i n q less = record {
+    least = λ f j. elim (h.least f j) [
+      | inl k ↦ elim (subst (IsIn f) s k) [
+        | inl p ↦ inr (subst (λ (e : Entry). y.end ≤ end_of I e) (sym p) here)
+        | inr m ↦ inl m
+      ]
+      | inr m ↦ inr (omega arith)
+    ];
+    is_end = λ lt. subst (λ (b : ℕ). HasBuffer l b × (y.end ≡ end_of I (entry_of l b))) (sym n) (in_buffers l e i, q);
+  }
+    where
+      here : y.end ≤ end_of I e
+      here = let k = ap (end_of I) (is_entry l e r i) in omega arith
+
+pub least_of_all : (I : Instance) (l left : Claim) (x : Ending) → left ≡ [] → IsLeastBut I l left x →
+    IsLeastEnding I l (length I) x
+least_of_all I l left x q h = record {
+  least = λ e i lt. elim (h.least e i) [
+    | inl j ↦ absurd (subst (IsIn e) q j)
+    | inr le ↦ le
   ];
   is_end = h.is_end;
-}
-
-entry_at : (l : Claim) (e : Entry) (n : ℕ) → Rises (buffers_of l) → IsIn e l → e.0 ≡ n → e ≡ entry_of l n
-entry_at l e n r i q = subst (λ n. e ≡ entry_of l n) q (is_entry l e r i)
-
-pub least_keep : (I : Instance) (l : Claim) (n : ℕ) (x : Ending) → Rises (buffers_of l) →
-    x.end ≤ end_of I (entry_of l n) → IsLeastEnding I l n x → IsLeastEnding I l (n + 1) x
-least_keep I l n x r le h = record {
-  least = λ e i lt. elim (below_or_last e.0 n lt) [
-    | inl below ↦ h.least e i below
-    | inr last ↦ subst (λ (e : Entry). x.end ≤ end_of I e) (sym (entry_at l e n r i last)) le
-  ];
-  is_end = h.is_end;
-}
-
-pub least_take : (I : Instance) (l : Claim) (n : ℕ) (x : Ending) (end : ℕ) → Rises (buffers_of l) → HasBuffer l n →
-    end ≡ end_of I (entry_of l n) → end < x.end → IsLeastEnding I l n x →
-    IsLeastEnding I l (n + 1) (record { buffer = n; end = end })
-least_take I l n x end r has q less h = record {
-  least = λ e i lt. elim (below_or_last e.0 n lt) [
-    | inl below ↦ let k = h.least e i below in omega arith
-    | inr last ↦ let k = ap (end_of I) (entry_at l e n r i last) in omega arith
-  ];
-  is_end = λ lt. (has, q);
 }
 
 -- ---- what the least end says of a buffer of the claim

@@ -1,12 +1,13 @@
 -- Levels of a buffer of size 3 beside one of size 1 that stands at multiples of 4 alone: in the claim of both without
 -- bounds, and in what is left of it where the first one stands at 0.
 use Rattle.std.proofs.Common.{◌≡◌, ◌+◌, ◌^◌, ◌<◌, ℕ, zero, suc, List, [], ◌∷◌, length, slice_index, slice_index_or, ◌≤◌, inl, inr, refl, sym, arith}
-use Rattle.dsa_terms.specs.Buffers.{buffer}
-use Rattle.dsa_terms.specs.Claims.{Claim, Entry, IsClaim, IsIn, up}
+use Rattle.dsa_terms.specs.Buffers.{buffer, do_share, is_live, some_before}
+use Rattle.dsa_terms.specs.Claims.{Claim, Entry, IsClaim, IsIn, child, step, up}
 use Rattle.dsa_terms.proofs.Examples.{small_below}
-use Rattle.canonical_order.specs.Claims.{HasBuffer}
+use Rattle.canonical_order.specs.Claims.{HasBuffer, entry_of}
 use Rattle.canonical_order.specs.Levels.{AreLevels, IsLevel}
-use Rattle.search_core.specs.Levels.{AreKept}
+use Rattle.canonical_order.proofs.Entries.{entry_in}
+use Rattle.search_core.specs.Levels.{AreKept, HasLowChild}
 
 abbrev pub root : Claim
 root = (0, 0) ∷ (1, 0) ∷ []
@@ -67,17 +68,50 @@ not_the_ups : AreLevels small_below root (0 ∷ 0 ∷ []) → ⊥
 unfolding up buffer
 not_the_ups h = differ 0 1 (omega arith) ((h.each 0 (omega arith)).inside (inl refl))
 
--- ---- what all levels keep
-kept : AreKept (2 ^ 54 ∷ 5 ∷ [])
-kept = record { few = omega arith; low = low }
+-- ---- what all levels keep: the first buffer has no level, and the low of the second is 4
+second : Claim
+second = (1, 4) ∷ []
+
+kept : AreKept (0 ∷ 5 ∷ []) second
+unfolding second
+kept = record { few = omega arith; low = low; rises = ((λ y i. absurd i), tt); each = each; all = all }
   where
-    low : (k d : ℕ) → k < 2 → slice_index_or (2 ^ 54 ∷ 5 ∷ []) k d ≤ 2 ^ 54
+    low : (k d : ℕ) → k < 2 → slice_index_or (0 ∷ 5 ∷ []) k d ≤ 2 ^ 55
     low zero d lt = omega arith
     low (suc zero) d lt = omega arith
     low (suc (suc k)) d lt = absurd (omega arith)
 
-not_above : AreKept (5 ∷ (2 ^ 54 + 1) ∷ []) → ⊥
-not_above h = let k : 2 ^ 54 + 1 ≤ 2 ^ 54 = h.low 1 0 (omega arith) in omega arith
+    each : (e : Entry) → IsIn e second → slice_index (0 ∷ 5 ∷ []) e.0 ≡ e.1 + 1
+    each e (inl q) = rw q refl
+    each e (inr z) = absurd z
 
-not_more : (levels : List ℕ) → length levels ≡ 513 → AreKept levels → ⊥
-not_more levels q h = let k = h.few in omega arith
+    all : (b : ℕ) → 0 < slice_index (0 ∷ 5 ∷ []) b → HasBuffer second b
+    all zero lt = absurd (omega arith)
+    all (suc zero) lt = inl refl
+    all (suc (suc b)) lt = absurd (omega arith)
+
+not_above : (k : Claim) → AreKept (5 ∷ (2 ^ 55 + 1) ∷ []) k → ⊥
+not_above k h = let k : 2 ^ 55 + 1 ≤ 2 ^ 55 = h.low 1 0 (omega arith) in omega arith
+
+not_more : (levels : List ℕ) (k : Claim) → length levels ≡ 513 → AreKept levels k → ⊥
+not_more levels k q h = let k = h.few in omega arith
+
+-- the claim has the buffers that have a level, and no other bounds
+not_another_bound : AreKept (5 ∷ []) ((0, 5) ∷ []) → ⊥
+not_another_bound h = differ 5 6 (omega arith) (h.each (0, 5) (inl refl))
+
+not_one_left_out : AreKept (5 ∷ []) [] → ⊥
+not_one_left_out h = h.all 0 (omega arith)
+
+-- ---- what is left of the two where the first one stands at 0
+its_child : HasLowChild small_below (1 ∷ 1 ∷ []) 0
+unfolding child step up do_share some_before is_live buffer
+its_child = record { above = root; are = root_levels; has = inl refl; low = low }
+  where
+    low : (e : Entry) → IsIn e (child small_below root (0, 0)) → e.1 ≤ 2 ^ 54
+    low e (inl q) = rw q (omega arith)
+    low e (inr z) = absurd z
+
+not_without_it : HasLowChild small_below (0 ∷ 5 ∷ []) 0 → ⊥
+not_without_it h = let k = (h.are.each 0 (h.are.claim.in_range (entry_of h.above 0) (entry_in h.above 0 h.has))).inside h.has in
+    omega (arith, k)

@@ -4,6 +4,7 @@ pub mod Order
 pub mod Noted
 pub mod Taking
 pub mod Seating
+pub mod Finding
 pub mod TallLines
 pub mod FullSections
 pub mod Descent
@@ -31,6 +32,10 @@ pub mod Looking
 pub mod WatchFacts
 pub mod WatchTableFacts
 pub mod Rising
+pub mod Tall
+pub mod Along
+pub mod Grounding
+pub mod ChildLevels
 pub mod Watched
 pub mod TwinMarking
 pub mod TwinFacts

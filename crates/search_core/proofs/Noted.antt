@@ -1,5 +1,5 @@
 -- The cites of a claim, one after another.
-use Rattle.std.proofs.Common.{◌≡◌, ℕ, ◌+◌, ◌<◌, List, [], ◌∷◌, ◌++◌, map, refl}
+use Rattle.std.proofs.Common.{◌≡◌, ℕ, ◌+◌, ◌<◌, List, [], ◌∷◌, ◌++◌, map, refl, take}
 use Rattle.std.specs.List.{AllZip}
 use Rattle.dsa_terms.specs.Claims.{Claim, Entry, IsIn, Rises, buffers_of}
 use Rattle.canonical_order.specs.Claims.{HasBuffer, entries_below, entry_of}
@@ -16,24 +16,18 @@ zip_next R [] (b ∷ ys) x y h r = absurd h
 zip_next R (a ∷ xs) [] x y h r = absurd h
 zip_next R (a ∷ xs) (b ∷ ys) x y h r = (h.0, zip_next R xs ys x y h.1 r)
 
-module _ {A B : Type 0} (f : A → B) (R : Entry → B → Type 0) (l : Claim) where
-  pub zip_none : (items : List A) → items ≡ [] → AllZip R (entries_below 0 l) (map f items)
-  zip_none items q = rw (q, ← below_zero l) tt
+module _ {A B : Type 0} (f : A → B) (R : Entry → B → Type 0) where
+  pub zip_none : (l : Claim) (items : List A) → items ≡ [] → AllZip R (take 0 l) (map f items)
+  zip_none l items q = rw q (none l)
+    where
+      none : (l : Claim) → AllZip R (take 0 l) []
+      none [] = tt
+      none (e ∷ l) = tt
 
-  pub zip_skip : (n : ℕ) (items after : List A) →
-      (HasBuffer l n → ⊥) → after ≡ items → AllZip R (entries_below n l) (map f items) →
-      AllZip R (entries_below (n + 1) l) (map f after)
-  zip_skip n items after h q z = rw (q, below_skip l n h) z
-
-  pub zip_take : (n : ℕ) (items after : List A) (x : A) → Rises (buffers_of l) → HasBuffer l n →
-      R (entry_of l n) (f x) → after ≡ items ++ x ∷ [] →
-      AllZip R (entries_below n l) (map f items) → AllZip R (entries_below (n + 1) l) (map f after)
-  zip_take n items after x r h k q z = rw (q, below_take l n r h, map_next f items x)
-      (zip_next R (entries_below n l) (map f items) (entry_of l n) (f x) z k)
-
-  pub zip_all : (n : ℕ) (items : List A) →
-      ((e : Entry) → IsIn e l → e.0 < n) → AllZip R (entries_below n l) (map f items) → AllZip R l (map f items)
-  zip_all n items h z = rw (below_all l n h) at z
+  pub zip_more : (so_far more : Claim) (e : Entry) (items after : List A) (x : A) → more ≡ so_far ++ e ∷ [] →
+      after ≡ items ++ x ∷ [] → R e (f x) → AllZip R so_far (map f items) → AllZip R more (map f after)
+  zip_more so_far more e items after x m q r z = rw (m, q, map_next f items x)
+      (zip_next R so_far (map f items) e (f x) z r)
 
 -- the same of a list that is made of the entries
 module _ {A : Type 0} (f : Entry → A) (l : Claim) where

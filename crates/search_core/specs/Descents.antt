@@ -4,7 +4,7 @@ use Rattle.dsa_terms.specs.Buffers.{Instance}
 use Rattle.dsa_terms.specs.Claims.{Claim, Entry, IsIn, child}
 use Rattle.dsa_terms.specs.Logs.{Line}
 use Rattle.dsa_terms.specs.Search.{choices, first, first_some, not_excluded, seated, work, work_through}
-use Rattle.canonical_order.specs.Claims.{entry_of}
+use Rattle.canonical_order.specs.Claims.{HasBuffer, entry_of}
 use Rattle.canonical_order.specs.Levels.{AreLevels}
 use Rattle.skyline.specs.Skies.{Sky, last_claim}
 use Rattle.search_core.specs.declared.found.Refuted.{Refuted}
@@ -40,6 +40,17 @@ HasAskedAll lines frames = IfSome (slice_get frames (length frames - 1)) (λ (f 
 pub record IsStanding (I : Instance) (p : Claim) (f : Tried) (l : Claim) : Type 0 where
   pub is_left : IsLeft f
   pub is_child : l ≡ child I p (entry_of p (chosen_of f))
+
+-- the claim is what is left of one that has the levels of f, by the first choice of f that is not refuted
+pub record IsUnder (I : Instance) (f : Tried) (l : Claim) : Type 0 where
+  pub above : Claim
+  pub levels : AreLevels I above f.levels
+  pub has : HasBuffer above (chosen_of f)
+  pub standing : IsStanding I above f l
+
+-- the claim is under the last one of the frames, if there is one
+abbrev pub IsUnderLast : Instance → List Tried → Claim → Type 0
+IsUnderLast I frames l = IfSome (slice_get frames (length frames - 1)) (λ (f : Tried). IsUnder I f l)
 
 -- the claim l is reached from those above it, the last one first, by the choices that stand there
 abbrev pub Descends : Instance → ℕ → List Line → Claim → List Claim → List Tried → Type 0

@@ -1,8 +1,27 @@
 -- What the levels of the search keep.
-use Rattle.std.specs.Prelude.{◌^◌, ℕ, ◌≤◌, List, length}
+use Rattle.std.specs.Prelude.{◌≡◌, ◌^◌, ℕ, ◌+◌, ◌<◌, ◌≤◌, List, length, slice_index}
 use Rattle.std.specs.List.{All}
+use Rattle.dsa_terms.specs.Buffers.{Instance}
+use Rattle.dsa_terms.specs.Claims.{Claim, Entry, IsIn, Rises, buffers_of, child}
+use Rattle.canonical_order.specs.Claims.{HasBuffer, IsBoundedBy, entry_of}
+use Rattle.canonical_order.specs.Levels.{AreLevels}
 
--- there are no more than buffers may be, and none is above 2^54
-pub record AreKept (levels : List ℕ) : Type 0 where
+-- levels, beside the claim of the buffers that have one, with what is one less for their bounds
+pub record AreKept (levels : List ℕ) (ground : Claim) : Type 0 where
+  -- there are no more than buffers may be
   pub few : length levels ≤ 512
-  pub low : All (λ level. level ≤ 2 ^ 54) levels
+  -- none is above 2^55
+  pub low : All (λ level. level ≤ 2 ^ 55) levels
+  -- buffers rise
+  pub rises : Rises (buffers_of ground)
+  -- each buffer of the claim has a level, one more than its bound
+  pub each : (e : Entry) → IsIn e ground → slice_index levels e.0 ≡ e.1 + 1
+  -- and each buffer that has a level is in the claim
+  pub all : (b : ℕ) → 0 < slice_index levels b → HasBuffer ground b
+
+-- the levels are those of a claim that has the buffer, and no bound of the child by it is above 2^54
+pub record HasLowChild (I : Instance) (levels : List ℕ) (b : ℕ) : Type 0 where
+  pub above : Claim
+  pub are : AreLevels I above levels
+  pub has : HasBuffer above b
+  pub low : IsBoundedBy (2 ^ 54) (child I above (entry_of above b))

@@ -17,7 +17,7 @@ fn raised(instance: &Instance, levels: &Levels, b: u32, c: u32) -> u64
     requires c_in { 0 < slice_index levels.now c }
     ensures value { let I = instance.now in (l : ClaimTerm) → AreLevels I l levels.now →
         result ≡ max (up I (entry_of l c)) (up I (entry_of l b) + step_of I b c) }
-    ensures limit { result ≤ 2 ^ 55 }
+    ensures limit { result ≤ 2 ^ 56 }
 {
     let low = levels.at(c as usize) - 1;
     let least = levels.at(b as usize) - 1 + step(instance, b, c);

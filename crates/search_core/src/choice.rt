@@ -11,6 +11,7 @@ ghost use Rattle.search_core.specs.Keys.{key_of};
 ghost use Rattle.search_core.specs.TwinMarks.{AreTwinMarks};
 
 use crate::ending::{Ending, least_end};
+use crate::leveled::Leveled;
 use crate::twin_marks::TwinMarks;
 use canonical_order::Lows;
 use dsa_model::NoMemory;
@@ -67,22 +68,22 @@ fn key_of<L: Lows>(lows: &L, b: u32) -> (u64, u32)
 
 /// The buffers that the search takes: the one of least offset first, and of these the one of least
 /// number.
-pub(crate) fn choices<L: Lows>(
+pub(crate) fn choices(
     alloc: Global,
-    lows: &L,
+    view: &Leveled,
     twins: &TwinMarks,
 ) -> Result<Vec<u32>, NoMemory>
-    requires twins { AreTwinMarks (L.subject lows.now) twins.now }
-    ensures { let l = L.claim lows.now in
-        IfOk result (λ v.
-        let I = L.subject lows.now in
-        map (entry_of l) v.items ≡ choices I (not_excluded I) l) }
+    requires twins { AreTwinMarks view.now.instance.now twins.now }
+    ensures { let I = view.now.instance.now in let l = view.now.claim.now in
+        IfOk result (λ v. map (entry_of l) v.items ≡ choices I (not_excluded I) l) }
 {
-    let least = least_end(lows);
+    let least = least_end(view);
+    let pairs = view.claim.pairs();
     let mut keys = BTreeSet::new(alloc);
-    for b in (0..lows.instance().len()).rev() {
-        if lows.is_free(b) && is_taken(lows, twins, least, b) {
-            keys.insert(key_of(lows, b))?;
+    for i in (0..pairs.len()).rev() {
+        let b = pairs[i].0;
+        if is_taken(view, twins, least, b) {
+            keys.insert(key_of(view, b))?;
         }
     }
     Ok(keys.iter().map(|key| key.1).collect(alloc)?)

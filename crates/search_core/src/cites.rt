@@ -14,6 +14,7 @@ ghost use Rattle.search_core.specs.TwinMarks.{AreTwinMarks};
 use crate::choice::own_cite;
 use crate::ending::{Ending, least_end};
 use crate::found::Refuted;
+use crate::leveled::Leveled;
 use crate::twin_marks::TwinMarks;
 use canonical_order::Lows;
 use dsa_model::NoMemory;
@@ -58,26 +59,24 @@ fn cite_for<L: Lows>(
 }
 
 /// The cites of the claim: below or twin wherever one is legal, and else the line that is noted.
-pub(crate) fn cites<L: Lows>(
+pub(crate) fn cites(
     alloc: Global,
-    lows: &L,
+    view: &Leveled,
     twins: &TwinMarks,
     refuted: &[Refuted],
 ) -> Result<Cites, NoMemory>
-    requires twins { AreTwinMarks (L.subject lows.now) twins.now }
-    requires noted { let l = L.claim lows.now in
-        (e : Entry) → IsIn e l → not_excluded (L.subject lows.now) l e ≡ true →
+    requires twins { AreTwinMarks view.now.instance.now twins.now }
+    requires noted { let I = view.now.instance.now in let l = view.now.claim.now in
+        (e : Entry) → IsIn e l → not_excluded I l e ≡ true →
         IsIn e.0 (map (λ (r : RefutedTerm). r.buffer) refuted.now) }
-    ensures { let l = L.claim lows.now in
-        IfOk result (λ cites.
-        AllZip (IsCiteFor (L.subject lows.now) l refuted.now) l (map cite_value cites)) }
+    ensures { let I = view.now.instance.now in let l = view.now.claim.now in
+        IfOk result (λ cites. AllZip (IsCiteFor I l refuted.now) l (map cite_value cites)) }
 {
-    let least = least_end(lows);
-    let mut cites = Vec::new(alloc);
-    for b in 0..lows.instance().len() {
-        if lows.is_free(b) {
-            cites.push(cite_for(lows, twins, least, b, refuted))?;
-        }
+    let least = least_end(view);
+    let pairs = view.claim.pairs();
+    let mut cites = Vec::with_capacity(alloc, pairs.len())?;
+    for i in 0..pairs.len() {
+        cites.push(cite_for(view, twins, least, pairs[i].0, refuted))?;
     }
     Ok(Cites::from_vec(cites))
 }

@@ -1,16 +1,18 @@
 //! The lows of a claim, one after another by buffer.
 
-ghost use Rattle.std.specs.Prelude.{◌≡◌, ◌^◌, ◌≤◌, IfOk, length, slice_index};
+ghost use Rattle.std.specs.Prelude.{◌≡◌, ℕ, ◌^◌, ◌<◌, ◌≤◌, IfOk, length, slice_index};
 ghost use Rattle.std.specs.List.{All};
-ghost use Rattle.dsa_terms.specs.Buffers.{Instance};
-ghost use Rattle.dsa_terms.specs.Claims.{Claim as ClaimTerm};
-ghost use Rattle.canonical_order.specs.Claims.{IsBoundedBy};
+ghost use Rattle.dsa_terms.specs.Buffers.{Instance as InstanceTerm};
+ghost use Rattle.dsa_terms.specs.Claims.{Claim as ClaimTerm, child as child_of};
+ghost use Rattle.canonical_order.specs.Claims.{HasBuffer, IsBoundedBy, entry_of};
 ghost use Rattle.canonical_order.specs.Levels.{AreLevels, IsLevel};
+ghost use Rattle.search_core.specs.Levels.{HasLowChild};
 ghost use Rattle.search_core.specs.Lifted.{lifted};
 ghost use Rattle.skyline.specs.Skies.{last_claim};
 
-use canonical_order::{Claim, Lows};
-use dsa_model::NoMemory;
+use crate::grounds::{ground_among, ground_of};
+use canonical_order::{Claim, Lows, step};
+use dsa_model::{Instance, NoMemory};
 use skyline::Skyline;
 use std::alloc::Global;
 use std::marker::Model;
@@ -18,7 +20,7 @@ use std::marker::Model;
 /// One more than the low of the buffer in the last claim, in bytes; 0 where it is not in it.
 fn level(sky: &Skyline, b: u32) -> u64
     ensures level { IsLevel sky.now.instance (last_claim sky.now.claims) b result }
-    ensures limit { result ≤ 2 ^ 54 }
+    ensures limit { result ≤ 2 ^ 55 }
 {
     if sky.is_free(b) { sky.low(b) + 1 } else { 0 }
 }
@@ -28,19 +30,41 @@ fn fill(levels: &mut [u64], sky: &Skyline)
     requires { length levels.old ≡ length sky.now.instance }
     ensures levels { AreLevels sky.now.instance (last_claim sky.now.claims) levels.new }
     ensures few { length levels.new ≤ 512 }
-    ensures low { All (λ level. level ≤ 2 ^ 54) levels.new }
+    ensures low { All (λ level. level ≤ 2 ^ 55) levels.new }
 {
     for b in 0..sky.instance().len() {
         levels[b as usize] = level(sky, b);
     }
 }
 
+/// The level of c in the child by b, of a claim with these levels that has both.
+fn child_level(instance: &Instance, levels: &Levels, b: u32, c: u32) -> u64
+    requires low { HasLowChild instance.now levels.now b }
+    requires c_in { 0 < slice_index levels.now c }
+    ensures level { let I = instance.now in (l : ClaimTerm) → AreLevels I l levels.now →
+        IsLevel I (child_of I l (entry_of l b)) c result }
+    ensures limit { result ≤ 2 ^ 55 }
+{
+    let _count = instance.len();
+    if c == b {
+        return 0;
+    }
+    let level = levels.at(c as usize);
+    let least = levels.at(b as usize).saturating_sub(1) + step(instance, b, c);
+    if least < level {
+        level
+    } else {
+        instance.buffer(c).least_offset(least) + 1
+    }
+}
+
 /// For each buffer of an instance one more than its low in a claim, and 0 where it is not in the
-/// claim: so the claim meets a bound exactly where the bound is below the buffer's level. Contracts
-/// see the levels by buffer.
+/// claim: so the claim meets a bound exactly where the bound is below the buffer's level. Beside
+/// them stands the claim with its lows as bounds. Contracts see the levels by buffer.
 #[derive(Drop)]
 pub(crate) struct Levels {
     numbers: Vec<u64>,
+    ground: Claim,
 }
 
 impl Model for Levels {
@@ -51,7 +75,7 @@ impl Model for Levels {
 
     ghost view = { λ v. v.numbers.items };
 
-    ghost invariant = { λ v. AreKept v.numbers.items };
+    ghost invariant = { λ v. AreKept v.numbers.items v.ground };
 }
 
 impl Levels {
@@ -61,7 +85,42 @@ impl Levels {
     {
         let mut numbers = vec![in alloc; 0u64; sky.instance().len() as usize]?;
         fill(&mut numbers, sky);
-        Ok(Levels { numbers })
+        let ground = ground_of(alloc, &numbers)?;
+        Ok(Levels { numbers, ground })
+    }
+
+    /// The levels of the child by the buffer, which is in the claim. They are made from those of
+    /// the claim, and no sections are gone over.
+    pub(crate) fn child(
+        &self,
+        alloc: Global,
+        instance: &Instance,
+        b: u32,
+    ) -> Result<Levels, NoMemory>
+        requires { HasLowChild instance.now self.now b }
+        ensures { let I = instance.now in (l : ClaimTerm) → AreLevels I l self.now →
+            IfOk result (AreLevels I (child_of I l (entry_of l b))) }
+    {
+        let mut numbers = self.numbers.to_vec(alloc)?;
+        self.lower_to_child(&mut numbers, instance, b);
+        let ground = ground_among(alloc, &numbers, self.ground.pairs())?;
+        Ok(Levels { numbers, ground })
+    }
+
+    /// Writes the levels of the child over the levels, which stand there.
+    fn lower_to_child(&self, numbers: &mut [u64], instance: &Instance, b: u32)
+        requires same { numbers.old ≡ self.now }
+        requires low { HasLowChild instance.now self.now b }
+        ensures count { length numbers.new ≡ length self.now }
+        ensures low { All (λ level. level ≤ 2 ^ 55) numbers.new }
+        ensures outside { (c : ℕ) → slice_index self.now c ≡ 0 → slice_index numbers.new c ≡ 0 }
+        ensures levels { let I = instance.now in (l : ClaimTerm) → AreLevels I l self.now →
+            AreLevels I (child_of I l (entry_of l b)) numbers.new }
+    {
+        for pair in self.ground.pairs() {
+            let c = pair.0;
+            numbers[c as usize] = child_level(instance, self, b, c);
+        }
     }
 
     /// How many there are: one for each buffer of the instance.
@@ -75,7 +134,7 @@ impl Levels {
     /// The level of the buffer, and 0 for a number that is no buffer's.
     pub(crate) fn at(&self, b: usize) -> u64
         ensures value { result ≡ slice_index self.now b }
-        ensures limit { result ≤ 2 ^ 54 }
+        ensures limit { result ≤ 2 ^ 55 }
     {
         if b < self.numbers.len() {
             self.numbers[b]
@@ -87,24 +146,29 @@ impl Levels {
     /// The levels in order.
     pub(crate) fn as_slice(&self) -> &[u64]
         ensures value { result.now ≡ self.now }
-        ensures low { All (λ level. level ≤ 2 ^ 54) result.now }
+        ensures low { All (λ level. level ≤ 2 ^ 55) result.now }
     {
         self.numbers.as_slice()
     }
 
     /// The claim with each bound at the buffer's low.
+    pub(crate) fn ground(&self) -> &Claim
+        ensures value { (I : InstanceTerm) (l : ClaimTerm) → AreLevels I l self.now →
+            result.now ≡ lifted I l }
+        ensures low { IsBoundedBy (2 ^ 60) result.now }
+        ensures few { (b : ℕ) → HasBuffer result.now b → b < 512 }
+        ensures all { (b : ℕ) → 0 < slice_index self.now b → HasBuffer result.now b }
+    {
+        let _pairs = self.ground.len();
+        &self.ground
+    }
+
+    /// The same claim in memory of its own.
     pub(crate) fn lifted(&self, alloc: Global) -> Result<Claim, NoMemory>
-        ensures value { (I : Instance) (l : ClaimTerm) → AreLevels I l self.now →
+        ensures value { (I : InstanceTerm) (l : ClaimTerm) → AreLevels I l self.now →
             IfOk result (λ claim. claim ≡ lifted I l) }
         ensures low { IfOk result (IsBoundedBy (2 ^ 60)) }
     {
-        let mut pairs = Vec::new(alloc);
-        for b in 0..self.numbers.len() {
-            let level = self.numbers[b];
-            if level > 0 {
-                pairs.push((b as u32, level - 1))?;
-            }
-        }
-        Claim::from_pairs(alloc, &pairs)
+        self.ground().copy(alloc)
     }
 }

@@ -13,6 +13,7 @@ mod ending;
 mod found;
 mod frame;
 mod gather;
+mod grounds;
 mod learned;
 mod leveled;
 mod levels;

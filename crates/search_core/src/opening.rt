@@ -1,11 +1,13 @@
 //! What the search does first at a claim.
 
-ghost use Rattle.std.specs.Prelude.{◌≡◌, ◌+◌, ◌≤◌, ℕ, [], List, length, IfNone, IfOk, IfSome, OnOk};
-ghost use Rattle.dsa_terms.specs.Buffers.{Instance};
+ghost use Rattle.std.specs.Prelude.{◌≡◌, ◌+◌, ◌≤◌, ℕ, [], List, length, IfNone, IfOk, IfSome, OnOk, map};
+ghost use Rattle.dsa_terms.specs.Buffers.{Instance as InstanceTerm};
 ghost use Rattle.dsa_terms.specs.Claims.{Claim as ClaimTerm};
+ghost use Rattle.dsa_terms.specs.Search.{choices, not_excluded};
+ghost use Rattle.canonical_order.specs.Claims.{entry_of};
 ghost use Rattle.canonical_order.specs.Levels.{AreLevels};
 ghost use Rattle.search_core.specs.Cites.{IsCoveredBy};
-ghost use Rattle.search_core.specs.Descents.{HasAskedAll};
+ghost use Rattle.search_core.specs.Descents.{HasAskedAll, IsUnderLast};
 ghost use Rattle.search_core.specs.Logs.{Extends, IsSearchLog};
 ghost use Rattle.search_core.specs.Meters.{AreCounted, AreMore};
 ghost use Rattle.search_core.specs.Opened.{AreAllAsked, IfChoices, IsOpened, UnlessUnopened, left_open};
@@ -23,8 +25,8 @@ use crate::over::over_line;
 use crate::path::Path;
 use crate::task::Task;
 use crate::watches::Watches;
-use canonical_order::Lows;
-use dsa_model::NoMemory;
+use canonical_order::{Claim, Lows};
+use dsa_model::{Instance, NoMemory};
 use refute_log::Log;
 use std::alloc::Global;
 
@@ -54,7 +56,7 @@ fn covering(
     requires latest { HasAskedAll log.now.lines frames.now }
     ensures none { IfOk result (λ found. IfNone found
         (AreWatched log.now.lines watches.new levels.now (length log.now.lines))) }
-    ensures some { (I : Instance) (l : ClaimTerm) → AreLevels I l levels.now →
+    ensures some { (I : InstanceTerm) (l : ClaimTerm) → AreLevels I l levels.now →
         IfOk result (λ found. IfSome found (IsCoveredBy I log.now.lines l)) }
     ensures watched { OnOk result (AreWatchedAt log.now.lines watches.new frames.now) }
 {
@@ -62,6 +64,40 @@ fn covering(
         Some(above) => watches.find(log, above.levels(), levels),
         None => watches.ask(log, levels, 0),
     }
+}
+
+/// The levels of the last claim, from those of the claim above it, if there is one.
+fn levels_of(alloc: Global, instance: &Instance, path: &Path) -> Result<Levels, NoMemory>
+    requires subject { path.now.sky.instance ≡ instance.now }
+    requires under { let l = last_claim path.now.sky.claims in
+        IsUnderLast instance.now path.now.frames.items l }
+    ensures { IfOk result
+        (AreLevels path.now.sky.instance (last_claim path.now.sky.claims)) }
+{
+    let _depth = path.sky.depth();
+    match path.frames.last() {
+        Some(above) => above.levels().child(alloc, instance, above.chosen()),
+        None => Levels::of(alloc, &path.sky),
+    }
+}
+
+/// The choices of the claim, which has the levels.
+fn order_of(
+    alloc: Global,
+    task: &Task,
+    claim: &Claim,
+    levels: &Levels,
+) -> Result<Vec<u32>, NoMemory>
+    requires { AreLevels task.now.instance.now claim.now levels.now }
+    ensures { let I = task.now.instance.now in let l = claim.now in
+        IfOk result (λ v. map (entry_of l) v.items ≡ choices I (not_excluded I) l) }
+{
+    let view = Leveled {
+        instance: task.instance,
+        claim,
+        levels,
+    };
+    choices(alloc, &view, task.twins)
 }
 
 /// Opens the claim that the search is at, unless a line covers it. Its lows are written down first,
@@ -81,6 +117,8 @@ pub(crate) fn open(
         (levels : List ℕ) → AreLevels I (last_claim path.now.sky.claims) levels →
         AreRaisedFrom path.now.frames.items levels }
     requires latest { HasAskedAll log.old.lines path.now.frames.items }
+    requires under { let l = last_claim path.now.sky.claims in
+        IsUnderLast task.now.instance.now path.now.frames.items l }
     ensures log { OnOk result (IsSearchLog task.now.instance.now task.now.capacity log.new) }
     ensures grown { let l = last_claim path.now.sky.claims in
         OnOk result (Extends l log.old.lines log.new.lines) }
@@ -98,7 +136,7 @@ pub(crate) fn open(
         (length log.old.lines) (length log.new.lines + left_open o)) }
 {
     let _count = path.sky.instance().len();
-    let levels = Levels::of(alloc, &path.sky)?;
+    let levels = levels_of(alloc, task.instance, path)?;
     if let Some(line) = covering(log.log(), &levels, watches, path.frames.as_slice())? {
         return Ok(Opened::Line(line));
     }
@@ -106,19 +144,14 @@ pub(crate) fn open(
     if !taken {
         return Ok(Opened::Spent);
     }
-    let claim = levels.lifted(alloc)?;
+    let claim = levels.ground();
     if claim.len() == 0 {
         return Ok(Opened::Empty);
     }
-    if let Some(line) = over_line(alloc, task, &path.sky, &claim, &levels)? {
+    if let Some(line) = over_line(alloc, task, &path.sky, claim, &levels)? {
         return Ok(Opened::Line(append(alloc, task, log, line)?));
     }
-    let view = Leveled {
-        instance: task.instance,
-        claim: &claim,
-        levels: &levels,
-    };
-    let order = choices(alloc, &view, task.twins)?;
+    let order = order_of(alloc, task, claim, &levels)?;
     let asked = log.log().len();
     Ok(Opened::Choices(Frame::new(alloc, order, levels, asked)?))
 }

@@ -9,15 +9,30 @@ ghost use Rattle.search_core.specs.Lifted.{lifted};
 ghost use Rattle.search_core.specs.Overs.{RefutesAtOnce};
 ghost use Rattle.skyline.specs.Skies.{last_claim};
 
+use crate::ending::end_of;
 use crate::leveled::Leveled;
 use crate::levels::Levels;
 use crate::lines::tall_line;
 use crate::task::Task;
-use canonical_order::{Claim, Lows, tall};
+use canonical_order::{Claim, Lows};
 use dsa_model::NoMemory;
 use refute_log::Line;
 use skyline::Skyline;
 use std::alloc::Global;
+
+/// The least buffer of the claim that ends above the capacity at its low.
+fn tall(view: &Leveled, capacity: u64) -> Option<u32>
+    ensures { let I = view.now.instance.now in
+        result ≡ least_buffer (is_tall I capacity) view.now.claim.now }
+{
+    for pair in view.claim.pairs() {
+        let b = pair.0;
+        if capacity < end_of(view, b) {
+            return Some(b);
+        }
+    }
+    None
+}
 
 /// The Over line of a tall buffer of the last claim, or else of its buffers at the start of a
 /// section that is too full; none only where no buffer is tall. The claim is the last one with its

@@ -224,7 +224,8 @@ impl Watches {
             AreWatched log.now.lines self.old above n →
             IfOk result (λ _. AreWatched log.now.lines self.new above n) }
     {
-        for b in 0..now.len() {
+        for pair in before.ground().pairs() {
+            let b = pair.0 as usize;
             let found = find_in(&mut self.table, log, b, before.at(b), now)?;
             if found.is_some() {
                 return Ok(found);

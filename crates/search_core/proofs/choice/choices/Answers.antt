@@ -1,42 +1,57 @@
-use Rattle.std.proofs.Common.{◌≡◌, ◌∙◌, ◌<◌, ◌+◌, ◌-◌, ℕ, map, sym, rules, arith, length}
-use Rattle.search_core.proofs.Order.{keys_none, keys_skip, keys_exclude, keys_take, all_keys}
+use Rattle.std.proofs.Common.{◌≡◌, ◌∙◌, ◌+◌, ◌-◌, ◌<◌, ℕ, [], ap, arith, drop, length, map, rules, subst, sym}
+use Rattle.dsa_terms.specs.Claims.{Claim, Rises, buffers_of}
+use Rattle.search_core.proofs.Along.{nothing_left, place_has, place_is}
+use Rattle.search_core.proofs.Order.{all_keys, keys_exclude_at, keys_of, keys_take_at}
 use Rattle.search_core.proofs.choice.choices.Goals as goal
-use Rattle.search_core.proofs.choice.choices.Goals.{else-is_free-via-then-is_free+else-is_taken, else-is_free-via-else-is_free}
 
-pub loop-b-init : goal.loop-b-init
-loop-b-init g c =
-    c.new-keys.ensures.empty ∙ keys_none (g.L.Lows.subject c.args.lows.now)
-    (g.L.Lows.claim c.args.lows.now) c.len-b.result
-    (λ e i. let k : e.0 < length c.instance.result.now = (c.instance.ensures.stands).claim.in_range e i in omega arith)
+pub loop-i-init : goal.loop-i-init
+loop-i-init c =
+    let items = c.pairs-pairs.result.now in
+    let none : drop (length items) items ≡ [] = nothing_left items (length items) (omega arith) in
+    c.new-keys.ensures.empty ∙ sym (ap (keys_of c.args.view.now.instance.now c.args.view.now.claim.now) none)
 
-pub loop-b-preserved-then-is_taken : goal.loop-b-preserved-then-is_taken
-loop-b-preserved-then-is_taken g c =
-    let I = g.L.Lows.subject c.args.lows.now in
-    let l = g.L.Lows.claim c.args.lows.now in
-    let m : c.loop-b.b ≡ c.loop-b.b - 1 + 1 = omega arith in
-    let k = keys_take I l (c.loop-b.b - 1) c.loop-b.b (c.is_free.ensures.stands).claim.rises m
-    (c.is_free.ensures.value.0 c.if-is_free.true)
-    (sym c.is_taken.ensures ∙ c.if-is_taken.true) in
-    c.in_ok-insert.ensures.keys ∙ (rw (c.loop-b.invariant, c.key_of.ensures) k)
+pub is_taken-requires-clause-b_in : goal.is_taken-requires-clause-b_in
+is_taken-requires-clause-b_in c =
+    place_has c.args.view.now.claim.now c.pairs-pairs.result.now (c.loop-i.i - 1) c.pairs-pairs.ensures.value
+    (omega arith)
 
-pub loop-b-preserved : goal.loop-b-preserved
-loop-b-preserved g c =
-    let I = g.L.Lows.subject c.args.lows.now in
-    let l = g.L.Lows.claim c.args.lows.now in
-    let m : c.loop-b.b ≡ c.loop-b.b - 1 + 1 = omega arith in
-    c.loop-b.invariant ∙ (elim c.else-is_free.branch [
-      | else-is_free-via-then-is_free+else-is_taken w ↦
-          keys_exclude I l (c.loop-b.b - 1) c.loop-b.b (c.is_free.ensures.stands).claim.rises m
-          (c.is_free.ensures.value.0 w.if-is_free.true)
-          (sym w.is_taken.ensures ∙ w.if-is_taken.false)
-      | else-is_free-via-else-is_free w ↦
-          keys_skip I l (c.loop-b.b - 1) c.loop-b.b m (λ h. let k = c.is_free.ensures.value.1 h in absurd cc)
-    ])
+pub key_of-requires : goal.key_of-requires
+key_of-requires c =
+    place_has c.args.view.now.claim.now c.pairs-pairs.result.now (c.loop-i.i - 1) c.pairs-pairs.ensures.value
+    (omega arith)
+
+pub loop-i-preserved-in_ok-insert : goal.loop-i-preserved-in_ok-insert
+loop-i-preserved-in_ok-insert c =
+    let I = c.args.view.now.instance.now in
+    let l = c.args.view.now.claim.now in
+    let items = c.pairs-pairs.result.now in
+    let q = c.pairs-pairs.ensures.value in
+    let r = c.pairs-pairs.ensures.kept.rises in
+    let j = c.loop-i.i - 1 in
+    let lt : j < length items = omega arith in
+    let m : c.loop-i.i ≡ j + 1 = omega arith in
+    let k = keys_take_at I l items c.loop-i.i j m lt _ (place_is l items j q lt r)
+    (subst (λ (k : Claim). Rises (buffers_of k)) (sym q) r) (sym c.is_taken.ensures ∙ c.if-is_taken.true) in
+    c.in_ok-insert.ensures.keys ∙ (rw (c.loop-i.invariant, c.key_of.ensures) k)
+
+pub loop-i-preserved : goal.loop-i-preserved
+loop-i-preserved c =
+    let I = c.args.view.now.instance.now in
+    let l = c.args.view.now.claim.now in
+    let items = c.pairs-pairs.result.now in
+    let r = c.pairs-pairs.ensures.kept.rises in
+    let j = c.loop-i.i - 1 in
+    let lt : j < length items = omega arith in
+    let m : c.loop-i.i ≡ j + 1 = omega arith in
+    c.loop-i.invariant ∙ keys_exclude_at I l items c.loop-i.i j m lt _
+    (place_is l items j c.pairs-pairs.ensures.value lt r) (sym c.is_taken.ensures ∙ c.if-is_taken.false)
 
 pub returns : goal.returns
-returns g c =
-    let zero : c.loop-b.b ≡ 0 = omega arith in
-    let items : c.in_ok-collect.field-0.items ≡ map (λ (k : ℕ × ℕ). k.1) c.loop-b.keys.keys = search rules in
-    rw (items, c.loop-b.invariant, zero)
-    (all_keys (g.L.Lows.subject c.args.lows.now) (g.L.Lows.claim c.args.lows.now)
-    (c.instance.ensures.stands).claim.rises)
+returns c =
+    let I = c.args.view.now.instance.now in
+    let l = c.args.view.now.claim.now in
+    let zero : c.loop-i.i ≡ 0 = omega arith in
+    let whole : drop c.loop-i.i c.pairs-pairs.result.now ≡ l =
+    ap (λ (n : ℕ). drop n c.pairs-pairs.result.now) zero ∙ c.pairs-pairs.ensures.value in
+    let items : c.in_ok-collect.field-0.items ≡ map (λ (k : ℕ × ℕ). k.1) c.loop-i.keys.keys = search rules in
+    rw (items, c.loop-i.invariant, whole) (all_keys I l c.pairs-pairs.ensures.kept.rises)

@@ -1,6 +1,6 @@
-use Rattle.std.proofs.Common.{◌≡◌}
-use Rattle.search_core.proofs.Order.{keys_from}
+use Rattle.std.proofs.Common.{◌≡◌, drop}
+use Rattle.search_core.proofs.Order.{keys_of}
 use Rattle.search_core.proofs.choice.choices.Given as goal
 
-abbrev pub invariant-loop-b : goal.invariant-loop-b
-invariant-loop-b g l = l.keys.keys ≡ keys_from (g.L.Lows.subject l.lows) (g.L.Lows.claim l.lows) l.b
+abbrev pub invariant-loop-i : goal.invariant-loop-i
+invariant-loop-i l = l.keys.keys ≡ keys_of l.view.instance.now l.view.claim.now (drop l.i l.pairs)

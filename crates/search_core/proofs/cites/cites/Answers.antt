@@ -1,44 +1,50 @@
-use Rattle.std.proofs.Common.{◌∙◌, ◌<◌, ap, arith, length}
+use Rattle.std.proofs.Common.{◌≡◌, ◌∙◌, ◌+◌, slice_index_or, subst, sym, take}
+use Rattle.std.proofs.lemmas.List.{take_all, take_more}
+use Rattle.dsa_terms.specs.Claims.{Entry, IsIn}
 use Rattle.refute_log.specs.Lines.{cite_value}
-use Rattle.canonical_order.specs.Claims.{entry_of}
-use Rattle.canonical_order.proofs.Entries.{entry_in}
 use Rattle.search_core.specs.Cites.{IsCiteFor}
-use Rattle.search_core.proofs.Noted.{zip_none, zip_skip, zip_take, zip_all}
+use Rattle.search_core.proofs.Along.{place_has, place_in, place_is}
+use Rattle.search_core.proofs.Noted.{zip_more, zip_none}
 use Rattle.search_core.proofs.cites.cites.Goals as goal
-use Rattle.search_core.proofs.cites.cites.Goals.{then-is_free+in_ok-push, else-is_free}
 
-pub loop-b-init : goal.loop-b-init
-loop-b-init g c =
-    let I = g.L.Lows.subject c.args.lows.now in
-    let l = g.L.Lows.claim c.args.lows.now in
-    zip_none cite_value (IsCiteFor I l c.args.refuted.now) l c.new-cites.result.items c.new-cites.ensures.items
+pub loop-i-init : goal.loop-i-init
+loop-i-init c =
+    let I = c.args.view.now.instance.now in
+    let l = c.args.view.now.claim.now in
+    zip_none cite_value (IsCiteFor I l c.args.refuted.now) c.pairs-pairs.result.now c.in_ok-cites.cites.items
+    c.in_ok-cites.ensures.items
+
+pub cite_for-requires-clause-b_in : goal.cite_for-requires-clause-b_in
+cite_for-requires-clause-b_in c =
+    place_has c.args.view.now.claim.now c.pairs-pairs.result.now c.loop-i.i c.pairs-pairs.ensures.value
+    c.loop-i-test.true
 
 pub cite_for-requires-clause-noted : goal.cite_for-requires-clause-noted
-cite_for-requires-clause-noted g c t =
-    let l = g.L.Lows.claim c.args.lows.now in
-    c.requires.noted (entry_of l c.loop-b.b) (entry_in l c.loop-b.b (c.is_free.ensures.value.0 c.if-is_free.true)) t
+cite_for-requires-clause-noted c =
+    let l = c.args.view.now.claim.now in
+    let items = c.pairs-pairs.result.now in
+    let q = c.pairs-pairs.ensures.value in
+    let is = place_is l items c.loop-i.i q c.loop-i-test.true c.pairs-pairs.ensures.kept.rises in
+    λ t. c.requires.noted _ (subst (λ (e : Entry). IsIn e l) is (place_in l items c.loop-i.i q c.loop-i-test.true)) t
 
-pub loop-b-preserved : goal.loop-b-preserved
-loop-b-preserved g c =
-    let I = g.L.Lows.subject c.args.lows.now in
-    let l = g.L.Lows.claim c.args.lows.now in
+pub loop-i-preserved : goal.loop-i-preserved
+loop-i-preserved c =
+    let I = c.args.view.now.instance.now in
+    let l = c.args.view.now.claim.now in
+    let items = c.pairs-pairs.result.now in
+    let i = c.loop-i.i in
+    let x : Entry = slice_index_or items i (0, 0) in
     let R = IsCiteFor I l c.args.refuted.now in
-    elim c.if-is_free.branch [
-      | then-is_free+in_ok-push w ↦
-          zip_take cite_value R l c.loop-b.b c.loop-b.cites.items c.if-is_free.cites.items w.cite_for.result
-          (c.is_free.ensures.stands).claim.rises
-          (c.is_free.ensures.value.0 w.if-is_free.true) w.cite_for.ensures
-          (ap (λ v. v.items) w.cites-is ∙ w.in_ok-push.ensures.items) c.loop-b.invariant
-      | else-is_free w ↦
-          zip_skip cite_value R l c.loop-b.b c.loop-b.cites.items c.if-is_free.cites.items
-          (λ h. let k = c.is_free.ensures.value.1 h in absurd cc)
-          (ap (λ v. v.items) w.cites-is) c.loop-b.invariant
-    ]
+    let is = place_is l items i c.pairs-pairs.ensures.value c.loop-i-test.true c.pairs-pairs.ensures.kept.rises in
+    zip_more cite_value R (take i items) (take (i + 1) items) x c.loop-i.cites.items c.push.new.self.items
+    c.cite_for.result (take_more items i (0, 0) c.loop-i-test.true) c.in_ok-push.ensures.items
+    (subst (λ (e : Entry). R e (cite_value c.cite_for.result)) (sym is) c.cite_for.ensures) c.loop-i.invariant
 
 pub returns : goal.returns
-returns g c =
-    let I = g.L.Lows.subject c.args.lows.now in
-    let l = g.L.Lows.claim c.args.lows.now in
-    rw c.from_vec.ensures (zip_all cite_value (IsCiteFor I l c.args.refuted.now) l c.loop-b.b c.loop-b.cites.items
-    (λ e i. let k : e.0 < length c.instance.result.now = (c.instance.ensures.stands).claim.in_range e i in
-    omega arith) c.loop-b.invariant)
+returns c =
+    let I = c.args.view.now.instance.now in
+    let l = c.args.view.now.claim.now in
+    let items = c.pairs-pairs.result.now in
+    let whole : take c.loop-i.i items ≡ l =
+    take_all c.loop-i.i items c.loop-i-test.false ∙ c.pairs-pairs.ensures.value in
+    rw c.from_vec.ensures (rw whole at c.loop-i.invariant)

@@ -1,26 +1,42 @@
-use Rattle.std.proofs.Common.{◌+◌, sym, subst, arith}
-use Rattle.search_core.specs.Endings.{IsLeastEnding}
-use Rattle.search_core.proofs.Ends.{least_keep, least_skip, least_take}
+use Rattle.std.proofs.Common.{◌+◌, ap, arith, drop, inl, refl, slice_index_or, subst, sym}
+use Rattle.conflicts.specs.Ends.{end_of}
+use Rattle.search_core.proofs.Along.{next_left, nothing_left, place_has, place_in, place_is}
+use Rattle.search_core.proofs.Ends.{IsLeastBut, least_keep, least_of_all, least_take}
 use Rattle.search_core.proofs.ending.least_end.Goals as goal
-use Rattle.search_core.proofs.ending.least_end.Goals.{then-is_free+then-end-least, then-is_free+else-end-least, else-is_free}
+use Rattle.search_core.proofs.ending.least_end.Goals.{else-end-least, then-end-least}
 
-pub loop-b-preserved : goal.loop-b-preserved
-loop-b-preserved g c =
-    let I = g.L.Lows.subject c.args.lows.now in
-    let l = g.L.Lows.claim c.args.lows.now in
-    let r = (c.is_free.ensures.stands).claim.rises in
-    elim c.if-is_free.branch [
-      | then-is_free+then-end-least w ↦
-          subst (IsLeastEnding I l (c.loop-b.b + 1)) (sym w.least-is)
-          (least_take I l c.loop-b.b c.loop-b.least w.end_of-end.result r
-          (c.is_free.ensures.value.0 w.if-is_free.true) w.end_of-end.ensures.value w.if-end-least.true
-          c.loop-b.invariant)
-      | then-is_free+else-end-least w ↦
-          subst (IsLeastEnding I l (c.loop-b.b + 1)) (sym w.least-is)
-          (least_keep I l c.loop-b.b c.loop-b.least r
-          (let k = w.if-end-least.false in let v = w.end_of-end.ensures.value in omega arith) c.loop-b.invariant)
-      | else-is_free w ↦
-          subst (IsLeastEnding I l (c.loop-b.b + 1)) (sym w.least-is)
-          (least_skip I l c.loop-b.b c.loop-b.least
-          (λ h. let k = c.is_free.ensures.value.1 h in absurd cc) c.loop-b.invariant)
+pub loop-pair-init : goal.loop-pair-init
+loop-pair-init c = record {
+  least = λ e i. inl (rw c.pairs-pair-items.ensures.value i);
+  is_end = λ lt. absurd (omega (arith, lt));
+}
+
+pub end_of-end-requires : goal.end_of-end-requires
+end_of-end-requires c = place_has c.args.view.now.claim.now c.pairs-pair-items.result.now c.loop-pair.pair-index
+    c.pairs-pair-items.ensures.value c.loop-pair-test.true
+
+pub loop-pair-preserved : goal.loop-pair-preserved
+loop-pair-preserved c =
+    let I = c.args.view.now.instance.now in
+    let l = c.args.view.now.claim.now in
+    let items = c.pairs-pair-items.result.now in
+    let i = c.loop-pair.pair-index in
+    let x = slice_index_or items i (0, 0) in
+    let s = next_left items i c.loop-pair-test.true in
+    let r = c.pairs-pair-items.ensures.kept.rises in
+    let q = c.pairs-pair-items.ensures.value in
+    let is = ap (end_of I) (place_is l items i q c.loop-pair-test.true r) in
+    let end = c.end_of-end.ensures.value in
+    elim c.if-end-least.branch [
+      | then-end-least w ↦ subst (IsLeastBut I l (drop (i + 1) items)) (sym w.least-is)
+          (least_take I l (drop i items) (drop (i + 1) items) x c.loop-pair.least s c.loop-pair.invariant _ r
+          (place_in l items i q c.loop-pair-test.true) refl end w.if-end-least.true)
+      | else-end-least w ↦ subst (IsLeastBut I l (drop (i + 1) items)) (sym w.least-is)
+          (least_keep I l (drop i items) (drop (i + 1) items) x c.loop-pair.least s c.loop-pair.invariant
+          (let k = w.if-end-least.false in omega (arith, k, end, is)))
     ]
+
+pub returns : goal.returns
+returns c = least_of_all c.args.view.now.instance.now c.args.view.now.claim.now
+    (drop c.loop-pair.pair-index c.pairs-pair-items.result.now) c.loop-pair.least
+    (nothing_left c.pairs-pair-items.result.now c.loop-pair.pair-index c.loop-pair-test.false) c.loop-pair.invariant

@@ -1,5 +1,6 @@
-use Rattle.search_core.specs.Endings.{IsLeastEnding}
+use Rattle.std.proofs.Common.{drop}
+use Rattle.search_core.proofs.Ends.{IsLeastBut}
 use Rattle.search_core.proofs.ending.least_end.Given as goal
 
-abbrev pub invariant-loop-b : goal.invariant-loop-b
-invariant-loop-b g l = IsLeastEnding (g.L.Lows.subject l.lows) (g.L.Lows.claim l.lows) l.b l.least
+abbrev pub invariant-loop-pair : goal.invariant-loop-pair
+invariant-loop-pair l = IsLeastBut l.view.instance.now l.view.claim.now (drop l.pair-index l.pair-items) l.least

@@ -7,5 +7,5 @@ use Rattle.search_core.proofs.levels.fill.Given as goal
 abbrev pub invariant-loop-b : goal.invariant-loop-b
 invariant-loop-b l = record {
   each : (c : ℕ) → c < l.b → IsLevel l.sky.instance (last_claim l.sky.claims) c (slice_index l.levels c);
-  low : AllWithin (λ level. level ≤ 2 ^ 54) l.levels 0 l.b;
+  low : AllWithin (λ level. level ≤ 2 ^ 55) l.levels 0 l.b;
 }

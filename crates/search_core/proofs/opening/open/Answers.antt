@@ -41,7 +41,7 @@ pub over_line-requires-clause-lifted : goal.over_line-requires-clause-lifted
 over_line-requires-clause-lifted c =
     let I = c.args.task.now.instance.now in
     let l = last_claim c.args.path.now.sky.claims in
-    c.in_ok-claim.ensures.value I l (rw c.requires.subject at c.in_ok-levels.ensures)
+    c.ground-claim.ensures.value I l (rw c.requires.subject at c.in_ok-levels.ensures)
 
 pub over_line-requires-clause-levels : goal.over_line-requires-clause-levels
 over_line-requires-clause-levels c =
@@ -49,7 +49,7 @@ over_line-requires-clause-levels c =
     let l = last_claim c.args.path.now.sky.claims in
     let s = rw (c.instance.ensures.value, c.requires.subject) at c.instance.ensures.stands in
     let a = rw c.requires.subject at c.in_ok-levels.ensures in
-    let q = c.in_ok-claim.ensures.value I l a in
+    let q = c.ground-claim.ensures.value I l a in
     rw q (lifted_levels I l c.in_ok-levels.levels (is_instance I l s) a)
 
 -- ---- no buffer
@@ -57,7 +57,7 @@ pub returns-then-len-eq0-clause-opened : goal.returns-then-len-eq0-clause-opened
 returns-then-len-eq0-clause-opened c =
     let I = c.args.task.now.instance.now in
     let l = last_claim c.args.path.now.sky.claims in
-    let q = c.in_ok-claim.ensures.value I l (rw c.requires.subject at c.in_ok-levels.ensures) in
+    let q = c.ground-claim.ensures.value I l (rw c.requires.subject at c.in_ok-levels.ensures) in
     rw (lifted_nothing I l (sym (ap length q) ∙ sym c.len.ensures.value ∙ c.if-len-eq0.true))
     (first_of_nothing I c.args.task.now.capacity [] refl)
 
@@ -118,14 +118,14 @@ returns-in-Some-2-clause-watched c =
     (returns-in-Some-2-clause-grown c)
     (rw (c.log.ensures, c.as_slice.ensures.value) at c.in_ok-line.ensures.watched)
 
-pub invariant_of-view : goal.invariant_of-view
-invariant_of-view c =
+pub order_of-requires : goal.order_of-requires
+order_of-requires c =
     let I = c.args.task.now.instance.now in
     let l = last_claim c.args.path.now.sky.claims in
     let s = rw (c.instance.ensures.value, c.requires.subject) at c.instance.ensures.stands in
     let a = rw c.requires.subject at c.in_ok-levels.ensures in
-    let q = c.in_ok-claim.ensures.value I l a in
-    rw q (record { leveled = lifted_levels I l c.in_ok-levels.levels (is_instance I l s) a })
+    let q = c.ground-claim.ensures.value I l a in
+    rw q (lifted_levels I l c.in_ok-levels.levels (is_instance I l s) a)
 
 -- ---- the choices
 pub returns-clause-opened : goal.returns-clause-opened
@@ -134,7 +134,7 @@ returns-clause-opened c =
     let C = c.args.task.now.capacity in
     let l = last_claim c.args.path.now.sky.claims in
     let s = rw (c.instance.ensures.value, c.requires.subject) at c.instance.ensures.stands in
-    let q = c.in_ok-claim.ensures.value I l (rw c.requires.subject at c.in_ok-levels.ensures) in
+    let q = c.ground-claim.ensures.value I l (rw c.requires.subject at c.in_ok-levels.ensures) in
     let none = rw c.in_default-2.is at c.in_ok-line-2.ensures.none in
     rw c.in_ok-new.ensures
     (are_choices I C l c.args.log.now.lines c.in_ok-order.order.items c.in_ok-levels.levels c.len-asked.result s.claim

@@ -23,7 +23,7 @@ tall_line-requires c =
     let l = last_claim c.args.sky.now.claims in
     let s = rw (c.instance.ensures.value, c.requires.subject) at c.instance.ensures.stands in
     let q = c.requires.lifted in
-    let t = (rw q at c.in-Some.ensures.value) ∙ lifted_tall I C l (is_instance I l s) in
+    let t = (rw q at c.in-Some.ensures) ∙ lifted_tall I C l (is_instance I l s) in
     tall_in_range I C l c.in-Some.b s.claim t
 
 pub returns-in-Some-clause-some : goal.returns-in-Some-clause-some
@@ -33,7 +33,7 @@ returns-in-Some-clause-some c =
     let l = last_claim c.args.sky.now.claims in
     let s = rw (c.instance.ensures.value, c.requires.subject) at c.instance.ensures.stands in
     let q = c.requires.lifted in
-    let t = (rw q at c.in-Some.ensures.value) ∙ lifted_tall I C l (is_instance I l s) in
+    let t = (rw q at c.in-Some.ensures) ∙ lifted_tall I C l (is_instance I l s) in
     record {
       legal = c.in_ok-tall_line.ensures.legal;
       within = c.in_ok-tall_line.ensures.within;
@@ -49,7 +49,7 @@ returns-in-None-clause-none c =
     let l = last_claim c.args.sky.now.claims in
     let s = rw (c.instance.ensures.value, c.requires.subject) at c.instance.ensures.stands in
     let q = c.requires.lifted in
-    sym c.in_default.is ∙ (rw q at c.tall.ensures.value) ∙ lifted_tall I C l (is_instance I l s)
+    sym c.in_default.is ∙ (rw q at c.tall.ensures) ∙ lifted_tall I C l (is_instance I l s)
 
 -- ---- a section that is too full
 pub returns-in_ok-claim-in-Some-overloaded_at-clause-some : goal.returns-in_ok-claim-in-Some-overloaded_at-clause-some

@@ -5,7 +5,7 @@ use Rattle.search_core.specs.Tries.{Tried}
 use Rattle.search_core.specs.Walks.{place_of}
 use Rattle.search_core.proofs.Counting.{counted_with}
 use Rattle.search_core.proofs.Descent.{is_instance, shorter}
-use Rattle.search_core.proofs.Descending.{are_raised, back_noted, is_back, path_still}
+use Rattle.search_core.proofs.Descending.{are_raised, under_last, back_noted, is_back, path_still}
 use Rattle.search_core.proofs.Growing.{extends_along}
 use Rattle.search_core.proofs.Searching.{chosen_in}
 use Rattle.search_core.proofs.Stepping.{asked_above, grown_below, known_line, nothing_in, on_back, on_line, root_refuted, some_owed}
@@ -119,6 +119,12 @@ open-requires-clause-latest c =
     let here = place_of c.args.self.now in
     (asked_above c.args.task.now.instance.now c.args.task.now.capacity c.args.log.now.lines here c.requires.place
     c.in-None.is)
+
+pub open-requires-clause-under : goal.open-requires-clause-under
+open-requires-clause-under c =
+    let path = c.args.self.now.path in
+    under_last c.args.task.now.instance.now c.args.task.now.capacity c.args.log.now.lines
+    (last_claim path.sky.claims) (above_of path.sky.claims) path.frames.items c.requires.place.path.descends
 
 pub open-requires-clause-raised : goal.open-requires-clause-raised
 open-requires-clause-raised c = λ levels a.

@@ -1,9 +1,10 @@
-use Rattle.std.proofs.Common.{ℕ, ◌<◌, slice_index}
-use Rattle.search_core.specs.Watching.{AreMoved, FailAt}
+use Rattle.std.proofs.Common.{drop}
+use Rattle.search_core.specs.Watching.{AreMoved}
+use Rattle.search_core.proofs.Finding.{FailBut}
 use Rattle.search_core.proofs.watches.Watches.find.Given as goal
 
-abbrev pub invariant-loop-b : goal.invariant-loop-b
-invariant-loop-b l = record {
+abbrev pub invariant-loop-pair : goal.invariant-loop-pair
+invariant-loop-pair l = record {
   moved : AreMoved l.log.lines l.now l.fn.self l.self-inside.table.watches;
-  fail : (c : ℕ) → c < l.b → FailAt l.log.lines l.self-inside.table.watches l.now c (slice_index l.before c);
+  fail : FailBut l.log.lines l.before l.now l.self-inside.table.watches (drop l.pair-index l.pair-items);
 }

@@ -1,0 +1,164 @@
+-- The levels of a child, from those of the claim above it.
+use Rattle.std.proofs.Common.{◌≡◌, ◌≢◌, ℕ, ◌+◌, ◌-◌, ◌<◌, ◌≤◌, ◌^◌, ◌⊎◌, inl, inr, List, ◌∷◌, slice_set, slice_get, subst, All, IfSome, Option, Some, max, length, slice_index, ap, sym, ◌∙◌, refl, arith}
+use Rattle.std.specs.Int.{next_multiple_of}
+use Rattle.std.proofs.lemmas.List.{get_or-set_other, get_or-set_same}
+use Rattle.dsa_terms.specs.Buffers.{Instance, IsInstance, buffer}
+use Rattle.dsa_model.specs.Buffer.{IsBuffer}
+use Rattle.dsa_terms.specs.Claims.{Claim, Entry, IsClaim, IsIn, child, step, up}
+use Rattle.dsa_terms.proofs.NumberTests.{below_or_from}
+use Rattle.dsa_search_laws.proofs.Claims.{claim-child}
+use Rattle.canonical_order.specs.Claims.{HasBuffer, IsBoundedBy, entry_of}
+use Rattle.canonical_order.specs.Stands.{Stands}
+use Rattle.canonical_order.proofs.Entries.{up_limit}
+use Rattle.canonical_order.specs.Levels.{AreLevels, IsLevel}
+use Rattle.canonical_order.proofs.CoverLemmas.{entry_of_child, from_child, in_child_by}
+use Rattle.canonical_order.proofs.LevelLemmas.{has_level, level_inside}
+use Rattle.search_core.specs.Descents.{IsUnder, IsUnderLast}
+use Rattle.search_core.specs.Levels.{HasLowChild}
+use Rattle.search_core.specs.Tries.{Tried, chosen_of}
+use Rattle.search_core.proofs.Lifting.{up_of_lift}
+use Rattle.search_core.proofs.Rising.{low_of_child}
+
+module _ (I : Instance) (l : Claim) (levels : List ℕ) (b : ℕ) (h : AreLevels I l levels) where
+  -- the buffer itself is not in the child
+  pub level_of_first : IsLevel I (child I l (entry_of l b)) b 0
+  level_of_first = record { inside = λ i. absurd ((from_child I l b b i).1 refl); outside = λ out. refl }
+
+  level_of_other : (c level : ℕ) → 0 < slice_index levels c → c ≢ b →
+      level ≡ up I (entry_of (child I l (entry_of l b)) c) + 1 → IsLevel I (child I l (entry_of l b)) c level
+  level_of_other c level lt ne q = record {
+    inside = λ i. q;
+    outside = λ out. absurd (out (in_child_by I l b c (has_level I l levels h c lt) ne));
+  }
+
+  -- one that is high enough stays
+  pub level_stays : (c least : ℕ) → IsInstance I → HasBuffer l b → 0 < slice_index levels c → c ≢ b →
+      least ≡ slice_index levels b - 1 + step I b c → least < slice_index levels c →
+      IsLevel I (child I l (entry_of l b)) c (slice_index levels c)
+  level_stays c least s has lt ne q le =
+      let p : slice_index levels b ≡ up I (entry_of l b) + 1 = level_inside I l levels h b has in
+      let i : HasBuffer l c = has_level I l levels h c lt in
+      let r : slice_index levels c ≡ up I (entry_of l c) + 1 = level_inside I l levels h c i in
+      let m : max (up I (entry_of l c)) (up I (entry_of l b) + step I b c) ≡ up I (entry_of l c) = omega arith in
+      let e = entry_of_child I l b c h.claim.rises i ne in
+      let u : up I (entry_of (child I l (entry_of l b)) c) ≡ up I (entry_of l c) =
+      ap (up I) (e ∙ ap (λ (n : ℕ). let f : Entry = (c, n) in f) m) ∙ up_of_lift I (entry_of l c) s in
+      level_of_other c (slice_index levels c) lt ne (omega arith)
+
+  -- any other one rises to the next multiple
+  pub low_rises : (c least low : ℕ) → HasBuffer l b → 0 < slice_index levels c → c ≢ b →
+      least ≡ slice_index levels b - 1 + step I b c → slice_index levels c ≤ least →
+      low ≡ next_multiple_of least (buffer I c).alignment → low ≡ up I (entry_of (child I l (entry_of l b)) c)
+  low_rises c least low has lt ne q le n =
+      let p : slice_index levels b ≡ up I (entry_of l b) + 1 = level_inside I l levels h b has in
+      let r : slice_index levels c ≡ up I (entry_of l c) + 1 =
+      level_inside I l levels h c (has_level I l levels h c lt) in
+      let m : least ≡ max (up I (entry_of l c)) (up I (entry_of l b) + step I b c) = omega arith in
+      low_of_child I l levels b c least low h lt ne m n
+
+  pub level_rises : (c least low : ℕ) → HasBuffer l b → 0 < slice_index levels c → c ≢ b →
+      least ≡ slice_index levels b - 1 + step I b c → slice_index levels c ≤ least →
+      low ≡ next_multiple_of least (buffer I c).alignment → IsLevel I (child I l (entry_of l b)) c (low + 1)
+  level_rises c least low has lt ne q le n =
+      let e = low_rises c least low has lt ne q le n in
+      level_of_other c (low + 1) lt ne (omega arith)
+
+  -- ---- all of them
+  pub child_levels : (numbers : List ℕ) → length numbers ≡ length levels →
+      ((c : ℕ) → slice_index levels c ≡ 0 → slice_index numbers c ≡ 0) →
+      ((c : ℕ) → 0 < slice_index levels c → IsLevel I (child I l (entry_of l b)) c (slice_index numbers c)) →
+      AreLevels I (child I l (entry_of l b)) numbers
+  child_levels numbers count outside inside = record {
+    claim = claim-child I l (entry_of l b) h.claim;
+    count = count ∙ h.count;
+    each = λ c lt. elim (below_or_from 0 (slice_index levels c)) [
+      | inl more ↦ inside c more
+      | inr none ↦ (let z : slice_index levels c ≡ 0 = omega arith in record {
+        inside = λ i. absurd (let q : slice_index levels c ≡ up I (entry_of l c) + 1 =
+            level_inside I l levels h c (from_child I l b c i).0 in omega arith);
+        outside = λ out. outside c z;
+      })
+    ];
+  }
+
+-- ---- a low of a child whose bounds are low
+pub child_low : (I : Instance) (l : Claim) (c n : ℕ) → All IsBuffer I → length I ≤ 512 → IsClaim I l →
+    IsBoundedBy (2 ^ 54) l → HasBuffer l c → n ≡ up I (entry_of l c) → n + 1 ≤ 2 ^ 55
+child_low I l c n buffers count claim low has q =
+    let s : Stands I l = record {
+      claim = claim;
+      bounds = λ e i. (let k = low e i in omega arith);
+      buffers = buffers;
+      count = count;
+    } in
+    let k = up_limit I l c (2 ^ 54) s low has in
+    omega arith
+
+-- ---- one level after another
+set_cases : (xs : List ℕ) (j v c : ℕ) → j < length xs →
+    ((c ≡ j) × (slice_index (slice_set xs j v) c ≡ v))
+    ⊎ ((c ≢ j) × (slice_index (slice_set xs j v) c ≡ slice_index xs c))
+set_cases xs j v c lt = elim (equal_or_not c j) [
+  | inl q ↦ inl (q, ap (slice_index (slice_set xs j v)) q ∙ get_or-set_same xs j v 0 lt)
+  | inr ne ↦ inr (ne, get_or-set_other xs j c v 0 ne)
+]
+  where
+    equal_or_not : (c j : ℕ) → (c ≡ j) ⊎ (c ≢ j)
+    equal_or_not c j = grind arith
+
+-- the levels of the entries are those of the child, but for those entries that are left
+abbrev pub AreLoweredBut : Instance → List ℕ → ℕ → List ℕ → Claim → Claim → Type 0
+AreLoweredBut I levels b numbers entries left = (e : Entry) → IsIn e entries → IsIn e left
+    ⊎ ((l : Claim) → AreLevels I l levels → IsLevel I (child I l (entry_of l b)) e.0 (slice_index numbers e.0))
+
+module _ (I : Instance) (levels : List ℕ) (b : ℕ) (numbers : List ℕ) (x : Entry) (v : ℕ) (lt : x.0 < length numbers)
+  where
+    pub lowered_next : (entries left rest : Claim) → left ≡ x ∷ rest →
+        ((l : Claim) → AreLevels I l levels → IsLevel I (child I l (entry_of l b)) x.0 v) →
+        AreLoweredBut I levels b numbers entries left → AreLoweredBut I levels b (slice_set numbers x.0 v) entries rest
+    lowered_next entries left rest s is h e i = elim (h e i) [
+      | inl j ↦ elim (subst (IsIn e) s j) [
+        | inl p ↦ inr (λ l a. written e (ap (λ (e : Entry). e.0) p) l a)
+        | inr k ↦ inl k
+      ]
+      | inr old ↦ inr (λ l a. elim (set_cases numbers x.0 v e.0 lt) [
+        | inl r ↦ written e r.0 l a
+        | inr r ↦ subst (IsLevel I (child I l (entry_of l b)) e.0) (sym r.1) (old l a)
+      ])
+    ]
+      where
+        written : (e : Entry) → e.0 ≡ x.0 → (l : Claim) → AreLevels I l levels →
+            IsLevel I (child I l (entry_of l b)) e.0 (slice_index (slice_set numbers x.0 v) e.0)
+        written e q l a = subst (λ (c : ℕ). IsLevel I (child I l (entry_of l b)) c
+            (slice_index (slice_set numbers x.0 v) c)) (sym q)
+            (subst (IsLevel I (child I l (entry_of l b)) x.0) (sym (get_or-set_same numbers x.0 v 0 lt)) (is l a))
+
+    pub low_next : v ≤ 2 ^ 55 → ((c : ℕ) → slice_index numbers c ≤ 2 ^ 55) →
+        (c : ℕ) → slice_index (slice_set numbers x.0 v) c ≤ 2 ^ 55
+    low_next low h c = elim (set_cases numbers x.0 v c lt) [
+      | inl r ↦ (let q = r.1 in omega arith)
+      | inr r ↦ (let q = r.1 in let k = h c in omega arith)
+    ]
+
+    pub outside_next : 0 < slice_index levels x.0 → ((c : ℕ) → slice_index levels c ≡ 0 → slice_index numbers c ≡ 0) →
+        (c : ℕ) → slice_index levels c ≡ 0 → slice_index (slice_set numbers x.0 v) c ≡ 0
+    outside_next more h c z = elim (set_cases numbers x.0 v c lt) [
+      | inl r ↦ absurd (let q = ap (slice_index levels) r.0 in omega arith)
+      | inr r ↦ r.1 ∙ h c z
+    ]
+
+-- ---- the claim that the search is at, under the last frame
+pub under_of : (I : Instance) (frames items : List Tried) (f : Tried) (l : Claim) →
+    Some f ≡ slice_get items (length items - 1) → items ≡ frames → IsUnderLast I frames l → IsUnder I f l
+under_of I frames items f l e q u =
+    let v = subst (λ (xs : List Tried). IsUnderLast I xs l) (sym q) u in
+    subst (λ (o : Option Tried). IfSome o (λ (f : Tried). IsUnder I f l)) (sym e) v
+
+pub low_child : (I : Instance) (f : Tried) (levels : List ℕ) (b : ℕ) (l : Claim) → IsUnder I f l →
+    levels ≡ f.levels → b ≡ chosen_of f → IsBoundedBy (2 ^ 54) l → HasLowChild I levels b
+low_child I f levels b l u q e low = record {
+  above = u.above;
+  are = subst (AreLevels I u.above) (sym q) u.levels;
+  has = subst (λ (b : ℕ). HasBuffer u.above b) (sym e) u.has;
+  low = subst (IsBoundedBy (2 ^ 54)) (u.standing.is_child ∙ ap (λ (b : ℕ). child I u.above (entry_of u.above b)) (sym e)) low;
+}
