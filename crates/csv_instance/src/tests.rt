@@ -3,7 +3,8 @@
 ghost use Rattle.std.specs.Prelude.{◌≤◌, length};
 
 use crate::{
-    Column, InstanceFault, OffsetsFault, read_instance, read_offsets, write_layout, write_rows,
+    Column, InstanceFault, OffsetsFault, read_instance, read_offsets, read_rows, write_changed,
+    write_layout, write_rows,
 };
 use dsa_model::{BufferFault, Fail, NoMemory};
 use std::alloc::Global;
@@ -79,6 +80,26 @@ fn some_rows_are_written_as_they_were_read(rt: HostRuntime) -> Result<(), TestFa
         panic!(rt; "no text");
     };
     let want: &[u8] = b"id,lower,note,upper,size\nb1,0,\"x,y\",3,04\nb3,0,z,9,4\n";
+    assert_eq!(rt; text.as_slice(), want);
+    Ok(())
+}
+
+#[test]
+fn rows_are_written_with_other_moments(rt: HostRuntime) -> Result<(), TestFail> {
+    let input: &[u8] = b"id,lower,upper,size\nA,8,2,4\nB,3,3,0\n";
+    let Ok(rows) = read_rows(rt.alloc(), input) else {
+        panic!(rt; "no rows");
+    };
+    assert_eq!(rt; rows.count(), 2);
+    assert_eq!(rt; rows.lower(0), 8);
+    assert_eq!(rt; rows.upper(0), 2);
+    assert_eq!(rt; rows.size(1), 0);
+    assert_eq!(rt; rows.alignment(1), 1);
+    assert_eq!(rt; rows.gaps(1).len(), 0);
+    let Ok(text) = write_changed(rt.alloc(), &rows, &[(0, 0, 10, 2, 8)]) else {
+        panic!(rt; "no text");
+    };
+    let want: &[u8] = b"id,lower,upper,size,gaps\nA,0,10,4,2-8\nB,3,3,0,\n";
     assert_eq!(rt; text.as_slice(), want);
     Ok(())
 }

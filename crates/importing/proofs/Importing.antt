@@ -1,5 +1,5 @@
 -- From what reading a trace comes to, to what the course comes to.
-use Rattle.std.proofs.Common.{◌≡◌, ◌⊎◌, inl, inr, ℕ, List, Result, Ok, Err, IfOk, refl, sym, subst}
+use Rattle.std.proofs.Common.{◌≡◌, inl, inr, ℕ, List, Result, Ok, Err, IfOk, refl, sym, subst}
 use Rattle.dsa_model.specs.declared.fail.NoMemory.{NoMemory}
 use Rattle.csv_instance.specs.Records.{file_limit}
 use Rattle.dsa_outside.specs.Seen.{FilesSeen}

@@ -1,5 +1,5 @@
 -- What unrolling two rows comes to, and what a row comes to that begins at the period.
-use Rattle.std.proofs.Common.{◌≡◌, List, [], ◌∷◌, Ok, codes, refl}
+use Rattle.std.proofs.Common.{◌≡◌, List, [], ◌∷◌, codes, refl}
 use Rattle.csv_instance.specs.Records.{Record}
 use Rattle.cyclic_plan.specs.Cycles.{unrolled}
 use Rattle.cyclic_plan.specs.Unrolled.{unrolled_of, unrolled_text}

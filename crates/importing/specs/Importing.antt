@@ -1,5 +1,5 @@
 -- How the command goes that imports a recorded run of allocations.
-use Rattle.std.specs.Prelude.{List, [], ◌∷◌, length, Result, Ok, Err}
+use Rattle.std.specs.Prelude.{[], ◌∷◌, length, Result, Ok, Err}
 use Rattle.csv_instance.specs.Records.{file_limit}
 use Rattle.trace_import.specs.Faults.{trace_of}
 use Rattle.trace_import.specs.ImportText.{import_text}

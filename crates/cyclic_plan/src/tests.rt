@@ -1,0 +1,61 @@
+//! Circles, unrolled and refused.
+
+ghost use Rattle.std.specs.Prelude.{◌≤◌, length};
+
+use crate::{CycleFault, unroll};
+use csv_instance::InstanceFault;
+use dsa_model::{BufferFault, Fail, NoMemory};
+use std::alloc::Global;
+use std::test::Fail as TestFail;
+
+/// The fault of a file whose moments repeat with a period of 10.
+fn fault_of(alloc: Global, text: &[u8]) -> Result<Option<CycleFault>, NoMemory>
+    requires { length text.now ≤ 67108864 }
+{
+    match unroll(alloc, text, 10) {
+        Ok(_) => Ok(None),
+        Err(Fail::Fault(fault)) => Ok(Some(fault)),
+        Err(Fail::NoMemory) => Err(NoMemory),
+    }
+}
+
+#[test]
+fn a_row_that_wraps_becomes_the_whole_period_with_a_gap(rt: HostRuntime) -> Result<(), TestFail> {
+    let Ok(unrolled) = unroll(rt.alloc(), b"id,lower,upper,size\nA,8,2,4\nB,2,8,4\n", 10) else {
+        panic!(rt; "no instance");
+    };
+    assert_eq!(rt; unrolled.buffers, 2);
+    let want: &[u8] = b"id,lower,upper,size,gaps\nA,0,10,4,2-8\nB,2,8,4,\n";
+    assert_eq!(rt; unrolled.text.as_slice(), want);
+    Ok(())
+}
+
+#[test]
+fn a_bad_circle_is_named(rt: HostRuntime) {
+    let table: [(&[u8], Option<CycleFault>); 5] = [
+        (b"id,lower,upper,size\nA,8,10,4\n", None),
+        (
+            b"id,lower,upper,size\nA,10,2,4\n",
+            Some(CycleFault::Outside { row: 0 }),
+        ),
+        (
+            b"id,lower,upper,size\nA,2,11,4\n",
+            Some(CycleFault::Outside { row: 0 }),
+        ),
+        (
+            b"id,lower,upper,size\nA,8,2,4\nB,3,3,4\n",
+            Some(CycleFault::BadBuffer {
+                row: 1,
+                fault: BufferFault::EmptyLifetime,
+            }),
+        ),
+        (
+            b"id,lower,upper,size\nA,3,3,4\nA,8,2,4\n",
+            Some(CycleFault::Instance(InstanceFault::DuplicateId { row: 1, earlier: 0 })),
+        ),
+    ];
+    for (text, want) in table {
+        assert!(rt; text.len() <= 67108864);
+        assert_eq!(rt; fault_of(rt.alloc(), text), Ok(want));
+    }
+}
