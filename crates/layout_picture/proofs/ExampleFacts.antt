@@ -1,8 +1,9 @@
 -- Small pictures, worked out.
-use Rattle.std.proofs.Common.{◌≡◌, ℕ, true, false, List, [], ◌∷◌, codes, refl}
+use Rattle.std.proofs.Common.{◌≡◌, ℕ, ◌+◌, true, false, List, [], ◌∷◌, ◌++◌, map, codes, refl}
 use lib.Utf8.{encode}
 use Rattle.std.specs.Fmt.{digits}
 use Rattle.dsa_terms.specs.Buffers.{Buffer, Instance, buffer, do_share, is_live, some_before}
+use Rattle.dsa_terms.specs.Parts.{numbers}
 use Rattle.lifetime.specs.Runs.{was_live}
 use Rattle.layout_picture.specs.Colours.{colours_below, colours_of, is_taken, next_colour, touch}
 use Rattle.layout_picture.specs.Columns.{columns_of, turns_at}
@@ -80,6 +81,15 @@ the_next_is_taken = refl
 the_third_is_left : next_colour five five_offsets (0 ∷ 1 ∷ []) ≡ 2
 unfolding next_colour is_taken touch buffer do_share some_before is_live
 the_third_is_left = refl
+
+-- nine that follow each other, and one that lies upon all of them: where all eight are taken, the rest of 9 by 8
+abbrev nine_and_one : Instance
+nine_and_one = map (λ k. lasting k (k + 1) 1) (numbers 9) ++ lasting 0 9 1 ∷ []
+
+all_are_taken : next_colour nine_and_one (0 ∷ 0 ∷ 0 ∷ 0 ∷ 0 ∷ 0 ∷ 0 ∷ 0 ∷ 0 ∷ 1 ∷ [])
+    (0 ∷ 1 ∷ 2 ∷ 3 ∷ 4 ∷ 5 ∷ 6 ∷ 7 ∷ 7 ∷ []) ≡ 1
+unfolding next_colour is_taken touch buffer do_share some_before is_live
+all_are_taken = refl
 
 -- ---- runs
 a_run_begins : begins_at (false ∷ true ∷ true ∷ []) 1 ≡ true

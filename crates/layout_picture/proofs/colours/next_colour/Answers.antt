@@ -1,4 +1,4 @@
-use Rattle.std.proofs.Common.{◌≡◌, ◌%◌, not, length, ap, sym, ◌∙◌, arith}
+use Rattle.std.proofs.Common.{◌%◌, not, length, ap, sym, ◌∙◌, arith}
 use Rattle.layout_picture.specs.Colours.{is_taken, next_colour}
 use Rattle.layout_picture.proofs.Colouring.{first_is, first_not, still_none}
 use Rattle.layout_picture.proofs.colours.next_colour.Goals as goal

@@ -1,4 +1,4 @@
-use Rattle.std.proofs.Common.{◌≡◌, ℕ, not, List, [], filter}
+use Rattle.std.proofs.Common.{◌≡◌, not, [], filter}
 use Rattle.dsa_terms.specs.Parts.{numbers}
 use Rattle.layout_picture.specs.Colours.{is_taken}
 use Rattle.layout_picture.proofs.colours.next_colour.Given as goal
