@@ -177,11 +177,11 @@ a_title : title_text (codes "b<1") (lasting 0 3 4) 8 ≡ codes "4 bytes at 8, li
 unfolding digits escaped encode
 a_title = refl
 
-the_second_colour : colour_text 1 ≡ codes "aadaf4"
+the_second_colour : colour_text 1 ≡ codes "9ac4ff"
 the_second_colour = refl
 
 a_rectangle : rectangle_text twelve five (codes "b1" ∷ codes "b2" ∷ codes "b3" ∷ []) (0 ∷ 1 ∷ 2 ∷ []) (drawn 2 0 2 4 8) ≡
-    codes "<path d='M200 224h800v200h-800z' fill='#80cfb9'><title>4 bytes at 4, live 0-9: b3</title></path>\n"
+    codes "<path d='M200 224h800v200h-800z' fill='#db8a9e'><title>4 bytes at 4, live 0-9: b3</title></path>\n"
 unfolding rectangle_text area_of x_of y_of scaled buffer digits escaped encode
 a_rectangle = refl
 

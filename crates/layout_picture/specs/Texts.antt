@@ -24,11 +24,11 @@ area_text area =
     codes " d='M" ++ decimal area.x ++ codes " " ++ decimal area.y ++ codes "h" ++ decimal area.width ++ codes "v"
     ++ decimal area.height ++ codes "h-" ++ decimal area.width ++ codes "z'"
 
--- light tints of Okabe and Ito's colours, which the colour-blind tell apart
+-- eight light tints, told apart by the colour-blind and in grey, the first ones best
 abbrev pub palette : List (List ℕ)
 palette =
-    codes "f5cf80" ∷ codes "aadaf4" ∷ codes "80cfb9" ∷ codes "f7f1a0" ∷ codes "80b8d8" ∷ codes "eaae80"
-    ∷ codes "e5bcd3" ∷ codes "dddddd" ∷ []
+    codes "ffe58d" ∷ codes "9ac4ff" ∷ codes "db8a9e" ∷ codes "5deae9" ∷ codes "a1bc7a" ∷ codes "ffbcab"
+    ∷ codes "ce99d2" ∷ codes "c5b5c8" ∷ []
 
 -- the digits of a colour
 abbrev pub colour_text : ℕ → List ℕ

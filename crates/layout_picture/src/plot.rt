@@ -19,14 +19,14 @@ fn colour_digits(k: u32) -> &'static [u8]
     ensures { result.now ≡ colour_text k }
 {
     match k % 8 {
-        0 => b"f5cf80",
-        1 => b"aadaf4",
-        2 => b"80cfb9",
-        3 => b"f7f1a0",
-        4 => b"80b8d8",
-        5 => b"eaae80",
-        6 => b"e5bcd3",
-        _ => b"dddddd",
+        0 => b"ffe58d",
+        1 => b"9ac4ff",
+        2 => b"db8a9e",
+        3 => b"5deae9",
+        4 => b"a1bc7a",
+        5 => b"ffbcab",
+        6 => b"ce99d2",
+        _ => b"c5b5c8",
     }
 }
 
