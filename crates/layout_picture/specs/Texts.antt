@@ -143,5 +143,5 @@ unfoldable pub picture_text : Instance → List (List ℕ) → List ℕ → List
 picture_text I ids offsets =
     let s = scale_of I offsets in
     let loads = map (load I) (columns_of I) in
-    head_text s ++ plot_text s I ids (colours_of I offsets) loads (rectangles I offsets) ++ frame_text s (columns_of I) loads
-    ++ codes "</svg>\n"
+    head_text s ++ plot_text s I ids (colours_of I offsets) loads (rectangles I offsets)
+    ++ frame_text s (columns_of I) loads ++ codes "</svg>\n"

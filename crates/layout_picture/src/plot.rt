@@ -85,7 +85,8 @@ fn put_rectangles(
     requires colours { length colours.now ≡ length instance.now }
     requires buffers { All (λ r. r.buffer < length instance.now) rectangles.now }
     ensures { OnOk result (text.new.items ≡ text.old.items
-        ++ flat_map (rectangle_text scale.now instance.now (ids_of table.now) colours.now) rectangles.now) }
+        ++ flat_map (rectangle_text scale.now instance.now (ids_of table.now) colours.now)
+        rectangles.now) }
 {
     for rectangle in rectangles {
         put_rectangle(text, scale, table, instance, colours, rectangle)?;
@@ -207,7 +208,8 @@ pub(crate) fn put_plot(
     requires colours { length colours.now ≡ length instance.now }
     requires buffers { All (λ r. r.buffer < length instance.now) rectangles.now }
     ensures { OnOk result (text.new.items ≡ text.old.items
-        ++ plot_text scale.now instance.now (ids_of table.now) colours.now loads.now rectangles.now) }
+        ++ plot_text scale.now instance.now (ids_of table.now) colours.now loads.now
+        rectangles.now) }
 {
     put(text, b"<g stroke='#333' stroke-width='.5'>\n")?;
     put_rectangles(text, scale, table, instance, colours, rectangles)?;
