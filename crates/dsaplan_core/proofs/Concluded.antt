@@ -1,5 +1,5 @@
 -- What a run answers where nothing outside it goes wrong.
-use Rattle.std.proofs.Common.{◌≡◌, ◌^◌, ℕ, List, Result, Ok, Err, refl, sym, subst, inl, inr}
+use Rattle.std.proofs.Common.{◌≡◌, ◌^◌, List, Result, Ok, Err, refl, sym, subst, inl, inr}
 use Rattle.dsa_terms.specs.Buffers.{Instance}
 use Rattle.dsa_outside.specs.Seen.{FilesSeen, SinkSeen}
 use Rattle.dsa_model.specs.Counts.{Rose}

@@ -1,6 +1,7 @@
 -- What `unroll` promises.
-use Rattle.std.proofs.Common.{◌≡◌, ◌≤◌, ◌&&◌, ℕ, Bool, true, false, if◌then◌else◌, List, Some, None, Result, Ok, Err, unwrap_or, refl, sym, subst, inl, inr, arith}
+use Rattle.std.proofs.Common.{◌≡◌, ◌≤◌, ◌&&◌, ℕ, Bool, true, false, nat_le, if◌then◌else◌, List, length, Some, None, Result, Ok, Err, unwrap_or, refl, sym, subst, inl, inr, arith}
 use Rattle.std.proofs.lemmas.Bool.Decides.{nat_tests}
+use Rattle.std.specs.Str.{all_ascii_digits}
 use Rattle.std.specs.Str.Parse.{digits_value}
 use Rattle.dsa_terms.specs.Buffers.{Instance}
 use Rattle.dsa_outside.specs.Seen.{FilesSeen}
@@ -33,7 +34,10 @@ number_within word = go (is_number number_limit word) refl
   where
     go : (b : Bool) → is_number number_limit word ≡ b →
         unwrap_or (if b then Some (digits_value 10 word) else None) 0 ≤ number_limit
-    go true is = let last = and_last _ _ is in grind (arith, nat_tests, last)
+    go true is =
+        let last = and_last (nat_le 1 (length word) && nat_le (length word) 20 && all_ascii_digits word)
+        (nat_le (digits_value 10 word) number_limit) is in
+        grind (arith, nat_tests, last)
     go false is = omega arith
 
 module _ (words : List Word) (old new : FilesSeen) (pairs : List Pair)

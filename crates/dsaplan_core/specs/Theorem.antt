@@ -4,7 +4,7 @@
 -- layout file gives a layout, and with 'accepted', 'trimmed' and 'upgraded' the log's file is an accepted log. 'drawn'
 -- writes a picture of the layout, 'classes' a plan by size class, 'core' an irreducible set of buffers that do not fit,
 -- 'imported' the instance of the trace, and 'unrolled' that of one period.
-use Rattle.std.specs.Prelude.{◌≡◌, ◌≢◌, ◌↔◌, ◌-◌, ◌≤◌, ◌<◌, ◌^◌, ℕ, List, length, IsSome, Some, Ok, Err}
+use Rattle.std.specs.Prelude.{◌≡◌, ◌≢◌, ◌-◌, ◌≤◌, ◌<◌, ◌^◌, ℕ, List, length, IsSome, Some, Ok, Err}
 use Rattle.dsa_terms.specs.Buffers.{Instance}
 use Rattle.dsa_terms.specs.Claims.{IsIn}
 use Rattle.dsa_terms.specs.Layouts.{IsFeasible, IsLayout, IsInfeasible, IsLeast}

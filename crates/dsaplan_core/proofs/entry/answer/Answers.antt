@@ -68,7 +68,7 @@ pub returns-in-Trial : goal.returns-in-Trial
 returns-in-Trial g c = command_goes (g.F.Files.seen c.args.files.now) (g.F.Files.seen c.perform-in-Trial.new.files)
     (g.S.Sink.seen c.args.out.now) (g.S.Sink.seen c.perform-in-Trial.new.out) c.perform-in-Trial.result c.args.request.now
     verb.Trial (sym c.in-Trial.is ∙ c.verb.ensures.value)
-    (rw (c.number.ensures.value, c.number-in-Trial.ensures.value, c.number-in-Trial-2.ensures.value)
+    (rw (c.number-in-Trial.ensures.value, c.number-in-Trial-2.ensures.value, c.number-in-Trial-3.ensures.value)
     at c.perform-in-Trial.ensures)
 
 pub returns-in-Import : goal.returns-in-Import
