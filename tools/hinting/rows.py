@@ -120,8 +120,24 @@ def instance_hint(table, fault):
     return header_hint(table, fault)
 
 
+def wrap_hint(table, period, fault):
+    """Where the gaps of a row that goes round the end of the period have a fault, or None where it is none of these."""
+    row = re.fullmatch(r"row (\d+) (too many gaps|gap (\d+) outside)", fault)
+    if not row or table.number(int(row[1]), b"lower") <= table.number(int(row[1]), b"upper"):
+        return None
+    field = table.field(int(row[1]), b"gaps")
+    gaps = gaps_of(field.text)
+    if row[3] is None:
+        return f"{table.at(field)}: gaps: {shown(field.text)} has {len(gaps)} gaps, and going round the end adds one"
+    gap = gaps[int(row[3])]
+    return f"{table.at(field)}: gaps: '{gap[0]}-{gap[1]}' is not within the period, 0-{int(period)}"
+
+
 def cycle_hint(table, period, fault):
     """Where rows with a period have the fault that the program prints."""
+    wrapped = wrap_hint(table, period, fault)
+    if wrapped:
+        return wrapped
     row = re.fullmatch(r"row (\d+) outside", fault)
     if not row:
         return instance_hint(table, fault)

@@ -116,6 +116,9 @@ CASES = [
     # rows with a period
     (row("b1,10,3,1,,"), UNROLL, 4, "cycle row 1 outside", "i:4: lower: '10' is not below the period, 10"),
     (row("b1,0,11,1,,"), UNROLL, 4, "cycle row 1 outside", "i:4: upper: '11' is above the period, 10"),
+    (row("b1,8,2,1,,9-11"), UNROLL, 4, "cycle row 1 gap 0 outside", "i:4: gaps: '9-11' is not within the period, 0-10"),
+    (row("b1,8,2,1,,0-1 1-2 2-3 3-4 4-5 5-6 6-7 8-9"), UNROLL, 4, "cycle row 1 too many gaps",
+     "i:4: gaps: '0-1 1-2 2-3 3-4 4-5 5-6 6-7 8-9' has 8 gaps, and going round the end adds one"),
     (row("b1,0,4K,1,,"), UNROLL, 4, "cycle row 1 bad number upper",
      "i:4: upper: '4K' is no number of 1 to 20 digits"),
     (row("b1,0,3,0,,"), UNROLL, 4, "cycle row 1 zero size", "i:4: size: '0' is no size of 1 to 2^40"),

@@ -56,6 +56,7 @@ module _ (words : List Word) (old new : FilesSeen) (pairs : List Pair)
         instance = I;
         words_ask = is;
         whole = whole;
+        given = read;
         its_count = refl;
         unrolled = unrolled_gives (number_at pairs option.Period) (table_of bytes) I
             (number_within (word_at pairs option.Period)) read;

@@ -64,7 +64,7 @@ IsChecking verb.Trim = Unit {0}
 IsChecking verb.Upgrade = Unit {0}
 IsChecking verb = ⊥
 
--- the log's file is no log's text, or the text of one that is not accepted, for this cause
+-- the log's file says no log, or one that is not accepted, for this cause
 pub record RefusesLog (words : List Word) (old new : FilesSeen) (cause : LogCause) : Type 0 where
   pub asked : Asked words old
   pub checked : IsChecking asked.verb

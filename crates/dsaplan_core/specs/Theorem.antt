@@ -171,6 +171,7 @@ pub record HoldsUnrolled (words : List Word) (old new : FilesSeen) (count : ℕ)
   pub instance : Instance
   pub words_ask : request_of words ≡ Ok (record { verb = verb.Unroll; pairs = pairs })
   pub whole : IsWholeFile old (word_at pairs option.Input) file_limit bytes
+  pub given : unrolled_of (number_at pairs option.Period) (table_of bytes) ≡ Ok instance
   pub its_count : length instance ≡ count
   pub unrolled : IsUnrolled (number_at pairs option.Period) (table_of bytes) instance
   pub files : new.held ≡ with_file old.held (word_at pairs option.Output)
