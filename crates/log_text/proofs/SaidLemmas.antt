@@ -1,5 +1,5 @@
 -- Claims that are said after the lines before them.
-use Rattle.std.proofs.Common.{◌≡◌, ◌<◌, ℕ, zero, suc, List, [], ◌∷◌, length, get_or, map, All, Option, Some, None, IfNone, IfSome, refl, sym, ap, ◌∙◌, subst, arith}
+use Rattle.std.proofs.Common.{◌≡◌, ◌<◌, ℕ, zero, suc, List, [], ◌∷◌, length, get_or, map, All, refl, sym, ap, ◌∙◌, subst, arith}
 use Rattle.dsa_terms.specs.Claims.{Claim, Rises, buffers_of}
 use Rattle.log_text.specs.Changes.{AreChanges, Change, carried_out}
 use Rattle.log_text.specs.RawLogs.{IsRawLineKept, raw_claim_of}
@@ -9,17 +9,6 @@ use Rattle.log_text.specs.Spellings.{From, Spelling, claim_at, claim_said}
 use Rattle.log_text.specs.declared.raw.RawLine.{RawLine}
 use Rattle.log_text.specs.declared.said.Unsaid.TheVariants as unsaid
 use Rattle.log_text.proofs.Saying.{claim_at_kept}
-
-pub is_none : {X : Type 0} {P : Type 0} (r : Option X) → r ≡ None → IfNone r P → P
-is_none None e h = h
-is_none (Some x) e h = absurd cc
-
-pub is_some : {X : Type 0} (P : X → Type 0) (r : Option X) (x : X) → r ≡ Some x → IfSome r P → P x
-is_some P None x e h = absurd cc
-is_some P (Some y) x e h = subst P (same e) h
-  where
-    same : {X : Type 0} {x y : X} → Some x ≡ Some y → x ≡ y
-    same e = cc
 
 pub map_map : {X Y Z : Type 0} (f : Y → Z) (g : X → Y) (xs : List X) → map f (map g xs) ≡ map (λ x. f (g x)) xs
 map_map f g [] = refl

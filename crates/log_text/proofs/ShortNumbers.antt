@@ -71,6 +71,33 @@ short_ends ds k v a h d e l s z f = record {
     stops_at (x ∷ xs) zero h d = d
     stops_at (x ∷ xs) (suc k) h d = stops_at xs k (omega arith) d
 
+-- one digit, and two
+pub one_digit : (ds : List ℕ) → 1 < length ds → is_digit (get_or ds 0 0) ≡ true → is_digit (get_or ds 1 0) ≡ false →
+    IsShortNumber ds 1 (get_or ds 0 0 - 48)
+one_digit ds n d e =
+    let t = next_short ds 0 0 refl (omega arith) d refl (omega arith) in
+    short_ends ds 1 (get_or ds 0 0 - 48) t.0 n e (value t.1.0) (digit_small (get_or ds 0 0) d) (omega arith) (omega arith)
+    (λ _. refl)
+  where
+    value : {x v : ℕ} → 0 * 10 + x ≡ v → x ≡ v
+    value q = omega arith
+
+pub two_digits : (ds : List ℕ) → 2 < length ds → is_digit (get_or ds 0 0) ≡ true → is_digit (get_or ds 1 0) ≡ true →
+    is_digit (get_or ds 2 0) ≡ false → (get_or ds 0 0 ≡ 48 → ⊥) →
+    IsShortNumber ds 2 ((get_or ds 0 0 - 48) * 10 + (get_or ds 1 0 - 48))
+two_digits ds n d e f z =
+    let one = next_short ds 0 0 refl (omega arith) d refl (omega arith) in
+    let two = next_short ds 1 (0 * 10 + (get_or ds 0 0 - 48)) one.0 (omega arith) e one.1.0 one.1.1 in
+    short_ends ds 2 ((get_or ds 0 0 - 48) * 10 + (get_or ds 1 0 - 48)) two.0 n f (value (get_or ds 0 0 - 48) (get_or ds 1 0 - 48) _ two.1.0)
+    (bound (get_or ds 0 0 - 48) (get_or ds 1 0 - 48) _ two.1.1)
+    (omega arith) (omega arith) (λ q. absurd (z q))
+  where
+    value : (a x v : ℕ) → (0 * 10 + a) * 10 + x ≡ v → a * 10 + x ≡ v
+    value a x v q = omega arith
+
+    bound : (a x v : ℕ) → (0 * 10 + a) * 10 + x < v → a * 10 + x < v
+    bound a x v q = omega arith
+
 -- ---- where no short number is found
 -- a number does not end before a digit
 stops_before : (ds : List ℕ) (k count : ℕ) → list_all is_digit (take k ds) ≡ true → count < k → count < length ds →

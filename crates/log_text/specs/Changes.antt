@@ -18,10 +18,11 @@ abbrev pub left_by : Change → Claim
 left_by (Puts e) = e ∷ []
 left_by (Drops b) = []
 
--- the entries below b, and those above it
+-- the entries of buffers below b
 abbrev pub below : ℕ → Claim → Claim
 below b l = filter (λ e. nat_lt e.0 b) l
 
+-- the entries of buffers above b
 abbrev pub above : ℕ → Claim → Claim
 above b l = filter (λ e. nat_lt b e.0) l
 

@@ -39,51 +39,60 @@ abbrev pub IsFormed : ℕ → Row → Type 0
 IsFormed version (LineRow line) = IsLineFormed version line
 IsFormed version (EndRow k) = Unit {0}
 
--- ---- limits, a moment's below 2^62, each other number's 2^60
+-- ---- limits: a moment is below 2^62, each other number at most 2^60
+-- each number of the change is within its limit
 abbrev pub IsChangeWithin : Change → Type 0
 IsChangeWithin (Puts e) = IsPairWithin e
 IsChangeWithin (Drops b) = b ≤ 2 ^ 60
 
+-- each number of the claim as it is spelled is within its limit, a base as well
 abbrev pub IsSpellingWithin : Spelling → Type 0
 IsSpellingWithin (Full l) = All IsPairWithin l
 IsSpellingWithin (From base changes) = (base ≤ 2 ^ 60) × All IsChangeWithin changes
 
+-- each number of the line is within its limit
 abbrev pub IsLineWithin : Spelled → Type 0
 IsLineWithin (OverAs T H G s) = (T < 2 ^ 62) × (H ≤ 2 ^ 60) × (G ≤ 2 ^ 60) × IsSpellingWithin s
 IsLineWithin (CasesAs s cites) = IsSpellingWithin s × All IsRawCiteWithin cites
 
+-- each number of the row is within its limit
 abbrev pub IsWithin : Row → Type 0
 IsWithin (LineRow line) = IsLineWithin line
 IsWithin (EndRow k) = k ≤ 2 ^ 60
 
 -- ---- lists that rise
+-- the buffers of the claim rise, or those of its changes
 abbrev pub IsSpellingRising : Spelling → Type 0
 IsSpellingRising (Full l) = Rises (buffers_of l)
 IsSpellingRising (From base changes) = Rises (map buffer_of changes)
 
+-- each list of the line rises
 abbrev pub IsLineRising : Spelled → Type 0
 IsLineRising (OverAs T H G s) = IsSpellingRising s
 IsLineRising (CasesAs s cites) = IsSpellingRising s × Rises (map (λ (p : ℕ × RawCite). p.0) cites)
 
+-- each list of the row rises; an end has none
 abbrev pub IsRising : Row → Type 0
 IsRising (LineRow line) = IsLineRising line
 IsRising (EndRow k) = Unit {0}
 
 -- ---- differences, after these lines
--- the line that a difference names stands earlier
+-- the claim is in full, or the line that it is a difference from stands earlier
 abbrev pub HasSpellingBase : List RawLine → Spelling → Type 0
 HasSpellingBase earlier (Full l) = Unit {0}
 HasSpellingBase earlier (From base changes) = base < length earlier
 
+-- the same of the claim of a row; an end has none
 abbrev pub HasBase : List RawLine → Row → Type 0
 HasBase earlier (LineRow line) = HasSpellingBase earlier (spelling_of line)
 HasBase earlier (EndRow k) = Unit {0}
 
--- each change of a difference changes that line's claim, and some buffer is left
+-- the claim is in full, or each of its changes changes the claim of its base, and some buffer is left
 abbrev pub HasSpellingChanges : List RawLine → Spelling → Type 0
 HasSpellingChanges earlier (Full l) = Unit {0}
 HasSpellingChanges earlier (From base changes) = AreChanges (claim_at earlier base) changes
 
+-- the same of the claim of a row; an end has none
 abbrev pub HasChanges : List RawLine → Row → Type 0
 HasChanges earlier (LineRow line) = HasSpellingChanges earlier (spelling_of line)
 HasChanges earlier (EndRow k) = Unit {0}

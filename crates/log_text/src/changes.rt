@@ -1,6 +1,6 @@
 //! The changes of a difference: carrying them out, finding them, and reading them.
 
-ghost use Rattle.std.specs.Prelude.{◌≡◌, ◌↔◌, ◌++◌, ◌∷◌, [], ◌≤◌, ◌<◌, IfOk, OnOk, IfNone, IfSome, IsTrue, All, drop, length, map, true, false, ◌≢◌, ◌⊎◌, slice_index_or};
+ghost use Rattle.std.specs.Prelude.{◌≡◌, ◌↔◌, ◌++◌, ◌∷◌, [], ◌≤◌, ◌<◌, IfOk, OnOk, IfNone, IfSome, IsTrue, MatchBool, All, drop, length, map, true, false, ◌≢◌, ◌⊎◌, slice_index_or};
 ghost use Rattle.dsa_terms.specs.Claims.{Rises, buffers_of};
 ghost use Rattle.log_text.specs.Changes.{AreChanges, DoesChange, above, below, buffer_of, carried_out, difference as difference_of, left_by};
 ghost use Rattle.dsa_model.specs.Fails.{UnlessNoMemory};
@@ -13,6 +13,9 @@ use crate::cursor::Cursor;
 use crate::items::{NoForm, read_pair};
 use dsa_model::Fail;
 use std::alloc::{AllocError, Global};
+
+/// How many changes a difference has room for from the start.
+const CHANGES: usize = 16;
 
 /// A change of a claim as a text says it.
 #[derive(Clone, Copy)]
@@ -119,44 +122,39 @@ fn stays(base: &[(u64, u64)], place: usize, b: u64) -> bool
     base[place].0 < b
 }
 
-/// The claim with the changes carried out, in one pass over both; none where a change changes
-/// nothing or no buffer is left.
-pub(crate) fn changed(
-    alloc: Global,
+/// Carries out the changes of a claim, in one pass over both, and leaves in the room what they
+/// give: where it answers false a change changes nothing, or no buffer is left.
+pub(crate) fn carry_out(
+    room: &mut Vec<(u64, u64)>,
     base: &[(u64, u64)],
     changes: &[Edit],
-) -> Result<Option<Vec<(u64, u64)>>, AllocError>
+) -> Result<bool, AllocError>
     requires base { Rises (buffers_of base.now) }
     requires changes { Rises (map buffer_of (map change_value changes.now)) }
-    ensures some { let cs = map change_value changes.now in IfOk result (λ r. IfSome r (λ pairs.
-        (pairs.items ≡ carried_out base.now cs) × AreChanges base.now cs)) }
-    ensures none { let cs = map change_value changes.now in IfOk result (λ r.
-        IfNone r (AreChanges base.now cs → ⊥)) }
+    ensures { let cs = map change_value changes.now in IfOk result (λ r. MatchBool r
+        ((room.new.items ≡ carried_out base.now cs) × AreChanges base.now cs)
+        (AreChanges base.now cs → ⊥)) }
 {
-    let mut pairs = Vec::with_capacity(alloc, base.len())?;
+    room.clear();
     let mut place = 0;
     let mut next = 0;
     while next < changes.len() {
         let change = changes[next];
         let b = changed_buffer(change);
         if stays(base, place, b) {
-            pairs.push(base[place])?;
+            room.push(base[place])?;
             place += 1;
             continue;
         }
         if !does_change(base, place, change) {
-            return Ok(None);
+            return Ok(false);
         }
-        put(&mut pairs, change)?;
+        put(room, change)?;
         place = past(base, place, b);
         next += 1;
     }
-    pairs.extend_from_slice(&base[place..])?;
-    if pairs.is_empty() {
-        return Ok(None);
-    }
-    pairs.shrink_to_fit();
-    Ok(Some(pairs))
+    room.extend_from_slice(&base[place..])?;
+    Ok(!room.is_empty())
 }
 
 /// The changes that lead from one claim to the other, in one pass over both.
@@ -219,7 +217,7 @@ pub(crate) fn read_changes(
         (λ v. AreChangesRead end.now cursor.old (map change_value v.items) cursor.new)
         (λ _. HasNoChanges end.now cursor.old) }
 {
-    let mut changes = Vec::new(alloc);
+    let mut changes = Vec::with_capacity(alloc, CHANGES)?;
     while !cursor.take(end) {
         if !cursor.take(b" ") {
             return Err(Fail::Fault(NoForm));

@@ -69,6 +69,7 @@ impl<'a> Cursor<'a> {
     }
 
     /// Reads one byte.
+    #[inline(always)]
     fn byte(&mut self) -> Option<u8>
         ensures { MatchOption result (self.old ≡ []) (λ c. self.old ≡ c ∷ self.new) }
     {
@@ -96,6 +97,7 @@ impl<'a> Cursor<'a> {
 
     /// Reads a number, up to where its digits end, as one of 64 bits: the greatest, where it does
     /// not fit.
+    #[inline(always)]
     pub(crate) fn capped_number(&mut self) -> Option<u64>
         ensures some { IfSome result (λ n. IsItemRead numeral capped self.old n self.new) }
         ensures none { IfNone result (HasNoNumber self.old) }
@@ -120,6 +122,7 @@ impl<'a> Cursor<'a> {
     }
 
     /// Reads a number, a byte and a number.
+    #[inline(always)]
     pub(crate) fn marked(&mut self) -> Option<Marked>
         ensures some { IfSome result (λ m. IsMarkedRead self.old m.first m.mark m.second self.new) }
         ensures none { IfNone result (HasNoMarked self.old) }
@@ -135,6 +138,7 @@ impl<'a> Cursor<'a> {
     }
 
     /// Goes past a space where a digit follows it, or stays.
+    #[inline(always)]
     pub(crate) fn next_item(&mut self) -> bool
         requires { Stops self.old }
         ensures { MatchBool result

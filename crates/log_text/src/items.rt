@@ -6,19 +6,17 @@ ghost use Rattle.log_text.specs.RawTexts.{cite_text, pair_text};
 ghost use Rattle.log_text.specs.Reading.{HasNoItem, HasNoList, IsItemRead, IsListEnd, IsListRead, capped_cite, capped_pair};
 
 use crate::cursor::Cursor;
+use crate::room::copy_of;
 use crate::{RawCite, RawCites, RawClaim};
 use dsa_model::Fail;
 use std::alloc::Global;
-
-/// How many pairs, or cites, a list has room for from the start. Most lists are shorter, and give
-/// back what they do not need.
-const ROOM: usize = 64;
 
 /// The bytes have not the form that is read.
 #[derive(Clone, Copy)]
 pub(crate) struct NoForm;
 
 /// Reads a buffer and its bound.
+#[inline(always)]
 pub(crate) fn read_pair(cursor: &mut Cursor) -> Option<(u64, u64)>
     ensures some { IfSome result
         (λ value. IsItemRead pair_text capped_pair cursor.old value cursor.new) }
@@ -33,6 +31,7 @@ pub(crate) fn read_pair(cursor: &mut Cursor) -> Option<(u64, u64)>
 }
 
 /// Reads a buffer and its cite.
+#[inline(always)]
 fn read_cite(cursor: &mut Cursor) -> Option<(u64, RawCite)>
     ensures some { IfSome result
         (λ value. IsItemRead cite_text capped_cite cursor.old value cursor.new) }
@@ -47,9 +46,10 @@ fn read_cite(cursor: &mut Cursor) -> Option<(u64, RawCite)>
     }
 }
 
-/// Reads a claim and these bytes after it. Its numbers are of 64 bits, as `cap` gives them.
+/// Reads a claim and these bytes after it, in that room. Its numbers are of 64 bits, as `cap` gives them.
 pub(crate) fn read_claim(
     alloc: Global,
+    room: &mut Vec<(u64, u64)>,
     cursor: &mut Cursor,
     end: &[u8],
 ) -> Result<RawClaim, Fail<NoForm>>
@@ -58,27 +58,28 @@ pub(crate) fn read_claim(
         (λ claim. IsListRead pair_text capped_pair end.now cursor.old claim cursor.new)
         (λ _. HasNoList pair_text end.now cursor.old) }
 {
-    let mut pairs = Vec::with_capacity(alloc, ROOM)?;
+    room.clear();
     let Some(first) = read_pair(cursor) else {
         return Err(Fail::Fault(NoForm));
     };
-    pairs.push(first)?;
+    room.push(first)?;
     while cursor.next_item() {
         let Some(next) = read_pair(cursor) else {
             return Err(Fail::Fault(NoForm));
         };
-        pairs.push(next)?;
+        room.push(next)?;
     }
     if !cursor.take(end) {
         return Err(Fail::Fault(NoForm));
     }
-    pairs.shrink_to_fit();
+    let pairs = copy_of(alloc, room.as_slice())?;
     Ok(RawClaim::from_vec(pairs))
 }
 
-/// Reads cites and these bytes after them. Their numbers are of 64 bits, as `cap` gives them.
+/// Reads cites and these bytes after them, in that room. Their numbers are of 64 bits, as `cap` gives them.
 pub(crate) fn read_cites(
     alloc: Global,
+    room: &mut Vec<(u64, RawCite)>,
     cursor: &mut Cursor,
     end: &[u8],
 ) -> Result<RawCites, Fail<NoForm>>
@@ -87,20 +88,20 @@ pub(crate) fn read_cites(
         (λ cites. IsListRead cite_text capped_cite end.now cursor.old cites cursor.new)
         (λ _. HasNoList cite_text end.now cursor.old) }
 {
-    let mut cites = Vec::with_capacity(alloc, ROOM)?;
+    room.clear();
     let Some(first) = read_cite(cursor) else {
         return Err(Fail::Fault(NoForm));
     };
-    cites.push(first)?;
+    room.push(first)?;
     while cursor.next_item() {
         let Some(next) = read_cite(cursor) else {
             return Err(Fail::Fault(NoForm));
         };
-        cites.push(next)?;
+        room.push(next)?;
     }
     if !cursor.take(end) {
         return Err(Fail::Fault(NoForm));
     }
-    cites.shrink_to_fit();
+    let cites = copy_of(alloc, room.as_slice())?;
     Ok(RawCites::from_vec(cites))
 }

@@ -11,6 +11,7 @@ ghost use Rattle.log_text.specs.declared.fault.TextFault.{TextFault as Fault};
 
 use crate::cursor::Cursor;
 use crate::limits::{NUMBER_LIMIT, is_rising, is_within};
+use crate::room::Room;
 use crate::rows::{Read, read_row};
 use crate::said::{Said, Unsaid, line_said};
 use crate::{RawLine, RawLines, RawLog, TextFault};
@@ -92,6 +93,7 @@ fn read_sizes(cursor: &mut Cursor) -> Result<Sizes, TextFault>
 /// Reads the row that comes after these lines.
 fn read_good_row(
     alloc: Global,
+    room: &mut Room,
     cursor: &mut Cursor,
     version: u64,
     lines: &[RawLine],
@@ -103,7 +105,7 @@ fn read_good_row(
         (λ fault. IsFaultAfter version lines.now cursor.old fault) }
 {
     let line = lines.len() as u64;
-    let row = match read_row(alloc, cursor, version) {
+    let row = match read_row(alloc, room, cursor, version) {
         Ok(row) => row,
         Err(Fail::NoMemory) => return Err(Fail::NoMemory),
         Err(Fail::Fault(_)) => return Err(Fail::Fault(TextFault::BadLine { line })),
@@ -116,7 +118,7 @@ fn read_good_row(
     }
     match row {
         Read::End(end) => Ok(Said::End(end)),
-        Read::Line(spelled) => match line_said(alloc, lines, spelled) {
+        Read::Line(spelled) => match line_said(alloc, &mut room.pairs, lines, spelled) {
             Ok(said) => Ok(Said::Line(said)),
             Err(Fail::NoMemory) => Err(Fail::NoMemory),
             Err(Fail::Fault(Unsaid::NoBase)) => Err(Fail::Fault(TextFault::BadBase { line })),
@@ -136,9 +138,16 @@ fn read_text(alloc: Global, bytes: &[u8]) -> Result<RawLog, Fail<TextFault>>
         Ok(sizes) => sizes,
         Err(fault) => return Err(Fail::Fault(fault)),
     };
+    let mut room = Room::new(alloc);
     let mut lines = Vec::new(alloc);
     while !cursor.is_done() {
-        match read_good_row(alloc, &mut cursor, sizes.version, lines.as_slice())? {
+        match read_good_row(
+            alloc,
+            &mut room,
+            &mut cursor,
+            sizes.version,
+            lines.as_slice(),
+        )? {
             Said::Line(line) => lines.push(line)?,
             Said::End(end) => {
                 if !cursor.is_done() {

@@ -10,6 +10,7 @@ ghost use Rattle.log_text.specs.Rows.{HasNoBase, HasNoCases, HasNoDifference, Ha
 use crate::changes::{Edit, read_changes};
 use crate::cursor::{Cursor, cap};
 use crate::items::{NoForm, read_cites, read_claim};
+use crate::room::Room;
 use crate::{RawCites, RawClaim};
 use dsa_model::Fail;
 use std::alloc::Global;
@@ -71,13 +72,18 @@ fn read_start(cursor: &mut Cursor) -> Option<Start>
 }
 
 /// Reads a claim in full and these bytes after it, where no version has a difference.
-fn read_full(alloc: Global, cursor: &mut Cursor, end: &[u8]) -> Result<ReadClaim, Fail<NoForm>>
+fn read_full(
+    alloc: Global,
+    room: &mut Room,
+    cursor: &mut Cursor,
+    end: &[u8],
+) -> Result<ReadClaim, Fail<NoForm>>
     requires { EndsChanges end.now }
     ensures { (version : ℕ) → (version ≡ 2 → HasNoBase cursor.old) → UnlessNoMemory result
         (λ claim. IsSpellingRead version end.now cursor.old (spelling_value claim) cursor.new)
         (λ _. HasNoSpelling version end.now cursor.old) }
 {
-    match read_claim(alloc, cursor, end) {
+    match read_claim(alloc, &mut room.pairs, cursor, end) {
         Ok(claim) => Ok(ReadClaim::Full(claim)),
         Err(fault) => Err(fault),
     }
@@ -106,6 +112,7 @@ fn read_difference(
 /// Reads a claim of that version and these bytes after it.
 fn read_spelling(
     alloc: Global,
+    room: &mut Room,
     cursor: &mut Cursor,
     version: u64,
     end: &[u8],
@@ -116,16 +123,21 @@ fn read_spelling(
         (λ _. HasNoSpelling version end.now cursor.old) }
 {
     if version != DIFFERENCES {
-        return read_full(alloc, cursor, end);
+        return read_full(alloc, room, cursor, end);
     }
     if !cursor.take(b"@") {
-        return read_full(alloc, cursor, end);
+        return read_full(alloc, room, cursor, end);
     }
     read_difference(alloc, cursor, end)
 }
 
 /// Reads an Over line after its first word.
-fn read_over(alloc: Global, cursor: &mut Cursor, version: u64) -> Result<ReadLine, Fail<NoForm>>
+fn read_over(
+    alloc: Global,
+    room: &mut Room,
+    cursor: &mut Cursor,
+    version: u64,
+) -> Result<ReadLine, Fail<NoForm>>
     ensures { UnlessNoMemory result
         (λ line. IsOverRead version cursor.old (spelled_value line) cursor.new)
         (λ _. HasNoOver version cursor.old) }
@@ -133,7 +145,7 @@ fn read_over(alloc: Global, cursor: &mut Cursor, version: u64) -> Result<ReadLin
     let Some(start) = read_start(cursor) else {
         return Err(Fail::Fault(NoForm));
     };
-    let claim = read_spelling(alloc, cursor, version, b"\n")?;
+    let claim = read_spelling(alloc, room, cursor, version, b"\n")?;
     Ok(ReadLine::Over {
         moment: start.moment,
         height: start.height,
@@ -143,19 +155,25 @@ fn read_over(alloc: Global, cursor: &mut Cursor, version: u64) -> Result<ReadLin
 }
 
 /// Reads a Cases line after its first word.
-fn read_cases(alloc: Global, cursor: &mut Cursor, version: u64) -> Result<ReadLine, Fail<NoForm>>
+fn read_cases(
+    alloc: Global,
+    room: &mut Room,
+    cursor: &mut Cursor,
+    version: u64,
+) -> Result<ReadLine, Fail<NoForm>>
     ensures { UnlessNoMemory result
         (λ line. IsCasesRead version cursor.old (spelled_value line) cursor.new)
         (λ _. HasNoCases version cursor.old) }
 {
-    let claim = read_spelling(alloc, cursor, version, b" : ")?;
-    let cites = read_cites(alloc, cursor, b"\n")?;
+    let claim = read_spelling(alloc, room, cursor, version, b" : ")?;
+    let cites = read_cites(alloc, &mut room.cites, cursor, b"\n")?;
     Ok(ReadLine::Cases { claim, cites })
 }
 
 /// Reads a line of that version, or the end.
 pub(crate) fn read_row(
     alloc: Global,
+    room: &mut Room,
     cursor: &mut Cursor,
     version: u64,
 ) -> Result<Read, Fail<NoForm>>
@@ -164,10 +182,10 @@ pub(crate) fn read_row(
         (λ _. HasNoRow version cursor.old) }
 {
     if cursor.take(b"over ") {
-        return Ok(Read::Line(read_over(alloc, cursor, version)?));
+        return Ok(Read::Line(read_over(alloc, room, cursor, version)?));
     }
     if cursor.take(b"case : ") {
-        return Ok(Read::Line(read_cases(alloc, cursor, version)?));
+        return Ok(Read::Line(read_cases(alloc, room, cursor, version)?));
     }
     if cursor.take(b"end ") {
         if let Some(end) = cursor.field(b"\n") {

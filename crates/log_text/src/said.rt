@@ -1,13 +1,14 @@
 //! What a row says after the lines before it: its claim in full.
 
-ghost use Rattle.std.specs.Prelude.{◌≡◌, All};
+ghost use Rattle.std.specs.Prelude.{◌≡◌, ◌<◌, All, length};
 ghost use Rattle.dsa_model.specs.Fails.{UnlessNoMemory};
 ghost use Rattle.log_text.specs.RawLogs.{IsRawLineKept, raw_claim_of};
 ghost use Rattle.log_text.specs.Rows.{IsClaimSaid, IsLineSaid, IsUnsaid, spelled_value, spelling_value};
 ghost use Rattle.log_text.specs.Says.{IsLineRising, IsSpellingRising};
-ghost use Rattle.log_text.specs.Spellings.{spelling_of};
+ghost use Rattle.log_text.specs.Spellings.{claim_at, spelling_of};
 
-use crate::changes::changed;
+use crate::changes::carry_out;
+use crate::room::copy_of;
 use crate::rows::{ReadClaim, ReadLine};
 use crate::{RawClaim, RawLine};
 use dsa_model::Fail;
@@ -39,9 +40,23 @@ fn pairs_of(line: &RawLine) -> &[(u64, u64)]
     }
 }
 
+/// The pairs of the claim of the line of that number.
+#[tactic(auto, using(crate::proofs::SaidLemmas::claim_there))]
+fn pairs_at(lines: &[RawLine], k: u64) -> &[(u64, u64)]
+    requires { k < length lines.now }
+    ensures { result.now ≡ claim_at lines.now k }
+{
+    pairs_of(&lines[k as usize])
+}
+
 /// The claim that is spelled after these lines, in time and memory of the changes and of what they
-/// give.
-fn claim_said(alloc: Global, lines: &[RawLine], claim: ReadClaim) -> Result<RawClaim, Fail<Unsaid>>
+/// give. A difference is carried out in that room.
+fn claim_said(
+    alloc: Global,
+    room: &mut Vec<(u64, u64)>,
+    lines: &[RawLine],
+    claim: ReadClaim,
+) -> Result<RawClaim, Fail<Unsaid>>
     requires kept { All IsRawLineKept lines.now }
     requires rising { IsSpellingRising (spelling_value claim) }
     ensures { UnlessNoMemory result
@@ -54,18 +69,20 @@ fn claim_said(alloc: Global, lines: &[RawLine], claim: ReadClaim) -> Result<RawC
             if base >= lines.len() as u64 {
                 return Err(Fail::Fault(Unsaid::NoBase));
             }
-            let earlier = pairs_of(&lines[base as usize]);
-            let Some(pairs) = changed(alloc, earlier, changes.as_slice())? else {
+            let earlier = pairs_at(lines, base);
+            if !carry_out(room, earlier, changes.as_slice())? {
                 return Err(Fail::Fault(Unsaid::NoChange));
-            };
+            }
+            let pairs = copy_of(alloc, room.as_slice())?;
             Ok(RawClaim::from_vec(pairs))
         }
     }
 }
 
-/// The line that is spelled after these lines.
+/// The line that is spelled after these lines. A difference is carried out in that room.
 pub(crate) fn line_said(
     alloc: Global,
+    room: &mut Vec<(u64, u64)>,
     lines: &[RawLine],
     line: ReadLine,
 ) -> Result<RawLine, Fail<Unsaid>>
@@ -82,7 +99,7 @@ pub(crate) fn line_said(
             modulus,
             claim,
         } => {
-            let claim = claim_said(alloc, lines, claim)?;
+            let claim = claim_said(alloc, room, lines, claim)?;
             Ok(RawLine::Over {
                 moment,
                 height,
@@ -91,7 +108,7 @@ pub(crate) fn line_said(
             })
         }
         ReadLine::Cases { claim, cites } => {
-            let claim = claim_said(alloc, lines, claim)?;
+            let claim = claim_said(alloc, room, lines, claim)?;
             Ok(RawLine::Cases { claim, cites })
         }
     }

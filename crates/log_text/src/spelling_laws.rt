@@ -3,7 +3,7 @@
 ghost use Rattle.std.specs.Prelude.{◌≡◌, ◌↔◌, ◌⊎◌, ◌^◌, ◌≤◌, ◌++◌, ℕ, List, All, length, map};
 ghost use Rattle.dsa_terms.specs.Claims.{Claim, Entry, IsIn, Rises, buffers_of};
 ghost use Rattle.dsa_terms.specs.Logs.{Log};
-ghost use Rattle.log_text.specs.Changes.{Change, Puts, buffer_of, carried_out, difference};
+ghost use Rattle.log_text.specs.Changes.{Change, DoesChange, Puts, buffer_of, carried_out, difference};
 ghost use Rattle.log_text.specs.RawTexts.{HasCite, IsTextOf};
 ghost use Rattle.log_text.specs.RawLogs.{IsRawKept};
 ghost use Rattle.log_text.specs.Says.{Says, SaysBy};
@@ -42,4 +42,13 @@ pub fn changes_are_carried_out()
         (IsIn (Puts e) cs ⊎ (IsIn e l × (IsIn e.0 (map buffer_of cs) → ⊥))) }
     ensures back { (l m : Claim) → Rises (buffers_of l) → Rises (buffers_of m) →
         carried_out l (difference l m) ≡ m }
+{}
+
+/// A difference is unique: changes that rise and that each change the claim are told by what they
+/// make of it.
+pub fn differences_are_unique()
+    ensures { (l : Claim) (cs ds : List Change) → Rises (buffers_of l) →
+        Rises (map buffer_of cs) → Rises (map buffer_of ds) →
+        All (DoesChange l) cs → All (DoesChange l) ds →
+        carried_out l cs ≡ carried_out l ds → cs ≡ ds }
 {}

@@ -172,7 +172,7 @@ fn whole_line(rt: &impl Abort, alloc: Global) -> Line
     ensures { IsWithin (line_value result) }
 {
     Line::Over {
-        claim: Claim::whole(alloc, &[0, 1, 2]).expect(rt, "memory"),
+        claim: Claim::from_pairs(alloc, &[(0, 0), (1, 0), (2, 0)]).expect(rt, "memory"),
         moment: 0,
         height: 0,
         modulus: 1,
@@ -207,7 +207,7 @@ fn a_log_is_written_byte_for_byte(rt: HostRuntime) {
     let alloc = rt.alloc();
     let mut three = Instance::new(alloc);
     for size in [1, 1, 2] {
-        let buffer = Buffer::new(alloc, 0, 1, size, 1, &[]).expect(&rt, "memory");
+        let buffer = Buffer::new(alloc, 0, 1, size, 1, &[], 0).expect(&rt, "memory");
         if three.len() < 512 {
             three.push(buffer).expect(&rt, "memory");
         }
@@ -248,7 +248,7 @@ fn a_line_like_the_one_before_it_is_written_as_a_difference(rt: HostRuntime) {
     let alloc = rt.alloc();
     let mut three = Instance::new(alloc);
     for size in [1, 1, 2] {
-        let buffer = Buffer::new(alloc, 0, 1, size, 1, &[]).expect(&rt, "memory");
+        let buffer = Buffer::new(alloc, 0, 1, size, 1, &[], 0).expect(&rt, "memory");
         if three.len() < 512 {
             three.push(buffer).expect(&rt, "memory");
         }

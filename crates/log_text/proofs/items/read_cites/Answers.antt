@@ -9,12 +9,12 @@ pub returns-in_default : goal.returns-in_default
 returns-in_default c = no_first cite_text _ _ c.requires c.in_default.ensures.none
 
 pub loop-cursor-init : goal.loop-cursor-init
-loop-cursor-init c = one_read cite_text capped_cite _ _ _ _ _ c.in-Some.ensures.some c.in_ok-cites.ensures.items
+loop-cursor-init c = one_read cite_text capped_cite _ _ _ _ _ c.in-Some.ensures.some c.clear.ensures.items
     c.in_ok-push.ensures.items
 
 pub returns-in_default-read_cite : goal.returns-in_default-read_cite
 returns-in_default-read_cite c =
-    no_more cite_text capped_cite cites_are_items _ _ c.loop-cursor.cites.items _ _ c.requires
+    no_more cite_text capped_cite cites_are_items _ _ c.loop-cursor.room.items _ _ c.requires
     c.loop-cursor.invariant c.loop-cursor-test.ensures.0 c.loop-cursor-test.ensures.1
     c.in_default-read_cite.ensures.none
 
@@ -25,5 +25,5 @@ loop-cursor-preserved c =
 
 pub returns-then-not-take : goal.returns-then-not-take
 returns-then-not-take c =
-    no_end cite_text capped_cite cites_are_items _ _ c.loop-cursor.cites.items _ c.requires c.loop-cursor.invariant
+    no_end cite_text capped_cite cites_are_items _ _ c.loop-cursor.room.items _ c.requires c.loop-cursor.invariant
     c.loop-cursor-test.ensures.1 (λ r e. c.if-not-take.ensures.1 r (c.loop-cursor-test.ensures.0 ∙ e))

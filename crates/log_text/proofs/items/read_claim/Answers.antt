@@ -9,12 +9,12 @@ pub returns-in_default : goal.returns-in_default
 returns-in_default c = no_first pair_text _ _ c.requires c.in_default.ensures.none
 
 pub loop-cursor-init : goal.loop-cursor-init
-loop-cursor-init c = one_read pair_text capped_pair _ _ _ _ _ c.in-Some.ensures.some c.in_ok-pairs.ensures.items
+loop-cursor-init c = one_read pair_text capped_pair _ _ _ _ _ c.in-Some.ensures.some c.clear.ensures.items
     c.in_ok-push.ensures.items
 
 pub returns-in_default-read_pair : goal.returns-in_default-read_pair
 returns-in_default-read_pair c =
-    no_more pair_text capped_pair pairs_are_items _ _ c.loop-cursor.pairs.items _ _ c.requires
+    no_more pair_text capped_pair pairs_are_items _ _ c.loop-cursor.room.items _ _ c.requires
     c.loop-cursor.invariant c.loop-cursor-test.ensures.0 c.loop-cursor-test.ensures.1
     c.in_default-read_pair.ensures.none
 
@@ -25,5 +25,5 @@ loop-cursor-preserved c =
 
 pub returns-then-not-take : goal.returns-then-not-take
 returns-then-not-take c =
-    no_end pair_text capped_pair pairs_are_items _ _ c.loop-cursor.pairs.items _ c.requires c.loop-cursor.invariant
+    no_end pair_text capped_pair pairs_are_items _ _ c.loop-cursor.room.items _ c.requires c.loop-cursor.invariant
     c.loop-cursor-test.ensures.1 (λ r e. c.if-not-take.ensures.1 r (c.loop-cursor-test.ensures.0 ∙ e))

@@ -5,7 +5,7 @@ use Rattle.log_text.proofs.ListLemmas.{IsReadSoFar}
 use Rattle.log_text.proofs.items.read_claim.Given as goal
 
 abbrev pub invariant-loop-cursor : goal.invariant-loop-cursor
-invariant-loop-cursor l = IsReadSoFar pair_text capped_pair l.fn.cursor l.pairs.items l.cursor
+invariant-loop-cursor l = IsReadSoFar pair_text capped_pair l.fn.cursor l.room.items l.cursor
 
 abbrev pub decreases-loop-cursor : goal.decreases-loop-cursor
 decreases-loop-cursor l = length l.cursor

@@ -1,7 +1,7 @@
 use Rattle.std.proofs.Common.{refl, arith}
 use Rattle.log_text.specs.Edits.{change_value}
 use Rattle.log_text.proofs.Carrying.{loop_bad, loop_changes, loop_stays}
-use Rattle.log_text.proofs.changes.changed.Goals as goal
+use Rattle.log_text.proofs.changes.carry_out.Goals as goal
 
 pub loop-next-preserved-then-stays : goal.loop-next-preserved-then-stays
 loop-next-preserved-then-stays c = let s = c.stays.ensures.stays c.if-stays.true in (
@@ -12,8 +12,8 @@ loop-next-preserved-then-stays c = let s = c.stays.ensures.stays c.if-stays.true
       c.in_ok-push.ensures.items,
 )
 
-pub returns-then-not-does_change-clause-none : goal.returns-then-not-does_change-clause-none
-returns-then-not-does_change-clause-none c = loop_bad change_value c.args.base.now c.args.changes.now
+pub returns-then-not-does_change : goal.returns-then-not-does_change
+returns-then-not-does_change c = loop_bad change_value c.args.base.now c.args.changes.now
     c.loop-next.place c.loop-next.next _ _ c.loop-next-test.true
     (λ s. let t = c.if-not-does_change.ensures.1 s in absurd cc) c.loop-next.invariant.2
 
