@@ -1,6 +1,5 @@
 -- Colours that touching buffers have, and those that are left.
 use Rattle.std.proofs.Common.{◌≡◌, ◌≢◌, ℕ, zero, suc, ◌+◌, ◌%◌, ◌&&◌, ◌<◌, inl, inr, Bool, true, false, not, cond, List, [], ◌∷◌, ◌++◌, length, filter, get_or, refl, ap, sym, ◌∙◌, arith, length-append}
-use Rattle.std.specs.List.{list_any}
 use Rattle.std.proofs.Math.Seq.{get_or-append_seam}
 use Rattle.std.proofs.lemmas.List.{get_or_append_left}
 use Rattle.dsa_terms.specs.Buffers.{Instance}
@@ -12,18 +11,6 @@ use Rattle.dsa_terms.proofs.Ranges.{among, below}
 use Rattle.lifetime.proofs.Lists.{filter_more}
 use Rattle.layout_picture.specs.Colours.{colours_below, colours_of, is_taken, next_colour, takes, touch}
 use Rattle.layout_picture.specs.Laws.{IsLeft}
-
--- ---- tests of the numbers below n
-pub none_more : (p : ℕ → Bool) (n : ℕ) → list_any p (numbers n) ≡ false → p n ≡ false →
-    list_any p (numbers (n + 1)) ≡ false
-none_more p n h e = elim (true_or_false (list_any p (numbers (n + 1)))) [
-  | inl t ↦ absurd (let r = any_gives p (numbers (n + 1)) t in
-      elim (below_or_last r.0 n (below (n + 1) r.0 r.1)) [
-        | inl lt ↦ (let k = any_from p (numbers n) r.0 (among n r.0 lt) r.2 in let z = sym h ∙ k in cc)
-        | inr k ↦ (let z = sym e ∙ ap p (sym k) ∙ r.2 in cc)
-      ])
-  | inr f ↦ f
-]
 
 -- the first that passes
 record StartsWith (xs : List ℕ) (x : ℕ) : Type 0 where
@@ -80,6 +67,10 @@ pub fewer : (I : Instance) (offsets before lent : List ℕ) (n m : ℕ) → befo
     lent ≡ before → n < m → length lent < m
 fewer I offsets before lent n m h l lt =
     let e = ap (λ (xs : List ℕ). length xs) (l ∙ h) in let k = length-colours_below I offsets n in omega arith
+
+pub so_many : (I : Instance) (offsets before lent : List ℕ) (n : ℕ) → before ≡ colours_below I offsets n →
+    lent ≡ before → length lent ≡ n
+so_many I offsets before lent n h l = ap (λ (xs : List ℕ). length xs) (l ∙ h) ∙ length-colours_below I offsets n
 
 pub all_coloured : (I : Instance) (offsets before : List ℕ) (n : ℕ) → before ≡ colours_below I offsets n →
     n ≡ length I → before ≡ colours_of I offsets

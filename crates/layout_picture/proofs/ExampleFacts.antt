@@ -15,13 +15,13 @@ use Rattle.layout_picture.specs.declared.rectangle.Rectangle.{Rectangle}
 use Rattle.layout_picture.specs.declared.scale.Scale.{Scale}
 
 abbrev lasting : ℕ → ℕ → ℕ → Buffer
-lasting lower upper size = record { lower = lower; upper = upper; size = size; alignment = 1; gaps = [] }
+lasting lower upper size = record { lower = lower; upper = upper; size = size; alignment = 1; gaps = []; lowest = 0 }
 
-abbrev drawn : ℕ → ℕ → ℕ → ℕ → ℕ → Rectangle
+abbrev pub drawn : ℕ → ℕ → ℕ → ℕ → ℕ → Rectangle
 drawn b first end place top = record { buffer = b; first = first; end = end; place = place; top = top }
 
 -- ---- five buffers
-abbrev five : Instance
+abbrev pub five : Instance
 five = lasting 0 3 4 ∷ lasting 3 9 4 ∷ lasting 0 9 4 ∷ lasting 9 21 4 ∷ lasting 0 21 4 ∷ []
 
 five_columns : columns_of five ≡ 0 ∷ 3 ∷ 9 ∷ 21 ∷ []
@@ -35,7 +35,7 @@ five_rectangles = refl
 
 -- ---- a buffer with a gap has two rectangles
 abbrev with_gap : Buffer
-with_gap = record { lower = 0; upper = 10; size = 4; alignment = 1; gaps = (3, 6) ∷ [] }
+with_gap = record { lower = 0; upper = 10; size = 4; alignment = 1; gaps = (3, 6) ∷ []; lowest = 0 }
 
 gap_columns : columns_of (with_gap ∷ []) ≡ 0 ∷ 3 ∷ 6 ∷ 10 ∷ []
 unfolding columns_of turns_at was_live is_live
@@ -51,7 +51,7 @@ no_rectangles = refl
 
 -- ---- colours
 -- the first two of the five follow each other, and the third lies upon both
-abbrev five_offsets : List ℕ
+abbrev pub five_offsets : List ℕ
 five_offsets = 0 ∷ 0 ∷ 4 ∷ 0 ∷ 8 ∷ []
 
 these_follow : touch five five_offsets 0 1 ≡ true

@@ -7,4 +7,12 @@ pub mod Whole
 pub mod Showing
 pub mod Apart
 pub mod Colouring
+pub mod Parting
+pub mod SideOrder
+pub mod SideLists
+pub mod Meeting
+pub mod Stacking
+pub mod Following
+pub mod PairLemmas
 pub mod ExampleFacts
+pub mod SideFacts

@@ -163,7 +163,7 @@ column_of (m ∷ ms) t u r (inl e) le = column_from m ms t (omega arith)
 column_of (m ∷ ms) t u r (inr i) le = column_from m ms t (let k = r.0 u i in omega arith)
 
 -- between two columns nothing turns
-none_between : (ms : List ℕ) (t k u : ℕ) → Rises ms → IsInColumn ms t k → get_or ms k 0 < u → u ≤ t → IsIn u ms → ⊥
+pub none_between : (ms : List ℕ) (t k u : ℕ) → Rises ms → IsInColumn ms t k → get_or ms k 0 < u → u ≤ t → IsIn u ms → ⊥
 none_between ms t k u r c lt le i = elim (below_or_from k p.0) [
   | inl h ↦ (let n = c.not_next (let a = p.1 in omega arith) in let o = up (k + 1) p.0 (omega arith) p.1 in
       let e : get_or ms p.0 0 ≡ u = p.2 in omega arith)
@@ -196,7 +196,7 @@ stays x m (suc d) h =
     same true false h = absurd (h refl)
     same false true h = absurd (h refl)
 
-columns_rise : (I : Instance) → Rises (columns_of I)
+pub columns_rise : (I : Instance) → Rises (columns_of I)
 unfolding columns_of
 columns_rise I = rises-numbers (λ t. list_any (turns_at t) I) _
 

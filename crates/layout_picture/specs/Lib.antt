@@ -5,3 +5,4 @@ pub mod Colours
 pub mod Escape
 pub mod Texts
 pub mod Laws
+pub mod Sides

@@ -41,7 +41,7 @@ pub fn picture(alloc: Global, table: &Table, offsets: &[u64]) -> Result<Picture,
     let columns = columns(alloc, instance)?;
     let loads = loads(alloc, instance, &columns)?;
     let rectangles = rectangles(alloc, instance, offsets, &columns)?;
-    let colours = colours(alloc, instance, offsets)?;
+    let colours = colours(alloc, instance, offsets, &rectangles)?;
     let scale = Scale {
         columns: columns.len() as u32,
         height: height(instance, offsets),

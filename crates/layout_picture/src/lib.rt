@@ -15,7 +15,12 @@ mod plot;
 mod put;
 mod rectangle;
 mod scale;
+mod side;
+mod touching;
 
 pub use draw::picture;
 pub use drawn::Picture;
-pub use laws::{moments_are_shown, rectangles_are_apart, scaling_keeps_order};
+pub use laws::{
+    colours_tell_apart, loads_are_shown, moments_are_shown, rectangles_are_apart,
+    scaling_keeps_order,
+};

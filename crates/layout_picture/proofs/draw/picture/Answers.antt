@@ -23,11 +23,11 @@ height-requires-clause-limit c = offsets_within c.instance-instance.result.now c
 pub put_plot-requires-clause-few : goal.put_plot-requires-clause-few
 put_plot-requires-clause-few c =
     few_loads (load c.instance-instance.result.now) c.deref.result.now c.in_ok-columns.columns.items
-    c.in_ok-loads.loads.items c.deref-4.result.now c.deref.ensures.value c.in_ok-columns.ensures.few
-    c.in_ok-loads.ensures.value c.deref-4.ensures.value
+    c.in_ok-loads.loads.items c.deref-5.result.now c.deref.ensures.value c.in_ok-columns.ensures.few
+    c.in_ok-loads.ensures.value c.deref-5.ensures.value
 
 pub put_frame-requires : goal.put_frame-requires
-put_frame-requires c = rw c.deref-6.ensures.value (let k = c.in_ok-columns.ensures.few in omega arith)
+put_frame-requires c = rw c.deref-7.ensures.value (let k = c.in_ok-columns.ensures.few in omega arith)
 
 pub returns-clause-text : goal.returns-clause-text
 returns-clause-text c = λ I p.
@@ -38,14 +38,14 @@ returns-clause-text c = λ I p.
     ∙ ap (λ (xs : List ℕ). length xs) c.in_ok-columns.ensures.value in
     subst (λ (K : Instance). c.put.new.text.items ≡ picture_text K ids c.args.offsets.now)
     (one_instance J I _ c.instance-instance.ensures.parsed p)
-    (whole J ids c.args.offsets.now c.deref-6.result.now c.deref-4.result.now c.deref-7.result.now c.deref-3.result.now
-    c.deref-5.result.now (units c.len.result c.height.result) c.put.new.text.items
-    (c.deref-6.ensures.value ∙ c.in_ok-columns.ensures.value)
-    (c.deref-4.ensures.value ∙ c.in_ok-loads.ensures.value
+    (whole J ids c.args.offsets.now c.deref-7.result.now c.deref-5.result.now c.deref-8.result.now c.deref-4.result.now
+    c.deref-6.result.now (units c.len.result c.height.result) c.put.new.text.items
+    (c.deref-7.ensures.value ∙ c.in_ok-columns.ensures.value)
+    (c.deref-5.ensures.value ∙ c.in_ok-loads.ensures.value
     ∙ ap (λ (xs : List ℕ). map (load J) xs) (c.deref.ensures.value ∙ c.in_ok-columns.ensures.value))
-    (c.deref-7.ensures.value ∙ sym c.deref-4.ensures.value)
-    (c.deref-5.ensures.value ∙ c.in_ok-rectangles.ensures.value)
-    (c.deref-3.ensures.value ∙ c.in_ok-colours.ensures.value)
+    (c.deref-8.ensures.value ∙ sym c.deref-5.ensures.value)
+    (c.deref-6.ensures.value ∙ c.in_ok-rectangles.ensures.value)
+    (c.deref-4.ensures.value ∙ c.in_ok-colours.ensures.value)
     (scale_by _ _ _ _ n c.height.ensures)
     (then_put [] c.put_frame.new.text.items c.put.new.text.items _ _
     (then_put [] c.put_plot.new.text.items c.put_frame.new.text.items _ _
