@@ -4,9 +4,10 @@ use Rattle.std.specs.Global.{Vec}
 use Rattle.dsa_terms.specs.Buffers.{Instance}
 use Rattle.dsa_terms.specs.Layouts.{IsLayout}
 use Rattle.dsa_terms.specs.Logs.{Line, Log, Over}
+use Rattle.core_find.specs.Carried.{IsEnd, named}
 use Rattle.core_find.specs.Cores.{AreAmong, without}
 use Rattle.core_find.specs.Found.{AreRests, IsAnswer, IsFound, rests_of}
-use Rattle.core_find.specs.Looking.{AreNamed, IsEnd, IsLooked, named}
+use Rattle.core_find.specs.Looking.{AreNamed, IsLooked}
 use Rattle.core_find.specs.declared.ask.Asked.TheVariants.{Layout}
 use Rattle.core_find.specs.declared.found.Found.TheVariants.{Fits}
 
@@ -33,6 +34,7 @@ nothing : IsLayout [] 0 []
 nothing = record {
   count = refl;
   aligned = λ b lt. absurd (omega arith);
+  above = λ b lt. absurd (omega arith);
   within = λ b lt. absurd (omega arith);
   apart = λ b c t lb. absurd (omega arith);
 }

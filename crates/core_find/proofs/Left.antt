@@ -16,7 +16,7 @@ use Rattle.dsa_model.specs.Chosen.{some_of}
 use Rattle.core_find.proofs.Some.{fewer_fit, some_of_all}
 
 -- ---- lists
-to_middle : (xs ys : List ℕ) (x b : ℕ) → IsIn b (xs ++ ys) → IsIn b (xs ++ x ∷ ys)
+pub to_middle : (xs ys : List ℕ) (x b : ℕ) → IsIn b (xs ++ ys) → IsIn b (xs ++ x ∷ ys)
 to_middle xs ys x b i = elim (from_append xs ys b i) [
   | inl j ↦ left_append xs (x ∷ ys) b j
   | inr j ↦ right_append xs (x ∷ ys) b (inr j)
@@ -27,7 +27,7 @@ rises_without [] ys x r = r.1
 rises_without (z ∷ zs) ys x r = ((λ y i. r.0 y (to_middle zs ys x y i)), rises_without zs ys x r.1)
 
 -- one that is kept stands before those that follow, whichever list it is put in
-moved : (xs ys : List ℕ) (x : ℕ) → xs ++ x ∷ ys ≡ (xs ++ x ∷ []) ++ ys
+pub moved : (xs ys : List ℕ) (x : ℕ) → xs ++ x ∷ ys ≡ (xs ++ x ∷ []) ++ ys
 moved xs ys x = sym (append_assoc xs (x ∷ []) ys)
 
 -- ---- who is left

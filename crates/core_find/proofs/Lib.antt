@@ -1,3 +1,5 @@
+pub mod Renamed
+pub mod Within
 pub mod Some
 pub mod Left
 pub mod Removed
@@ -7,6 +9,10 @@ pub mod Steps
 pub mod Named
 pub mod Without
 pub mod Carried
+pub mod Carrying
+pub mod Alone
+mod CarriedFacts
 mod ExampleFacts
 mod FoundFacts
 mod StackFacts
+pub mod Bounding

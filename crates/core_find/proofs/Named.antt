@@ -1,22 +1,24 @@
 -- The buffers that the end of a log names do not fit by themselves.
-use Rattle.std.proofs.Common.{◌≡◌, ◌≢◌, ℕ, zero, suc, ◌<◌, ◌==◌, false, List, [], ◌∷◌, inr, length, slice_get, slice_index, slice_index_or, take, Some, sym, ap, ◌∙◌, subst, arith}
+use Rattle.std.proofs.Common.{◌≡◌, ◌≢◌, ℕ, zero, suc, ◌<◌, ◌≤◌, List, [], ◌∷◌, inr, length, slice_get, slice_index, slice_index_or, take, Some, sym, ap, ◌∙◌, subst, arith}
 use Rattle.std.proofs.lemmas.List.{length-map}
-use Rattle.std.specs.List.{All, list_any, remove}
-use Rattle.dsa_terms.specs.Buffers.{Buffer, Instance, buffer, IsInstance, IsLive}
+use Rattle.std.specs.List.{All, remove}
+use Rattle.dsa_terms.specs.Buffers.{Buffer, Instance, buffer, floor, IsInstance, IsLive}
 use Rattle.dsa_terms.specs.Claims.{Claim, Entry, IsClaim, IsIn, IsRefuted, IsWhole, Places, Rises, buffers_of}
-use Rattle.dsa_terms.specs.Layouts.{IsInfeasible, IsLayout}
+use Rattle.dsa_terms.specs.Layouts.{IsInfeasible, IsLayout, IsMultiple}
 use Rattle.dsa_terms.specs.Logs.{IsAccepted, Line, Log, claim_of}
-use Rattle.dsa_terms.proofs.Lists.{from_map, into_map, none_passes}
-use Rattle.dsa_terms.proofs.NumberTests.{differ}
-use Rattle.dsa_terms.proofs.Places.{any_default, in_at}
+use Rattle.dsa_terms.proofs.Lists.{from_map, into_map}
+use Rattle.dsa_terms.proofs.Places.{in_at}
+use Rattle.dsa_terms.proofs.Moments.{sound}
+use Rattle.dsa_terms.proofs.Numbers.{next_is_least}
 use Rattle.dsa_search_laws.proofs.Claims.{not_placed}
 use Rattle.dsa_search_laws.proofs.Logs.{from_take, legal_is_refuted}
 use Rattle.dsa_model.specs.Buffer.{IsBuffer}
 use Rattle.dsa_model.specs.Chosen.{some_of}
 use Rattle.dsa_model.proofs.Instances.{sound_instance}
-use Rattle.core_find.specs.Looking.{AreNamed, IsEnd, IsLogOf, named}
+use Rattle.core_find.specs.Carried.{IsEnd, named, place_among}
+use Rattle.core_find.specs.Looking.{AreNamed, IsLogOf}
 use Rattle.core_find.proofs.Removed.{in_removed}
-use Rattle.core_find.proofs.Some.{at_place, more_do_not_fit, place, rises_apart, rises_at, some_at, some_in}
+use Rattle.core_find.proofs.Some.{at_place, more_do_not_fit, rises_apart, rises_at, some_at, some_in}
 
 -- ---- each line of an accepted log is refuted
 lines_refuted : (I : Instance) (log : Log) → IsInstance I → IsAccepted I log → (n k : ℕ) (line : Line) → k < n →
@@ -27,7 +29,12 @@ lines_refuted I log s a (suc n) k line lt h =
     (λ j m q. let r = from_take log.lines k j m q in lines_refuted I log s a n j m (let z = r.1 in omega arith) r.0)
     (a.legal k line h)
 
--- ---- a claim with all bounds 0 that is refuted
+-- a multiple of the alignment at or above the lowest is at or above the floor
+floor_is_least : (b : Buffer) (x : ℕ) → 1 ≤ b.alignment → b.lowest ≤ x → IsMultiple x b.alignment → floor b ≤ x
+unfolding floor
+floor_is_least b x some low multiple = next_is_least b.lowest b.alignment x some low multiple
+
+-- ---- a whole claim that is refuted
 module _ (I : Instance) (C : ℕ) (ms : List ℕ) (l : Claim) (rises : Rises ms) (claim : IsClaim (some_of I ms) l) where
   abbrev number : Entry → ℕ
   number e = slice_index ms e.0
@@ -39,7 +46,7 @@ module _ (I : Instance) (C : ℕ) (ms : List ℕ) (l : Claim) (rises : Rises ms)
   is_named e i = into_map number l e i
 
   abbrev seat : Entry → ℕ
-  seat e = place (number e) (named ms l)
+  seat e = place_among (number e) (named ms l)
 
   seated : (e : Entry) → IsIn e l → seat e < length (some_of I (named ms l))
   seated e i = rw (length-map (named ms l) (buffer I)) (at_place (number e) (named ms l) (is_named e i)).0
@@ -55,13 +62,21 @@ module _ (I : Instance) (C : ℕ) (ms : List ℕ) (l : Claim) (rises : Rises ms)
       ∙ (at_place (number f) (named ms l) (is_named f j)).1)
 
   abbrev offset : List ℕ → ℕ → ℕ
-  offset offsets b = slice_index offsets (place (slice_index ms b) (named ms l))
+  offset offsets b = slice_index offsets (place_among (slice_index ms b) (named ms l))
 
-  named_places : (offsets : List ℕ) → IsWhole l → IsLayout (some_of I (named ms l)) C offsets →
+  named_places : (offsets : List ℕ) → IsInstance (some_of I ms) → IsWhole (some_of I ms) l →
+      IsLayout (some_of I (named ms l)) C offsets →
       Places (some_of I ms) C l (offset offsets)
-  named_places offsets whole h = record {
+  named_places offsets s whole h = record {
     aligned = λ e i. rw (← same_buffer e i) (h.aligned (seat e) (seated e i));
-    above = λ e i. let k = whole e i in omega arith;
+    above = λ e i. let k = whole e i in
+        let low : (buffer (some_of I ms) e.0).lowest ≤ offset offsets e.0 =
+        rw (← same_buffer e i) (h.above (seat e) (seated e i)) in
+        let multiple : IsMultiple (offset offsets e.0) (buffer (some_of I ms) e.0).alignment =
+        rw (← same_buffer e i) (h.aligned (seat e) (seated e i)) in
+        let least = floor_is_least (buffer (some_of I ms) e.0) (offset offsets e.0) (sound (some_of I ms) e.0 s).1
+        low multiple in
+        omega arith;
     within = λ e i. rw (← same_buffer e i) (h.within (seat e) (seated e i));
     apart = λ e f t i j ne p q.
         let x = same_buffer e i in let y = same_buffer f j in
@@ -69,9 +84,10 @@ module _ (I : Instance) (C : ℕ) (ms : List ℕ) (l : Claim) (rises : Rises ms)
         (subst (λ (z : Buffer). IsLive z t) (sym x) p) (subst (λ (z : Buffer). IsLive z t) (sym y) q));
   }
 
-  pub named_do_not_fit : IsWhole l → IsRefuted (some_of I ms) C l → IsInfeasible (some_of I (named ms l)) C
-  named_do_not_fit whole refuted offsets h =
-      not_placed (some_of I ms) C l (offset offsets) refuted (named_places offsets whole h)
+  pub named_do_not_fit : IsInstance (some_of I ms) → IsWhole (some_of I ms) l → IsRefuted (some_of I ms) C l →
+      IsInfeasible (some_of I (named ms l)) C
+  named_do_not_fit s whole refuted offsets h =
+      not_placed (some_of I ms) C l (offset offsets) refuted (named_places offsets s whole h)
 
 -- the numbers that a claim names rise
 pub named_rise : (ms : List ℕ) (l : Claim) → Rises ms → Rises (buffers_of l) →
@@ -91,8 +107,8 @@ pub end_does_not_fit : (I : Instance) (ms : List ℕ) (log : Log) (line : Line) 
 end_does_not_fit I ms log line r s a at =
     let w = a.whole in
     let same : w.0 ≡ line = same_line w.0 line (sym w.1 ∙ at) in
-    named_do_not_fit I log.capacity ms (claim_of line) r (a.legal log.final line at).claim
-    (subst (λ (m : Line). IsWhole (claim_of m)) same w.2)
+    named_do_not_fit I log.capacity ms (claim_of line) r (a.legal log.final line at).claim s
+    (subst (λ (m : Line). IsWhole (some_of I ms) (claim_of m)) same w.2)
     (lines_refuted (some_of I ms) log s a (suc log.final) log.final line (omega arith) at)
   where
     same_line : (a b : Line) → Some a ≡ Some b → a ≡ b
@@ -126,18 +142,14 @@ names_of_log I C ms few log r s a at is =
     }
 
 -- one that is not among them can be left out
-pub names_stay : (I : Instance) (C : ℕ) (ms fewer few : List ℕ) (place b : ℕ) → place < length ms →
-    fewer ≡ remove ms place → b ≡ slice_index_or ms place b → list_any (λ x. x == b) few ≡ false →
-    AreNamed I C ms few → AreNamed I C fewer few
-names_stay I C ms fewer few place b lt is at none h = rw is record {
+pub names_stay : (I : Instance) (C : ℕ) (ms fewer few : List ℕ) (place : ℕ) → place < length ms →
+    fewer ≡ remove ms place → (IsIn (slice_index ms place) few → ⊥) → AreNamed I C ms few → AreNamed I C fewer few
+names_stay I C ms fewer few place lt is out h = rw is record {
   rise = h.rise;
-  among = λ x i. in_removed ms place x lt (h.among x i) (other x i);
+  among = λ x i. in_removed ms place x lt (h.among x i)
+      (λ e. out (subst (λ k. IsIn k few) e i));
   do_not_fit = h.do_not_fit;
 }
-  where
-    other : (x : ℕ) → IsIn x few → x ≢ slice_index_or ms place 0
-    other x i e =
-        differ x b (none_passes (λ x. x == b) few x none i) (e ∙ sym (at ∙ any_default ms place b 0 lt))
 
 pub others_do_not_fit : (I : Instance) (C : ℕ) (ms few : List ℕ) → AreNamed I C ms few → IsInfeasible (some_of I ms) C
 others_do_not_fit I C ms few h = more_do_not_fit I C few ms h.rise h.among h.do_not_fit

@@ -49,6 +49,8 @@ removed_layout J C k offsets lt l = record {
   count = (let a = length-remove offsets k there in let b = long in let c = l.count in omega arith);
   aligned = λ b lb. let w = was k b in
       rw (same_buffer b w.0 w.1, same_offset b w.0 w.1) (l.aligned w.0 (within b w.0 w.1 lb));
+  above = λ b lb. let w = was k b in
+      rw (same_buffer b w.0 w.1, same_offset b w.0 w.1) (l.above w.0 (within b w.0 w.1 lb));
   within = λ b lb. let w = was k b in
       rw (same_buffer b w.0 w.1, same_offset b w.0 w.1) (l.within w.0 (within b w.0 w.1 lb));
   apart = apart;

@@ -1,5 +1,5 @@
 -- Some of the buffers as an instance of their own, and layouts for fewer of them.
-use Rattle.std.proofs.Common.{◌≡◌, ◌≢◌, ℕ, zero, suc, ◌+◌, ◌-◌, ◌<◌, ◌≤◌, ◌⊎◌, inl, inr, Bool, true, false, cond, ◌==◌, List, [], ◌∷◌, ◌++◌, length, map, slice_index, slice_index_or, refl, sym, ap, ◌∙◌, subst, arith}
+use Rattle.std.proofs.Common.{◌≡◌, ◌≢◌, ℕ, zero, suc, ◌+◌, ◌-◌, ◌<◌, ◌≤◌, ◌⊎◌, inl, inr, Bool, true, false, cond, not, ◌==◌, List, [], ◌∷◌, ◌++◌, length, map, slice_index, slice_index_or, refl, sym, ap, ◌∙◌, subst, arith}
 use Rattle.std.proofs.lemmas.List.{get_or-map, length-map, map-id}
 use Rattle.std.proofs.lemmas.List.FromFn.{map-range_with_len_more}
 use Rattle.std.specs.List.{range_with_len}
@@ -10,26 +10,27 @@ use Rattle.dsa_terms.specs.Parts.{numbers}
 use Rattle.dsa_terms.proofs.NumberTests.{equal, differ}
 use Rattle.dsa_terms.proofs.Places.{in_at}
 use Rattle.dsa_terms.proofs.Ranges.{among}
+use Rattle.core_find.specs.Carried.{place_among}
 use Rattle.core_find.specs.Cores.{AreAmong}
 use Rattle.dsa_model.specs.Chosen.{some_of}
 
 -- ---- the place of a number
-pub place : ℕ → List ℕ → ℕ
-place k [] = 0
-place k (m ∷ ms) = cond (m == k) 0 (suc (place k ms))
-
-pub at_place : (k : ℕ) (ms : List ℕ) → IsIn k ms → (place k ms < length ms) × (slice_index_or ms (place k ms) 0 ≡ k)
-unfolding place
+pub at_place : (k : ℕ) (ms : List ℕ) → IsIn k ms →
+    (place_among k ms < length ms) × (slice_index_or ms (place_among k ms) 0 ≡ k)
+unfolding place_among
 at_place k [] i = absurd i
 at_place k (m ∷ ms) i = go (at_place k ms) (m == k) refl i
   where
-    go : (IsIn k ms → (place k ms < length ms) × (slice_index_or ms (place k ms) 0 ≡ k)) → (b : Bool) →
+    go : (IsIn k ms → (place_among k ms < length ms) × (slice_index_or ms (place_among k ms) 0 ≡ k)) → (b : Bool) →
         (m == k) ≡ b → IsIn k (m ∷ ms) →
-        (cond b 0 (suc (place k ms)) < length (m ∷ ms))
-        × (slice_index_or (m ∷ ms) (cond b 0 (suc (place k ms))) 0 ≡ k)
+        (cond (not b) (1 + place_among k ms) 0 < length (m ∷ ms))
+        × (slice_index_or (m ∷ ms) (cond (not b) (1 + place_among k ms) 0) 0 ≡ k)
     go ih true e j = (omega arith, equal m k e)
     go ih false e (inl q) = absurd (differ m k e (sym q))
-    go ih false e (inr j) = let r = ih j in ((let lt = r.0 in omega arith), r.1)
+    go ih false e (inr j) =
+        let r = ih j in
+        let next : suc (place_among k ms) ≡ 1 + place_among k ms = omega arith in
+        ((let lt = r.0 in omega arith), subst (λ i. slice_index_or (m ∷ ms) i 0 ≡ k) next r.1)
 
 pub rises_at : (ks : List ℕ) (i j : ℕ) → Rises ks → i < j → j < length ks →
     slice_index_or ks i 0 < slice_index_or ks j 0
@@ -71,17 +72,17 @@ pub some_at : (I : Instance) (ms : List ℕ) (i : ℕ) → i < length ms →
 unfolding buffer
 some_at I ms i lt = get_or-map (buffer I) ms i 0 no_buffer lt
 
-pub some_in : (I : Instance) (ms : List ℕ) (k : ℕ) → IsIn k ms → buffer (some_of I ms) (place k ms) ≡ buffer I k
-some_in I ms k i = let r = at_place k ms i in some_at I ms (place k ms) r.0 ∙ ap (buffer I) r.1
+pub some_in : (I : Instance) (ms : List ℕ) (k : ℕ) → IsIn k ms → buffer (some_of I ms) (place_among k ms) ≡ buffer I k
+some_in I ms k i = let r = at_place k ms i in some_at I ms (place_among k ms) r.0 ∙ ap (buffer I) r.1
 
 -- ---- fewer of them
 chosen : List ℕ → List ℕ → List ℕ → List ℕ
-chosen offsets ms ks = map (λ k. slice_index offsets (place k ms)) ks
+chosen offsets ms ks = map (λ k. slice_index offsets (place_among k ms)) ks
 
 chosen_at : (offsets ms ks : List ℕ) (i : ℕ) → i < length ks →
-    slice_index (chosen offsets ms ks) i ≡ slice_index offsets (place (slice_index_or ks i 0) ms)
+    slice_index (chosen offsets ms ks) i ≡ slice_index offsets (place_among (slice_index_or ks i 0) ms)
 unfolding chosen
-chosen_at offsets ms ks i lt = get_or-map (λ k. slice_index offsets (place k ms)) ks i 0 0 lt
+chosen_at offsets ms ks i lt = get_or-map (λ k. slice_index offsets (place_among k ms)) ks i 0 0 lt
 
 pub fewer_fit : (I : Instance) (C : ℕ) (ks ms : List ℕ) → Rises ks → AreAmong ks ms → IsFeasible (some_of I ms) C →
     IsFeasible (some_of I ks) C
@@ -91,13 +92,14 @@ fewer_fit I C ks ms r h (offsets, l) = (
   record {
     count = counted;
     aligned = λ i lt. aligned i (of_ks lt);
+    above = λ i lt. above i (of_ks lt);
     within = λ i lt. within i (of_ks lt);
     apart = λ i j t li lj ne p q. apart i j t (of_ks li) (of_ks lj) ne p q;
   },
 )
   where
     counted : length (chosen offsets ms ks) ≡ length (some_of I ks)
-    counted = length-map ks (λ k. slice_index offsets (place k ms)) ∙ sym (length-map ks (buffer I))
+    counted = length-map ks (λ k. slice_index offsets (place_among k ms)) ∙ sym (length-map ks (buffer I))
 
     of_ks : {i : ℕ} → i < length (some_of I ks) → i < length ks
     of_ks lt = rw (length-map ks (buffer I)) at lt
@@ -106,7 +108,7 @@ fewer_fit I C ks ms r h (offsets, l) = (
     number i = slice_index_or ks i 0
 
     seat : ℕ → ℕ
-    seat i = place (number i) ms
+    seat i = place_among (number i) ms
 
     known : (i : ℕ) → i < length ks → IsIn (number i) ms
     known i lt = h (number i) (in_at ks i 0 lt)
@@ -124,6 +126,11 @@ fewer_fit I C ks ms r h (offsets, l) = (
         IsMultiple (slice_index (chosen offsets ms ks) i) (buffer (some_of I ks) i).alignment
     aligned i lt =
         let k = l.aligned (seat i) (seated i lt) in
+        rw (same_buffer i lt, same_offset i lt) at k
+
+    above : (i : ℕ) → i < length ks → (buffer (some_of I ks) i).lowest ≤ slice_index (chosen offsets ms ks) i
+    above i lt =
+        let k = l.above (seat i) (seated i lt) in
         rw (same_buffer i lt, same_offset i lt) at k
 
     within : (i : ℕ) → i < length ks →

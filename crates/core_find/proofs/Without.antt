@@ -1,85 +1,48 @@
--- What the last log says of the members without the next one.
-use Rattle.std.proofs.Common.{◌≡◌, ◌↔◌, ℕ, ◌+◌, ◌<◌, inl, inr, Bool, true, false, not, ◌==◌, ◌||◌, cond, List, [], ◌∷◌, All, IsTrue, IfOk, length, slice_index, slice_index_or, Result, Ok, Err, refl, sym, ap, ◌∙◌, subst, arith}
-use Rattle.std.proofs.lemmas.List.FromFn.{get_or-range_with_len}
-use Rattle.std.specs.List.{list_any, remove}
-use Rattle.dsa_terms.specs.Buffers.{Instance, IsInstance}
-use Rattle.dsa_terms.specs.Claims.{Entry, IsClaim, IsIn, IsRefuted, IsWhole, Rises}
-use Rattle.dsa_terms.specs.Layouts.{IsInfeasible}
-use Rattle.dsa_terms.specs.Logs.{IsLegal, Line, Over, Cases}
+-- The last log without the next member, and what it does not say.
+use Rattle.std.proofs.Common.{◌≡◌, ℕ, ◌<◌, false, not, ◌==◌, true, List, [], ◌∷◌, ◌++◌, All, length, slice_get, slice_index, slice_index_or, Some, refl, sym, ap, ◌∙◌, subst, arith}
+use Rattle.std.specs.Global.{Vec}
+use Rattle.std.specs.List.{list_any}
+use Rattle.dsa_terms.specs.Buffers.{Instance}
+use Rattle.dsa_terms.specs.Claims.{Claim, IsIn, Rises, buffers_of}
+use Rattle.dsa_terms.specs.Logs.{IsAccepted, Line, Log, Over, claim_of}
 use Rattle.dsa_terms.specs.Parts.{numbers, whole}
-use Rattle.dsa_terms.proofs.Lists.{any_gives, from_map, into_map, same_some}
-use Rattle.dsa_terms.proofs.NumberTests.{equal}
+use Rattle.dsa_terms.proofs.Lists.{any_gives, none_passes, same_some}
+use Rattle.dsa_terms.proofs.NumberTests.{differ, equal}
 use Rattle.dsa_terms.proofs.Places.{all_from_in, any_default, in_from_all}
-use Rattle.dsa_terms.proofs.Ranges.{rises-filter_numbers, rises-range}
-use Rattle.dsa_search_laws.proofs.Logs.{legal_is_refuted}
-use Rattle.dsa_model.specs.Chosen.{some_of}
-use Rattle.dsa_model.specs.declared.fail.NoMemory.{NoMemory}
+use Rattle.dsa_terms.proofs.Ranges.{below, rises-filter_numbers, rises-range}
+use Rattle.dsa_search_laws.proofs.Members.{buffers_of-whole}
+use Rattle.dsa_model.specs.Buffer.{IsBuffer}
+use Rattle.refute_log.specs.Logs.{OpenLog, ended}
+use Rattle.core_find.specs.Carried.{IsEnd, named}
 use Rattle.core_find.specs.Cores.{without}
-use Rattle.core_find.specs.Looking.{AreNamed, IsEnd, IsStackOver, IsUnknown, named, next_member}
+use Rattle.core_find.specs.Looking.{AreNamed, IsLogByFew, IsLogOf, IsLooking, IsStackOver, IsUnknown, next_member}
 use Rattle.core_find.specs.declared.looking.Looking.{Looking}
+use Rattle.core_find.proofs.Carried.{named_numbers}
 use Rattle.core_find.proofs.Left.{from_without}
-use Rattle.core_find.proofs.Named.{named_do_not_fit}
-use Rattle.core_find.proofs.Removed.{in_removed}
+use Rattle.core_find.proofs.Named.{found_names}
 use Rattle.core_find.proofs.Some.{some_of_all}
 
--- ---- a stack that is over
-is_whole : (few : List ℕ) → IsWhole (whole few)
-is_whole few e i = let r = from_map (λ (b : ℕ). (b, 0)) few e i in ap (λ (f : Entry). f.1) r.2
+-- ---- the log of a stack
+pub first_line : (log new : OpenLog) (n C : ℕ) (line : Line) → log ≡ record { count = n; capacity = C; lines = [] } →
+    new ≡ record log { lines = log.lines ++ line ∷ [] } → slice_get new.lines 0 ≡ Some line
+first_line log new n C line empty is =
+    ap (λ (g : OpenLog). slice_get g.lines 0) is ∙ ap (λ (g : OpenLog). slice_get (g.lines ++ line ∷ []) 0) empty
 
-named_all : (n : ℕ) (few : List ℕ) → ((b : ℕ) → IsIn b few → b < n) → named (numbers n) (whole few) ≡ few
-named_all n [] h = refl
-named_all n (b ∷ few) h =
-    let first : slice_index (numbers n) b ≡ b = get_or-range_with_len 0 n b 0 (h b (inl refl)) ∙ plus b in
-    rw (first, named_all n few (λ c i. h c (inr i))) refl
-  where
-    plus : (b : ℕ) → 0 + b ≡ b
-    plus b = omega arith
-
-over_does_not_fit : (I : Instance) (C T G : ℕ) (few : List ℕ) → IsInstance I →
-    IsLegal I C [] (Over (whole few) T 0 G) → IsInfeasible (some_of I few) C
-over_does_not_fit I C T G few s legal =
-    subst (λ (ks : List ℕ). IsInfeasible (some_of I ks) C) (named_all (length I) few in_range)
-    (named_do_not_fit I C (numbers (length I)) (whole few) (rises-range (length I) 0)
-    (subst (λ (J : Instance). IsClaim J (whole few)) (sym (some_of_all I)) legal.claim) (is_whole few)
-    (subst (λ (J : Instance). IsRefuted J C (whole few)) (sym (some_of_all I)) refuted))
-  where
-    refuted : IsRefuted I C (whole few)
-    refuted = legal_is_refuted I C [] (Over (whole few) T 0 G) s (λ k line e. absurd cc) legal
-
-    in_range : (b : ℕ) → IsIn b few → b < length I
-    in_range b i = legal.claim.in_range (b, 0) (into_map (λ (b : ℕ). (b, 0)) few b i)
-
-stack_does_not_fit : (I : Instance) (C : ℕ) (line : Line) (few : List ℕ) → IsInstance I →
-    IsStackOver I C line few → IsInfeasible (some_of I few) C
-stack_does_not_fit I C (Over l T H G) few s h = over_does_not_fit I C T G few s h
-stack_does_not_fit I C (Cases l cites) few s h = absurd h
-
-pub over_is_too_high : (I : Instance) (C : ℕ) (line : Line) (few : List ℕ) (r : Result Bool NoMemory) → IsInstance I →
-    IfOk r (λ over. IsTrue over ↔ IsStackOver I C line few) →
-    IfOk r (λ over. IsTrue over → IsInfeasible (some_of I few) C)
-over_is_too_high I C line few (Ok over) s h = λ yes. stack_does_not_fit I C line few s (h.0 yes)
-over_is_too_high I C line few (Err e) s h = tt
-
--- ---- the named without one
-pub without_absent : (b : ℕ) (few : List ℕ) → list_any (λ x. x == b) few ≡ false → without b few ≡ few
-without_absent b [] h = refl
-without_absent b (x ∷ few) h = go (without_absent b few) (x == b) h
-  where
-    go : (list_any (λ x. x == b) few ≡ false → without b few ≡ few) → (t : Bool) →
-        (t || list_any (λ x. x == b) few) ≡ false → cond (not t) (x ∷ without b few) (without b few) ≡ x ∷ few
-    go ih true k = absurd cc
-    go ih false k = ap (λ (xs : List ℕ). x ∷ xs) (ih k)
-
-pub named_without : (I : Instance) (C : ℕ) (ms fewer few : List ℕ) (place b : ℕ) → place < length ms →
-    fewer ≡ remove ms place → b ≡ slice_index_or ms place b → AreNamed I C ms few →
-    IsInfeasible (some_of I (without b few)) C → AreNamed I C fewer (without b few)
-named_without I C ms fewer few place b lt is at h none = rw is record {
-  rise = rises-filter_numbers (λ c. not (c == b)) few h.rise;
-  among = λ x i. let r = from_without b few x i in in_removed ms place x lt (h.among x r.0)
-      (λ e. r.1 (e ∙ sym (at ∙ any_default ms place b 0 lt)));
-  do_not_fit = none;
+pub over_by_few : (I : Instance) (C n T H G : ℕ) (few : List ℕ) (l : Claim) (log new : OpenLog) (closed : Log) →
+    log ≡ record { count = n; capacity = C; lines = [] } →
+    new ≡ record log { lines = log.lines ++ Over l T H G ∷ [] } → l ≡ whole I few → closed ≡ ended new 0 →
+    IsAccepted I closed → IsLogByFew I C few closed
+over_by_few I C n T H G few l log new closed empty is all end a = record {
+  accepted = a;
+  capacity = ap (λ (g : Log). g.capacity) end ∙ ap (λ (g : OpenLog). g.capacity) is
+      ∙ ap (λ (g : OpenLog). g.capacity) empty;
+  names = λ line at.
+      let there : slice_get new.lines 0 ≡ Some line = sym (ap (λ (g : Log). slice_get g.lines g.final) end) ∙ at in
+      let same : Over l T H G ≡ line = same_some (sym (first_line log new n C (Over l T H G) empty is) ∙ there) in
+      ap (λ (x : Line). buffers_of (claim_of x)) (sym same) ∙ ap buffers_of all ∙ buffers_of-whole I few;
 }
 
+-- ---- the named without one
 pub rises_without_one : (b : ℕ) (few : List ℕ) → Rises few → Rises (without b few)
 rises_without_one b few r = rises-filter_numbers (λ c. not (c == b)) few r
 
@@ -89,16 +52,60 @@ named_in_range I C ms few b all h =
     all_from_in (λ k. k < length I) (without b few)
     (λ k i. in_from_all (λ k. k < length I) ms all k (h.among k (from_without b few k i).0))
 
--- ---- what it does not say
-pub not_said : (I : Instance) (C : ℕ) (at : Looking) (line : Line) (few : List ℕ) (b : ℕ) (over : Bool) →
-    b ≡ next_member at → list_any (λ x. x == b) at.named.items ≡ true → IsEnd at.log line →
-    few ≡ without b at.named.items → IsTrue over ↔ IsStackOver I C line few → over ≡ false → IsUnknown I C at
-not_said I C at line few b over is present end without_it exactly not_over = record {
-  named = (let r = any_gives (λ x. x == b) at.named.items present in
-      subst (λ (x : ℕ). IsIn x at.named.items) (equal r.0 b r.2 ∙ is) r.1);
+-- the last log is the one of the stack without the member
+pub by_stack : (I : Instance) (C b : ℕ) (at : Looking) (few all : Vec ℕ) (log : Log) → All IsBuffer I →
+    IsLooking I C at → few.items ≡ without b at.named.items → all.items ≡ numbers (length I) →
+    IsLogByFew I C few.items log →
+    IsLooking I C (record { members = at.members; rests = at.rests; named = few; log = log; before = Some all })
+by_stack I C b at few all log buffers h fewer full stack = record {
+  looked = h.looked;
+  names = record {
+    rise = rw fewer (rises_without_one b at.named.items h.names.rise);
+    among = λ x i. h.names.among x
+        (from_without b at.named.items x (subst (λ (xs : List ℕ). IsIn x xs) fewer i)).0;
+    do_not_fit = found.0.do_not_fit;
+  };
+  by_end = λ line end. names line end ∙ ap (λ (xs : List ℕ). named xs (claim_of line)) (sym full);
+  log_rises = rw full (rises-range (length I) 0);
+  log_in_range = rw full (all_from_in (λ k. k < length I) (numbers (length I)) (λ k i. below (length I) k i));
+  log_of = rw full found.1;
+}
+  where
+    names : (line : Line) → IsEnd log line → few.items ≡ named (numbers (length I)) (claim_of line)
+    names line end =
+        sym (named_numbers (length I) (claim_of line) (stack.accepted.legal log.final line end).claim.in_range
+        ∙ stack.names line end)
+
+    found : AreNamed I C (numbers (length I)) few.items × IsLogOf I C (numbers (length I)) log
+    found = found_names I I C (numbers (length I)) (numbers (length I)) few.items log (sym (some_of_all I)) refl
+        (rises-range (length I) 0) buffers stack.accepted stack.capacity names
+
+-- ---- the next member
+pub next_is : (at known : Looking) (place b : ℕ) → known.members ≡ at.members → known.rests ≡ at.rests →
+    place ≡ length known.rests.items → length at.rests.items < length at.members.items →
+    b ≡ slice_index_or known.members.items place b → b ≡ next_member at
+next_is at known place b members rests is lt here =
+    let same : place ≡ length at.rests.items = is ∙ ap (λ (v : Vec (Vec ℕ)). length v.items) rests in
+    here ∙ ap (λ (v : Vec ℕ). slice_index_or v.items place b) members
+    ∙ any_default at.members.items place b 0 (omega arith) ∙ ap (slice_index at.members.items) same
+
+-- ---- what the last log does not say
+pub not_there : (b : ℕ) (few : List ℕ) → list_any (λ x. x == b) few ≡ false → IsIn b few → ⊥
+not_there b few none i = differ b b (none_passes (λ x. x == b) few b none i) refl
+
+pub is_there : (b : ℕ) (few : List ℕ) → list_any (λ x. x == b) few ≡ true → IsIn b few
+is_there b few some =
+    let r = any_gives (λ x. x == b) few some in subst (λ (x : ℕ). IsIn x few) (equal r.0 b r.2) r.1
+
+pub not_left : (b c : ℕ) (few ks : List ℕ) → few ≡ without b ks → b ≡ c → IsIn c few → ⊥
+not_left b c few ks is same i = (from_without b ks c (subst (λ (xs : List ℕ). IsIn c xs) is i)).1 (sym same)
+
+pub not_said : (I : Instance) (C : ℕ) (at : Looking) (line : Line) (few : List ℕ) (b : ℕ) →
+    b ≡ next_member at → IsIn b at.named.items → IsEnd at.log line → few ≡ without b at.named.items →
+    (IsStackOver I C line few → ⊥) → IsUnknown I C at
+not_said I C at line few b is present end without_it not_over = record {
+  named = subst (λ (x : ℕ). IsIn x at.named.items) is present;
   not_over = λ other e h. let same : other ≡ line = same_some (sym e ∙ end) in
-      let stack : IsStackOver I C line few =
-      subst (λ (m : Line). IsStackOver I C m few) same
-      (subst (λ (xs : List ℕ). IsStackOver I C other xs) (sym (without_it ∙ ap (λ n. without n at.named.items) is)) h) in
-      let yes : over ≡ true = exactly.1 stack in absurd (cc);
+      not_over (subst (λ (m : Line). IsStackOver I C m few) same
+      (subst (λ (xs : List ℕ). IsStackOver I C other xs) (sym (without_it ∙ ap (λ n. without n at.named.items) is)) h));
 }

@@ -1,3 +1,4 @@
+pub mod Carried
 pub mod Cores
 pub mod Found
 pub mod Looking

@@ -1,113 +1,104 @@
 //! A log carried over to fewer buffers.
 
-ghost use Rattle.std.specs.Prelude.{◌≡◌, ◌^◌, ◌<◌, ◌≤◌, All, IfOk, IfSome, length, map};
+ghost use Rattle.std.specs.Prelude.{◌≡◌, ◌==◌, ◌^◌, ◌++◌, ◌∷◌, [], ◌<◌, ◌≤◌, All, IfOk, OnOk, length, map, position, slice_index};
+ghost use Rattle.dsa_terms.specs.Claims.{Rises, buffers_of};
+ghost use Rattle.dsa_terms.specs.Logs.{IsAccepted, IsLegal, claim_of};
+ghost use Rattle.dsa_model.specs.Chosen.{some_of};
 ghost use Rattle.canonical_order.specs.Claims.{IsBoundedBy};
-ghost use Rattle.dsa_terms.specs.Logs.{IsAccepted};
-ghost use Rattle.refute_log.specs.Lines.{IsCiteWithin, IsLineKept, IsWithin, cite_value, line_value};
+ghost use Rattle.refute_log.specs.Lines.{IsLineKept, IsWithin, cite_value, line_value};
 ghost use Rattle.refute_log.specs.Logs.{Belongs};
+ghost use Rattle.core_find.specs.Carried.{NeedsOnly, carried, place_among, places_among, renamed_cite, renamed_claim, renamed_line, renamed_log};
 
+use crate::members::sub_instance;
 use canonical_order::Claim;
 use dsa_model::{Fail, Instance, NoMemory};
+use log_trim::trim;
 use refute_log::{Cite, Cites, ClosedLog, Line, Log};
-use std::alloc::Global;
+use std::alloc::{AllocError, Global};
 
-/// Stands for the number of a line that is not carried over: no log has as many.
-const NO_LINE: u64 = 1 << 60;
-
-/// Stands for a buffer that is not among the fewer: no instance has as many.
-const NO_BUFFER: u32 = u32::MAX;
-
-/// The place, from `from` on, at which the b-th of those before stands among the members.
-fn place_from(before: &[u32], members: &[u32], b: u32, from: u32) -> Option<u32>
-    requires { length members.now ≤ 512 }
-    ensures { IfSome result (λ place. (from ≤ place) × (place < length members.now)) }
+/// Where b stands among the members.
+fn find_place(b: u32, members: &[u32]) -> Option<usize>
+    ensures { result ≡ position (λ m. m == b) members.now }
 {
-    let member = before.get(b as usize)?;
-    for place in from..members.len() as u32 {
-        if members[place as usize] == *member {
-            return Some(place);
-        }
-    }
-    None
+    members.iter().position(|m| *m == b)
 }
 
-/// The buffers of the claim that are left, by their places, with their bounds.
-fn claim_of_fewer(
-    alloc: Global,
-    claim: &Claim,
-    before: &[u32],
-    members: &[u32],
-) -> Result<Claim, NoMemory>
-    requires few { length members.now ≤ 512 }
+/// The place of b among the members, and one past the last where it is none of them.
+fn place_among(b: u32, members: &[u32]) -> u32
+    requires { length members.now ≤ 512 }
+    ensures { result ≡ place_among b members.now }
+{
+    match find_place(b, members) {
+        Some(place) => place as u32,
+        None => members.len() as u32,
+    }
+}
+
+/// For each of those before its place among the members.
+fn places_among(alloc: Global, before: &[u32], members: &[u32]) -> Result<Vec<u32>, AllocError>
+    requires { length members.now ≤ 512 }
+    ensures { IfOk result (λ places. places.items ≡ places_among before.now members.now) }
+{
+    let mut places = Vec::new(alloc);
+    for b in before {
+        places.push(place_among(*b, members))?;
+    }
+    Ok(places)
+}
+
+/// The new number of b, which stands at its place, and 0 where there is none.
+fn new_number(numbers: &[u32], b: u32) -> u32
+    ensures { result ≡ slice_index numbers.now b }
+{
+    match numbers.get(b as usize) {
+        Some(number) => *number,
+        None => 0,
+    }
+}
+
+/// The claim with the new numbers of its buffers, which rise.
+fn renamed_claim(alloc: Global, claim: &Claim, numbers: &[u32]) -> Result<Claim, NoMemory>
+    requires rises { Rises (buffers_of (renamed_claim (slice_index numbers.now) claim.now)) }
     requires bounds { IsBoundedBy (2 ^ 60) claim.now }
-    ensures { IfOk result (IsBoundedBy (2 ^ 60)) }
+    ensures { IfOk result (λ l. l ≡ renamed_claim (slice_index numbers.now) claim.now) }
 {
     let mut pairs = Vec::new(alloc);
-    let mut next = 0;
     for pair in claim.pairs() {
-        if let Some(place) = place_from(before, members, pair.0, next) {
-            pairs.push((place, pair.1))?;
-            next = place + 1;
-        }
+        pairs.push((new_number(numbers, pair.0), pair.1))?;
     }
     Ok(Claim::from_vec(pairs))
 }
 
-/// The cite, by the new numbers of lines and the places of buffers.
-fn cite_of_fewer(cite: Cite, before: &[u32], members: &[u32], numbers: &[u64]) -> Cite
-    requires few { length members.now ≤ 512 }
-    requires numbers { All (λ k. k ≤ 2 ^ 60) numbers.now }
-    ensures { IsCiteWithin (cite_value result) }
+/// The cite with the new number of the buffer that it names.
+fn renamed_cite(cite: Cite, numbers: &[u32]) -> Cite
+    ensures { cite_value result ≡ renamed_cite (slice_index numbers.now) (cite_value cite) }
 {
     match cite {
-        Cite::Line(k) => Cite::Line(number_of(numbers, k)),
-        Cite::Below(c) => Cite::Below(place_from(before, members, c, 0).unwrap_or(NO_BUFFER)),
-        Cite::Twin(c) => Cite::Twin(place_from(before, members, c, 0).unwrap_or(NO_BUFFER)),
+        Cite::Line(k) => Cite::Line(k),
+        Cite::Below(c) => Cite::Below(new_number(numbers, c)),
+        Cite::Twin(c) => Cite::Twin(new_number(numbers, c)),
     }
 }
 
-/// The new number of line k.
-fn number_of(numbers: &[u64], k: u64) -> u64
-    requires { All (λ k. k ≤ 2 ^ 60) numbers.now }
-    ensures { result ≤ 2 ^ 60 }
+/// The cites with the new numbers of the buffers that they name.
+fn renamed_cites(alloc: Global, cites: &[Cite], numbers: &[u32]) -> Result<Vec<Cite>, AllocError>
+    ensures { let new = map (renamed_cite (slice_index numbers.now)) (map cite_value cites.now) in
+        IfOk result (λ renamed. map cite_value renamed.items ≡ new) }
 {
-    match numbers.get(k as usize) {
-        Some(number) => *number,
-        None => NO_LINE,
-    }
-}
-
-/// The cites, each by the new numbers of lines and the places of buffers.
-fn cites_of_fewer(
-    alloc: Global,
-    cites: &[Cite],
-    before: &[u32],
-    members: &[u32],
-    numbers: &[u64],
-) -> Result<Cites, NoMemory>
-    requires few { length members.now ≤ 512 }
-    requires numbers { All (λ k. k ≤ 2 ^ 60) numbers.now }
-    ensures { IfOk result (λ cites. All IsCiteWithin (map cite_value cites)) }
-{
-    let mut fewer = Vec::new(alloc);
+    let mut renamed = Vec::new(alloc);
     for cite in cites {
-        fewer.push(cite_of_fewer(*cite, before, members, numbers))?;
+        renamed.push(renamed_cite(*cite, numbers))?;
     }
-    Ok(Cites::from_vec(fewer))
+    Ok(renamed)
 }
 
-/// The line with what is left of its claim, by the places of buffers and the new numbers of lines.
-fn line_of_fewer(
-    alloc: Global,
-    line: &Line,
-    before: &[u32],
-    members: &[u32],
-    numbers: &[u64],
-) -> Result<Line, NoMemory>
-    requires few { length members.now ≤ 512 }
+/// The line with the new numbers of its buffers, which rise in its claim.
+fn renamed_line(alloc: Global, line: &Line, numbers: &[u32]) -> Result<Line, NoMemory>
+    requires rises { let new = renamed_line (slice_index numbers.now) (line_value line.now) in
+        Rises (buffers_of (claim_of new)) }
     requires kept { IsLineKept (line_value line.now) }
-    requires numbers { All (λ k. k ≤ 2 ^ 60) numbers.now }
-    ensures { IfOk result (λ fewer. IsWithin (line_value fewer)) }
+    ensures { let new = renamed_line (slice_index numbers.now) (line_value line.now) in
+        IfOk result (λ renamed. line_value renamed ≡ new) }
 {
     match line {
         Line::Over {
@@ -115,67 +106,85 @@ fn line_of_fewer(
             moment,
             height,
             modulus,
-        } => {
-            let claim = claim_of_fewer(alloc, claim, before, members)?;
-            Ok(Line::Over {
-                claim,
-                moment: *moment,
-                height: *height,
-                modulus: *modulus,
-            })
-        }
-        Line::Cases { claim, cites } => {
-            let claim = claim_of_fewer(alloc, claim, before, members)?;
-            let cites = cites_of_fewer(alloc, cites.as_slice(), before, members, numbers)?;
-            Ok(Line::Cases { claim, cites })
-        }
+        } => Ok(Line::Over {
+            claim: renamed_claim(alloc, claim, numbers)?,
+            moment: *moment,
+            height: *height,
+            modulus: *modulus,
+        }),
+        Line::Cases { claim, cites } => Ok(Line::Cases {
+            claim: renamed_claim(alloc, claim, numbers)?,
+            cites: Cites::from_vec(renamed_cites(alloc, cites.as_slice(), numbers)?),
+        }),
     }
 }
 
-/// Appends the line where it is legal, and gives its number there, which is `NO_LINE` where it is
-/// not.
-fn carry_over(log: &mut Log, some: &Instance, line: Line) -> Result<u64, NoMemory>
-    requires belongs { Belongs some.now log.old }
+/// Appends a line that is legal after the others.
+fn append(instance: &Instance, log: &mut Log, line: Line) -> Result<(), NoMemory>
+    requires belongs { Belongs instance.now log.old }
     requires within { IsWithin (line_value line) }
-    ensures belongs { Belongs some.now log.new }
-    ensures capacity { log.new.capacity ≡ log.old.capacity }
-    ensures number { IfOk result (λ k. k ≤ 2 ^ 60) }
+    requires legal { IsLegal instance.now log.old.capacity log.old.lines (line_value line) }
+    ensures appended { let lines = log.old.lines ++ line_value line ∷ [] in
+        OnOk result (log.new ≡ record log.old { lines = lines }) }
+    ensures belongs { Belongs instance.now log.new }
 {
-    let number = log.len();
-    match log.push(some, line) {
-        Ok(_) => Ok(number),
-        Err(Fail::Fault(_)) => Ok(NO_LINE),
+    match log.push(instance, line) {
+        Ok(_) => Ok(()),
         Err(Fail::NoMemory) => Err(NoMemory),
+        Err(Fail::Fault(_)) => unreachable!(),
     }
 }
 
-/// What is left of the log where some of the buffers before are left out, and the members remain,
-/// whose instance is given: each line with the buffers that are left, where it is still legal. It
-/// is none where the end is not.
+/// The lines of the log with the new numbers of their buffers, on a log of the instance, for which
+/// they are legal.
+fn renamed_log(
+    alloc: Global,
+    instance: &Instance,
+    log: &ClosedLog,
+    numbers: &[u32],
+) -> Result<Log, NoMemory>
+    requires numbers { All (λ n. n ≤ 512) numbers.now }
+    requires belongs { let n = length instance.now in
+        Belongs instance.now (renamed_log n (slice_index numbers.now) log.now) }
+    ensures value { let n = length instance.now in
+        IfOk result (λ renamed. renamed ≡ renamed_log n (slice_index numbers.now) log.now) }
+    ensures belongs { IfOk result (Belongs instance.now) }
+{
+    let mut renamed = Log::new(alloc, instance, log.capacity());
+    for k in 0..log.len() {
+        let line = renamed_line(alloc, log.line(k), numbers)?;
+        append(instance, &mut renamed, line)?;
+    }
+    Ok(renamed)
+}
+
+/// What is left for the members of a log of those before: the lines that its end needs, with each
+/// buffer by its place. It is a log of the members.
+///
+/// The caller owes an accepted log whose end names none but members.
 pub(crate) fn log_of_fewer(
     alloc: Global,
-    some: &Instance,
+    instance: &Instance,
     log: &ClosedLog,
     before: &[u32],
     members: &[u32],
-) -> Result<Option<ClosedLog>, NoMemory>
-    requires { length members.now ≤ 512 }
-    ensures { IfOk result (λ found. IfSome found (λ fewer.
-        IsAccepted some.now fewer × (fewer.capacity ≡ log.now.capacity))) }
+) -> Result<ClosedLog, NoMemory>
+    requires before_in_range { All (λ b. b < length instance.now) before.now }
+    requires in_range { All (λ b. b < length instance.now) members.now }
+    requires rises { Rises members.now }
+    requires needs { NeedsOnly instance.now before.now members.now log.now }
+    ensures value { IfOk result (λ fewer. fewer ≡ carried before.now members.now log.now) }
+    ensures accepted { IfOk result (IsAccepted (some_of instance.now members.now)) }
+    ensures capacity { IfOk result (λ fewer. fewer.capacity ≡ log.now.capacity) }
 {
-    let mut fewer = Log::new(alloc, some, log.capacity());
-    let mut numbers = Vec::new(alloc);
-    for k in 0..log.len() {
-        let line = line_of_fewer(alloc, log.line(k), before, members, &numbers)?;
-        let number = carry_over(&mut fewer, some, line)?;
-        numbers.push(number)?;
-    }
-    let end = number_of(&numbers, log.end());
-    if end >= fewer.len() {
-        return Ok(None);
-    }
-    match fewer.close(some, end) {
-        Ok(closed) => Ok(Some(closed)),
-        Err(_) => Ok(None),
+    let all = sub_instance(alloc, instance, before)?;
+    let some = sub_instance(alloc, instance, members)?;
+    let _count = some.len();
+    let log = trim(alloc, &all, log)?;
+    let places = places_among(alloc, before, members)?;
+    let renamed = renamed_log(alloc, &some, &log, &places)?;
+    match renamed.close(&some, log.end()) {
+        Ok(closed) => Ok(closed),
+        Err(_) => unreachable!(),
     }
 }

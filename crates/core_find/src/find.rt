@@ -39,7 +39,7 @@ fn core_of<A: Ask>(
         before,
         ..
     } = looking;
-    let log = log_of(alloc, instance, capacity, asker, &members, log, before)?;
+    let log = log_of(alloc, instance, &members, log, before)?;
     Ok(Core {
         members,
         log,
@@ -53,8 +53,8 @@ fn core_of<A: Ask>(
 ///
 /// The asker is asked of the instance, and then, for each buffer that the last log needs, whether
 /// the others fit without it: its end names the buffer, and the stack of the end, if it has one, is
-/// not over without it. The log is what is left of the last one for the core; where that were none,
-/// the core would be asked for once more. So it is asked at most once more than there are buffers.
+/// not over without it. So it is asked at most once more than there are buffers. The log is what is
+/// left of the last one for the core.
 pub fn find_core<A: Ask>(
     alloc: Global,
     instance: &Instance,

@@ -1,44 +1,52 @@
-//! What the last log says of fewer members.
+//! What the last log says of the others of the next member.
 
-ghost use Rattle.std.specs.Prelude.{◌≡◌, ◌^◌, ◌<◌, ◌≤◌, IfNone, IfOk, IfSome, length};
-ghost use Rattle.std.specs.List.{remove};
-ghost use Rattle.core_find.specs.Looking.{AreNamed, IsLooking, IsUnknown};
+ghost use Rattle.std.specs.Prelude.{◌≡◌, ◌^◌, ◌<◌, ◌≤◌, IfOk, length};
+ghost use Rattle.dsa_terms.specs.Claims.{IsIn};
+ghost use Rattle.core_find.specs.Looking.{IsLooking, IsUnknown, next_member};
 
 use crate::looking::Looking;
-use crate::members::without;
-use crate::stack::is_stack_over;
+use crate::members::{all_members, without};
+use crate::stack::stack_log;
 use dsa_model::{Instance, NoMemory};
 use std::alloc::Global;
 
-/// Those that are named without the next member, where they are known not to fit: since it is not
-/// named, or since the stack of the log's end is over without it. `fewer` are the members without
-/// it.
-pub(crate) fn known_without(
+/// What is known, with a last log that does not name the next member where there is one: the stack
+/// of the last log's end without it, if that is over. So where it names it all the same, the last
+/// log does not say whether the others fit.
+pub(crate) fn without_next(
     alloc: Global,
     instance: &Instance,
     capacity: u64,
-    looking: &Looking,
-    fewer: &[u32],
-) -> Result<Option<Vec<u32>>, NoMemory>
+    looking: Looking,
+) -> Result<Looking, NoMemory>
     requires limit { capacity ≤ 2 ^ 60 }
-    requires looking { IsLooking instance.now capacity looking.now }
-    requires more { length looking.now.rests.items < length looking.now.members.items }
-    requires fewer { let at = looking.now in
-        fewer.now ≡ remove at.members.items (length at.rests.items) }
-    ensures known { IfOk result (λ known. IfSome known (λ few.
-        AreNamed instance.now capacity fewer.now few.items)) }
-    ensures unknown { IfOk result (λ known. IfNone known (
-        IsUnknown instance.now capacity looking.now)) }
+    requires looking { IsLooking instance.now capacity looking }
+    requires more { length looking.rests.items < length looking.members.items }
+    ensures looking { IfOk result (IsLooking instance.now capacity) }
+    ensures members { IfOk result (λ at. at.members ≡ looking.members) }
+    ensures rests { IfOk result (λ at. at.rests ≡ looking.rests) }
+    ensures unknown { IfOk result (λ at. IsIn (next_member looking) at.named.items →
+        IsUnknown instance.now capacity looking) }
 {
+    let _count = instance.len();
     let member = looking.members[looking.rests.len()];
-    let few = without(alloc, &looking.named, member)?;
     if !looking.named.contains(&member) {
-        return Ok(Some(few));
+        return Ok(looking);
     }
+    let few = without(alloc, &looking.named, member)?;
     let end = looking.log.line(looking.log.end());
-    if is_stack_over(alloc, instance, capacity, end, &few)? {
-        Ok(Some(few))
-    } else {
-        Ok(None)
+    match stack_log(alloc, instance, capacity, end, &few)? {
+        None => Ok(looking),
+        Some(log) => {
+            let all = all_members(alloc, instance)?;
+            let Looking { members, rests, .. } = looking;
+            Ok(Looking {
+                members,
+                rests,
+                named: few,
+                log,
+                before: Some(all),
+            })
+        }
     }
 }

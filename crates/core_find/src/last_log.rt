@@ -1,48 +1,37 @@
 //! The log of the core.
 
-ghost use Rattle.std.specs.Prelude.{◌^◌, ◌+◌, ◌<◌, ◌≤◌, All, IfOk, cond, is_some, length};
+ghost use Rattle.std.specs.Prelude.{◌≡◌, ◌<◌, All, IfOk, length};
 ghost use Rattle.dsa_terms.specs.Claims.{Rises};
-ghost use Rattle.dsa_terms.specs.Layouts.{IsInfeasible};
+ghost use Rattle.dsa_terms.specs.Logs.{IsAccepted};
 ghost use Rattle.dsa_model.specs.Chosen.{some_of};
-ghost use Rattle.core_find.specs.Looking.{IsLogOf, members_before};
+ghost use Rattle.core_find.specs.Carried.{NeedsOnly};
+ghost use Rattle.core_find.specs.Looking.{members_before};
 
 use crate::fewer_log::log_of_fewer;
-use crate::members::sub_instance;
-use crate::{Ask, Asked};
 use dsa_model::{Instance, NoMemory};
 use refute_log::ClosedLog;
 use std::alloc::Global;
 
-/// A log of the members, which do not fit: the last one where it is of all of them, else what is
-/// left of it for these, and where that is no log the answer to asking. `before` are the members
-/// that the last one is of, where these are more.
-pub(crate) fn log_of<A: Ask>(
+/// A log of the members: the last one where it is of all of them, else what is left of it for
+/// these. `before` are the members that the last one is of, where these are more.
+pub(crate) fn log_of(
     alloc: Global,
     instance: &Instance,
-    capacity: u64,
-    asker: &mut A,
     members: &[u32],
     log: ClosedLog,
     before: Option<Vec<u32>>,
 ) -> Result<ClosedLog, NoMemory>
-    requires limit { capacity ≤ 2 ^ 60 }
-    requires rises { Rises members.now }
+    requires before_in_range { let before = members_before before members.now in
+        All (λ b. b < length instance.now) before }
     requires in_range { All (λ b. b < length instance.now) members.now }
-    requires infeasible { IsInfeasible (some_of instance.now members.now) capacity }
-    requires last { IsLogOf instance.now capacity (members_before before members.now) log }
-    ensures log { IfOk result (IsLogOf instance.now capacity members.now) }
-    ensures asks { A.asks asker.new ≤ A.asks asker.old + cond (is_some before) 1 0 }
+    requires rises { Rises members.now }
+    requires needs { let before = members_before before members.now in
+        NeedsOnly instance.now before members.now log }
+    ensures accepted { IfOk result (IsAccepted (some_of instance.now members.now)) }
+    ensures capacity { IfOk result (λ found. found.capacity ≡ log.capacity) }
 {
-    let Some(before) = before else {
-        return Ok(log);
-    };
-    let some = sub_instance(alloc, instance, members)?;
-    let _count = some.len();
-    if let Some(fewer) = log_of_fewer(alloc, &some, &log, &before, members)? {
-        return Ok(fewer);
-    }
-    match asker.ask(alloc, &some, capacity)? {
-        Asked::Layout(_) => unreachable!(),
-        Asked::Refuted(log) => Ok(log),
+    match before {
+        None => Ok(log),
+        Some(before) => log_of_fewer(alloc, instance, &log, &before, members),
     }
 }

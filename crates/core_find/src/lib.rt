@@ -20,5 +20,7 @@ mod tests;
 pub use ask::{Ask, Asked};
 pub use find::find_core;
 pub use found::{Core, Found};
-pub use laws::{core_is_irreducible, core_is_one, more_fit_no_better};
+pub use laws::{
+    core_is_irreducible, core_is_one, core_stands_by_itself, fewer_keep_the_log, more_fit_no_better,
+};
 pub use members::sub_instance;

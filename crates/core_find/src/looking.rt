@@ -4,7 +4,8 @@ ghost use Rattle.std.specs.Prelude.{◌≡◌, ◌<◌, IfOk, length};
 ghost use Rattle.dsa_terms.specs.Claims.{Entry, IsIn};
 ghost use Rattle.dsa_terms.specs.Layouts.{IsInfeasible};
 ghost use Rattle.dsa_terms.specs.Logs.{IsAccepted, Line as LineTerm, Log as LogTerm, claim_of};
-ghost use Rattle.core_find.specs.Looking.{IsEnd, IsLooking, asks_left, named};
+ghost use Rattle.core_find.specs.Carried.{IsEnd, named};
+ghost use Rattle.core_find.specs.Looking.{IsLooking, ahead};
 
 use crate::members::all_members;
 use dsa_model::{Instance, NoMemory};
@@ -18,8 +19,7 @@ pub(crate) struct Looking {
     pub(crate) members: Vec<u32>,
     /// For each kept member a layout of the others.
     pub(crate) rests: Vec<Vec<u64>>,
-    /// Those that the end of the last log names, without the ones that its stack does not need:
-    /// some of the members, which do not fit.
+    /// Those that the end of the last log names: some of the members, which do not fit.
     pub(crate) named: Vec<u32>,
     /// The last log.
     pub(crate) log: ClosedLog,
@@ -60,7 +60,7 @@ pub(crate) fn named_by(
 pub(crate) fn start(alloc: Global, instance: &Instance, log: ClosedLog) -> Result<Looking, NoMemory>
     requires { IsAccepted instance.now log }
     ensures looking { IfOk result (IsLooking instance.now log.capacity) }
-    ensures asks { IfOk result (λ at. asks_left at ≡ length instance.now) }
+    ensures ahead { IfOk result (λ at. ahead at ≡ length instance.now) }
 {
     let _count = instance.len();
     let members = all_members(alloc, instance)?;

@@ -1,12 +1,13 @@
 //! One member more is looked at.
 
-ghost use Rattle.std.specs.Prelude.{◌≡◌, ◌^◌, ◌+◌, ◌<◌, ◌≤◌, ℕ, List, All, IfOk, MatchResult, length};
+ghost use Rattle.std.specs.Prelude.{◌≡◌, ◌^◌, ◌+◌, ◌<◌, ◌≤◌, ℕ, List, All, IfOk, length};
 ghost use Rattle.std.specs.List.{remove};
 ghost use Rattle.dsa_terms.specs.Buffers.{Instance as InstanceTerm};
+ghost use Rattle.dsa_terms.specs.Claims.{IsIn};
 ghost use Rattle.core_find.specs.Found.{rests_of};
-ghost use Rattle.core_find.specs.Looking.{AreNamed, IsLooking, IsUnknown, ahead, asks_left};
+ghost use Rattle.core_find.specs.Looking.{IsLooking, IsUnknown, ahead, next_member};
 
-use crate::known::known_without;
+use crate::known::without_next;
 use crate::looking::{Looking, named_by};
 use crate::members::{others, sub_instance};
 use crate::rests::leave_out;
@@ -14,31 +15,30 @@ use crate::{Ask, Asked};
 use dsa_model::{Instance, NoMemory};
 use std::alloc::Global;
 
-/// The next member is dropped without asking, since the few of the others do not fit. `fewer` are
-/// the members without it.
-fn dropped(looking: Looking, fewer: Vec<u32>, few: Vec<u32>) -> Looking
+/// The next member is dropped without asking, since the last log does not name it, so that the
+/// others do not fit. `fewer` are the members without it.
+fn dropped(looking: Looking, fewer: Vec<u32>) -> Looking
     requires more { length looking.rests.items < length looking.members.items }
     requires fewer { fewer.items ≡ remove looking.members.items (length looking.rests.items) }
     requires there { All (λ (rest : List ℕ). length looking.rests.items ≤ length rest)
         (rests_of looking.rests.items) }
     ensures looking { (I : InstanceTerm) (C : ℕ) → IsLooking I C looking →
-        AreNamed I C fewer.items few.items → IsLooking I C result }
+        (IsIn (next_member looking) looking.named.items → ⊥) → IsLooking I C result }
     ensures nearer { ahead result < ahead looking }
-    ensures asks { asks_left result ≤ asks_left looking }
 {
     let Looking {
         members,
         mut rests,
+        named,
         log,
         before,
-        ..
     } = looking;
     let place = rests.len();
     leave_out(&mut rests, place);
     Looking {
         members: fewer,
         rests,
-        named: few,
+        named,
         log,
         before: Some(before.unwrap_or(members)),
     }
@@ -60,9 +60,7 @@ fn asked<A: Ask>(
     requires fewer { fewer.items ≡ remove looking.members.items (length looking.rests.items) }
     ensures looking { IfOk result (IsLooking instance.now capacity) }
     ensures nearer { IfOk result (λ next. ahead next < ahead looking) }
-    ensures asks { let most = A.asks asker.old + asks_left looking in
-        MatchResult result
-        (λ next. A.asks asker.new + asks_left next ≤ most) (λ _. A.asks asker.new ≤ most) }
+    ensures asks { A.asks asker.new ≤ A.asks asker.old + 1 }
 {
     let Looking {
         members,
@@ -113,15 +111,16 @@ pub(crate) fn look_on<A: Ask>(
     requires more { length looking.rests.items < length looking.members.items }
     ensures looking { IfOk result (IsLooking instance.now capacity) }
     ensures nearer { IfOk result (λ next. ahead next < ahead looking) }
-    ensures asks { let most = A.asks asker.old + asks_left looking in
-        MatchResult result
-        (λ next. A.asks asker.new + asks_left next ≤ most) (λ _. A.asks asker.new ≤ most) }
+    ensures asks { A.asks asker.new ≤ A.asks asker.old + 1 }
     ensures unasked { (IsUnknown instance.now capacity looking → ⊥) →
         A.asks asker.new ≡ A.asks asker.old }
 {
     let fewer = others(alloc, &looking.members, looking.rests.len())?;
-    match known_without(alloc, instance, capacity, &looking, &fewer)? {
-        Some(few) => Ok(dropped(looking, fewer, few)),
-        None => asked(alloc, instance, capacity, asker, looking, fewer),
+    let known = without_next(alloc, instance, capacity, looking)?;
+    let member = known.members[known.rests.len()];
+    if known.named.contains(&member) {
+        asked(alloc, instance, capacity, asker, known, fewer)
+    } else {
+        Ok(dropped(known, fewer))
     }
 }

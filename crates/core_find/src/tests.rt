@@ -35,7 +35,7 @@ fn over_all(alloc: Global, instance: &Instance) -> Result<Line, NoMemory>
 {
     let _count = instance.len();
     let members = all_members(alloc, instance)?;
-    let claim = Claim::whole(alloc, &members)?;
+    let claim = Claim::whole(alloc, instance, &members)?;
     Ok(Line::Over {
         claim,
         moment: 0,
@@ -93,7 +93,7 @@ fn core_members(alloc: Global, sizes: &[u64], capacity: u64) -> Result<(Vec<u32>
 {
     let mut instance = Instance::new(alloc);
     for size in sizes {
-        let Ok(buffer) = Buffer::new(alloc, 0, 1, *size, 1, &[]) else {
+        let Ok(buffer) = Buffer::new(alloc, 0, 1, *size, 1, &[], 0) else {
             return Err(NoMemory);
         };
         if instance.len() < BUFFER_LIMIT {

@@ -1,14 +1,19 @@
-use Rattle.std.proofs.Common.{◌≤◌, length, subst, arith}
+use Rattle.std.proofs.Common.{◌≤◌, ◌∙◌, ℕ, List, length, subst, arith}
 use Rattle.dsa_terms.specs.Layouts.{IsInfeasible}
+use Rattle.core_find.specs.Cores.{AreAmong}
 use Rattle.core_find.specs.Found.{rests_of}
 use Rattle.core_find.proofs.Looked.{all_looked}
-use Rattle.core_find.proofs.Named.{others_do_not_fit}
 use Rattle.core_find.proofs.find.core_of.Goals as goal
 
-pub log_of-requires-clause-infeasible : goal.log_of-requires-clause-infeasible
-log_of-requires-clause-infeasible g c =
-    rw c.deref.ensures.value
-    (others_do_not_fit c.args.instance.now c.args.capacity _ _ c.loop-asker.invariant.looking.names)
+pub log_of-requires-clause-needs : goal.log_of-requires-clause-needs
+log_of-requires-clause-needs g c =
+    let h = c.loop-asker.invariant.looking in
+    rw c.deref.ensures.value record {
+      rise = h.log_rises;
+      accepted = h.log_of.0;
+      names = λ line end. subst (λ (xs : List ℕ). AreAmong xs c.loop-asker.looking.members.items) (h.by_end line end)
+          h.names.among;
+    }
 
 pub returns-clause-explained : goal.returns-clause-explained
 returns-clause-explained g c =
@@ -27,12 +32,11 @@ returns-clause-explained g c =
     ) in
     let all = all_looked I c.args.capacity at.members.items (rests_of at.rests.items) (length at.rests.items) end none
     h in
-    let log = rw c.deref.ensures.value at c.in_ok-log.ensures.log in
     record {
       core = all.0;
       rises = h.rises;
       in_range = h.in_range;
-      accepted = log.0;
-      capacity = log.1;
+      accepted = rw (← c.deref.ensures.value) c.in_ok-log.ensures.accepted;
+      capacity = c.in_ok-log.ensures.capacity ∙ c.loop-asker.invariant.looking.log_of.1;
       rests = all.1;
     }

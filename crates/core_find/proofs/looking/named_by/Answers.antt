@@ -1,6 +1,6 @@
 use Rattle.std.proofs.Common.{◌≡◌, ◌∙◌, Some, slice_get, subst}
 use Rattle.refute_log.specs.Lines.{line_value}
-use Rattle.core_find.specs.Looking.{IsEnd}
+use Rattle.core_find.specs.Carried.{IsEnd}
 use Rattle.core_find.proofs.Named.{pair_in_range}
 use Rattle.core_find.proofs.looking.named_by.Goals as goal
 

@@ -1,5 +1,5 @@
 use Rattle.std.proofs.Common.{◌≡◌, take}
-use Rattle.core_find.specs.Looking.{named}
+use Rattle.core_find.specs.Carried.{named}
 use Rattle.core_find.proofs.looking.named_by.Given as goal
 
 abbrev pub invariant-loop-pair : goal.invariant-loop-pair

@@ -23,15 +23,18 @@ returns-clause-looking c =
     let found = found_names I I c.args.log.capacity members _ c.in_ok-named.named.items c.args.log
     (sym (ap (some_of I) c.in_ok-members.ensures ∙ some_of_all I)) c.deref.ensures.value rises
     c.len-count.ensures.buffers c.requires refl c.in_ok-named.ensures in
+    let looked = at_first I c.args.log.capacity members c.new.result.items c.in_ok-members.ensures c.new.ensures.items in
     record {
-      looked = at_first I c.args.log.capacity members c.new.result.items c.in_ok-members.ensures c.new.ensures.items;
+      looked = looked;
       names = found.0;
+      by_end = rw c.deref.ensures.value at c.in_ok-named.ensures;
       log_rises = rises;
+      log_in_range = looked.in_range;
       log_of = found.1;
     }
 
-pub returns-clause-asks : goal.returns-clause-asks
-returns-clause-asks c =
+pub returns-clause-ahead : goal.returns-clause-ahead
+returns-clause-ahead c =
     let all = ap length c.in_ok-members.ensures in
     let none = ap length c.new.ensures.items in
     let n = length-range_with_len 0 (length c.args.instance.now) in

@@ -37,7 +37,9 @@ returns-in_ok-push-in-Layout-clause-looking g c =
           c.requires.more c.requires.fewer (subst (λ (J : Instance). IsLayout J C c.in-Layout.rest.items) some answer)
           c.in_ok-push-in-Layout.ensures.items c.requires.looking.looked;
       names = c.requires.looking.names;
+      by_end = c.requires.looking.by_end;
       log_rises = c.requires.looking.log_rises;
+      log_in_range = c.requires.looking.log_in_range;
       log_of = c.requires.looking.log_of;
     }
 
@@ -73,12 +75,14 @@ returns-in_ok-named-in-Refuted-clause-looking g c =
     let found = found_names I c.in_ok-some.some C c.args.fewer.items _ c.in_ok-named-in-Refuted.named.items
     c.in-Refuted.smaller some c.deref-in-Refuted.ensures.value rises c.len-count.ensures.buffers answer.0 answer.1
     c.in_ok-named-in-Refuted.ensures in
+    let looked = drop_looked I C at.members.items c.args.fewer.items at.rests _ _ place is_place c.requires.more
+    few (others_do_not_fit I C _ _ found.0) c.deref_mut.ensures.value c.leave_out.ensures c.requires.looking.looked in
     record {
-      looked = drop_looked I C at.members.items c.args.fewer.items at.rests _ _ place is_place c.requires.more
-          few (others_do_not_fit I C _ _ found.0) c.deref_mut.ensures.value c.leave_out.ensures
-          c.requires.looking.looked;
+      looked = looked;
       names = found.0;
+      by_end = rw c.deref-in-Refuted.ensures.value at c.in_ok-named-in-Refuted.ensures;
       log_rises = rises;
+      log_in_range = looked.in_range;
       log_of = found.1;
     }
 
@@ -89,12 +93,3 @@ returns-in_ok-named-in-Refuted-clause-nearer g c =
     c.len-place.result (c.len-place.ensures ∙ at.rests.ok.0) c.requires.more
     (c.requires.fewer ∙ ap (remove at.members.items) (sym (c.len-place.ensures ∙ at.rests.ok.0)))
     c.deref_mut.ensures.value c.leave_out.ensures
-
-pub returns-in_ok-named-in-Refuted-clause-asks : goal.returns-in_ok-named-in-Refuted-clause-asks
-returns-in_ok-named-in-Refuted-clause-asks g c =
-    let at = c.args.looking in
-    let nearer = dropped_nearer at.members.items c.args.fewer.items at.rests _ c.leave_out.new.rests
-    c.len-place.result (c.len-place.ensures ∙ at.rests.ok.0) c.requires.more
-    (c.requires.fewer ∙ ap (remove at.members.items) (sym (c.len-place.ensures ∙ at.rests.ok.0)))
-    c.deref_mut.ensures.value c.leave_out.ensures in
-    omega (arith, nearer, c.ask.ensures.counted)

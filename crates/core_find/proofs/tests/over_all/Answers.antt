@@ -1,24 +1,28 @@
-use Rattle.std.proofs.Common.{◌∙◌, ◌^◌, ℕ, List, length, ap, arith}
-use Rattle.std.proofs.lemmas.List.FromFn.{length-range_with_len}
-use Rattle.dsa_terms.specs.Parts.{whole}
-use Rattle.dsa_terms.proofs.Lists.{from_map}
+use Rattle.std.proofs.Common.{◌<◌, ◌∙◌, length, arith}
 use Rattle.dsa_terms.proofs.Ranges.{rises-range}
-use Rattle.canonical_order.specs.Claims.{IsBoundedBy}
+use Rattle.dsa_terms.specs.Parts.{numbers}
+use Rattle.dsa_terms.proofs.Places.{all_from_in}
+use Rattle.dsa_terms.proofs.Ranges.{below}
+use Rattle.core_find.proofs.Bounding.{whole_is_bounded}
 use Rattle.core_find.proofs.tests.over_all.Goals as goal
-
-bounded : (ks : List ℕ) → IsBoundedBy (2 ^ 60) (whole ks)
-bounded ks e i =
-    let r = from_map (λ (b : ℕ). (b, 0)) ks e i in
-    let none = ap (λ (x : ℕ × ℕ). x.1) r.2 in omega (arith, none)
 
 pub whole-requires-clause-rises : goal.whole-requires-clause-rises
 whole-requires-clause-rises c = rw (c.deref.ensures.value ∙ c.in_ok-members.ensures) (rises-range _ 0)
 
-pub whole-requires-clause-count : goal.whole-requires-clause-count
-whole-requires-clause-count c =
-    let same = ap length (c.deref.ensures.value ∙ c.in_ok-members.ensures) in
-    let n = length-range_with_len 0 (length c.args.instance.now) in
-    omega (arith, same, n, c.len-count.ensures.limit)
+pub whole-requires-clause-in_range : goal.whole-requires-clause-in_range
+whole-requires-clause-in_range c =
+    rw (c.deref.ensures.value ∙ c.in_ok-members.ensures)
+    (all_from_in (λ b. b < length c.args.instance.now) (numbers (length c.args.instance.now))
+    (λ b i. below (length c.args.instance.now) b i))
 
 pub returns : goal.returns
-returns c = (rw c.in_ok-claim.ensures (bounded _), omega arith, omega arith, omega arith)
+returns c =
+    let n = length c.args.instance.now in (
+      rw c.in_ok-claim.ensures
+          (whole_is_bounded c.args.instance.now _ c.len-count.ensures.buffers
+          (rw (c.deref.ensures.value ∙ c.in_ok-members.ensures)
+          (all_from_in (λ b. b < n) (numbers n) (λ b i. below n b i)))),
+      omega arith,
+      omega arith,
+      omega arith,
+    )
