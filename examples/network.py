@@ -78,6 +78,7 @@ def rows():
             yield from convolution_rows(name, int(kind[4:]), channels_of[reads[0]], side, channels)
 
 
-print("id,lower,upper,size,alignment,gaps")
-for row in rows():
-    print(*row, sep=",")
+if __name__ == "__main__":
+    print("id,lower,upper,size,alignment,gaps")
+    for row in rows():
+        print(*row, sep=",")

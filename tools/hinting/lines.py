@@ -92,7 +92,7 @@ def log_hint(table, name, fault):
     if end:
         why = "which is not there"
         if end[2]:
-            why = f"whose claim has a bound above 0 for buffer {end[2]}, {shown(table.text(int(end[2]), b'id'))}"
+            why = f"whose claim has a bound above the floor of buffer {end[2]}, {shown(table.text(int(end[2]), b'id'))}"
         return f"{at(name, end_line(name))} names line {end[1]}, {why}"
     text = re.fullmatch(r"([a-z ]+) (\d+)", fault)
     if text:

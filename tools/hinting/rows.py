@@ -5,7 +5,7 @@ import re
 from .tables import LONGEST_NAME, MOST_NAMES, READ, is_near, is_same_word
 from .texts import MOST_BUFFERS, MOST_GAPS, TIME_LIMIT, WORD_LIMIT, shown, why_no_number
 
-LIMITS = {"lower": TIME_LIMIT, "upper": TIME_LIMIT, "size": TIME_LIMIT, "alignment": TIME_LIMIT}
+LIMITS = dict.fromkeys(("lower", "upper", "size", "alignment", "lowest"), TIME_LIMIT)
 # What is wrong with the value of one column.
 VALUES = {
     "empty id": ("id", "is empty: an identifier has 1 to 255 bytes"),
@@ -16,6 +16,7 @@ VALUES = {
     "alignment too large": ("alignment", "is above 2^32"),
     "too many gaps": ("gaps", f"has more than {MOST_GAPS} gaps"),
     "never live": ("gaps", "leaves no moment of the lifetime"),
+    "lowest too large": ("lowest", "is above 2^40"),
 }
 
 
@@ -155,7 +156,10 @@ def plain_hint(table, number):
         field = table.field(number, b"alignment")
         return f"{table.at(field)}: alignment: {shown(field.text)}: classes takes no alignment above 1"
     field = table.field(number, b"gaps")
-    return f"{table.at(field)}: gaps: {shown(field.text)}: classes takes no gaps"
+    if field and field.text:
+        return f"{table.at(field)}: gaps: {shown(field.text)}: classes takes no gaps"
+    field = table.field(number, b"lowest")
+    return f"{table.at(field)}: lowest: {shown(field.text)}: classes takes no lowest above 0"
 
 
 def layout_hint(table, layout, capacity, fault):
@@ -166,7 +170,7 @@ def layout_hint(table, layout, capacity, fault):
     missing = re.fullmatch(r"missing id (\d+)", fault)
     if missing:
         return f"{layout.name}: no row has the id {shown(table.text(int(missing[1]), b'id'))}"
-    judged = re.fullmatch(r"(unaligned|above|overlap) (\d+)(?: (\d+) (\d+))?", fault)
+    judged = re.fullmatch(r"(unaligned|too low|above|overlap) (\d+)(?: (\d+) (\d+))?", fault)
     if not judged:
         return header_hint(layout, fault, "id,offset") or buffer_hint(table, layout, fault)
     if judged[1] == "overlap":
@@ -176,6 +180,8 @@ def layout_hint(table, layout, capacity, fault):
     who = shown(table.text(number, b"id"))
     if judged[1] == "unaligned":
         why = f"is no multiple of the alignment of {who}, {table.number(number, b'alignment', 1)}"
+    elif judged[1] == "too low":
+        why = f"is too low: {who} may not stand below {table.number(number, b'lowest')}"
     else:
         end = int(field.text) + table.number(number, b"size")
         why = f"is too high: {who} ends at {end}, above {capacity}"

@@ -9,9 +9,7 @@ from .texts import distance
 
 FIELD = re.compile(rb'"([^"]*(?:""[^"]*)*)("?)([^,\r\n]*)|([^,\r\n]*)')
 LINE_END = re.compile(rb"\r\n|\r|\n")
-READ = (b"id", b"lower", b"upper", b"size", b"alignment", b"gaps", b"offset")
-# A column that some versions read.
-KNOWN = (*READ, b"lowest")
+READ = (b"id", b"lower", b"upper", b"size", b"alignment", b"gaps", b"lowest", b"offset")
 MOST_FIELDS = 1_000_000
 # No name of a column that may be misspelt is longer.
 LONGEST_NAME = 40
@@ -134,7 +132,7 @@ def is_near(name, column):
 def misspelt(names):
     """The places of carried columns whose names may be misspelt, each with the column that may be meant."""
     for place, name in enumerate(names[:MOST_NAMES]):
-        if name in KNOWN or len(name) > LONGEST_NAME:
+        if name in READ or len(name) > LONGEST_NAME:
             continue
         for column in READ[:-1]:
             if is_same_word(name, column) or (column not in names and is_near(name, column)):

@@ -28,6 +28,10 @@ def row(text):
     return {"i": HEAD + "b0,0,5,1,,\n\n" + text + "\n"}
 
 
+def lowest(text):
+    return {"i": f"id,lower,upper,size,lowest\n{text}\n"}
+
+
 def layout(text, instance=TWO):
     return {"i": instance, "a": text}
 
@@ -106,6 +110,10 @@ CASES = [
      "malformed row 1 too many gaps", "i:4: gaps: '1-2 3-4 5-6 7-8 9-10 11-12 13-14 15-16 17-18' has more than 8 gaps"),
     (row("b1,0,9,1,,0-9"), BOUNDS, 4, "malformed row 1 never live",
      "i:4: gaps: '0-9' leaves no moment of the lifetime"),
+    (lowest("b1,0,1,4,1099511627777"), BOUNDS, 4, "malformed row 0 lowest too large",
+     "i:2: lowest: '1099511627777' is above 2^40"),
+    (lowest("b1,0,1,4,4K"), BOUNDS, 4, "malformed row 0 bad number lowest",
+     "i:2: lowest: '4K' is no number of 1 to 20 digits"),
     ({**row("b1,0,1,4K,,"), "a": ""}, VERIFY, 4, "malformed row 1 bad number size",
      "i:4: size: '4K' is no number of 1 to 20 digits"),
     # plans by size class
@@ -113,6 +121,8 @@ CASES = [
      "i:4: alignment: '4': classes takes no alignment above 1"),
     (row("b1,0,9,1,,2-3"), "classes --input i --output o", 4, "not plain 1",
      "i:4: gaps: '2-3': classes takes no gaps"),
+    (lowest("b1,0,1,4,6"), "classes --input i --output o", 4, "not plain 0",
+     "i:2: lowest: '6': classes takes no lowest above 0"),
     # rows with a period
     (row("b1,10,3,1,,"), UNROLL, 4, "cycle row 1 outside", "i:4: lower: '10' is not below the period, 10"),
     (row("b1,0,11,1,,"), UNROLL, 4, "cycle row 1 outside", "i:4: upper: '11' is above the period, 10"),
@@ -139,6 +149,8 @@ CASES = [
     (layout("id,offset\nb1,0\n"), VERIFY, 1, "wrong missing id 1", "a: no row has the id 'b2'"),
     (layout("id,offset\nb0,0\nb1,3\n", row("b1,0,1,1,2,")["i"]), VERIFY, 1, "wrong unaligned 1",
      "a:3: offset: '3' is no multiple of the alignment of 'b1', 2"),
+    (layout("id,offset\nb1,5\n", lowest("b1,0,1,4,6")["i"]), VERIFY, 1, "wrong too low 0",
+     "a:2: offset: '5' is too low: 'b1' may not stand below 6"),
     (layout("id,offset\nb2,5\nb1,0\n"), VERIFY, 1, "wrong above 1",
      "a:2: offset: '5' is too high: 'b2' ends at 9, above 8"),
     (layout("id,offset\nb2,2\nb1,0\n"), VERIFY, 1, "wrong overlap 0 1 2",
@@ -186,7 +198,7 @@ CASES = [
      " twin before it"),
     (log(LOG.replace("end 0", "end 1")), REFUTE, 1, "refused end 1", "l:3: 'end 1' names line 1, which is not there"),
     (log(LOG.replace("0=0", "0=1")), "trim --input i --log l --output o", 1, "refused end 0 bound 0",
-     "l:3: 'end 0' names line 0, whose claim has a bound above 0 for buffer 0, 'b1'"),
+     "l:3: 'end 0' names line 0, whose claim has a bound above the floor of buffer 0, 'b1'"),
     (log("dsalog 2 2 7\nover 2 0 1 : 0=0 1=0\nover 2 0 1 : @5\nend 0\n"), "upgrade --input i --log l --output o", 1,
      "refused bad base 1", "l:3: 'over 2 0 1 : @5' names a base that is no earlier line"),
     (log("dsalog 2 2 7\nover 2 0 1 : 0=0 1=0\nover 2 0 1 : @0 -7\nend 0\n"), REFUTE, 1, "refused bad change 1",
@@ -330,6 +342,7 @@ class Hints(unittest.TestCase):
             ("id,lower,upper,size,gap", "gaps"),
             ("id,lower,upper,size,sizes", "size"),
             ("id,lower,upper,size,Size", "size"),
+            ("id,lower,upper,size,Lowest", "lowest"),
         ]:
             with self.subTest(header=header):
                 self.setUp()

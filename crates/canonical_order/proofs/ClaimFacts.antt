@@ -14,6 +14,7 @@ plain lower upper size alignment = record {
   size = size;
   alignment = alignment;
   gaps = [];
+  lowest = 0;
 }
 
 -- two buffers of size 1 at even offsets and one of size 2, all live at moment 0

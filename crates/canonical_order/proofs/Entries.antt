@@ -67,14 +67,6 @@ in_range I l b s h = s.claim.in_range (entry_of l b) (entry_in l b h)
 pub raise_limit : (l : Claim) → IsBoundedBy (2 ^ 60) l → IsBoundedBy (2 ^ 61) l
 raise_limit l h e i = let k : e.1 ≤ 2 ^ 60 = h e i in omega arith
 
-pub whole_is_kept : (bs : List ℕ) → Rises bs → length bs < 2 ^ 32 → IsKeptClaim (whole bs)
-whole_is_kept bs r n = record {
-  rises = rw (buffers_of-whole bs) r;
-  bounds = λ e i. let q = from_map (λ (b : ℕ). let e : Entry = (b, 0) in e) bs e i in let k : e.1 ≡ 0 =
-      ap (λ (e : Entry). e.1) q.2 in omega arith;
-  count = rw (length-whole bs) n;
-}
-
 pub has_from_some : (l : Claim) (b : ℕ) → is_some (bound_of l b) ≡ true → HasBuffer l b
 has_from_some l b h = go (bound_of l b) refl h
   where

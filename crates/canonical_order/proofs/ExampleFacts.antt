@@ -1,9 +1,9 @@
 -- Worked claims: bounds, children, tall buffers, and what is covered.
 use Rattle.std.proofs.Common.{◌≡◌, ℕ, zero, suc, ◌<◌, inl, inr, [], ◌∷◌, slice_index, Some, None, refl, ap, lit≤, arith}
-use Rattle.dsa_terms.specs.Buffers.{Buffer, Instance, is_live, buffer, do_share, some_before}
+use Rattle.dsa_terms.specs.Buffers.{Buffer, Instance, is_live, buffer, do_share, floor, some_before}
 use Rattle.dsa_terms.specs.Claims.{Entry, IsIn, Covers, up, step, child}
 use Rattle.dsa_terms.specs.Search.{is_tall}
-use Rattle.canonical_order.specs.Claims.{HasBuffer, bound_of, entries_below, entry_of, least_buffer}
+use Rattle.canonical_order.specs.Claims.{HasBuffer, bound_of, entries_below, entry_of, is_above_floor, least_buffer}
 use Rattle.canonical_order.specs.Levels.{AreLevels, IsLevel}
 
 abbrev plain : ℕ → ℕ → ℕ → ℕ → Buffer
@@ -12,8 +12,8 @@ plain lower upper size alignment = record {
   upper = upper;
   size = size;
   alignment = alignment;
-  gaps =
-      [];
+  gaps = [];
+  lowest = 0;
 }
 
 -- two buffers of size 1 at even offsets and one of size 2, all live at moment 0
@@ -36,6 +36,25 @@ entry_there = refl
 
 below_two : entries_below 2 ((0, 5) ∷ (1, 6) ∷ (2, 7) ∷ []) ≡ (0, 5) ∷ (1, 6) ∷ []
 below_two = refl
+
+-- ---- bounds above floors
+-- of two buffers, both of alignment 4, the floor of the first is 8, past its lowest, 6
+abbrev fours : Instance
+fours = record (plain 0 1 4 4) { lowest = 6 } ∷ plain 0 1 4 4 ∷ []
+
+-- a bound may lie between the lowest and the floor, and at the floor
+none_above : least_buffer (is_above_floor fours) ((0, 8) ∷ (1, 0) ∷ []) ≡ None
+unfolding is_above_floor floor buffer
+none_above = refl
+
+one_above : least_buffer (is_above_floor fours) ((0, 9) ∷ (1, 1) ∷ []) ≡ Some 0
+unfolding is_above_floor floor buffer
+one_above = refl
+
+-- the least one, and by its own floor
+second_above : least_buffer (is_above_floor fours) ((0, 7) ∷ (1, 1) ∷ []) ≡ Some 1
+unfolding is_above_floor floor buffer
+second_above = refl
 
 -- ---- levels
 -- the low of buffer 1 is 2, past its bound, and buffer 0 is not in the claim

@@ -15,8 +15,8 @@ plain lower upper size alignment = record {
   upper = upper;
   size = size;
   alignment = alignment;
-  gaps =
-      [];
+  gaps = [];
+  lowest = 0;
 }
 
 -- two buffers of size 1 at even offsets and one of size 2, all live at moment 0, and one that is live at moment 1

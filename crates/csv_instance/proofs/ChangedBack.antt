@@ -18,7 +18,7 @@ use Rattle.csv_instance.specs.Parse.{buffer_limit, form_faults, header_fault, he
 use Rattle.csv_instance.specs.Records.{Record, table_of}
 use Rattle.csv_instance.specs.Rows.{form_fault, parse_rows, row_form_fault, rows_form_fault, values_of}
 use Rattle.csv_instance.specs.declared.columns.Column.{Column}
-use Rattle.csv_instance.specs.declared.columns.Column.TheVariants.{Id, Lower, Upper, Size, Alignment, Gaps, Offset}
+use Rattle.csv_instance.specs.declared.columns.Column.TheVariants.{Id, Lower, Upper, Size, Alignment, Gaps, Offset, Lowest}
 use Rattle.csv_instance.specs.declared.fault.InstanceFault.TheVariants as fault
 use Rattle.csv_instance.proofs.Basics.{counted_last, find_none, none_counted, not_false, some_if}
 use Rattle.csv_instance.proofs.ChangedFields.{AreOther, HasFields, place-miss, row_carried, row_changed}
@@ -81,6 +81,7 @@ still_once header none Size once = twice_stays header Size refl once
 still_once header none Alignment once = twice_stays header Alignment refl once
 still_once header none Gaps once = gaps_once header none
 still_once header none Offset once = twice_stays header Offset refl once
+still_once header none Lowest once = twice_stays header Lowest refl once
 
 -- and none is lacking
 still_there : (header : Record) → column_place header Gaps ≡ None → (c : Column) → not (has_column header c) ≡ false →
@@ -92,6 +93,7 @@ still_there header none Size there = ap not (column_stays header Size refl) ∙ 
 still_there header none Alignment there = ap not (column_stays header Alignment refl) ∙ there
 still_there header none Gaps there = cc (rw none at there)
 still_there header none Offset there = ap not (column_stays header Offset refl) ∙ there
+still_there header none Lowest there = ap not (column_stays header Lowest refl) ∙ there
 
 header_grows : (header : Record) → header_fault header ≡ None → column_place header Gaps ≡ None →
     header_fault (grown header) ≡ None
@@ -140,6 +142,7 @@ record Says (header row : Record) (b : Buffer) : Type 0 where
   pub size : number_under header row Size ≡ Some b.size
   pub alignment : number_under header row Alignment ≡ Some b.alignment
   pub gaps : gaps_of (field_of header row Gaps) ≡ Some b.gaps
+  pub lowest : number_under header row Lowest ≡ Some b.lowest
 
 there_is : {A : Type 0} (o : Option A) (d : A) → not (is_some o) ≡ false → o ≡ Some (unwrap_or o d)
 there_is None d e = cc e
@@ -151,23 +154,27 @@ says_its_own : (header : Record) (n : ℕ) (row : Record) → form_fault header 
 says_its_own header n row e =
     let all = all_none (form_faults header n row) e in
     let missing = λ (c : Column). not (is_some (number_under header row c)) in
-    let m1 = find_none missing Lower (Upper ∷ Size ∷ Alignment ∷ []) (map_none (fault.BadNumber n) _ all.0) in
-    let m2 = find_none missing Upper (Size ∷ Alignment ∷ []) m1.1 in
-    let m3 = find_none missing Size (Alignment ∷ []) m2.1 in
-    let m4 = find_none missing Alignment [] m3.1 in
+    let m1 = find_none missing Lower (Upper ∷ Size ∷ Alignment ∷ Lowest ∷ []) (map_none (fault.BadNumber n) _ all.0) in
+    let m2 = find_none missing Upper (Size ∷ Alignment ∷ Lowest ∷ []) m1.1 in
+    let m3 = find_none missing Size (Alignment ∷ Lowest ∷ []) m2.1 in
+    let m4 = find_none missing Alignment (Lowest ∷ []) m3.1 in
+    let m5 = find_none missing Lowest [] m4.1 in
     record {
       lower = there_is (number_under header row Lower) 0 m1.0;
       upper = there_is (number_under header row Upper) 0 m2.0;
       size = there_is (number_under header row Size) 0 m3.0;
       alignment = there_is (number_under header row Alignment) 0 m4.0;
       gaps = there_is (gaps_of (field_of header row Gaps)) [] (not_so _ (fault.BadGap n) all.1.0);
+      lowest = there_is (number_under header row Lowest) 0 m5.0;
     }
 
 -- and what says something has no such fault
 says_well : (header : Record) (n : ℕ) (row : Record) (b : Buffer) → Says header row b →
     (form_fault header n row ≡ None) × (row_buffer header row ≡ b)
-says_well header n row b s =
-    (rw (s.lower, s.upper, s.size, s.alignment, s.gaps) refl, rw (s.lower, s.upper, s.size, s.alignment, s.gaps) refl)
+says_well header n row b s = (
+  rw (s.lower, s.upper, s.size, s.alignment, s.gaps, s.lowest) refl,
+  rw (s.lower, s.upper, s.size, s.alignment, s.gaps, s.lowest) refl,
+)
 
 -- the moments of a change are within their limit
 abbrev IsMoments : Change → Type 0
@@ -180,7 +187,7 @@ IfMoments (Some c) = IsMoments c
 -- the fields of a row
 own_fields : (header row : Record) → length row ≡ length header →
     HasFields header row (field_of header row Id) (field_of header row Lower) (field_of header row Upper)
-    (field_of header row Size) (field_of header row Alignment) (field_of header row Gaps)
+    (field_of header row Size) (field_of header row Alignment) (field_of header row Gaps) (field_of header row Lowest)
 own_fields header row even = record {
   even = even;
   id_is = refl;
@@ -189,6 +196,7 @@ own_fields header row even = record {
   size_is = refl;
   alignment_is = refl;
   gaps_is = refl;
+  lowest_is = refl;
 }
 
 -- what a row says after its change, how many fields it has and what its id is
@@ -199,7 +207,7 @@ row_after : (header row : Record) (o : Option Change) (b : Buffer) → header_fa
     × Says (changed_header header) (changed_row header o row) (changed_value o b)
 row_after header row None b good even s m =
     let f = row_carried header row (field_of header row Id) (field_of header row Lower) (field_of header row Upper)
-    (field_of header row Size) (field_of header row Alignment) (field_of header row Gaps) (own_fields header row even) in (
+    (field_of header row Size) (field_of header row Alignment) (field_of header row Gaps) (field_of header row Lowest) (own_fields header row even) in (
       f.even,
       f.id_is,
       record {
@@ -208,12 +216,13 @@ row_after header row None b good even s m =
         size = rw f.size_is s.size;
         alignment = rw f.alignment_is s.alignment;
         gaps = rw f.gaps_is s.gaps;
+        lowest = rw f.lowest_is s.lowest;
       },
     )
 row_after header row (Some c) b good even s m =
     let there = moments_there header good in
     let f = row_changed header row (field_of header row Id) (field_of header row Lower) (field_of header row Upper)
-    (field_of header row Size) (field_of header row Alignment) (field_of header row Gaps) there.0.0 there.1.0 c there.0.1
+    (field_of header row Size) (field_of header row Alignment) (field_of header row Gaps) (field_of header row Lowest) there.0.0 there.1.0 c there.0.1
     there.1.1 (own_fields header row even) in (
       f.even,
       f.id_is,
@@ -223,6 +232,7 @@ row_after header row (Some c) b good even s m =
         size = rw f.size_is s.size;
         alignment = rw f.alignment_is s.alignment;
         gaps = rw f.gaps_is (gap_added-read (field_of header row Gaps) b.gaps c.3 c.4 s.gaps m.2 m.3);
+        lowest = rw f.lowest_is s.lowest;
       },
     )
 
@@ -303,10 +313,10 @@ rows_after header cs n before before2 (row ∷ rows) good m same e =
 length_after : (header row : Record) (o : Option Change) → header_fault header ≡ None → length row ≡ length header →
     length (changed_row header o row) ≡ length (changed_header header)
 length_after header row None good even =
-    (row_carried header row _ _ _ _ _ _ (own_fields header row even)).even
+    (row_carried header row _ _ _ _ _ _ _ (own_fields header row even)).even
 length_after header row (Some c) good even =
     let there = moments_there header good in
-    (row_changed header row _ _ _ _ _ _ there.0.0 there.1.0 c there.0.1 there.1.1 (own_fields header row even)).even
+    (row_changed header row _ _ _ _ _ _ _ there.0.0 there.1.0 c there.0.1 there.1.1 (own_fields header row even)).even
 
 rows_read : (header : Record) (cs : List Change) (n : ℕ) (before rows : List Record) → header_fault header ≡ None →
     rows_form_fault header before rows ≡ None → AllReadBack (changed_rows header cs n rows)

@@ -13,7 +13,7 @@ use Rattle.csv_instance.specs.Changed.{Change, changed_header, changed_row, gap_
 use Rattle.csv_instance.specs.Columns.{column_place, field_of, name_of}
 use Rattle.csv_instance.specs.Records.{Record}
 use Rattle.csv_instance.specs.declared.columns.Column.{Column}
-use Rattle.csv_instance.specs.declared.columns.Column.TheVariants.{Id, Lower, Upper, Size, Alignment, Gaps}
+use Rattle.csv_instance.specs.declared.columns.Column.TheVariants.{Id, Lower, Upper, Size, Alignment, Gaps, Lowest}
 use Rattle.csv_instance.proofs.Basics.{text_same}
 use Rattle.csv_instance.proofs.OffsetLemmas.{get-append, get-last, position-last}
 
@@ -97,7 +97,7 @@ grown_gaps header row f none even =
 
 -- ---- rows
 -- the row has these fields under the columns of its header, and as many fields as that
-pub record HasFields (header row : Record) (id lower upper size alignment gaps : List ℕ) : Type 0 where
+pub record HasFields (header row : Record) (id lower upper size alignment gaps lowest : List ℕ) : Type 0 where
   pub even : length row ≡ length header
   pub id_is : field_of header row Id ≡ id
   pub lower_is : field_of header row Lower ≡ lower
@@ -105,16 +105,17 @@ pub record HasFields (header row : Record) (id lower upper size alignment gaps :
   pub size_is : field_of header row Size ≡ size
   pub alignment_is : field_of header row Alignment ≡ alignment
   pub gaps_is : field_of header row Gaps ≡ gaps
+  pub lowest_is : field_of header row Lowest ≡ lowest
 
 -- the row with this field of gaps has its other fields
-gaps_set : (header row : Record) (id lower upper size alignment gaps f : List ℕ) →
-    HasFields header row id lower upper size alignment gaps →
-    HasFields (changed_header header) (with_gaps header f row) id lower upper size alignment f
-gaps_set header row id lower upper size alignment gaps f h = go (column_place header Gaps) refl
+gaps_set : (header row : Record) (id lower upper size alignment gaps lowest f : List ℕ) →
+    HasFields header row id lower upper size alignment gaps lowest →
+    HasFields (changed_header header) (with_gaps header f row) id lower upper size alignment f lowest
+gaps_set header row id lower upper size alignment gaps lowest f h = go (column_place header Gaps) refl
   where
     go : (o : Option ℕ) → column_place header Gaps ≡ o →
         HasFields (option_map_or (λ _. header) o (header ++ name_of Gaps ∷ []))
-        (option_map_or (λ i. set row i f) o (row ++ f ∷ [])) id lower upper size alignment f
+        (option_map_or (λ i. set row i f) o (row ++ f ∷ [])) id lower upper size alignment f lowest
     go None e = record {
       even = (let k = h.even in omega (arith, length-append row (f ∷ []), length-append header (name_of Gaps ∷ [])));
       id_is = grown_other header row Id f refl h.even ∙ h.id_is;
@@ -122,32 +123,34 @@ gaps_set header row id lower upper size alignment gaps f h = go (column_place he
       upper_is = grown_other header row Upper f refl h.even ∙ h.upper_is;
       size_is = grown_other header row Size f refl h.even ∙ h.size_is;
       alignment_is = grown_other header row Alignment f refl h.even ∙ h.alignment_is;
+      lowest_is = grown_other header row Lowest f refl h.even ∙ h.lowest_is;
       gaps_is = grown_gaps header row f e h.even;
     }
     go (Some j) e =
         let set_is : with_field header Gaps f row ≡ set row j f = rw e refl in
-        subst (λ (r : Record). HasFields header r id lower upper size alignment f) set_is (record {
+        subst (λ (r : Record). HasFields header r id lower upper size alignment f lowest) set_is (record {
           even = length_with header row Gaps f ∙ h.even;
           id_is = field_other header row Id Gaps f refl ∙ h.id_is;
           lower_is = field_other header row Lower Gaps f refl ∙ h.lower_is;
           upper_is = field_other header row Upper Gaps f refl ∙ h.upper_is;
           size_is = field_other header row Size Gaps f refl ∙ h.size_is;
           alignment_is = field_other header row Alignment Gaps f refl ∙ h.alignment_is;
+          lowest_is = field_other header row Lowest Gaps f refl ∙ h.lowest_is;
           gaps_is = field_same header row Gaps j f e h.even;
         })
 
 -- the row as it is, under the header with a column of gaps
-pub row_carried : (header row : Record) (id lower upper size alignment gaps : List ℕ) →
-    HasFields header row id lower upper size alignment gaps →
-    HasFields (changed_header header) (changed_row header None row) id lower upper size alignment gaps
-row_carried header row id lower upper size alignment gaps h = go (column_place header Gaps) refl
+pub row_carried : (header row : Record) (id lower upper size alignment gaps lowest : List ℕ) →
+    HasFields header row id lower upper size alignment gaps lowest →
+    HasFields (changed_header header) (changed_row header None row) id lower upper size alignment gaps lowest
+row_carried header row id lower upper size alignment gaps lowest h = go (column_place header Gaps) refl
   where
     absent : column_place header Gaps ≡ None → [] ≡ gaps
     absent e = rw e at h.gaps_is
 
     go : (o : Option ℕ) → column_place header Gaps ≡ o →
         HasFields (option_map_or (λ _. header) o (header ++ name_of Gaps ∷ []))
-        (option_map_or (λ _. row) o (row ++ [] ∷ [])) id lower upper size alignment gaps
+        (option_map_or (λ _. row) o (row ++ [] ∷ [])) id lower upper size alignment gaps lowest
     go None e = record {
       even = (let k = h.even in omega (arith, length-append row ([] ∷ []), length-append header (name_of Gaps ∷ [])));
       id_is = grown_other header row Id [] refl h.even ∙ h.id_is;
@@ -155,19 +158,20 @@ row_carried header row id lower upper size alignment gaps h = go (column_place h
       upper_is = grown_other header row Upper [] refl h.even ∙ h.upper_is;
       size_is = grown_other header row Size [] refl h.even ∙ h.size_is;
       alignment_is = grown_other header row Alignment [] refl h.even ∙ h.alignment_is;
+      lowest_is = grown_other header row Lowest [] refl h.even ∙ h.lowest_is;
       gaps_is = grown_gaps header row [] e h.even ∙ absent e;
     }
     go (Some j) e = h
 
 -- the row after its change
-pub row_changed : (header row : Record) (id lower upper size alignment gaps : List ℕ) (i j : ℕ) (c : Change) →
+pub row_changed : (header row : Record) (id lower upper size alignment gaps lowest : List ℕ) (i j : ℕ) (c : Change) →
     column_place header Lower ≡ Some i → column_place header Upper ≡ Some j →
-    HasFields header row id lower upper size alignment gaps →
+    HasFields header row id lower upper size alignment gaps lowest →
     HasFields (changed_header header) (changed_row header (Some c) row) id (decimal c.1) (decimal c.2) size alignment
-    (gap_added gaps c.3 c.4)
-row_changed header row id lower upper size alignment gaps i j c at_lower at_upper h =
+    (gap_added gaps c.3 c.4) lowest
+row_changed header row id lower upper size alignment gaps lowest i j c at_lower at_upper h =
     rw h.gaps_is
-    (gaps_set header row2 id (decimal c.1) (decimal c.2) size alignment gaps (gap_added gaps c.3 c.4) (record {
+    (gaps_set header row2 id (decimal c.1) (decimal c.2) size alignment gaps lowest (gap_added gaps c.3 c.4) (record {
       even = length_with header row1 Upper (decimal c.2) ∙ even1;
       id_is = field_other header row1 Id Upper (decimal c.2) refl
           ∙ field_other header row Id Lower (decimal c.1) refl ∙ h.id_is;
@@ -178,6 +182,8 @@ row_changed header row id lower upper size alignment gaps i j c at_lower at_uppe
           ∙ field_other header row Size Lower (decimal c.1) refl ∙ h.size_is;
       alignment_is = field_other header row1 Alignment Upper (decimal c.2) refl
           ∙ field_other header row Alignment Lower (decimal c.1) refl ∙ h.alignment_is;
+      lowest_is = field_other header row1 Lowest Upper (decimal c.2) refl
+          ∙ field_other header row Lowest Lower (decimal c.1) refl ∙ h.lowest_is;
       gaps_is = field_other header row1 Gaps Upper (decimal c.2) refl
           ∙ field_other header row Gaps Lower (decimal c.1) refl ∙ h.gaps_is;
     }))

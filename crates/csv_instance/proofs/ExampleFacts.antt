@@ -13,9 +13,9 @@ use Rattle.csv_instance.specs.Gaps.{gaps_of}
 use Rattle.csv_instance.specs.Layout.{layout_text}
 use Rattle.csv_instance.specs.Numbers.{time_limit}
 use Rattle.csv_instance.specs.Offsets.{ids_of, layout_header_fault, parsed_offsets}
-use Rattle.csv_instance.specs.Parse.{alignment_of, header_fault, parse}
+use Rattle.csv_instance.specs.Parse.{number_or, header_fault, parse}
 use Rattle.csv_instance.specs.Records.{Record, table_of}
-use Rattle.csv_instance.specs.declared.columns.Column.TheVariants.{Id, Lower, Upper, Offset}
+use Rattle.csv_instance.specs.declared.columns.Column.TheVariants.{Id, Lower, Upper, Offset, Lowest}
 use Rattle.csv_instance.specs.declared.fault.InstanceFault.TheVariants as fault
 use Rattle.csv_instance.specs.declared.fault.OffsetsFault.TheVariants as offsets
 
@@ -27,8 +27,11 @@ greatest_moment = refl
 too_late : written_number time_limit (codes "4611686018427387904") ≡ None
 too_late = refl
 
-no_alignment : alignment_of [] ≡ Some 1
+no_alignment : number_or 1 [] ≡ Some 1
 no_alignment = refl
+
+no_lowest : number_or 0 [] ≡ Some 0
+no_lowest = refl
 
 two_gaps : gaps_of (codes "4-6 1-2") ≡ Some ((4, 6) ∷ (1, 2) ∷ [])
 two_gaps = refl
@@ -99,9 +102,33 @@ full = codes "size" ∷ codes "gaps" ∷ codes "id" ∷ codes "upper" ∷ codes 
 
 -- columns come in any order, and an empty alignment is 1
 read : parse (full ∷ (codes "4" ∷ codes "5-6 1-2" ∷ codes "A" ∷ codes "9" ∷ [] ∷ codes "00" ∷ codes "x" ∷ []) ∷ [])
-    ≡ Ok (record { lower = 0; upper = 9; size = 4; alignment = 1; gaps = (5, 6) ∷ (1, 2) ∷ [] } ∷ [])
+    ≡ Ok (record { lower = 0; upper = 9; size = 4; alignment = 1; gaps = (5, 6) ∷ (1, 2) ∷ []; lowest = 0 } ∷ [])
 unfolding full is_live some_before is_ever_live
 read = refl
+
+-- a lowest that is given, and an empty one, which is 0
+abbrev lowered : Record
+lowered = codes "id" ∷ codes "lower" ∷ codes "upper" ∷ codes "size" ∷ codes "lowest" ∷ []
+
+low_read : parse (lowered ∷ (codes "A" ∷ codes "0" ∷ codes "1" ∷ codes "4" ∷ codes "6" ∷ [])
+    ∷ (codes "B" ∷ codes "0" ∷ codes "1" ∷ codes "4" ∷ [] ∷ []) ∷ [])
+    ≡ Ok (record { lower = 0; upper = 1; size = 4; alignment = 1; gaps = []; lowest = 6 }
+    ∷ record { lower = 0; upper = 1; size = 4; alignment = 1; gaps = []; lowest = 0 } ∷ [])
+unfolding is_live some_before is_ever_live
+low_read = refl
+
+lowest_too_large : parse (lowered ∷ (codes "A" ∷ codes "0" ∷ codes "1" ∷ codes "4" ∷ codes "1099511627777" ∷ []) ∷ [])
+    ≡ Err (fault.BadBuffer 0 buffer.LowestTooLarge)
+unfolding is_live some_before is_ever_live
+lowest_too_large = refl
+
+lowest_is_no_number : parse (lowered ∷ (codes "A" ∷ codes "0" ∷ codes "0" ∷ codes "0" ∷ codes "4K" ∷ []) ∷ [])
+    ≡ Err (fault.BadNumber 0 Lowest)
+lowest_is_no_number = refl
+
+-- a column that stands twice comes before one of offsets
+lowest_twice : header_fault (codes "lowest" ∷ codes "offset" ∷ codes "lowest" ∷ []) ≡ Some (fault.DuplicateColumn Lowest)
+lowest_twice = refl
 
 -- all faults of a row come before those of the next
 row_by_row : parse (plain ∷ (codes "A" ∷ codes "0" ∷ codes "0" ∷ codes "1" ∷ []) ∷ ([] ∷ []) ∷ [])

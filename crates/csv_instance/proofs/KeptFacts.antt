@@ -31,10 +31,10 @@ abbrev first_row : Record
 first_row = codes "A" ∷ codes "2" ∷ codes "5" ∷ codes "4" ∷ []
 
 -- ---- rows
-numbers_of_first : AreNumbers plain first_row (record { lower = 2; upper = 5; size = 4; alignment = 1 })
-numbers_of_first = record { lower = refl; upper = refl; size = refl; alignment = refl }
+numbers_of_first : AreNumbers plain first_row (record { lower = 2; upper = 5; size = 4; alignment = 1; lowest = 0 })
+numbers_of_first = record { lower = refl; upper = refl; size = refl; alignment = refl; lowest = refl }
 
-two_of_them_changed : AreNumbers plain first_row (record { lower = 5; upper = 2; size = 4; alignment = 1 }) → ⊥
+two_of_them_changed : AreNumbers plain first_row (record { lower = 5; upper = 2; size = 4; alignment = 1; lowest = 0 }) → ⊥
 two_of_them_changed n = let e : Some 2 ≡ Some 5 = n.lower in cc
 
 past_the_last : length_fault 512 4 3 0 ≡ Some fault.TooManyBuffers
@@ -68,7 +68,7 @@ not_short field long h = let k : length field ≤ file_limit = h 0 field (lit< t
 
 -- ---- tables
 abbrev first_buffer : Buffer
-first_buffer = record { lower = 2; upper = 5; size = 4; alignment = 1; gaps = [] }
+first_buffer = record { lower = 2; upper = 5; size = 4; alignment = 1; gaps = []; lowest = 0 }
 
 not_mapped : {A B : Type 0} (f : A → B) (x : A) (xs : List A) (ys : List B) →
     ys ≡ map f xs → xs ≡ x ∷ [] → ys ≡ [] → ⊥

@@ -1,9 +1,10 @@
 -- What the rows that were read say, by row.
-use Rattle.std.proofs.Common.{◌≡◌, ◌∙◌, ◌<◌, ◌+◌, ℕ, List, get_or, length, map, sym, ap, arith}
+use Rattle.std.proofs.Common.{◌≡◌, ◌∙◌, ◌<◌, ◌≤◌, ◌+◌, ℕ, List, get_or, length, map, sym, ap, vec_len, arith}
 use Rattle.std.proofs.lemmas.List.{get_or-map, length-map}
 use Rattle.std.proofs.lemmas.List.Elements.{All-get_or}
 use Rattle.csv.specs.Records.{Row, fields_of}
 use Rattle.dsa_terms.specs.Buffers.{Buffer, buffer, no_buffer}
+use Rattle.csv_instance.specs.Records.{Record}
 use Rattle.csv_instance.specs.KeptRows.{IsKeptRows, records_of}
 use Rattle.csv_instance.specs.Parse.{row_buffer}
 use Rattle.csv_instance.specs.Rows.{AreKeptValues, value_of, values_of}
@@ -22,6 +23,21 @@ kept_count a k =
 
 pub kept_values : (a : Inside) → IsKeptRows a → values_of (records_of a) ≡ map value_of a.values.items
 kept_values a k = sym (k.values ∙ map-map (row_buffer (fields_of a.header)) fields_of a.rows.items)
+
+-- a row has a value
+pub kept_within : (a : Inside) (r : ℕ) (table : List Record) → IsKeptRows a → records_of a ≡ table →
+    r + 1 < length table → r < vec_len a.values
+kept_within a r table k is within =
+    let count = kept_count a k in
+    let all = ap length is in
+    omega (arith, a.values.ok.0)
+
+-- and there are few
+pub kept_few : (a : Inside) → IsKeptRows a → vec_len a.values ≤ 512
+kept_few a k =
+    let count = kept_count a k in
+    let rows = length-map a.rows.items fields_of in
+    omega (arith, a.values.ok.0, k.few)
 
 -- the value of a row
 pub kept_value : (a : Inside) (r : ℕ) (v : RowValues) → IsKeptRows a → r + 1 < length (records_of a) →

@@ -20,7 +20,7 @@ use Rattle.dsa_model.proofs.Faults.{neither, map_none, not_so}
 use Rattle.std.specs.Option.{option_map_or, option_or}
 use Rattle.csv_instance.specs.declared.fault.InstanceFault.TheVariants as fault
 use Rattle.csv_instance.specs.declared.columns.Column.{Column}
-use Rattle.csv_instance.specs.declared.columns.Column.TheVariants.{Id, Lower, Upper, Size, Alignment, Gaps, Offset}
+use Rattle.csv_instance.specs.declared.columns.Column.TheVariants.{Id, Lower, Upper, Size, Alignment, Gaps, Offset, Lowest}
 use Rattle.csv_instance.proofs.IdLemmas.{all_none, map-map, new_id, none_any, position-map}
 use Rattle.csv_instance.proofs.OffsetLemmas.{id-with, last-with, number-decimal, position-append, position-last}
 
@@ -43,7 +43,7 @@ pub record IsGood (header : Record) : Type 0 where
 pub good : (header : Record) → header_fault header ≡ None → IsGood header
 good header e =
     let n = all_none (header_faults header) e in
-    let twice = find_none (stands_twice header) Id (Lower ∷ Upper ∷ Size ∷ Alignment ∷ Gaps ∷ Offset ∷ [])
+    let twice = find_none (stands_twice header) Id (Lower ∷ Upper ∷ Size ∷ Alignment ∷ Gaps ∷ Offset ∷ Lowest ∷ [])
     (map_none fault.DuplicateColumn _ n.1.0) in
     let missing = find_none (λ (c : Column). not (has_column header c)) Id (Lower ∷ Upper ∷ Size ∷ [])
     (map_none fault.MissingColumn _ n.1.1.1.0) in

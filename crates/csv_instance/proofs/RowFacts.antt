@@ -26,7 +26,7 @@ any_lifetime = refl
 
 -- and so are numbers and gaps that no buffer has
 any_numbers : parse_rows (table_of (codes "id,gaps,lower,upper,size,alignment\nA,9-3 5-5,0,2,0,0\n"))
-    ≡ Ok (record { lower = 0; upper = 2; size = 0; alignment = 0; gaps = (9, 3) ∷ (5, 5) ∷ [] } ∷ [])
+    ≡ Ok (record { lower = 0; upper = 2; size = 0; alignment = 0; gaps = (9, 3) ∷ (5, 5) ∷ []; lowest = 0 } ∷ [])
 unfolding records_from strip_bom next_record
 any_numbers = refl
 
@@ -58,7 +58,7 @@ columns = codes "id" ∷ codes "lower" ∷ codes "upper" ∷ codes "size" ∷ []
 abbrev wrapped_row : Record
 wrapped_row = codes "A" ∷ codes "8" ∷ codes "2" ∷ codes "4" ∷ []
 
-module _ (v : RowValues) (numbers : v.numbers ≡ record { lower = 8; upper = 2; size = 4; alignment = 1 })
+module _ (v : RowValues) (numbers : v.numbers ≡ record { lower = 8; upper = 2; size = 4; alignment = 1; lowest = 0 })
     (gaps : v.gaps.items ≡ []) where
   value_is : value_of v ≡ plain 8 2 4 1
   value_is = rw (numbers, gaps) refl
@@ -118,7 +118,7 @@ too_late_to_change : AreMoments ((0, 0, 4611686018427387904, 2, 8) ∷ []) → �
 too_late_to_change all = let h = all 0 change (lit< tt) in let k = h.1 in omega arith
 
 one_value_changes : changed_values (change ∷ []) (plain 8 2 4 1 ∷ plain 2 8 4 1 ∷ [])
-    ≡ record { lower = 0; upper = 10; size = 4; alignment = 1; gaps = (2, 8) ∷ [] } ∷ plain 2 8 4 1 ∷ []
+    ≡ record { lower = 0; upper = 10; size = 4; alignment = 1; gaps = (2, 8) ∷ []; lowest = 0 } ∷ plain 2 8 4 1 ∷ []
 one_value_changes = refl
 
 a_first_gap : gap_added [] 2 8 ≡ codes "2-8"

@@ -43,6 +43,7 @@ changed_value (Some c) b = record {
   size = b.size;
   alignment = b.alignment;
   gaps = b.gaps ++ (c.3, c.4) ∷ [];
+  lowest = b.lowest;
 }
 
 -- what the rows from that number on say after their changes

@@ -4,7 +4,7 @@ use Rattle.std.specs.Option.{option_map_or}
 use Rattle.std.specs.Str.{bytes_eq}
 use Rattle.csv_instance.specs.Records.{Record}
 use Rattle.csv_instance.specs.declared.columns.Column.{Column}
-use Rattle.csv_instance.specs.declared.columns.Column.TheVariants.{Id, Lower, Upper, Size, Alignment, Gaps, Offset}
+use Rattle.csv_instance.specs.declared.columns.Column.TheVariants.{Id, Lower, Upper, Size, Alignment, Gaps, Offset, Lowest}
 
 -- a column's name
 abbrev pub name_of : Column → List ℕ
@@ -15,10 +15,11 @@ name_of Size = codes "size"
 name_of Alignment = codes "alignment"
 name_of Gaps = codes "gaps"
 name_of Offset = codes "offset"
+name_of Lowest = codes "lowest"
 
 -- the columns that have a meaning
 abbrev pub named_columns : List Column
-named_columns = Id ∷ Lower ∷ Upper ∷ Size ∷ Alignment ∷ Gaps ∷ Offset ∷ []
+named_columns = Id ∷ Lower ∷ Upper ∷ Size ∷ Alignment ∷ Gaps ∷ Offset ∷ Lowest ∷ []
 
 -- those that an instance needs
 abbrev pub needed_columns : List Column

@@ -11,7 +11,7 @@ use Rattle.csv_instance.specs.Numbers.{time_limit}
 use Rattle.csv_instance.specs.Gaps.{gaps_of}
 use Rattle.csv_instance.specs.Columns.{named_columns, needed_columns, has_column, stands_twice, field_of}
 use Rattle.csv_instance.specs.declared.columns.Column.{Column}
-use Rattle.csv_instance.specs.declared.columns.Column.TheVariants.{Id, Lower, Upper, Size, Alignment, Gaps, Offset}
+use Rattle.csv_instance.specs.declared.columns.Column.TheVariants.{Id, Lower, Upper, Size, Alignment, Gaps, Offset, Lowest}
 use Rattle.csv_instance.specs.declared.fault.InstanceFault.{InstanceFault}
 use Rattle.csv_instance.specs.declared.fault.InstanceFault.TheVariants as fault
 
@@ -32,18 +32,19 @@ header_faults header =
 abbrev pub header_fault : Record → Option InstanceFault
 header_fault header = first_fault (header_faults header)
 
--- the alignment that a field gives; an empty one gives 1
-abbrev pub alignment_of : List ℕ → Option ℕ
-alignment_of field = if length field == 0 then Some 1 else written_number time_limit field
+-- the number that a field gives, where an empty one gives this number
+abbrev pub number_or : ℕ → List ℕ → Option ℕ
+number_or default field = if length field == 0 then Some default else written_number time_limit field
 
--- the number under a column of a row
+-- the number under a column of a row: an alignment that is not given is 1, and a lowest that is not given is 0
 abbrev pub number_under : Record → Record → Column → Option ℕ
-number_under header row Alignment = alignment_of (field_of header row Alignment)
+number_under header row Alignment = number_or 1 (field_of header row Alignment)
+number_under header row Lowest = number_or 0 (field_of header row Lowest)
 number_under header row c = written_number time_limit (field_of header row c)
 
 -- the columns that hold numbers
 abbrev pub number_columns : List Column
-number_columns = Lower ∷ Upper ∷ Size ∷ Alignment ∷ []
+number_columns = Lower ∷ Upper ∷ Size ∷ Alignment ∷ Lowest ∷ []
 
 -- the first of them that has no number
 abbrev pub bad_column : Record → Record → Option Column
@@ -57,6 +58,7 @@ row_buffer header row = record {
   size = unwrap_or (number_under header row Size) 0;
   alignment = unwrap_or (number_under header row Alignment) 0;
   gaps = unwrap_or (gaps_of (field_of header row Gaps)) [];
+  lowest = unwrap_or (number_under header row Lowest) 0;
 }
 
 -- the greatest number of buffers

@@ -3,7 +3,7 @@ use Rattle.std.specs.Prelude.{◌≡◌, ◌==◌, ◌∷◌, [], ℕ, Option, S
 use Rattle.dsa_model.specs.Buffer.{first_fault, when}
 use Rattle.csv_instance.specs.Parse.{buffer_limit, id_limit, number_under}
 use Rattle.csv_instance.specs.Records.{Record}
-use Rattle.csv_instance.specs.declared.columns.Column.TheVariants.{Lower, Upper, Size, Alignment}
+use Rattle.csv_instance.specs.declared.columns.Column.TheVariants.{Lower, Upper, Size, Alignment, Lowest}
 use Rattle.csv_instance.specs.declared.fault.InstanceFault.{InstanceFault}
 use Rattle.csv_instance.specs.declared.fault.InstanceFault.TheVariants as fault
 use Rattle.csv_instance.specs.declared.row.Numbers.{Numbers}
@@ -14,6 +14,7 @@ pub record AreNumbers (header row : Record) (n : Numbers) : Type 0 where
   pub upper : number_under header row Upper ≡ Some n.upper
   pub size : number_under header row Size ≡ Some n.size
   pub alignment : number_under header row Alignment ≡ Some n.alignment
+  pub lowest : number_under header row Lowest ≡ Some n.lowest
 
 -- what is wrong with a row of this number, with this many fields and this many bytes of id, under a header of this many
 abbrev pub length_fault : ℕ → ℕ → ℕ → ℕ → Option InstanceFault

@@ -37,7 +37,8 @@ parse_rows (header ∷ rows) = option_map_or Err (option_or (header_fault header
 
 -- what a row says, once read
 abbrev pub value_of : RowValues → Buffer
-value_of v = buffer_of v.numbers.lower v.numbers.upper v.numbers.size v.numbers.alignment v.gaps.items
+value_of v =
+    buffer_of v.numbers.lower v.numbers.upper v.numbers.size v.numbers.alignment v.gaps.items v.numbers.lowest
 
 -- its moments are within their limit, and its gaps are few
 pub record AreKeptValues (v : RowValues) : Type 0 where

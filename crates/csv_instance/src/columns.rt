@@ -27,7 +27,21 @@ pub enum Column {
     Gaps,
     /// `offset`: where it stands, in a layout file.
     Offset,
+    /// `lowest`: the least offset that it may have.
+    Lowest,
 }
+
+/// The columns that have a meaning, in the order in which they are judged.
+pub(crate) const NAMED: [Column; 8] = [
+    Column::Id,
+    Column::Lower,
+    Column::Upper,
+    Column::Size,
+    Column::Alignment,
+    Column::Gaps,
+    Column::Offset,
+    Column::Lowest,
+];
 
 impl Column {
     /// The column's name, as it stands in a header.
@@ -42,6 +56,7 @@ impl Column {
             Column::Alignment => "alignment",
             Column::Gaps => "gaps",
             Column::Offset => "offset",
+            Column::Lowest => "lowest",
         }
     }
 }
@@ -62,6 +77,7 @@ pub(crate) struct ColumnPlaces {
     pub(crate) size: Option<usize>,
     pub(crate) alignment: Option<usize>,
     pub(crate) gaps: Option<usize>,
+    pub(crate) lowest: Option<usize>,
 }
 
 /// The field of a row at a place, and nothing where it has none there.
@@ -108,5 +124,6 @@ pub(crate) fn find_columns(header: &ByteRecord) -> ColumnPlaces
         size: find_column(header, Column::Size),
         alignment: find_column(header, Column::Alignment),
         gaps: find_column(header, Column::Gaps),
+        lowest: find_column(header, Column::Lowest),
     }
 }

@@ -28,8 +28,8 @@ pub enum InstanceFault {
     IdTooLong { row: u32 },
     /// A row has the id of an earlier one.
     DuplicateId { row: u32, earlier: u32 },
-    /// The first of `lower`, `upper`, `size`, `alignment` whose field is not 1 to 20 digits with a
-    /// number of at most 2^62 - 1. A field of `alignment` may be empty.
+    /// The first of `lower`, `upper`, `size`, `alignment`, `lowest` whose field is not 1 to 20
+    /// digits with a number of at most 2^62 - 1. A field of the last two may be empty.
     BadNumber { row: u32, column: Column },
     /// A row's gaps are not pieces `a-b` with one space between them, of numbers of 1 to 20 digits
     /// and at most 2^62 - 1.

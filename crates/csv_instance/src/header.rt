@@ -5,20 +5,9 @@ ghost use Rattle.csv.specs.Records.{fields_of};
 ghost use Rattle.csv_instance.specs.Columns.{has_column, needed_columns, stands_twice};
 ghost use Rattle.csv_instance.specs.Parse.{header_fault};
 
-use crate::columns::{Column, column_name, field_at, find_column};
+use crate::columns::{Column, NAMED, column_name, field_at, find_column};
 use crate::fault::InstanceFault;
 use csv::ByteRecord;
-
-/// The columns that have a meaning, in the order in which they are judged.
-const NAMED: [Column; 7] = [
-    Column::Id,
-    Column::Lower,
-    Column::Upper,
-    Column::Size,
-    Column::Alignment,
-    Column::Gaps,
-    Column::Offset,
-];
 
 /// The columns that an instance needs.
 const NEEDED: [Column; 4] = [Column::Id, Column::Lower, Column::Upper, Column::Size];

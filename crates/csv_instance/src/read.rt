@@ -16,7 +16,7 @@ use std::alloc::Global;
 
 /// The table of an instance file, or the file's first fault: that of the header, or else that of
 /// the first row that has one. The caller owes at most 67108864 bytes. The form is MiniMalloc's,
-/// with the columns `alignment` and `gaps` beside, and with columns that are carried.
+/// with the columns `alignment`, `gaps` and `lowest` beside, and with columns that are carried.
 pub fn read_instance(alloc: Global, bytes: &[u8]) -> Result<Table, Fail<InstanceFault>>
     requires { length bytes.now ≤ 67108864 }
     ensures read { UnlessNoMemory result (λ table. table ≡ table_of bytes.now)

@@ -7,7 +7,7 @@ ghost use Rattle.csv_instance.specs.Columns.{field_of};
 ghost use Rattle.csv_instance.specs.Places.{column_places};
 ghost use Rattle.csv_instance.specs.Records.{HasShortFields, Record};
 ghost use Rattle.csv_instance.specs.Numbers.{time_limit};
-ghost use Rattle.csv_instance.specs.Parse.{alignment_of, bad_column, row_buffer, content_fault, id_fault};
+ghost use Rattle.csv_instance.specs.Parse.{bad_column, content_fault, id_fault, number_or, row_buffer};
 ghost use Rattle.csv_instance.specs.Row.{AreNumbers, length_fault};
 ghost use Rattle.csv_instance.specs.Rows.{AreKeptValues, form_fault, value_of};
 ghost use Rattle.std.specs.Option.{option_map_or};
@@ -74,14 +74,14 @@ pub(crate) fn check_id(
     }
 }
 
-/// The alignment of a row: 1 where it gives none.
-fn read_alignment(row: &ByteRecord, place: Option<usize>) -> Option<u64>
+/// The number of a row under a column that need not be there: the default where it gives none.
+fn read_number_or(default: u64, row: &ByteRecord, place: Option<usize>) -> Option<u64>
     ensures { result
-        ≡ alignment_of (option_map_or (λ i. slice_index_or (fields_of row.now) i []) place []) }
+        ≡ number_or default (option_map_or (λ i. slice_index_or (fields_of row.now) i []) place []) }
 {
     let field = field_under(row, place);
     if field.is_empty() {
-        Some(1)
+        Some(default)
     } else {
         parse_number(field, TIME_LIMIT)
     }
@@ -94,6 +94,7 @@ pub(crate) struct Numbers {
     pub(crate) upper: u64,
     pub(crate) size: u64,
     pub(crate) alignment: u64,
+    pub(crate) lowest: u64,
 }
 
 /// The numbers of a row, or the first column without one.
@@ -114,14 +115,18 @@ fn read_numbers(places: &ColumnPlaces, row: &ByteRecord) -> Result<Numbers, Colu
     let Some(size) = parse_number(field_under(row, places.size), TIME_LIMIT) else {
         return Err(Column::Size);
     };
-    let Some(alignment) = read_alignment(row, places.alignment) else {
+    let Some(alignment) = read_number_or(1, row, places.alignment) else {
         return Err(Column::Alignment);
+    };
+    let Some(lowest) = read_number_or(0, row, places.lowest) else {
+        return Err(Column::Lowest);
     };
     Ok(Numbers {
         lower,
         upper,
         size,
         alignment,
+        lowest,
     })
 }
 
@@ -184,8 +189,9 @@ pub(crate) fn read_buffer(
         upper,
         size,
         alignment,
+        lowest,
     } = numbers;
-    match Buffer::new(alloc, lower, upper, size, alignment, &gaps) {
+    match Buffer::new(alloc, lower, upper, size, alignment, &gaps, lowest) {
         Ok(buffer) => Ok(buffer),
         Err(Fail::Fault(fault)) => {
             Err(Fail::Fault(InstanceFault::BadBuffer { row: number, fault }))

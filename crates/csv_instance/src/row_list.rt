@@ -163,6 +163,15 @@ impl Rows {
         self.values[r as usize].numbers.alignment
     }
 
+    /// The number under `lowest` in a row, in bytes, and 0 where it has none there. The caller owes
+    /// that `r` is below the count of rows.
+    pub fn lowest(&self, r: u32) -> u64
+        requires { r + 1 < length self.now }
+        ensures value { result ≡ (buffer (values_of self.now) r).lowest }
+    {
+        self.values[r as usize].numbers.lowest
+    }
+
     /// The gaps of a row as they were written, each by its first moment and the one after its last;
     /// fewer than 2^31. The caller owes that `r` is below the count of rows.
     pub fn gaps(&self, r: u32) -> &[(u64, u64)]

@@ -49,6 +49,7 @@ live_within P t b lt = go (nat_lt b.upper b.lower)
           size = b.size;
           alignment = b.alignment;
           gaps = b.gaps ++ (b.upper, b.lower) ∷ [];
+          lowest = b.lowest;
         }) b in nat_le u.lower t && nat_lt t u.upper && not (list_any (is_within t) u.gaps))
         ≡ (cond w (nat_le b.lower t || nat_lt t b.upper) (nat_le b.lower t && nat_lt t b.upper)
         && not (list_any (is_within t) b.gaps))
@@ -66,6 +67,7 @@ ends_in_period P b le = go (nat_lt b.upper b.lower)
       size = b.size;
       alignment = b.alignment;
       gaps = b.gaps ++ (b.upper, b.lower) ∷ [];
+      lowest = b.lowest;
     }) b in u.upper) ≤ P
     go true = omega arith
     go false = le
@@ -106,6 +108,7 @@ size_stays P b = go (nat_lt b.upper b.lower)
       size = b.size;
       alignment = b.alignment;
       gaps = b.gaps ++ (b.upper, b.lower) ∷ [];
+      lowest = b.lowest;
     }) b in u.size) ≡ b.size
     go true = refl
     go false = refl
@@ -120,7 +123,23 @@ alignment_stays P b = go (nat_lt b.upper b.lower)
       size = b.size;
       alignment = b.alignment;
       gaps = b.gaps ++ (b.upper, b.lower) ∷ [];
+      lowest = b.lowest;
     }) b in u.alignment) ≡ b.alignment
+    go true = refl
+    go false = refl
+
+lowest_stays : (P : ℕ) (b : Buffer) → (unrolled P b).lowest ≡ b.lowest
+unfolding unrolled
+lowest_stays P b = go (nat_lt b.upper b.lower)
+  where
+    go : (w : Bool) → (let u : Buffer = cond w (record {
+      lower = 0;
+      upper = P;
+      size = b.size;
+      alignment = b.alignment;
+      gaps = b.gaps ++ (b.upper, b.lower) ∷ [];
+      lowest = b.lowest;
+    }) b in u.lowest) ≡ b.lowest
     go true = refl
     go false = refl
 
@@ -152,6 +171,7 @@ pub cycle_from_layout : (P C : ℕ) (rows : List Buffer) (offsets : List ℕ) �
 cycle_from_layout P C rows offsets all l = record {
   count = l.count ∙ length-map rows (unrolled P);
   aligned = λ b lt. let h = l.aligned b (in_map lt) in rw (row_at P rows b lt, alignment_stays P (buffer rows b)) at h;
+  above = λ b lt. let h = l.above b (in_map lt) in rw (row_at P rows b lt, lowest_stays P (buffer rows b)) at h;
   within = λ b lt. let h = l.within b (in_map lt) in rw (row_at P rows b lt, size_stays P (buffer rows b)) at h;
   apart = λ b c t lb lc ne p q.
       let h = l.apart b c (t % P) (in_map lb) (in_map lc) ne (live b t lb p) (live c t lc q) in
@@ -176,6 +196,7 @@ pub layout_from_cycle : (P C : ℕ) (rows : List Buffer) (offsets : List ℕ) �
 layout_from_cycle P C rows offsets all l = record {
   count = l.count ∙ sym (length-map rows (unrolled P));
   aligned = λ b lt. rw (row_at P rows b (of_rows lt), alignment_stays P (buffer rows b)) (l.aligned b (of_rows lt));
+  above = λ b lt. rw (row_at P rows b (of_rows lt), lowest_stays P (buffer rows b)) (l.above b (of_rows lt));
   within = λ b lt. rw (row_at P rows b (of_rows lt), size_stays P (buffer rows b)) (l.within b (of_rows lt));
   apart = λ b c t lb lc ne p q.
       rw (row_at P rows b (of_rows lb), row_at P rows c (of_rows lc))

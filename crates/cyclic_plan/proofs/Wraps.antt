@@ -27,27 +27,27 @@ unrolled_stays P b e = rw e refl
 
 -- one that wraps has the whole period, and a gap more
 pub unrolled_wraps : (P : ℕ) (b : Buffer) → does_wrap b ≡ true →
-    unrolled P b ≡ buffer_of 0 P b.size b.alignment (b.gaps ++ (b.upper, b.lower) ∷ [])
+    unrolled P b ≡ buffer_of 0 P b.size b.alignment (b.gaps ++ (b.upper, b.lower) ∷ []) b.lowest
 unfolding unrolled
 unrolled_wraps P b e = rw e refl
 
 -- the same of numbers that are those of the row
-pub stays_of : (P lower upper size alignment : ℕ) (gaps : List (ℕ × ℕ)) (b : Buffer) → lower ≡ b.lower → upper ≡ b.upper →
-    size ≡ b.size → alignment ≡ b.alignment → gaps ≡ b.gaps → lower ≤ upper →
-    buffer_of lower upper size alignment gaps ≡ unrolled P b
-stays_of P lower upper size alignment gaps b l u s a g le =
+pub stays_of : (P lower upper size alignment : ℕ) (gaps : List (ℕ × ℕ)) (lowest : ℕ) (b : Buffer) → lower ≡ b.lower → upper ≡ b.upper →
+    size ≡ b.size → alignment ≡ b.alignment → gaps ≡ b.gaps → lowest ≡ b.lowest → lower ≤ upper →
+    buffer_of lower upper size alignment gaps lowest ≡ unrolled P b
+stays_of P lower upper size alignment gaps lowest b l u s a g f le =
     let not : does_wrap b ≡ false = not_wrapped b.lower b.upper (rw (l, u) at le) in
-    rw (unrolled_stays P b not, l, u, s, a, g) refl
+    rw (unrolled_stays P b not, l, u, s, a, g, f) refl
   where
     not_wrapped : (l u : ℕ) → l ≤ u → nat_lt u l ≡ false
     not_wrapped l u le = grind (arith, nat_tests)
 
-pub wraps_of : (P lower upper size alignment : ℕ) (gaps : List (ℕ × ℕ)) (b : Buffer) → lower ≡ b.lower → upper ≡ b.upper →
-    size ≡ b.size → alignment ≡ b.alignment → gaps ≡ b.gaps → upper < lower →
-    buffer_of 0 P size alignment (gaps ++ (upper, lower) ∷ []) ≡ unrolled P b
-wraps_of P lower upper size alignment gaps b l u s a g lt =
+pub wraps_of : (P lower upper size alignment : ℕ) (gaps : List (ℕ × ℕ)) (lowest : ℕ) (b : Buffer) → lower ≡ b.lower → upper ≡ b.upper →
+    size ≡ b.size → alignment ≡ b.alignment → gaps ≡ b.gaps → lowest ≡ b.lowest → upper < lower →
+    buffer_of 0 P size alignment (gaps ++ (upper, lower) ∷ []) lowest ≡ unrolled P b
+wraps_of P lower upper size alignment gaps lowest b l u s a g f lt =
     let is : does_wrap b ≡ true = wrapped b.lower b.upper (rw (l, u) at lt) in
-    rw (unrolled_wraps P b is, l, u, s, a, g) refl
+    rw (unrolled_wraps P b is, l, u, s, a, g, f) refl
   where
     wrapped : (l u : ℕ) → u < l → nat_lt u l ≡ true
     wrapped l u lt = grind (arith, nat_tests)

@@ -21,11 +21,12 @@ is_live_round P b t = lasts_at b (t % P) && not (list_any (is_within (t % P)) b.
 abbrev pub IsLiveRound : ℕ → Buffer → ℕ → Type 0
 IsLiveRound P b t = is_live_round P b t ≡ true
 
--- a layout of rows that repeat with period P: aligned, within C, and any two rows apart at each moment of endless time
--- at which both are live
+-- a layout of rows that repeat with period P: aligned, at or above lowest, within C, and any two rows apart at each
+-- moment of endless time at which both are live
 pub record IsCycleLayout (P C : ℕ) (rows : List Buffer) (offsets : List ℕ) : Type 0 where
   pub count : length offsets ≡ length rows
   pub aligned : (b : ℕ) → b < length rows → IsMultiple (slice_index offsets b) (buffer rows b).alignment
+  pub above : (b : ℕ) → b < length rows → (buffer rows b).lowest ≤ slice_index offsets b
   pub within : (b : ℕ) → b < length rows → slice_index offsets b + (buffer rows b).size ≤ C
   pub apart : (b c t : ℕ) → b < length rows → c < length rows → b ≢ c →
       IsLiveRound P (buffer rows b) t → IsLiveRound P (buffer rows c) t →
@@ -42,6 +43,7 @@ unrolled P b =
       size = b.size;
       alignment = b.alignment;
       gaps = b.gaps ++ (b.upper, b.lower) ∷ [];
+      lowest = b.lowest;
     })
     b
 

@@ -41,12 +41,13 @@ fn unrolled_buffer(
     let upper = rows.upper(row);
     let size = rows.size(row);
     let alignment = rows.alignment(row);
+    let lowest = rows.lowest(row);
     if lower <= upper {
-        Buffer::new(alloc, lower, upper, size, alignment, rows.gaps(row))
+        Buffer::new(alloc, lower, upper, size, alignment, rows.gaps(row), lowest)
     } else {
         let mut gaps = rows.gaps(row).to_vec(alloc)?;
         gaps.push((upper, lower))?;
-        Buffer::new(alloc, 0, period, size, alignment, &gaps)
+        Buffer::new(alloc, 0, period, size, alignment, &gaps, lowest)
     }
 }
 

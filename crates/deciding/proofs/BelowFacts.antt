@@ -4,8 +4,8 @@ use Rattle.std.proofs.Common.{◌≡◌, ◌<◌, ℕ, inl, inr, List, [], ◌�
 use Rattle.std.proofs.lemmas.List.Elements.{All-cons, All-nil}
 use Rattle.std.specs.Fmt.{digits}
 use Rattle.csv.specs.Writing.{escaped, fields_text, is_blank}
-use Rattle.dsa_terms.specs.Bounds.{counted, stack_log}
-use Rattle.dsa_terms.specs.Buffers.{buffer, is_live, some_before}
+use Rattle.dsa_terms.specs.Bounds.{counted, stack_log, stack_line, line_height, pile, rounded_size}
+use Rattle.dsa_terms.specs.Buffers.{buffer, is_live, some_before, floor}
 use Rattle.dsa_terms.specs.Claims.{IsIn}
 use Rattle.dsa_terms.specs.Logs.{Log, Over}
 use Rattle.dsa_terms.proofs.Examples.{small_below}
@@ -55,8 +55,8 @@ low_text = refl
 abbrev pub three_log : Log
 three_log = record { count = 2; capacity = 3; lines = Over ((0, 0) ∷ (1, 0) ∷ []) 0 0 1 ∷ []; final = 0 }
 
-is_three_log : stack_log small_below 0 1 3 ≡ three_log
-unfolding stack_log counted is_live buffer
+is_three_log : stack_log small_below 0 0 1 3 ≡ three_log
+unfolding stack_log stack_line line_height pile counted floor rounded_size is_live buffer
 is_three_log = refl
 
 abbrev pub three_file : List ℕ

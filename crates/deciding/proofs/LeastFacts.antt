@@ -136,6 +136,7 @@ none_laid : IsLayout [] 0 []
 none_laid = record {
   count = refl;
   aligned = λ b lt. absurd (omega arith);
+  above = λ b lt. absurd (omega arith);
   within = λ b lt. absurd (omega arith);
   apart = λ b c t lt. absurd (omega arith);
 }

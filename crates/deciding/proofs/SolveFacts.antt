@@ -1,7 +1,7 @@
 -- What `solve` concludes of two buffers whose best start ends at 5, and whose lower bound and least capacity are 4.
 use Rattle.std.proofs.Common.{◌≡◌, ℕ, List, length, map, inl, inr, [], ◌∷◌, Option, Some, None, refl, sym, ap, ap₂, ◌∙◌, subst, codes, lit≤, arith}
-use Rattle.dsa_terms.specs.Bounds.{counted, highest_stack, lower_bound, moduli, moments, rounded_size, stack}
-use Rattle.dsa_terms.specs.Buffers.{buffer, is_live}
+use Rattle.dsa_terms.specs.Bounds.{counted, highest_stack, lower_bound, moduli, moments, rounded_size, stack, pile, heights, highest_at}
+use Rattle.dsa_terms.specs.Buffers.{buffer, is_live, floor}
 use Rattle.dsa_terms.specs.Logs.{Log}
 use Rattle.dsa_terms.proofs.ExamplePlanFacts.{small_below_plan_at_4}
 use Rattle.dsa_terms.proofs.Examples.{evens, sample, small_below}
@@ -77,7 +77,7 @@ not_to_the_output o h is =
 
 -- four steps are too few for a log of five lines
 evens_bound : lower_bound evens ≡ 4
-unfolding lower_bound highest_stack moduli moments stack counted rounded_size is_live buffer
+unfolding lower_bound highest_stack highest_at heights moduli moments stack pile counted floor rounded_size is_live buffer
 evens_bound = refl
 
 not_refuted_with_four_steps : (o : Outcome) (h : Refutes (words 4 (Some 4)) evens o) → h.refutation ≡ sample → ⊥

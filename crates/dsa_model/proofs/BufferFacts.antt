@@ -1,24 +1,27 @@
 -- The limits of a buffer, and the tests on its numbers and gaps one by one.
 use Rattle.std.proofs.Common.{◌≡◌, ℕ, true, false, [], ◌∷◌, map, Some, None, Ok, Err, replicate, refl, arith}
 use Rattle.dsa_terms.specs.Buffers.{is_live, some_before}
-use Rattle.dsa_model.specs.Buffer.{size_limit, alignment_limit, gap_limit, buffer_of, lasting, is_empty_gap, is_outside, is_ever_live, number_fault, gap_fault, IsInside, IsBuffer}
+use Rattle.dsa_model.specs.Buffer.{size_limit, alignment_limit, lowest_limit, gap_limit, buffer_of, lasting, is_empty_gap, is_outside, is_ever_live, number_fault, gap_fault, IsInside, IsBuffer}
 use Rattle.dsa_model.proofs.Faults.{is_buffer}
 use Rattle.dsa_model.specs.Fails.{IfFault, UnlessNoMemory}
 use Rattle.dsa_model.specs.declared.buffer_fault.BufferFault.{BufferFault}
 use Rattle.dsa_model.specs.declared.buffer_fault.BufferFault.TheVariants as fault
 use Rattle.dsa_model.specs.declared.fail.Fail.TheVariants.{Fault, NoMemory}
 
--- ---- limits: 2 to the 40th, 2 to the 32nd, and 8
+-- ---- limits: 2 to the 40th, 2 to the 32nd, 2 to the 40th, and 8
 greatest_size : size_limit ≡ 1099511627776
 greatest_size = refl
 
 greatest_alignment : alignment_limit ≡ 4294967296
 greatest_alignment = refl
 
+greatest_lowest : lowest_limit ≡ 1099511627776
+greatest_lowest = refl
+
 most_gaps : gap_limit ≡ 8
 most_gaps = refl
 
-of_size_one : lasting 2 9 ((3, 4) ∷ []) ≡ record { lower = 2; upper = 9; size = 1; alignment = 1; gaps = (3, 4) ∷ [] }
+of_size_one : lasting 2 9 ((3, 4) ∷ []) ≡ record { lower = 2; upper = 9; size = 1; alignment = 1; gaps = (3, 4) ∷ []; lowest = 0 }
 of_size_one = refl
 
 -- ---- gaps: 5..5 and 6..5 hold no moment, 5..6 does
@@ -42,13 +45,13 @@ holds_nothing : IsInside 2 9 (5, 5) → ⊥
 holds_nothing i = let h = i.not_empty in omega arith
 
 -- ---- faults of numbers alone, and of gaps alone
-size_before_alignment : number_fault (buffer_of 0 1 0 0 ((1, 1) ∷ [])) ≡ Some fault.ZeroSize
+size_before_alignment : number_fault (buffer_of 0 1 0 0 ((1, 1) ∷ []) 0) ≡ Some fault.ZeroSize
 size_before_alignment = refl
 
-gaps_are_not_asked : number_fault (buffer_of 0 1 4 1 ((1, 1) ∷ [])) ≡ None
+gaps_are_not_asked : number_fault (buffer_of 0 1 4 1 ((1, 1) ∷ []) 0) ≡ None
 gaps_are_not_asked = refl
 
-numbers_are_not_asked : gap_fault (buffer_of 0 10 0 0 ((4, 6) ∷ [])) ≡ None
+numbers_are_not_asked : gap_fault (buffer_of 0 10 0 0 ((4, 6) ∷ []) 0) ≡ None
 unfolding is_ever_live some_before is_live
 numbers_are_not_asked = refl
 
@@ -64,14 +67,14 @@ unfolding is_ever_live some_before is_live
 gap_of_all = refl
 
 -- ---- buffers without a fault: one with the gap 4..6, none that ends at 2 to the 62nd, and none that is never live
-gapped_is_buffer : IsBuffer (buffer_of 0 10 4 1 ((4, 6) ∷ []))
+gapped_is_buffer : IsBuffer (buffer_of 0 10 4 1 ((4, 6) ∷ []) 0)
 unfolding is_ever_live some_before is_live
-gapped_is_buffer = is_buffer (buffer_of 0 10 4 1 ((4, 6) ∷ [])) refl (omega arith)
+gapped_is_buffer = is_buffer (buffer_of 0 10 4 1 ((4, 6) ∷ []) 0) refl (omega arith)
 
-ends_too_late : IsBuffer (buffer_of 0 4611686018427387904 4 1 []) → ⊥
+ends_too_late : IsBuffer (buffer_of 0 4611686018427387904 4 1 [] 0) → ⊥
 ends_too_late b = let h = b.upper_limit in omega arith
 
-never_live_is_none : IsBuffer (buffer_of 2 9 4 1 ((2, 9) ∷ [])) → ⊥
+never_live_is_none : IsBuffer (buffer_of 2 9 4 1 ((2, 9) ∷ []) 0) → ⊥
 unfolding is_ever_live some_before is_live
 never_live_is_none b = let h = b.no_fault in cc
 

@@ -12,10 +12,10 @@ use Rattle.dsa_terms.proofs.Moments.{and_true, both_true, live_before}
 use Rattle.dsa_terms.proofs.NumberTests.{not_below, not_less}
 use Rattle.dsa_terms.proofs.Ranges.{from_range, into_range, below, among}
 use Rattle.dsa_model.specs.Moments.{IsLeastFrom, are_live, first_common}
-use Rattle.dsa_model.specs.LayoutFaults.{IsOverlap, is_unaligned, is_above, are_apart, overlap, overlap_after, first_overlap, first_unaligned, first_above, layout_fault}
+use Rattle.dsa_model.specs.LayoutFaults.{IsOverlap, is_unaligned, is_too_low, is_above, are_apart, overlap, overlap_after, first_overlap, first_unaligned, first_too_low, first_above, layout_fault}
 use Rattle.dsa_model.specs.declared.layout.LayoutFault.{LayoutFault}
 use Rattle.dsa_model.specs.declared.layout.LayoutFault.TheVariants as fault
-use Rattle.dsa_model.proofs.Faults.{neither, not_so, map_none}
+use Rattle.dsa_model.proofs.Faults.{map_none}
 use Rattle.dsa_model.proofs.Ranges.{least_is_found, found_is_least, find_none, some_none}
 
 -- a test of what was shown is one of the buffer that it is
@@ -83,6 +83,21 @@ unfolding first_unaligned
 none_where_aligned I offsets h =
     find_none (λ b. is_unaligned (buffer I b) (slice_index offsets b)) (numbers (length I))
     (λ b i. of_equal _ _ (h b (below _ b i)))
+
+above_where_none : (I : Instance) (offsets : List ℕ) (b : ℕ) → first_too_low I offsets ≡ None → b < length I →
+    (buffer I b).lowest ≤ slice_index offsets b
+unfolding first_too_low
+above_where_none I offsets b h lt =
+    not_less _ _ (none_found (λ b. is_too_low (buffer I b) (slice_index offsets b)) (numbers (length I)) b h
+    (among _ b lt))
+
+none_where_above : (I : Instance) (offsets : List ℕ) →
+    ((b : ℕ) → b < length I → (buffer I b).lowest ≤ slice_index offsets b) →
+    first_too_low I offsets ≡ None
+unfolding first_too_low
+none_where_above I offsets h =
+    find_none (λ b. is_too_low (buffer I b) (slice_index offsets b)) (numbers (length I))
+    (λ b i. not_below _ _ (h b (below _ b i)))
 
 within_where_none : (I : Instance) (C : ℕ) (offsets : List ℕ) (b : ℕ) → first_above I C offsets ≡ None → b < length I →
     slice_index offsets b + (buffer I b).size ≤ C
@@ -197,17 +212,28 @@ no_overlap_of_layout I C offsets h =
         (λ e. let x = k.0 in omega arith) p q))
 
 -- ---- a layout
+-- none of five is a fault
+none_of_five : (w : Bool) (u l a : Option ℕ) (o : Option LayoutFault) →
+    first_fault (when w fault.WrongCount ∷ option_map fault.Unaligned u ∷ option_map fault.TooLow l
+    ∷ option_map fault.Above a ∷ o ∷ []) ≡ None →
+    (w ≡ false) × (u ≡ None) × (l ≡ None) × (a ≡ None) × (o ≡ None)
+none_of_five true u l a o h = absurd cc
+none_of_five false (Some x) l a o h = absurd cc
+none_of_five false None (Some x) a o h = absurd cc
+none_of_five false None None (Some x) o h = absurd cc
+none_of_five false None None None (Some f) h = absurd cc
+none_of_five false None None None None h = (refl, refl, refl, refl, refl)
+
 layout_of_no_fault : (I : Instance) (C : ℕ) (offsets : List ℕ) → layout_fault I C offsets ≡ None → IsLayout I C offsets
 layout_of_no_fault I C offsets h =
-    let one = neither _ _ h in
-    let two = neither _ _ one.1 in
-    let three = neither _ _ two.1 in
-    let four = neither _ _ three.1 in
+    let none = none_of_five (not (length offsets == length I)) (first_unaligned I offsets) (first_too_low I offsets)
+    (first_above I C offsets) (first_overlap I offsets) h in
     record {
-      count = equal _ _ (not_so _ _ one.0);
-      aligned = λ b lt. aligned_where_none I offsets b (map_none _ _ two.0) lt;
-      within = λ b lt. within_where_none I C offsets b (map_none _ _ three.0) lt;
-      apart = λ b c t lb lc ne p q. apart_of_no_overlap I offsets b c t four.0 lb lc ne p q;
+      count = equal _ _ none.0;
+      aligned = λ b lt. aligned_where_none I offsets b none.1 lt;
+      above = λ b lt. above_where_none I offsets b none.2 lt;
+      within = λ b lt. within_where_none I C offsets b none.3 lt;
+      apart = λ b c t lb lc ne p q. apart_of_no_overlap I offsets b c t none.4 lb lc ne p q;
     }
 
 no_fault_of_layout : (I : Instance) (C : ℕ) (offsets : List ℕ) → IsLayout I C offsets → layout_fault I C offsets ≡ None
@@ -215,6 +241,7 @@ no_fault_of_layout I C offsets h =
     rw (
       of_equal _ _ h.count,
       none_where_aligned I offsets h.aligned,
+      none_where_above I offsets h.above,
       none_where_within I C offsets h.within,
       no_overlap_of_layout I C offsets h,
     ) refl
@@ -225,15 +252,16 @@ layout_exactly I C offsets = (layout_of_no_fault I C offsets, no_fault_of_layout
 
 -- ---- an overlap
 -- the first fault is an overlap only as the first overlap
-only_overlaps : (w : Bool) (u a : Option ℕ) (o : Option LayoutFault) (b c t : ℕ) →
-    first_fault (when w fault.WrongCount ∷ option_map fault.Unaligned u ∷ option_map fault.Above a ∷ o ∷ []) ≡ Some
+only_overlaps : (w : Bool) (u l a : Option ℕ) (o : Option LayoutFault) (b c t : ℕ) →
+    first_fault (when w fault.WrongCount ∷ option_map fault.Unaligned u ∷ option_map fault.TooLow l ∷ option_map fault.Above a ∷ o ∷ []) ≡ Some
     (fault.Overlap b c t) →
     o ≡ Some (fault.Overlap b c t)
-only_overlaps true u a o b c t h = absurd cc
-only_overlaps false (Some x) a o b c t h = absurd cc
-only_overlaps false None (Some x) o b c t h = absurd cc
-only_overlaps false None None None b c t h = absurd cc
-only_overlaps false None None (Some f) b c t h = h
+only_overlaps true u l a o b c t h = absurd cc
+only_overlaps false (Some x) l a o b c t h = absurd cc
+only_overlaps false None (Some x) a o b c t h = absurd cc
+only_overlaps false None None (Some x) o b c t h = absurd cc
+only_overlaps false None None None None b c t h = absurd cc
+only_overlaps false None None None (Some f) b c t h = h
 
 -- an overlap that was answered is of the pair that was asked
 pair_answers : (I : Instance) (offsets : List ℕ) (i j b c t : ℕ) → i < j → j < length I →
@@ -274,7 +302,7 @@ unfolding first_overlap overlap_after
 overlap_is I C offsets b c t h =
     let r =
     some_answer (overlap_after I offsets) (numbers (length I)) _ (only_overlaps (not (length offsets == length I))
-    (first_unaligned I offsets) (first_above I C offsets)
+    (first_unaligned I offsets) (first_too_low I offsets) (first_above I C offsets)
     (first_some (overlap_after I offsets) (numbers (length I))) b c t h) in
     let s = some_answer (overlap I offsets r.0) (range_with_len (r.0 + 1) (length I - (r.0 + 1))) _ r.2 in
     let k = from_range (length I - (r.0 + 1)) (r.0 + 1) s.0 s.1 in

@@ -113,29 +113,29 @@ unfolding agree_at is_live
 gap_of_first = refl
 
 -- ---- offsets: 6 is no multiple of 4, and 8 is
-not_aligned : map (is_unaligned (buffer_of 0 1 3 4 [])) (0 ∷ 6 ∷ 8 ∷ []) ≡ false ∷ true ∷ false ∷ []
+not_aligned : map (is_unaligned (buffer_of 0 1 3 4 [] 0)) (0 ∷ 6 ∷ 8 ∷ []) ≡ false ∷ true ∷ false ∷ []
 not_aligned = refl
 
 -- size 3 at 4 ends at 7
-ends_above : map (λ C. is_above C (buffer_of 0 1 3 4 []) 4) (6 ∷ 7 ∷ []) ≡ true ∷ false ∷ []
+ends_above : map (λ C. is_above C (buffer_of 0 1 3 4 [] 0) 4) (6 ∷ 7 ∷ []) ≡ true ∷ false ∷ []
 ends_above = refl
 
 -- size 3 at 0 and size 5 at 3 meet, in either order
-met : are_apart (buffer_of 0 1 3 1 []) 0 (buffer_of 0 1 5 1 []) 3 ≡ true
+met : are_apart (buffer_of 0 1 3 1 [] 0) 0 (buffer_of 0 1 5 1 [] 0) 3 ≡ true
 met = refl
 
-met_above : are_apart (buffer_of 0 1 3 1 []) 5 (buffer_of 0 1 5 1 []) 0 ≡ true
+met_above : are_apart (buffer_of 0 1 3 1 [] 0) 5 (buffer_of 0 1 5 1 [] 0) 0 ≡ true
 met_above = refl
 
-one_nearer : are_apart (buffer_of 0 1 3 1 []) 0 (buffer_of 0 1 5 1 []) 2 ≡ false
+one_nearer : are_apart (buffer_of 0 1 3 1 [] 0) 0 (buffer_of 0 1 5 1 [] 0) 2 ≡ false
 one_nearer = refl
 
-one_nearer_above : are_apart (buffer_of 0 1 3 1 []) 4 (buffer_of 0 1 5 1 []) 0 ≡ false
+one_nearer_above : are_apart (buffer_of 0 1 3 1 [] 0) 4 (buffer_of 0 1 5 1 [] 0) 0 ≡ false
 one_nearer_above = refl
 
 -- ---- overlaps: size 4 in 0..5 and in 4..8, at 0 and 2, from moment 4 on
 abbrev crossed : Instance
-crossed = buffer_of 0 5 4 1 [] ∷ buffer_of 4 8 4 1 [] ∷ []
+crossed = buffer_of 0 5 4 1 [] 0 ∷ buffer_of 4 8 4 1 [] 0 ∷ []
 
 crossing : IsOverlap crossed (0 ∷ 2 ∷ []) 0 1 4
 unfolding buffer is_live

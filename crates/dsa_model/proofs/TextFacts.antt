@@ -8,6 +8,9 @@ use Rattle.dsa_model.specs.declared.layout.LayoutFault.TheVariants as layout
 zero_size : buffer_text buffer.ZeroSize ≡ codes "zero size"
 zero_size = refl
 
+lowest_too_large : buffer_text buffer.LowestTooLarge ≡ codes "lowest too large"
+lowest_too_large = refl
+
 gap_empty : buffer_text (buffer.GapEmpty 0) ≡ codes "gap 0 empty"
 unfolding digits
 gap_empty = refl
@@ -22,6 +25,10 @@ wrong_count = refl
 unaligned : layout_fault_text (layout.Unaligned 3) ≡ codes "unaligned 3"
 unfolding digits
 unaligned = refl
+
+too_low : layout_fault_text (layout.TooLow 3) ≡ codes "too low 3"
+unfolding digits
+too_low = refl
 
 above : layout_fault_text (layout.Above 3) ≡ codes "above 3"
 unfolding digits

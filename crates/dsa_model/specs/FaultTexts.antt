@@ -16,6 +16,7 @@ buffer_text (buffer.GapEmpty gap) = codes "gap " ++ decimal gap ++ codes " empty
 buffer_text (buffer.GapOutside gap) = codes "gap " ++ decimal gap ++ codes " outside"
 buffer_text buffer.TooManyGaps = codes "too many gaps"
 buffer_text buffer.NeverLive = codes "never live"
+buffer_text buffer.LowestTooLarge = codes "lowest too large"
 
 -- two buffers that overlap, and the moment
 abbrev pub overlap_text : ℕ → ℕ → ℕ → List ℕ
@@ -26,5 +27,6 @@ overlap_text first second moment =
 abbrev pub layout_fault_text : LayoutFault → List ℕ
 layout_fault_text layout.WrongCount = codes "count"
 layout_fault_text (layout.Unaligned buffer) = codes "unaligned " ++ decimal buffer
+layout_fault_text (layout.TooLow buffer) = codes "too low " ++ decimal buffer
 layout_fault_text (layout.Above buffer) = codes "above " ++ decimal buffer
 layout_fault_text (layout.Overlap first second moment) = overlap_text first second moment

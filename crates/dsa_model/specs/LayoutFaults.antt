@@ -14,6 +14,10 @@ use Rattle.dsa_model.specs.declared.layout.LayoutFault.TheVariants as fault
 abbrev pub is_unaligned : Buffer → ℕ → Bool
 is_unaligned b x = not (x % b.alignment == 0)
 
+-- the offset x is below the lowest of b
+abbrev pub is_too_low : Buffer → ℕ → Bool
+is_too_low b x = nat_lt x b.lowest
+
 -- b at x ends above the capacity
 abbrev pub is_above : ℕ → Buffer → ℕ → Bool
 is_above C b x = nat_lt C (x + b.size)
@@ -40,15 +44,20 @@ first_overlap I offsets = first_some (overlap_after I offsets) (numbers (length 
 unfoldable pub first_unaligned : Instance → List ℕ → Option ℕ
 first_unaligned I offsets = find (λ b. is_unaligned (buffer I b) (slice_index offsets b)) (numbers (length I))
 
+-- the least buffer whose offset is below its lowest
+unfoldable pub first_too_low : Instance → List ℕ → Option ℕ
+first_too_low I offsets = find (λ b. is_too_low (buffer I b) (slice_index offsets b)) (numbers (length I))
+
 -- the least buffer that ends above the capacity
 unfoldable pub first_above : Instance → ℕ → List ℕ → Option ℕ
 first_above I C offsets = find (λ b. is_above C (buffer I b) (slice_index offsets b)) (numbers (length I))
 
--- the first fault of offsets: their count, then alignment by buffer, then capacity by buffer, then overlap by pair
+-- the first fault of offsets: their count, then by buffer alignment, lowest and capacity, then overlap by pair
 abbrev pub layout_fault : Instance → ℕ → List ℕ → Option LayoutFault
 layout_fault I C offsets = first_fault (
     when (not (length offsets == length I)) fault.WrongCount
     ∷ option_map fault.Unaligned (first_unaligned I offsets)
+    ∷ option_map fault.TooLow (first_too_low I offsets)
     ∷ option_map fault.Above (first_above I C offsets)
     ∷ first_overlap I offsets
     ∷ [])

@@ -2,19 +2,19 @@
 
 ghost use Rattle.std.specs.Prelude.{◌≡◌, ◌^◌, ◌<◌, ◌≤◌, Some, IfSome, IfOk, length};
 ghost use Rattle.std.specs.Int.{next_multiple_of};
-ghost use Rattle.dsa_terms.specs.Buffers.{is_live};
+ghost use Rattle.dsa_terms.specs.Buffers.{floor, is_live};
 ghost use Rattle.dsa_model.specs.Buffer.{IsBuffer, buffer_fault, buffer_of};
 ghost use Rattle.dsa_model.specs.Moments.{IsLeastMoment};
 ghost use Rattle.dsa_model.specs.Fails.{UnlessNoMemory};
 
-use crate::buffer_fault::{gap_fault, number_fault};
+use crate::buffer_fault::{gap_fault, lowest_fault, number_fault};
 use crate::moments::{is_in_gap, next_live};
 use crate::{BufferFault, Fail, NoMemory};
 use std::alloc::Global;
 use std::marker::Model;
 
-/// A buffer: when it lives, how large it is, of what its offset is a multiple, and when it holds no
-/// storage. A contract sees it as the record of these.
+/// A buffer: when it lives, how large it is, of what its offset is a multiple, when it holds no
+/// storage, and what its offset is at least. A contract sees it as the record of these.
 ///
 /// It lives at the moments from `lower` up to and not including `upper`. A gap `a, b` is the
 /// moments from `a` up to and not including `b`; the buffer holds no storage there, and keeps its
@@ -27,6 +27,7 @@ pub struct Buffer {
     size: u64,
     alignment: u64,
     gaps: Vec<(u64, u64)>,
+    lowest: u64,
 }
 
 impl Model for Buffer {
@@ -35,14 +36,15 @@ impl Model for Buffer {
 
     ghost Value = { BufferTerm };
 
-    ghost view = { λ b. buffer_of b.lower b.upper b.size b.alignment b.gaps.items };
+    ghost view = { λ b. buffer_of b.lower b.upper b.size b.alignment b.gaps.items b.lowest };
 
-    ghost invariant = { λ b. IsBuffer (buffer_of b.lower b.upper b.size b.alignment b.gaps.items) };
+    ghost invariant = { λ b. IsBuffer (buffer_of b.lower b.upper b.size b.alignment b.gaps.items b.lowest) };
 }
 
 impl Buffer {
     /// The buffer of these numbers, or the first of its faults in the order of `BufferFault`. Times
-    /// are moments, size and alignment are bytes; the gaps are in any order and may overlap.
+    /// are moments; size, alignment and lowest, the least offset that the buffer may have, are
+    /// bytes; the gaps are in any order and may overlap.
     ///
     /// The caller owes times of at most 2^62 - 1 and fewer than 2^32 gaps.
     pub fn new(
@@ -52,11 +54,12 @@ impl Buffer {
         size: u64,
         alignment: u64,
         gaps: &[(u64, u64)],
+        lowest: u64,
     ) -> Result<Buffer, Fail<BufferFault>>
         requires lower_limit { lower < 2 ^ 62 }
         requires upper_limit { upper < 2 ^ 62 }
         requires gap_count { length gaps.now < 2 ^ 32 }
-        ensures value { let b = buffer_of lower upper size alignment gaps.now in
+        ensures value { let b = buffer_of lower upper size alignment gaps.now lowest in
             UnlessNoMemory result
             (λ made. (made ≡ b) × IsBuffer b)
             (λ fault. buffer_fault b ≡ Some fault) }
@@ -67,6 +70,9 @@ impl Buffer {
         if let Some(fault) = gap_fault(lower, upper, gaps) {
             return Err(Fail::Fault(fault));
         }
+        if let Some(fault) = lowest_fault(lowest) {
+            return Err(Fail::Fault(fault));
+        }
         let gaps = gaps.to_vec(alloc)?;
         Ok(Buffer {
             lower,
@@ -74,6 +80,7 @@ impl Buffer {
             size,
             alignment,
             gaps,
+            lowest,
         })
     }
 
@@ -88,6 +95,7 @@ impl Buffer {
             size: self.size,
             alignment: self.alignment,
             gaps: self.gaps.to_vec(alloc)?,
+            lowest: self.lowest,
         })
     }
 
@@ -129,6 +137,24 @@ impl Buffer {
         ensures buffer { IsBuffer self.now }
     {
         self.gaps.as_slice()
+    }
+
+    /// The least offset that the buffer may have, in bytes, as it was given.
+    pub fn lowest(&self) -> u64
+        ensures value { result ≡ self.now.lowest }
+        ensures buffer { IsBuffer self.now }
+    {
+        self.lowest
+    }
+
+    /// The least multiple of the alignment at or above the lowest, in bytes: no layout has the
+    /// buffer below it.
+    #[tactic(auto, unfolding(dsa_terms::specs::Buffers::floor))]
+    pub fn floor(&self) -> u64
+        ensures value { result ≡ floor self.now }
+        ensures buffer { IsBuffer self.now }
+    {
+        self.least_offset(self.lowest)
     }
 
     /// Whether the buffer holds storage at the moment `t`.

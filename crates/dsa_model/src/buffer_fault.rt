@@ -1,7 +1,7 @@
 //! What is wrong with numbers that make no buffer.
 
 ghost use Rattle.std.specs.Prelude.{◌≡◌, ◌^◌, ◌<◌, [], length, nat_lt, position, IfSome};
-ghost use Rattle.dsa_model.specs.Buffer.{buffer_of, gap_fault, gap_limit, is_empty_gap, is_ever_live, is_outside, lasting, number_fault};
+ghost use Rattle.dsa_model.specs.Buffer.{buffer_of, gap_fault, gap_limit, is_empty_gap, is_ever_live, is_outside, lasting, lowest_fault, number_fault};
 
 use crate::moments::next_live;
 use thiserror::Error;
@@ -36,6 +36,9 @@ pub enum BufferFault {
     /// The gaps cover the whole lifetime.
     #[error("the gaps cover the lifetime")]
     NeverLive,
+    /// The least offset is above `LOWEST_LIMIT`.
+    #[error("the least offset is above 1099511627776")]
+    LowestTooLarge,
 }
 
 /// The greatest size, in bytes.
@@ -44,12 +47,15 @@ pub const SIZE_LIMIT: u64 = 1099511627776;
 /// The greatest alignment, in bytes.
 pub const ALIGNMENT_LIMIT: u64 = 4294967296;
 
+/// The greatest least offset, in bytes.
+pub const LOWEST_LIMIT: u64 = 1099511627776;
+
 /// The greatest number of gaps of a buffer.
 pub const GAP_LIMIT: usize = 8;
 
 /// What is wrong with the lifetime, the size and the alignment.
 pub(crate) fn number_fault(lower: u64, upper: u64, size: u64, alignment: u64) -> Option<BufferFault>
-    ensures { result ≡ number_fault (buffer_of lower upper size alignment []) }
+    ensures { result ≡ number_fault (buffer_of lower upper size alignment [] 0) }
 {
     if upper <= lower {
         Some(BufferFault::EmptyLifetime)
@@ -116,4 +122,11 @@ pub(crate) fn gap_fault(lower: u64, upper: u64, gaps: &[(u64, u64)]) -> Option<B
     } else {
         None
     }
+}
+
+/// What is wrong with the least offset.
+pub(crate) fn lowest_fault(lowest: u64) -> Option<BufferFault>
+    ensures { result ≡ lowest_fault (buffer_of 0 1 1 1 [] lowest) }
+{
+    (lowest > LOWEST_LIMIT).then_some(BufferFault::LowestTooLarge)
 }

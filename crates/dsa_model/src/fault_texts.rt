@@ -28,6 +28,7 @@ impl BufferFault {
             BufferFault::GapOutside { gap } => Ok(format!(in alloc; "gap {gap} outside")?),
             BufferFault::TooManyGaps => Ok(String::from_str(alloc, "too many gaps")?),
             BufferFault::NeverLive => Ok(String::from_str(alloc, "never live")?),
+            BufferFault::LowestTooLarge => Ok(String::from_str(alloc, "lowest too large")?),
         }
     }
 }
@@ -40,6 +41,7 @@ impl LayoutFault {
         match self {
             LayoutFault::WrongCount => Ok(String::from_str(alloc, "count")?),
             LayoutFault::Unaligned { buffer } => Ok(format!(in alloc; "unaligned {buffer}")?),
+            LayoutFault::TooLow { buffer } => Ok(format!(in alloc; "too low {buffer}")?),
             LayoutFault::Above { buffer } => Ok(format!(in alloc; "above {buffer}")?),
             LayoutFault::Overlap {
                 first,

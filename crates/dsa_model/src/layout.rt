@@ -2,7 +2,7 @@
 
 ghost use Rattle.std.specs.Prelude.{◌≡◌, ◌<◌, ◌↔◌, ℕ, None, Some, length, IsOk, MatchResult, Err};
 ghost use Rattle.dsa_terms.specs.Layouts.{IsLayout};
-ghost use Rattle.dsa_model.specs.LayoutFaults.{IsOverlap, are_apart, first_above, first_overlap, first_unaligned, is_above, is_unaligned, layout_fault, overlap, overlap_after};
+ghost use Rattle.dsa_model.specs.LayoutFaults.{IsOverlap, are_apart, first_above, first_overlap, first_too_low, first_unaligned, is_above, is_too_low, is_unaligned, layout_fault, overlap, overlap_after};
 
 use crate::{Buffer, Instance};
 use thiserror::Error;
@@ -16,6 +16,11 @@ pub enum LayoutFault {
     /// The offset of this buffer, the least such one, is no multiple of its alignment.
     #[error("the offset of buffer {buffer} is not aligned")]
     Unaligned {
+        buffer: u32,
+    },
+    /// The offset of this buffer, the least such one, is below its lowest.
+    #[error("the offset of buffer {buffer} is below its lowest")]
+    TooLow {
         buffer: u32,
     },
     /// This buffer, the least such one, ends above the capacity.
@@ -39,6 +44,13 @@ fn is_unaligned(buffer: &Buffer, offset: u64) -> bool
     ensures { result ≡ is_unaligned buffer.now offset }
 {
     offset % buffer.alignment() != 0
+}
+
+/// Whether the offset is below the buffer's lowest.
+fn is_too_low(buffer: &Buffer, offset: u64) -> bool
+    ensures { result ≡ is_too_low buffer.now offset }
+{
+    offset < buffer.lowest()
 }
 
 /// Whether the buffer ends above the capacity. Nothing is added, since any offset may be asked of.
@@ -68,6 +80,19 @@ fn first_unaligned(instance: &Instance, offsets: &[u64]) -> Option<u32>
 {
     for b in 0..instance.len() {
         if is_unaligned(instance.buffer(b), offsets[b as usize]) {
+            return Some(b);
+        }
+    }
+    None
+}
+
+/// The least buffer whose offset is below its lowest.
+fn first_too_low(instance: &Instance, offsets: &[u64]) -> Option<u32>
+    requires { length offsets.now ≡ length instance.now }
+    ensures { result ≡ first_too_low instance.now offsets.now }
+{
+    for b in 0..instance.len() {
+        if is_too_low(instance.buffer(b), offsets[b as usize]) {
             return Some(b);
         }
     }
@@ -147,6 +172,9 @@ fn layout_fault(instance: &Instance, capacity: u64, offsets: &[u64]) -> Option<L
     if let Some(buffer) = first_unaligned(instance, offsets) {
         return Some(LayoutFault::Unaligned { buffer });
     }
+    if let Some(buffer) = first_too_low(instance, offsets) {
+        return Some(LayoutFault::TooLow { buffer });
+    }
     if let Some(buffer) = first_above(instance, capacity, offsets) {
         return Some(LayoutFault::Above { buffer });
     }
@@ -154,15 +182,15 @@ fn layout_fault(instance: &Instance, capacity: u64, offsets: &[u64]) -> Option<L
 }
 
 /// Whether the offsets, in bytes and by the buffers' numbers, are a layout at the capacity: as
-/// many as there are buffers, each a multiple of its buffer's alignment, each buffer within the
-/// capacity, and any two buffers apart at each moment at which both are live.
+/// many as there are buffers, each a multiple of its buffer's alignment and at least its lowest,
+/// each buffer within the capacity, and any two buffers apart at each moment at which both are live.
 ///
-/// The answer is the first fault of: `WrongCount`; `Unaligned` of the least buffer; `Above` of the
-/// least buffer; `Overlap` of the least pair, at its first common moment. Any capacity and any
+/// The answer is the first fault of: `WrongCount`; `Unaligned` of the least buffer; `TooLow` of the
+/// least buffer; `Above` of the least buffer; `Overlap` of the least pair, at its first common moment. Any capacity and any
 /// offsets may be given. No step goes through the moments of a lifetime.
 ///
-/// The question is that of Dynamic Storage Allocation (SR2, Garey and Johnson), with alignments
-/// and gaps.
+/// The question is that of Dynamic Storage Allocation (SR2, Garey and Johnson), with alignments,
+/// gaps and least offsets.
 pub fn judge(instance: &Instance, capacity: u64, offsets: &[u64]) -> Result<(), LayoutFault>
     ensures legal { IsOk result ↔ IsLayout instance.now capacity offsets.now }
     ensures cause { let first = layout_fault instance.now capacity offsets.now in

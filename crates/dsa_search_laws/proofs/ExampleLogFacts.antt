@@ -1,6 +1,6 @@
 -- Each line of the sample log is legal and the log is accepted; each change of a line has what refuses it.
-use Rattle.std.proofs.Common.{◌≡◌, ℕ, zero, suc, true, false, [], ◌∷◌, slice_get, take, Some, inl, inr, refl, subst, sym}
-use Rattle.dsa_terms.specs.Buffers.{is_live, buffer, do_share, have_same_moments, some_before}
+use Rattle.std.proofs.Common.{◌≡◌, ℕ, zero, suc, true, false, [], ◌∷◌, slice_get, take, Some, inl, inr, refl, subst, sym, arith}
+use Rattle.dsa_terms.specs.Buffers.{is_live, buffer, do_share, have_same_moments, some_before, floor}
 use Rattle.dsa_terms.specs.Claims.{up, step, child, IsWhole}
 use Rattle.dsa_terms.specs.Logs.{is_stacked, rounded, rounding, ends_below, is_twin, ByLine, Below, Twin, Line, Over, Cases, claim_of, Log, IsLegal, IsAccepted}
 use Rattle.dsa_terms.proofs.Examples.{evens, filled, over_2, over_1, case_12, over_01, case_all, sample}
@@ -46,18 +46,20 @@ sample_lines (suc (suc (suc (suc zero)))) line h =
 sample_lines (suc (suc (suc (suc (suc k))))) line h = absurd cc
 
 -- its end is whole
-sample_end : IsWhole (claim_of case_all)
-sample_end e (inl q) = rw q refl
-sample_end e (inr (inl q)) = rw q refl
-sample_end e (inr (inr (inl q))) = rw q refl
+sample_end : IsWhole evens (claim_of case_all)
+unfolding buffer floor
+sample_end e (inl q) = rw q (omega arith)
+sample_end e (inr (inl q)) = rw q (omega arith)
+sample_end e (inr (inr (inl q))) = rw q (omega arith)
 sample_end e (inr (inr (inr i))) = absurd i
 
 pub sample_is_accepted : IsAccepted evens sample
 sample_is_accepted = record { same_count = refl; legal = sample_lines; whole = (case_all, refl, sample_end) }
 
 -- the end of a changed log is not whole
-other_end : IsWhole (claim_of case_12) → ⊥
-other_end w = let h = w (1, 1) (inl refl) in cc
+other_end : IsWhole evens (claim_of case_12) → ⊥
+unfolding buffer floor
+other_end w = let h = w (1, 1) (inl refl) in omega arith
 
 -- so it is not accepted with that line as its end, nor with another count
 abbrev with_end : ℕ → ℕ → Log
@@ -65,7 +67,7 @@ with_end count final = record { count = count; capacity = 4; lines = sample.line
 
 other_end_is_not_accepted : IsAccepted evens (with_end 3 2) → ⊥
 other_end_is_not_accepted h =
-    other_end (subst (λ (line : Line). IsWhole (claim_of line)) (sym (same h.whole.0 h.whole.1)) h.whole.2)
+    other_end (subst (λ (line : Line). IsWhole evens (claim_of line)) (sym (same h.whole.0 h.whole.1)) h.whole.2)
   where
     same : (line : Line) → slice_get sample.lines 2 ≡ Some line → case_12 ≡ line
     same line q = cc

@@ -16,4 +16,5 @@ pub mod Plans
 pub mod LineTests
 mod ExampleClaimFacts
 mod ExampleLogFacts
+mod ExampleLowFacts
 mod ExampleLeanFacts

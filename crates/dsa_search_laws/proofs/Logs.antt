@@ -1,14 +1,14 @@
 -- Covering, larger capacities, and legal lines.
 use Rattle.std.proofs.Common.{◌≡◌, ℕ, zero, suc, ◌+◌, ◌-◌, ◌%◌, ◌<◌, ◌≤◌, ◌≢◌, ◌⊎◌, inl, inr, true, false, ◌&&◌, ◌==◌, List, [], ◌∷◌, map, length, filter, slice_get, take, nat_le, Some, sym, refl, ap, ◌∙◌, arith, slice_index}
 use Rattle.std.specs.List.{AllZip}
-use Rattle.dsa_terms.specs.Buffers.{Instance, buffer, is_live, IsLive, IsInstance}
+use Rattle.dsa_terms.specs.Buffers.{Instance, buffer, is_live, IsLive, IsInstance, floor}
 use Rattle.dsa_terms.specs.Layouts.{IsApart, IsMultiple, IsLayout, IsFeasible, IsInfeasible}
-use Rattle.dsa_terms.specs.Claims.{Entry, Claim, IsIn, Rises, buffers_of, IsClaim, up, Places, IsRefuted, child, Covers, IsWhole, number_of}
+use Rattle.dsa_terms.specs.Claims.{Entry, Claim, IsIn, Rises, buffers_of, IsClaim, up, Places, IsRefuted, child, Covers, number_of}
 use Rattle.dsa_terms.specs.Logs.{is_stacked, rounded, rounding, greatest, IsOver, ends_below, is_twin, Cite, ByLine, Below, Twin, Line, Over, Cases, claim_of, IsLegalCite, IsLegalReason, IsLegal, AreRefuted, Log, IsAccepted}
-use Rattle.dsa_terms.proofs.Numbers.{multiple_along, room_for_rounded}
+use Rattle.dsa_terms.proofs.Numbers.{multiple_along, next_is_least, room_for_rounded}
 use Rattle.dsa_search_laws.proofs.Packing.{Disjoint, pack}
 use Rattle.dsa_terms.proofs.Lists.{from_filter, none_passes}
-use Rattle.dsa_terms.proofs.Moments.{and_true}
+use Rattle.dsa_terms.proofs.Moments.{and_true, sound}
 use Rattle.dsa_terms.proofs.NumberTests.{at_most, equal}
 use Rattle.dsa_search_laws.proofs.Placing.{in_buffers, above_up, up_is_multiple, up_is_least, push_down}
 use Rattle.dsa_search_laws.proofs.Claims.{not_placed, rises-filter}
@@ -27,6 +27,7 @@ pub layout_higher : (I : Instance) (C D : ℕ) (o : List ℕ) → C ≤ D → Is
 layout_higher I C D o le p = record {
   count = p.count;
   aligned = p.aligned;
+  above = p.above;
   within = λ b i. (let k = p.within b i in omega arith);
   apart = p.apart;
 }
@@ -194,19 +195,29 @@ lines_refuted I log s a (suc n) k line lt h = go (lines_refuted I log s a n)
     go ih = legal_is_refuted I log.capacity (take k log.lines) line s
         (λ j m q. (let r = from_take log.lines k j m q in ih j m (let z = r.1 in omega arith) r.0)) (a.legal k line h)
 
--- a layout places each claim whose bounds are 0
-pub layout_places : (I : Instance) (C : ℕ) (l : Claim) (offsets : List ℕ) → IsClaim I l → IsWhole l →
-    IsLayout I C offsets → Places I C l (slice_index offsets)
-layout_places I C l offsets c w h = record {
+-- a layout places each claim whose bounds its offsets are not below
+pub layout_places : (I : Instance) (C : ℕ) (l : Claim) (offsets : List ℕ) → IsClaim I l →
+    ((e : Entry) → IsIn e l → e.1 ≤ slice_index offsets e.0) → IsLayout I C offsets →
+    Places I C l (slice_index offsets)
+layout_places I C l offsets c above h = record {
   aligned = λ e i. h.aligned e.0 (c.in_range e i);
-  above = λ e i. let k = w e i in omega arith;
+  above = above;
   within = λ e i. h.within e.0 (c.in_range e i);
   apart = λ e f t i j ne a b. h.apart e.0 f.0 t (c.in_range e i) (c.in_range f j) ne a b;
 }
 
+-- no offset of a layout is below the floor, so those of a whole claim are at its bounds or above
+pub above_floor : (I : Instance) (C : ℕ) (offsets : List ℕ) (b : ℕ) → IsInstance I → IsLayout I C offsets →
+    b < length I → floor (buffer I b) ≤ slice_index offsets b
+unfolding floor
+above_floor I C offsets b s h lt = next_is_least (buffer I b).lowest (buffer I b).alignment (slice_index offsets b)
+    (sound I b s).1 (h.above b lt) (h.aligned b lt)
+
 pub accepted_is_infeasible : (I : Instance) (log : Log) → IsInstance I → IsAccepted I log → IsInfeasible I log.capacity
 accepted_is_infeasible I log s a offsets h =
     let w = a.whole in
+    let c = (a.legal log.final w.0 w.1).claim in
     not_placed I log.capacity (claim_of w.0) (slice_index offsets)
     (lines_refuted I log s a (suc log.final) log.final w.0 (omega arith) w.1)
-    (layout_places I log.capacity (claim_of w.0) offsets (a.legal log.final w.0 w.1).claim w.2 h)
+    (layout_places I log.capacity (claim_of w.0) offsets c (λ e i. let k = w.2 e i in
+    let f = above_floor I log.capacity offsets e.0 s h (c.in_range e i) in omega arith) h)

@@ -1,6 +1,6 @@
 -- The members of the parts, and their whole claims.
-use Rattle.std.proofs.Common.{◌≡◌, ℕ, suc, ◌<◌, true, not, ◌==◌, List, [], ◌∷◌, map, length, sym, refl, ap, subst, arith}
-use Rattle.dsa_terms.specs.Buffers.{Buffer, Instance, buffer}
+use Rattle.std.proofs.Common.{◌≡◌, ℕ, suc, ◌<◌, ◌≤◌, true, not, ◌==◌, List, [], ◌∷◌, map, length, sym, refl, ap, ◌∙◌, subst, arith}
+use Rattle.dsa_terms.specs.Buffers.{Buffer, Instance, buffer, floor}
 use Rattle.dsa_terms.specs.Claims.{Entry, IsIn, buffers_of, IsClaim, IsWhole}
 use Rattle.dsa_terms.specs.Logs.{greatest}
 use Rattle.dsa_terms.specs.Parts.{part_of, numbers, members, is_empty, parts, whole}
@@ -43,27 +43,34 @@ part_is_members I p i =
     (map (members I) (numbers (suc (greatest (map (λ (b : Buffer). b.lower) I))))) p i in
     let q = from_map (members I) (numbers (suc (greatest (map (λ (b : Buffer). b.lower) I)))) p r.0 in (q.0, q.2)
 
-pub buffers_of-whole : (p : List ℕ) → buffers_of (whole p) ≡ p
-buffers_of-whole [] = refl
-buffers_of-whole (x ∷ xs) = ap (λ ys. x ∷ ys) (buffers_of-whole xs)
+pub buffers_of-whole : (I : Instance) (p : List ℕ) → buffers_of (whole I p) ≡ p
+buffers_of-whole I [] = refl
+buffers_of-whole I (x ∷ xs) = ap (λ ys. x ∷ ys) (buffers_of-whole I xs)
 
-pub in_whole : (p : List ℕ) (e : Entry) → IsIn e (whole p) → IsIn e.0 p × (e.1 ≡ 0)
-in_whole p e i = let r = from_map (λ (b : ℕ). let f : Entry = (b, 0) in f) p e i in
-    (subst (λ (c : ℕ). IsIn c p) (sym (ap (λ (e : Entry). e.0) r.2)) r.1, ap (λ (e : Entry). e.1) r.2)
+pub in_whole : (I : Instance) (p : List ℕ) (e : Entry) → IsIn e (whole I p) →
+    IsIn e.0 p × (e.1 ≡ (buffer I e.0).lowest)
+in_whole I p e i =
+    let r = from_map (λ (b : ℕ). let f : Entry = (b, (buffer I b).lowest) in f) p e i in
+    let z = sym (ap (λ (e : Entry). e.0) r.2) in
+    (subst (λ (c : ℕ). IsIn c p) z r.1, ap (λ (e : Entry). e.1) r.2 ∙ ap (λ (c : ℕ). (buffer I c).lowest) z)
 
-whole_claim : (I : Instance) (t : ℕ) → IsClaim I (whole (members I t))
+whole_claim : (I : Instance) (t : ℕ) → IsClaim I (whole I (members I t))
 whole_claim I t = record {
-  rises = rw (buffers_of-whole (members I t))
+  rises = rw (buffers_of-whole I (members I t))
       (rises-filter_numbers (λ b. part_of I b == t) (numbers (length I)) (rises-range (length I) 0));
-  in_range = λ e i. (in_members I t e.0 (in_whole (members I t) e i).0).0;
+  in_range = λ e i. (in_members I t e.0 (in_whole I (members I t) e i).0).0;
 }
 
-pub claim_of_part : (I : Instance) (p : List ℕ) → IsIn p (parts I) → IsClaim I (whole p)
+pub claim_of_part : (I : Instance) (p : List ℕ) → IsIn p (parts I) → IsClaim I (whole I p)
 claim_of_part I p i = let r = part_is_members I p i in rw r.1 (whole_claim I r.0)
 
-pub whole_is_whole : (p : List ℕ) → IsWhole (whole p)
-whole_is_whole p e i = (in_whole p e i).1
+pub lowest_to_floor : (b : Buffer) → b.lowest ≤ floor b
+unfolding floor
+lowest_to_floor b = omega arith
 
-pub length-whole : (bs : List ℕ) → length (whole bs) ≡ length bs
-length-whole [] = refl
-length-whole (b ∷ bs) = ap suc (length-whole bs)
+pub whole_is_whole : (I : Instance) (p : List ℕ) → IsWhole I (whole I p)
+whole_is_whole I p e i = let q = (in_whole I p e i).1 in let k = lowest_to_floor (buffer I e.0) in omega arith
+
+pub length-whole : (I : Instance) (bs : List ℕ) → length (whole I bs) ≡ length bs
+length-whole I [] = refl
+length-whole I (b ∷ bs) = ap suc (length-whole I bs)

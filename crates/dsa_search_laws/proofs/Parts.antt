@@ -3,7 +3,7 @@ use Rattle.std.proofs.Common.{◌≡◌, ℕ, suc, ◌<◌, ◌≢◌, ◌⊎◌
 use Rattle.std.specs.List.{flat_map, AllZip}
 use Rattle.std.proofs.lemmas.Bool.Decides.{nat_tests}
 use Rattle.std.proofs.lemmas.List.FromFn.{get_or-map-range_with_len, length-map-range_with_len}
-use Rattle.dsa_terms.specs.Buffers.{Buffer, Instance, IsInstance}
+use Rattle.dsa_terms.specs.Buffers.{Buffer, Instance, buffer, IsInstance}
 use Rattle.dsa_terms.specs.Layouts.{IsLayout, IsInfeasible}
 use Rattle.dsa_terms.specs.Claims.{Entry, IsIn, Rises, buffers_of, IsClaim, number_of, Places, IsPlacement, IsRefuted}
 use Rattle.dsa_terms.specs.Logs.{greatest}
@@ -19,32 +19,39 @@ pub use Rattle.dsa_search_laws.proofs.Members.{in_members, member_of, part_is_in
 pub use Rattle.dsa_search_laws.proofs.Members.{buffers_of-whole, in_whole, claim_of_part, whole_is_whole}
 
 -- ---- offsets that place each part are a layout
-in_own_part : (I : Instance) (b : ℕ) → b < length I → IsIn (b, 0) (whole (members I (part_of I b)))
-in_own_part I b lt = into_map (λ (b : ℕ). let f : Entry = (b, 0) in f) (members I (part_of I b)) b (member_of I b lt)
+in_own_part : (I : Instance) (b : ℕ) → b < length I →
+    IsIn (b, (buffer I b).lowest) (whole I (members I (part_of I b)))
+in_own_part I b lt =
+    into_map (λ (b : ℕ). let f : Entry = (b, (buffer I b).lowest) in f) (members I (part_of I b)) b (member_of I b lt)
 
 pub offset_at : (I : Instance) (seats : List Entry) (b : ℕ) → b < length I →
     slice_index (offsets_of I seats) b ≡ number_of seats b
 offset_at I seats b lt = get_or-map-range_with_len (number_of seats) 0 (length I) b b 0 lt (omega arith)
 
 pub parts_are_layout : (I : Instance) (C : ℕ) (seats : List Entry) →
-    ((p : List ℕ) → IsIn p (parts I) → Places I C (whole p) (number_of seats)) → IsLayout I C (offsets_of I seats)
+    ((p : List ℕ) → IsIn p (parts I) → Places I C (whole I p) (number_of seats)) → IsLayout I C (offsets_of I seats)
 parts_are_layout I C seats h = record {
   count = length-map-range_with_len (number_of seats) 0 (length I);
-  aligned = λ b lt. rw (offset_at I seats b lt) ((own b lt).aligned (b, 0) (in_own_part I b lt));
-  within = λ b lt. rw (offset_at I seats b lt) ((own b lt).within (b, 0) (in_own_part I b lt));
+  aligned = λ b lt. rw (offset_at I seats b lt) ((own b lt).aligned (b, (buffer I b).lowest) (in_own_part I b lt));
+  above = λ b lt. rw (offset_at I seats b lt) ((own b lt).above (b, (buffer I b).lowest) (in_own_part I b lt));
+  within = λ b lt. rw (offset_at I seats b lt) ((own b lt).within (b, (buffer I b).lowest) (in_own_part I b lt));
   apart = λ b c t lb lc ne p q. rw (offset_at I seats b lb, offset_at I seats c lc)
       (let same = sharing_is_one_part I b c t lb lc p q in
-      (own b lb).apart (b, 0) (c, 0) t (in_own_part I b lb)
-      (subst (λ (t : ℕ). IsIn (c, 0) (whole (members I t))) (sym same) (in_own_part I c lc)) ne p q);
+      (own b lb).apart (b, (buffer I b).lowest) (c, (buffer I c).lowest) t (in_own_part I b lb)
+      (subst (λ (t : ℕ). IsIn (c, (buffer I c).lowest) (whole I (members I t))) (sym same) (in_own_part I c lc)) ne p q);
 }
   where
-    own : (b : ℕ) → b < length I → Places I C (whole (members I (part_of I b))) (number_of seats)
+    own : (b : ℕ) → b < length I → Places I C (whole I (members I (part_of I b))) (number_of seats)
     own b lt = h (members I (part_of I b)) (part_is_in I b lt)
 
 -- a part that is refuted
-pub part_refutes : (I : Instance) (C : ℕ) (p : List ℕ) → IsIn p (parts I) → IsRefuted I C (whole p) → IsInfeasible I C
-part_refutes I C p i r offsets h = not_placed I C (whole p) (slice_index offsets) r
-    (layout_places I C (whole p) offsets (claim_of_part I p i) (whole_is_whole p) h)
+pub part_refutes : (I : Instance) (C : ℕ) (p : List ℕ) → IsIn p (parts I) → IsRefuted I C (whole I p) → IsInfeasible I C
+part_refutes I C p i r offsets h = not_placed I C (whole I p) (slice_index offsets) r
+    (layout_places I C (whole I p) offsets c (λ e j. let k = (in_whole I p e j).1 in
+    let f = h.above e.0 (c.in_range e j) in omega arith) h)
+  where
+    c : IsClaim I (whole I p)
+    c = claim_of_part I p i
 
 -- ---- the search of all parts
 pub number_of-left : (xs ys : List Entry) (b : ℕ) → IsIn b (buffers_of xs) → number_of (xs ++ ys) b ≡ number_of xs b
@@ -84,40 +91,40 @@ join_none (Some x) None h = inr refl
 join_none (Some x) (Some y) h = absurd cc
 
 all_placed : (I : Instance) (C : ℕ) (ps : List (List ℕ)) (seats : List Entry) → IsInstance I →
-    ((p : List ℕ) → IsIn p ps → IsClaim I (whole p)) → AllApart ps → first_of_all I C ps ≡ Some seats →
-    (p : List ℕ) → IsIn p ps → Places I C (whole p) (number_of seats)
+    ((p : List ℕ) → IsIn p ps → IsClaim I (whole I p)) → AllApart ps → first_of_all I C ps ≡ Some seats →
+    (p : List ℕ) → IsIn p ps → Places I C (whole I p) (number_of seats)
 all_placed I C [] seats s c a h p i = absurd i
 all_placed I C (q ∷ qs) seats s c a h p i =
     go (λ y e. all_placed I C qs y s (λ p j. c p (inr j)) a.1 e p)
-    (join_some (first I C (whole q)) (first_of_all I C qs) seats h) i
+    (join_some (first I C (whole I q)) (first_of_all I C qs) seats h) i
   where
-    go : ((y : List Entry) → first_of_all I C qs ≡ Some y → IsIn p qs → Places I C (whole p) (number_of y)) →
-        (x : List Entry) × (y : List Entry) × (first I C (whole q) ≡ Some x) × (first_of_all I C qs ≡ Some y)
-        × (x ++ y ≡ seats) → IsIn p (q ∷ qs) → Places I C (whole p) (number_of seats)
+    go : ((y : List Entry) → first_of_all I C qs ≡ Some y → IsIn p qs → Places I C (whole I p) (number_of y)) →
+        (x : List Entry) × (y : List Entry) × (first I C (whole I q) ≡ Some x) × (first_of_all I C qs ≡ Some y)
+        × (x ++ y ≡ seats) → IsIn p (q ∷ qs) → Places I C (whole I p) (number_of seats)
     go ih r j = elim j [ inl k ↦ here k | inr k ↦ later k ]
       where
-        placed : IsPlacement I C (whole q) r.0
-        placed = first_places I C (whole q) r.0 s (c q (inl refl)) r.2
+        placed : IsPlacement I C (whole I q) r.0
+        placed = first_places I C (whole I q) r.0 s (c q (inl refl)) r.2
 
         same : buffers_of r.0 ≡ q
-        same = placed.same_buffers ∙ buffers_of-whole q
+        same = placed.same_buffers ∙ buffers_of-whole I q
 
-        here : p ≡ q → Places I C (whole p) (number_of seats)
-        here k = rw (k, ← r.4) (places_like I C (whole q) (number_of r.0) (number_of (r.0 ++ r.1))
-            (λ e m. number_of-left r.0 r.1 e.0 (rw same ((in_whole q e m).0))) placed.places)
+        here : p ≡ q → Places I C (whole I p) (number_of seats)
+        here k = rw (k, ← r.4) (places_like I C (whole I q) (number_of r.0) (number_of (r.0 ++ r.1))
+            (λ e m. number_of-left r.0 r.1 e.0 (rw same ((in_whole I q e m).0))) placed.places)
 
-        later : IsIn p qs → Places I C (whole p) (number_of seats)
-        later k = rw (← r.4) (places_like I C (whole p) (number_of r.1) (number_of (r.0 ++ r.1))
-            (λ e m. number_of-right r.0 r.1 e.0 (λ z. a.0 p k e.0 (rw same at z) (in_whole p e m).0)) (ih r.1 r.3 k))
+        later : IsIn p qs → Places I C (whole I p) (number_of seats)
+        later k = rw (← r.4) (places_like I C (whole I p) (number_of r.1) (number_of (r.0 ++ r.1))
+            (λ e m. number_of-right r.0 r.1 e.0 (λ z. a.0 p k e.0 (rw same at z) (in_whole I p e m).0)) (ih r.1 r.3 k))
 
 some_none : (I : Instance) (C : ℕ) (ps : List (List ℕ)) → first_of_all I C ps ≡ None →
-    (p : List ℕ) × IsIn p ps × (first I C (whole p) ≡ None)
+    (p : List ℕ) × IsIn p ps × (first I C (whole I p) ≡ None)
 some_none I C [] h = absurd cc
-some_none I C (p ∷ ps) h = go (some_none I C ps) (join_none (first I C (whole p)) (first_of_all I C ps) h)
+some_none I C (p ∷ ps) h = go (some_none I C ps) (join_none (first I C (whole I p)) (first_of_all I C ps) h)
   where
-    go : (first_of_all I C ps ≡ None → (q : List ℕ) × IsIn q ps × (first I C (whole q) ≡ None)) →
-        (first I C (whole p) ≡ None) ⊎ (first_of_all I C ps ≡ None) →
-        (q : List ℕ) × IsIn q (p ∷ ps) × (first I C (whole q) ≡ None)
+    go : (first_of_all I C ps ≡ None → (q : List ℕ) × IsIn q ps × (first I C (whole I q) ≡ None)) →
+        (first I C (whole I p) ≡ None) ⊎ (first_of_all I C ps ≡ None) →
+        (q : List ℕ) × IsIn q (p ∷ ps) × (first I C (whole I q) ≡ None)
     go ih (inl e) = (p, inl refl, e)
     go ih (inr e) = let r = ih e in (r.0, inr r.1, r.2)
 
@@ -168,7 +175,7 @@ pub searched_none : (I : Instance) (C : ℕ) → IsInstance I → searched I C �
 unfolding searched
 searched_none I C s h =
     let r = some_none I C (parts I) (found_none I (first_of_all I C (parts I)) h) in
-    part_refutes I C r.0 r.1 ((first_exactly I C (whole r.0) s (claim_of_part I r.0 r.1)).0 r.2)
+    part_refutes I C r.0 r.1 ((first_exactly I C (whole I r.0) s (claim_of_part I r.0 r.1)).0 r.2)
 
 pub searched_exactly : (I : Instance) (C : ℕ) → IsInstance I → (searched I C ≡ None) ↔ IsInfeasible I C
 searched_exactly I C s = (
@@ -224,27 +231,27 @@ together_exactly I b c s lb lc = (
 
 -- ---- placements of all parts, put together
 pub put_together : (I : Instance) (C : ℕ) (ps : List (List ℕ)) (answers : List (List Entry)) →
-    ((p : List ℕ) → IsIn p ps → IsClaim I (whole p)) → AllApart ps →
-    AllZip (λ p seats. IsPlacement I C (whole p) seats) ps answers → (p : List ℕ) → IsIn p ps →
-    Places I C (whole p) (number_of (flat_map (λ seats. seats) answers))
+    ((p : List ℕ) → IsIn p ps → IsClaim I (whole I p)) → AllApart ps →
+    AllZip (λ p seats. IsPlacement I C (whole I p) seats) ps answers → (p : List ℕ) → IsIn p ps →
+    Places I C (whole I p) (number_of (flat_map (λ seats. seats) answers))
 put_together I C [] answers c a z p i = absurd i
 put_together I C (q ∷ qs) [] c a z p i = absurd z
 put_together I C (q ∷ qs) (x ∷ xs) c a z p i = go (put_together I C qs xs (λ p j. c p (inr j)) a.1 z.1 p) i
   where
     same : buffers_of x ≡ q
-    same = z.0.same_buffers ∙ buffers_of-whole q
+    same = z.0.same_buffers ∙ buffers_of-whole I q
 
-    go : (IsIn p qs → Places I C (whole p) (number_of (flat_map (λ seats. seats) xs))) → IsIn p (q ∷ qs) →
-        Places I C (whole p) (number_of (x ++ flat_map (λ seats. seats) xs))
-    go ih (inl k) = rw k (places_like I C (whole q) (number_of x) (number_of (x ++ flat_map (λ seats. seats) xs))
-        (λ e m. number_of-left x (flat_map (λ seats. seats) xs) e.0 (rw same ((in_whole q e m).0))) z.0.places)
-    go ih (inr k) = places_like I C (whole p) (number_of (flat_map (λ seats. seats) xs))
+    go : (IsIn p qs → Places I C (whole I p) (number_of (flat_map (λ seats. seats) xs))) → IsIn p (q ∷ qs) →
+        Places I C (whole I p) (number_of (x ++ flat_map (λ seats. seats) xs))
+    go ih (inl k) = rw k (places_like I C (whole I q) (number_of x) (number_of (x ++ flat_map (λ seats. seats) xs))
+        (λ e m. number_of-left x (flat_map (λ seats. seats) xs) e.0 (rw same ((in_whole I q e m).0))) z.0.places)
+    go ih (inr k) = places_like I C (whole I p) (number_of (flat_map (λ seats. seats) xs))
         (number_of (x ++ flat_map (λ seats. seats) xs))
         (λ e m. number_of-right x (flat_map (λ seats. seats) xs) e.0
-        (λ y. a.0 p k e.0 (rw same at y) (in_whole p e m).0)) (ih k)
+        (λ y. a.0 p k e.0 (rw same at y) (in_whole I p e m).0)) (ih k)
 
 pub all_put_together : (I : Instance) (C : ℕ) (answers : List (List Entry)) →
-    AllZip (λ p seats. IsPlacement I C (whole p) seats) (parts I) answers →
+    AllZip (λ p seats. IsPlacement I C (whole I p) seats) (parts I) answers →
     IsLayout I C (offsets_of I (flat_map (λ seats. seats) answers))
 all_put_together I C answers z = parts_are_layout I C (flat_map (λ seats. seats) answers)
     (put_together I C (parts I) answers (claim_of_part I) (parts_apart I) z)

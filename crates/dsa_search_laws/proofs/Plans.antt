@@ -24,37 +24,37 @@ first_lower_by I C D l seats s c le h ends =
     (length l) l seats refl c h ends
 
 all_lower : (I : Instance) (C D : ℕ) (ps : List (List ℕ)) (seats : List Entry) → IsInstance I → D ≤ C →
-    ((p : List ℕ) → IsIn p ps → IsClaim I (whole p)) → AllApart ps →
-    first_of_all I C ps ≡ Some seats → ((p : List ℕ) → IsIn p ps → EndsBy I D (whole p) (number_of seats)) →
+    ((p : List ℕ) → IsIn p ps → IsClaim I (whole I p)) → AllApart ps →
+    first_of_all I C ps ≡ Some seats → ((p : List ℕ) → IsIn p ps → EndsBy I D (whole I p) (number_of seats)) →
     first_of_all I D ps ≡ Some seats
 all_lower I C D [] seats s le c a h ends = h
 all_lower I C D (q ∷ qs) seats s le c a h ends =
     go (λ y e k. all_lower I C D qs y s le (λ p j. c p (inr j)) a.1 e k)
-    (join_some (first I C (whole q)) (first_of_all I C qs) seats h)
+    (join_some (first I C (whole I q)) (first_of_all I C qs) seats h)
   where
     go : ((y : List Entry) → first_of_all I C qs ≡ Some y →
-        ((p : List ℕ) → IsIn p qs → EndsBy I D (whole p) (number_of y)) → first_of_all I D qs ≡ Some y) →
-        (x : List Entry) × (y : List Entry) × (first I C (whole q) ≡ Some x) × (first_of_all I C qs ≡ Some y)
-        × (x ++ y ≡ seats) → join (first I D (whole q)) (first_of_all I D qs) ≡ Some seats
+        ((p : List ℕ) → IsIn p qs → EndsBy I D (whole I p) (number_of y)) → first_of_all I D qs ≡ Some y) →
+        (x : List Entry) × (y : List Entry) × (first I C (whole I q) ≡ Some x) × (first_of_all I C qs ≡ Some y)
+        × (x ++ y ≡ seats) → join (first I D (whole I q)) (first_of_all I D qs) ≡ Some seats
     go ih r = rw (here, ih r.1 r.3 later, r.4) refl
       where
-        placed : IsPlacement I C (whole q) r.0
-        placed = first_places I C (whole q) r.0 s (c q (inl refl)) r.2
+        placed : IsPlacement I C (whole I q) r.0
+        placed = first_places I C (whole I q) r.0 s (c q (inl refl)) r.2
 
         same : buffers_of r.0 ≡ q
-        same = placed.same_buffers ∙ buffers_of-whole q
+        same = placed.same_buffers ∙ buffers_of-whole I q
 
-        here : first I D (whole q) ≡ Some r.0
-        here = first_lower_by I C D (whole q) r.0 s (c q (inl refl)) le r.2
+        here : first I D (whole I q) ≡ Some r.0
+        here = first_lower_by I C D (whole I q) r.0 s (c q (inl refl)) le r.2
             (λ e m. let k = ends q (inl refl) e m in
             let z : number_of seats e.0 ≡ number_of r.0 e.0 = rw (← r.4)
-            (number_of-left r.0 r.1 e.0 (rw same ((in_whole q e m).0))) in rw (← z) k)
+            (number_of-left r.0 r.1 e.0 (rw same ((in_whole I q e m).0))) in rw (← z) k)
 
-        later : (p : List ℕ) → IsIn p qs → EndsBy I D (whole p) (number_of r.1)
+        later : (p : List ℕ) → IsIn p qs → EndsBy I D (whole I p) (number_of r.1)
         later p j e m =
             let k = ends p (inr j) e m in
             let z : number_of seats e.0 ≡ number_of r.1 e.0 = rw (← r.4)
-            (number_of-right r.0 r.1 e.0 (λ z. a.0 p j e.0 (rw same at z) (in_whole p e m).0)) in
+            (number_of-right r.0 r.1 e.0 (λ z. a.0 p j e.0 (rw same at z) (in_whole I p e m).0)) in
             rw (← z) k
 
 pub under_layout_height : (I : Instance) (offsets : List ℕ) (b : ℕ) → b < length I →
@@ -73,7 +73,7 @@ searched_lower I C D offsets s h below le = go (found_some I (first_of_all I C (
     go r = rw (all_lower I C D (parts I) r.0 s le (claim_of_part I) (parts_apart I) r.1 ends)
         (ap (λ o. let a : Option (List ℕ) = Some o in a) r.2)
       where
-        ends : (p : List ℕ) → IsIn p (parts I) → EndsBy I D (whole p) (number_of r.0)
+        ends : (p : List ℕ) → IsIn p (parts I) → EndsBy I D (whole I p) (number_of r.0)
         ends p i e j =
             let lt = (claim_of_part I p i).in_range e j in
             let k = under_layout_height I offsets e.0 lt in

@@ -5,7 +5,7 @@ use Rattle.std.specs.List.{range_with_len}
 use Rattle.std.proofs.lemmas.Bool.Decides.{nat_tests}
 use Rattle.std.proofs.lemmas.List.{length-map}
 use Rattle.std.proofs.lemmas.List.Sums.{sum_by-cons}
-use Rattle.dsa_terms.specs.Buffers.{Buffer, Instance}
+use Rattle.dsa_terms.specs.Buffers.{Buffer, Instance, buffer}
 use Rattle.dsa_terms.specs.Claims.{Entry, IsIn, Rises}
 use Rattle.dsa_terms.specs.Logs.{greatest}
 use Rattle.dsa_terms.specs.Search.{most_work, work}
@@ -37,26 +37,26 @@ most_work_both a (suc (suc b)) la lb =
     rw e (let k = two_factors a (suc b) (most_work a) (most_work (suc b)) (most_work (a + suc b)) ih in omega arith)
 
 works_le : (I : Instance) (C : ℕ) (ps : List (List ℕ)) →
-    ((p : List ℕ) → IsIn p ps → (1 ≤ length p) × (work I C (whole p) ≤ most_work (length p))) →
-    ((ps ≡ []) × (sum_by (λ p. work I C (whole p)) ps ≡ 0))
-    ⊎ ((1 ≤ sum_by length ps) × (sum_by (λ p. work I C (whole p)) ps ≤ most_work (sum_by length ps)))
+    ((p : List ℕ) → IsIn p ps → (1 ≤ length p) × (work I C (whole I p) ≤ most_work (length p))) →
+    ((ps ≡ []) × (sum_by (λ p. work I C (whole I p)) ps ≡ 0))
+    ⊎ ((1 ≤ sum_by length ps) × (sum_by (λ p. work I C (whole I p)) ps ≤ most_work (sum_by length ps)))
 works_le I C [] h = inl (refl, refl)
 works_le I C (p ∷ ps) h = go (works_le I C ps (λ q i. h q (inr i))) (h p (inl refl))
   where
-    go : ((ps ≡ []) × (sum_by (λ p. work I C (whole p)) ps ≡ 0))
-        ⊎ ((1 ≤ sum_by length ps) × (sum_by (λ p. work I C (whole p)) ps ≤ most_work (sum_by length ps))) →
-        (1 ≤ length p) × (work I C (whole p) ≤ most_work (length p)) →
-        ((p ∷ ps ≡ []) × (sum_by (λ p. work I C (whole p)) (p ∷ ps) ≡ 0))
-        ⊎ ((1 ≤ sum_by length (p ∷ ps)) × (sum_by (λ p. work I C (whole p)) (p ∷ ps) ≤ most_work
+    go : ((ps ≡ []) × (sum_by (λ p. work I C (whole I p)) ps ≡ 0))
+        ⊎ ((1 ≤ sum_by length ps) × (sum_by (λ p. work I C (whole I p)) ps ≤ most_work (sum_by length ps))) →
+        (1 ≤ length p) × (work I C (whole I p) ≤ most_work (length p)) →
+        ((p ∷ ps ≡ []) × (sum_by (λ p. work I C (whole I p)) (p ∷ ps) ≡ 0))
+        ⊎ ((1 ≤ sum_by length (p ∷ ps)) × (sum_by (λ p. work I C (whole I p)) (p ∷ ps) ≤ most_work
         (sum_by length (p ∷ ps))))
     go (inl e) k = inr (
       rw (sum_by-cons length p ps) (let a = k.0 in omega arith),
-      rw (sum_by-cons (λ p. work I C (whole p)) p ps, sum_by-cons length p ps, e.1, e.0)
+      rw (sum_by-cons (λ p. work I C (whole I p)) p ps, sum_by-cons length p ps, e.1, e.0)
           (let e : length p + 0 ≡ length p = omega arith in rw e (let a = k.1 in omega arith)),
     )
     go (inr e) k = inr (
       rw (sum_by-cons length p ps) (let a = k.0 in omega arith),
-      rw (sum_by-cons (λ p. work I C (whole p)) p ps, sum_by-cons length p ps)
+      rw (sum_by-cons (λ p. work I C (whole I p)) p ps, sum_by-cons length p ps)
           (let both = most_work_both (length p) (sum_by length ps) k.0 e.0 in let a = k.1 in let b = e.1 in
           omega arith),
     )
@@ -161,16 +161,16 @@ pub whole_work_bound : (I : Instance) (C : ℕ) → whole_work I C ≤ most_work
 unfolding whole_work
 whole_work_bound I C = go (works_le I C (parts I) each)
   where
-    each : (p : List ℕ) → IsIn p (parts I) → (1 ≤ length p) × (work I C (whole p) ≤ most_work (length p))
+    each : (p : List ℕ) → IsIn p (parts I) → (1 ≤ length p) × (work I C (whole I p) ≤ most_work (length p))
     each p i =
-        let b = (work_bounds I C (whole p) (claim_of_part I p i)).1 in
-        let n : length (whole p) ≡ length p = length-map p (λ b. let e : Entry = (b, 0) in e) in
+        let b = (work_bounds I C (whole I p) (claim_of_part I p i)).1 in
+        let n : length (whole I p) ≡ length p = length-map p (λ b. let e : Entry = (b, (buffer I b).lowest) in e) in
         (not_empty I p i, rw n at b)
 
-    go : ((parts I ≡ []) × (sum_by (λ p. work I C (whole p)) (parts I) ≡ 0))
-        ⊎ ((1 ≤ sum_by length (parts I)) × (sum_by (λ p. work I C (whole p)) (parts I) ≤ most_work
+    go : ((parts I ≡ []) × (sum_by (λ p. work I C (whole I p)) (parts I) ≡ 0))
+        ⊎ ((1 ≤ sum_by length (parts I)) × (sum_by (λ p. work I C (whole I p)) (parts I) ≤ most_work
         (sum_by length (parts I)))) →
-        sum_by (λ p. work I C (whole p)) (parts I) ≤ most_work (length I)
+        sum_by (λ p. work I C (whole I p)) (parts I) ≤ most_work (length I)
     go (inl e) = let k = e.1 in omega arith
     go (inr e) = let k = e.1 in let m = most_work_grows (sum_by length (parts I)) (length I) (parts_count I) in
         omega (arith, k, m)

@@ -46,15 +46,15 @@ pub fn parts_are_greatest()
 /// Seats that place each part's whole claim are a layout, and one refuted part leaves no layout.
 pub fn parts_make_the_whole()
     ensures layout { (I : Instance) (C : ℕ) (seats : List Entry) →
-        ((p : List ℕ) → IsIn p (parts I) → Places I C (whole p) (number_of seats)) →
+        ((p : List ℕ) → IsIn p (parts I) → Places I C (whole I p) (number_of seats)) →
         IsLayout I C (offsets_of I seats) }
     ensures none { (I : Instance) (C : ℕ) (p : List ℕ) → IsIn p (parts I) →
-        IsRefuted I C (whole p) → IsInfeasible I C }
+        IsRefuted I C (whole I p) → IsInfeasible I C }
 {}
 
 /// Placements of the whole claims of all parts, put together, are a layout.
 pub fn parts_go_together()
     ensures { (I : Instance) (C : ℕ) (answers : List (List Entry)) →
-        AllZip (λ p seats. IsPlacement I C (whole p) seats) (parts I) answers →
+        AllZip (λ p seats. IsPlacement I C (whole I p) seats) (parts I) answers →
         IsLayout I C (offsets_of I (flat_map (λ seats. seats) answers)) }
 {}

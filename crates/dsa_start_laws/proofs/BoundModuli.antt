@@ -1,20 +1,17 @@
 -- The least modulus that reaches the lower bound, and when the bound is above 0.
-use Rattle.std.proofs.Common.{◌≡◌, ℕ, ◌-◌, ◌%◌, ◌<◌, ◌≤◌, ◌⊎◌, inl, inr, ◌&&◌, ◌==◌, List, [], ◌∷◌, map, length, filter, sum_by, min, sym, refl, ap, ◌∙◌, arith}
-use Rattle.std.specs.List.{reduce, fold}
-use Rattle.std.specs.Option.{unwrap_or}
+use Rattle.std.proofs.Common.{◌≡◌, ℕ, ◌-◌, ◌%◌, ◌<◌, ◌≤◌, ◌≢◌, ◌⊎◌, inl, inr, ◌==◌, List, [], ◌∷◌, map, length, filter, sum_by, min, sym, refl, ap, ◌∙◌, arith}
+use Rattle.std.specs.List.{fold}
 use Rattle.std.specs.Int.{next_multiple_of}
 use Rattle.std.proofs.lemmas.List.Sums.{sum_by-cons}
-use Rattle.dsa_terms.specs.Buffers.{Instance, buffer, is_live, IsLive, IsInstance}
+use Rattle.dsa_terms.specs.Buffers.{Instance, buffer, IsLive, IsInstance}
 use Rattle.dsa_terms.specs.Claims.{IsIn}
 use Rattle.dsa_terms.specs.Logs.{greatest}
-use Rattle.dsa_terms.specs.Parts.{numbers}
-use Rattle.dsa_terms.specs.Bounds.{counted, rounded_size, stack, moduli, highest_stack, lower_bound, bound_modulus}
+use Rattle.dsa_terms.specs.Bounds.{counted, rounded_size, pile, moduli, highest_stack, lower_bound, least_of, bound_modulus}
 use Rattle.dsa_terms.proofs.Lists.{from_map, from_filter, into_filter}
-use Rattle.dsa_terms.proofs.Moments.{both_true, sound}
+use Rattle.dsa_terms.proofs.Moments.{sound}
 use Rattle.dsa_terms.proofs.NumberTests.{equal, same}
-use Rattle.dsa_terms.proofs.Ranges.{into_range}
 use Rattle.dsa_search_laws.proofs.Logs.{in_greatest}
-use Rattle.dsa_start_laws.proofs.Stacks.{greatest_is, stack_under_bound}
+use Rattle.dsa_start_laws.proofs.Stacks.{greatest_is, into_counted, stack_of_some, stack_under_bound, zero_height}
 
 -- ---- the least modulus that reaches the bound
 some_modulus : (I : Instance) → (G : ℕ) × IsIn G (moduli I) × (highest_stack I G ≡ lower_bound I)
@@ -61,15 +58,16 @@ fold_min m (y ∷ ys) = go (min m y) (picks m y) (fold_min (min m y) ys)
             with_second d (inr (inl q)) = let z = r.least k (inl refl) in let a = d.0 in omega arith
             with_second d (inr (inr j)) = r.least x (inr j)
 
-reduce_min : (xs : List ℕ) (x : ℕ) → IsIn x xs → IsLeastOf xs (unwrap_or (reduce min xs) 1)
-reduce_min [] x i = absurd i
-reduce_min (y ∷ ys) x i = fold_min y ys
+pub least_is : (xs : List ℕ) (other x : ℕ) → IsIn x xs → IsLeastOf xs (least_of xs other)
+unfolding least_of
+least_is [] other x i = absurd i
+least_is (y ∷ ys) other x i = fold_min y ys
 
 pub bound_modulus_is : (I : Instance) → IsLeastOf (filter (λ G. highest_stack I G == lower_bound I) (moduli I))
     (bound_modulus I)
 unfolding bound_modulus
 bound_modulus_is I = let r = some_modulus I in
-    reduce_min (filter (λ G. highest_stack I G == lower_bound I) (moduli I)) r.0
+    least_is (filter (λ G. highest_stack I G == lower_bound I) (moduli I)) 1 r.0
     (into_filter (λ G. highest_stack I G == lower_bound I) (moduli I) r.0 r.1
     (same (highest_stack I r.0) (lower_bound I) r.2))
 
@@ -88,12 +86,9 @@ bound_modulus_least I G i q = (bound_modulus_is I).least G
     (same (highest_stack I G) (lower_bound I) q))
 
 -- ---- a buffer that is live at some moment lifts the bound above 0
-one_counts : (I : Instance) (t b : ℕ) → b < length I → IsLive (buffer I b) t → IsIn b (counted I t 1)
-unfolding counted
-one_counts I t b lt live = into_filter (λ b. is_live (buffer I b) t && ((buffer I b).alignment % 1 == 0))
-    (numbers (length I)) b (into_range (length I) 0 b (omega arith) (omega arith))
-    (both_true (is_live (buffer I b) t) ((buffer I b).alignment % 1 == 0) live
-    (same ((buffer I b).alignment % 1) 0 (omega arith)))
+one_counts : (I : Instance) (t b : ℕ) → b < length I → IsLive (buffer I b) t → IsIn b (counted I t 0 1)
+one_counts I t b lt live = into_counted I t 0 1 b lt live (omega arith)
+    (same ((buffer I b).alignment % 1) 0 (omega arith))
 
 -- by modulus 1 the stack is the load of the counted
 unrounded : (x : ℕ) → next_multiple_of x 1 ≡ x
@@ -123,12 +118,23 @@ in_sum f [] b i = absurd i
 in_sum f (c ∷ cs) b (inl q) = rw (sum_by-cons f c cs) (let k : f b ≡ f c = ap f q in omega arith)
 in_sum f (c ∷ cs) b (inr i) = rw (sum_by-cons f c cs) (let k = in_sum f cs b i in omega arith)
 
-pub bound_is_positive : (I : Instance) (t b : ℕ) → IsInstance I → b < length I → IsLive (buffer I b) t →
-    1 ≤ lower_bound I
-unfolding stack moduli
-bound_is_positive I t b s lt live =
-    let a = stack_under_bound I t 1 (inl refl) in
-    let q = stack_by_one I (counted I t 1) in
-    let k = in_sum (λ b. (buffer I b).size) (counted I t 1) b (one_counts I t b lt live) in
+positive_pile : (I : Instance) (t b : ℕ) → IsInstance I → b < length I → IsLive (buffer I b) t → 1 ≤ pile I t 0 1
+unfolding pile
+positive_pile I t b s lt live =
+    let q = stack_by_one I (counted I t 0 1) in
+    let k = in_sum (λ b. (buffer I b).size) (counted I t 0 1) b (one_counts I t b lt live) in
     let z = (sound I b s).0 in
     omega arith
+
+pub bound_is_positive : (I : Instance) (t b : ℕ) → IsInstance I → b < length I → IsLive (buffer I b) t →
+    1 ≤ lower_bound I
+unfolding moduli
+bound_is_positive I t b s lt live =
+    let a = stack_under_bound I t 0 1 (inl refl) (zero_height I 1) in
+    let e = stack_of_some I t 0 1 (filled (counted I t 0 1) (one_counts I t b lt live)) in
+    let k = positive_pile I t b s lt live in
+    omega arith
+  where
+    filled : (p : List ℕ) → IsIn b p → p ≢ []
+    filled [] i = absurd i
+    filled (c ∷ cs) i = λ e. cc

@@ -1,5 +1,5 @@
 -- First-fit and best-fit of an order are layouts, and so is each start.
-use Rattle.std.proofs.Common.{◌≡◌, ℕ, ◌≢◌, ◌⊎◌, inl, inr, Bool, true, false, cond, ◌==◌, List, [], ◌∷◌, map, length, sym, refl, ◌∙◌, subst, arith}
+use Rattle.std.proofs.Common.{◌≡◌, ℕ, ◌≢◌, ◌≤◌, ◌⊎◌, inl, inr, Bool, true, false, cond, ◌==◌, List, [], ◌∷◌, map, length, sym, refl, ◌∙◌, subst, arith}
 use Rattle.std.proofs.lemmas.Bool.Decides.{nat_tests}
 use Rattle.std.proofs.lemmas.List.FromFn.{length-map-range_with_len}
 use Rattle.dsa_terms.specs.Buffers.{Buffer, Instance, buffer, IsLive, do_share, IsInstance}
@@ -53,6 +53,11 @@ aligned_at I [] e h i = absurd i
 aligned_at I (x ∷ xs) e h (inl q) = rw q h.0.aligned
 aligned_at I (x ∷ xs) e h (inr i) = aligned_at I xs e h.1 i
 
+above_at : (I : Instance) (es : List Entry) (e : Entry) → IsStacked I es → IsIn e es → (buffer I e.0).lowest ≤ e.1
+above_at I [] e h i = absurd i
+above_at I (x ∷ xs) e h (inl q) = rw q h.0.above
+above_at I (x ∷ xs) e h (inr i) = above_at I xs e h.1 i
+
 beside : (I : Instance) (es : List Entry) (b x c y t : ℕ) → IsClear I b (neighbours I b es) x → IsIn (c, y) es →
     IsLive (buffer I b) t → IsLive (buffer I c) t → IsApart (buffer I b) x (buffer I c) y
 unfolding neighbours
@@ -105,6 +110,7 @@ pub stacked_is_layout : (I : Instance) (es : List Entry) → IsStacked I es → 
 stacked_is_layout I es h each = record {
   count = length-map-range_with_len (number_of es) 0 (length I);
   aligned = λ b lt. rw (offset_at I es b lt) (aligned_at I es (b, number_of es b) h (has_seat es b (each b lt)));
+  above = λ b lt. rw (offset_at I es b lt) (above_at I es (b, number_of es b) h (has_seat es b (each b lt)));
   within = λ b lt. under_layout_height I (offsets_of I es) b lt;
   apart = λ b c t lb lc ne p q. rw (offset_at I es b lb, offset_at I es c lc)
       (stacked_apart I es b c t h ne (each b lb) (each c lc) p q);

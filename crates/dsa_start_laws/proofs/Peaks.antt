@@ -2,18 +2,17 @@
 use Rattle.std.proofs.Common.{◌≡◌, ℕ, zero, suc, ◌-◌, ◌<◌, ◌≤◌, ◌≢◌, ◌⊎◌, inl, inr, Bool, true, false, ◌==◌, List, [], ◌∷◌, map, slice_get, take, Some, sym, refl, ap, ◌∙◌, subst, arith}
 use Rattle.dsa_terms.specs.Buffers.{Instance}
 use Rattle.dsa_terms.specs.Layouts.{IsFeasible, IsInfeasible, IsLeast}
-use Rattle.dsa_terms.specs.Claims.{Entry, IsIn}
-use Rattle.dsa_terms.specs.Logs.{greatest, Line, Over, claim_of}
-use Rattle.dsa_terms.specs.Parts.{whole, part_of}
+use Rattle.dsa_terms.specs.Claims.{Claim, Entry, IsIn}
+use Rattle.dsa_terms.specs.Logs.{greatest, Line, Over, claim_of, IsLegal}
+use Rattle.dsa_terms.specs.Parts.{part_of}
 use Rattle.dsa_terms.specs.Plans.{load, IsPeak}
-use Rattle.dsa_terms.specs.Bounds.{counted, stack, moments, stack_log}
+use Rattle.dsa_terms.specs.Bounds.{counted, moments, line_height, stack_line, stack_log}
 use Rattle.dsa_terms.specs.Lean.{IsLeanLine, IsLean}
-use Rattle.dsa_terms.proofs.Lists.{from_map, true_or_false}
-use Rattle.dsa_terms.proofs.NumberTests.{differ, equal, same}
+use Rattle.dsa_terms.proofs.Lists.{true_or_false}
+use Rattle.dsa_terms.proofs.NumberTests.{differ, equal, same, same_or_not}
 use Rattle.dsa_search_laws.proofs.Logs.{feasible_higher}
 use Rattle.dsa_search_laws.proofs.Cuts.{sharing_is_one_part}
-use Rattle.dsa_search_laws.proofs.Members.{in_whole, whole_is_whole}
-use Rattle.dsa_start_laws.proofs.Stacks.{greatest_is, in_counted, stack_under_highest}
+use Rattle.dsa_start_laws.proofs.Stacks.{all_at_bound, in_bound, in_counted, greatest_of, under_moments, dead_stack, legal_is_over, legal_height}
 use Rattle.dsa_start_laws.proofs.Bounds.{load_is_stack}
 
 -- ---- the least number that passes
@@ -41,29 +40,28 @@ least_passing p n e = elim (search_below p (suc n)) [
 ]
 
 -- ---- the peak
-pub load_under : (I : Instance) (t : ℕ) → load I t ≤ greatest (map (λ t. stack I t 1) (moments I))
-load_under I t = let a = stack_under_highest I t 1 in let e = load_is_stack I t in omega arith
+pub load_under : (I : Instance) (t : ℕ) → load I t ≤ greatest (map (load I) (moments I))
+load_under I t = under_moments I (load I) t (λ d. sym (load_is_stack I t) ∙ dead_stack I t 0 1 d)
 
-reached : (I : Instance) → (t : ℕ) × (load I t ≡ greatest (map (λ t. stack I t 1) (moments I)))
-reached I = elim (greatest_is (map (λ t. stack I t 1) (moments I))) [
+reached : (I : Instance) → (t : ℕ) × (load I t ≡ greatest (map (load I) (moments I)))
+reached I = elim (greatest_of (load I) (moments I)) [
   | inl z ↦ (0, (let a = load_under I 0 in omega arith))
-  | inr i ↦ (let r = from_map (λ t. stack I t 1) (moments I) (greatest (map (λ t. stack I t 1) (moments I))) i in
-      (r.0, sym (load_is_stack I r.0) ∙ sym r.2))
+  | inr r ↦ (r.0, sym r.2)
 ]
 
 pub has_peak : (I : Instance) → I ≢ [] → (t : ℕ) × IsPeak I t
 has_peak I some =
     let r = reached I in
-    let t = least_passing (λ t. load I t == greatest (map (λ t. stack I t 1) (moments I))) r.0
-    (same (load I r.0) (greatest (map (λ t. stack I t 1) (moments I))) r.1) in
-    let top : load I t.0 ≡ greatest (map (λ t. stack I t 1) (moments I)) = equal (load I t.0)
-    (greatest (map (λ t. stack I t 1) (moments I))) t.1.passes in (
+    let t = least_passing (λ t. load I t == greatest (map (load I) (moments I))) r.0
+    (same (load I r.0) (greatest (map (load I) (moments I))) r.1) in
+    let top : load I t.0 ≡ greatest (map (load I) (moments I)) = equal (load I t.0)
+    (greatest (map (load I) (moments I))) t.1.passes in (
       t.0,
       record {
         not_empty = some;
         most = λ s. let a = load_under I s in omega arith;
         earliest = λ s lt. let a = load_under I s in
-            let n = differ (load I s) (greatest (map (λ t. stack I t 1) (moments I))) (t.1.least s lt) in omega arith;
+            let n = differ (load I s) (greatest (map (load I) (moments I))) (t.1.least s lt) in omega arith;
       },
     )
 
@@ -79,42 +77,68 @@ one_peak I s t p q = go (cases s t)
     go (inr (inr e)) = e
 
 -- ---- the bound's log is lean
-stack_line_is_lean : (I : Instance) (C t G : ℕ) (earlier : List Line) →
-    IsLeanLine I C earlier (Over (whole (counted I t G)) t 0 G)
-stack_line_is_lean I C t G earlier = record {
-  live = λ e i. (in_counted I t G e.0 (in_whole (counted I t G) e i).0).1;
-  bounds = λ e i. whole_is_whole (counted I t G) e i;
-  lowest = inl refl;
+-- one modulus lower the line is not legal
+not_lower : (I : Instance) (t H G C : ℕ) (earlier : List Line) → line_height I t H G C ≢ 0 →
+    IsLegal I C earlier (stack_line I t H G (line_height I t H G C - G)) → ⊥
+not_lower I t H G C earlier n l =
+    let o = legal_is_over I t H G (line_height I t H G C - G) C earlier l in
+    let k = legal_height I t H G C (line_height I t H G C - G) earlier l in
+    let p = o.0 in
+    omega arith
+
+lowered : (h G : ℕ) (p : List ℕ) → map (λ (e : Entry). let f : Entry = (e.0, h - G) in f) (all_at_bound h p)
+    ≡ all_at_bound (h - G) p
+lowered h G [] = refl
+lowered h G (b ∷ bs) = ap (λ es. let f : Entry = (b, h - G) in f ∷ es) (lowered h G bs)
+
+stack_line_is_lean : (I : Instance) (t H G C : ℕ) (earlier : List Line) →
+    IsLeanLine I C earlier (stack_line I t H G (line_height I t H G C))
+unfolding stack_line
+stack_line_is_lean I t H G C earlier = record {
+  live = λ e i. (in_counted I t H G e.0 (in_bound (line_height I t H G C) (counted I t H G) e i).0).1;
+  bounds = λ e i. (in_bound (line_height I t H G C) (counted I t H G) e i).1;
+  lowest = elim (same_or_not (line_height I t H G C) 0) [
+    | inl z ↦ inl z
+    | inr n ↦ inr (λ l. not_lower I t H G C earlier n (subst (λ (m : Claim). IsLegal I C earlier
+        (Over m t (line_height I t H G C - G) G)) (lowered (line_height I t H G C) G (counted I t H G)) l))
+  ];
 }
 
-pub stack_is_lean : (I : Instance) (t G C : ℕ) → IsLean I (stack_log I t G C)
+in_line : (I : Instance) (t H G h : ℕ) (e : Entry) → IsIn e (claim_of (stack_line I t H G h)) →
+    IsIn e.0 (counted I t H G)
+unfolding stack_line
+in_line I t H G h e i = (in_bound h (counted I t H G) e i).0
+
+pub stack_is_lean : (I : Instance) (t H G C : ℕ) → IsLean I (stack_log I t H G C)
 unfolding stack_log
-stack_is_lean I t G C = record {
+stack_is_lean I t H G C = record {
   uncovered = λ j k earlier line lt p q c. two_lines j k earlier line lt p q;
   lean = lean;
   one_part = λ j k other line e f p q i m. together e f (among j other e p i) (among k line f q m);
 }
   where
+    h : ℕ
+    h = line_height I t H G C
+
     two_lines : (j k : ℕ) (earlier line : Line) → j < k →
-        slice_get (Over (whole (counted I t G)) t 0 G ∷ []) j ≡ Some earlier →
-        slice_get (Over (whole (counted I t G)) t 0 G ∷ []) k ≡ Some line → ⊥
+        slice_get (stack_line I t H G h ∷ []) j ≡ Some earlier →
+        slice_get (stack_line I t H G h ∷ []) k ≡ Some line → ⊥
     two_lines j zero earlier line lt p q = omega arith
     two_lines j (suc k) earlier line lt p q = cc
 
-    lean : (k : ℕ) (line : Line) → slice_get (Over (whole (counted I t G)) t 0 G ∷ []) k ≡ Some line →
-        IsLeanLine I C (take k (Over (whole (counted I t G)) t 0 G ∷ [])) line
-    lean zero line h = let e : Over (whole (counted I t G)) t 0 G ≡ line = cc in
-        rw (← e) (stack_line_is_lean I C t G [])
-    lean (suc k) line h = absurd cc
+    lean : (k : ℕ) (line : Line) → slice_get (stack_line I t H G h ∷ []) k ≡ Some line →
+        IsLeanLine I C (take k (stack_line I t H G h ∷ [])) line
+    lean zero line q = let e : stack_line I t H G h ≡ line = cc in rw (← e) (stack_line_is_lean I t H G C [])
+    lean (suc k) line q = absurd cc
 
-    among : (k : ℕ) (line : Line) (e : Entry) → slice_get (Over (whole (counted I t G)) t 0 G ∷ []) k ≡ Some line →
-        IsIn e (claim_of line) → IsIn e.0 (counted I t G)
-    among zero line e h i = let q : Over (whole (counted I t G)) t 0 G ≡ line = cc in
-        (in_whole (counted I t G) e (subst (λ (line : Line). IsIn e (claim_of line)) (sym q) i)).0
-    among (suc k) line e h i = absurd cc
+    among : (k : ℕ) (line : Line) (e : Entry) → slice_get (stack_line I t H G h ∷ []) k ≡ Some line →
+        IsIn e (claim_of line) → IsIn e.0 (counted I t H G)
+    among zero line e m i = let q : stack_line I t H G h ≡ line = cc in
+        in_line I t H G h e (subst (λ (line : Line). IsIn e (claim_of line)) (sym q) i)
+    among (suc k) line e m i = absurd cc
 
-    together : (e f : Entry) → IsIn e.0 (counted I t G) → IsIn f.0 (counted I t G) → part_of I e.0 ≡ part_of I f.0
-    together e f i j = let a = in_counted I t G e.0 i in let b = in_counted I t G f.0 j in
+    together : (e f : Entry) → IsIn e.0 (counted I t H G) → IsIn f.0 (counted I t H G) → part_of I e.0 ≡ part_of I f.0
+    together e f i j = let a = in_counted I t H G e.0 i in let b = in_counted I t H G f.0 j in
         sharing_is_one_part I e.0 f.0 t a.0 b.0 a.1 b.1
 
 -- ---- no capacity below the least one has a layout

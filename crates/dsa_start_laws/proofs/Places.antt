@@ -1,17 +1,17 @@
--- Where first-fit and best-fit put one buffer it is aligned and apart from the others.
-use Rattle.std.proofs.Common.{◌≡◌, ℕ, zero, suc, ◌+◌, ◌%◌, ◌<◌, ◌≤◌, ◌⊎◌, inl, inr, Bool, true, false, cond, ◌&&◌, ◌||◌, List, [], ◌∷◌, filter, nat_lt, nat_le, Option, Some, None, refl, ap, arith}
+-- Where first-fit and best-fit put one buffer it is aligned, at or above its lowest, and apart from the others.
+use Rattle.std.proofs.Common.{◌≡◌, ℕ, zero, suc, ◌+◌, ◌%◌, ◌<◌, ◌≤◌, ◌⊎◌, inl, inr, Bool, true, false, cond, ◌&&◌, ◌||◌, max, List, [], ◌∷◌, filter, nat_lt, nat_le, Option, Some, None, refl, ap, arith}
 use native.Mathlib.Nat.{mod_self}
-use Rattle.std.specs.Int.{next_multiple_of}
 use Rattle.std.proofs.lemmas.Bool.Decides.{nat_tests}
-use Rattle.dsa_terms.specs.Buffers.{Instance, buffer, IsInstance}
+use Rattle.dsa_terms.specs.Buffers.{Instance, buffer, IsInstance, floor}
 use Rattle.dsa_terms.specs.Layouts.{IsApart}
 use Rattle.dsa_terms.specs.Claims.{Entry, IsIn}
-use Rattle.dsa_terms.specs.Fits.{top, highest, is_free, IsClear, first_passing, FitRule, first_place, Range, stretches, free_ranges, holds, is_tighter, tighter_of, tightest, start_in, best_place}
-use Rattle.dsa_terms.proofs.Numbers.{next_at_or_above, next_is_multiple, multiple_sum, multiple_steps}
+use Rattle.dsa_terms.specs.Fits.{top, highest, is_free, IsClear, first_passing, FitRule, first_place, Range, stretches, free_ranges, least_from, holds, is_tighter, tighter_of, tightest, start_in, best_place}
+use Rattle.dsa_terms.proofs.Numbers.{next_is_least, next_is_multiple, multiple_sum, multiple_steps}
 use Rattle.dsa_terms.proofs.Lists.{from_filter, all_at, all_from}
 use Rattle.dsa_terms.proofs.Moments.{and_true, sound}
 use Rattle.dsa_terms.proofs.NumberTests.{at_most}
 use Rattle.dsa_search_laws.proofs.Logs.{in_greatest}
+use Rattle.dsa_search_laws.proofs.Members.{lowest_to_floor}
 
 -- ---- the first multiple that passes
 pub passing_passes : (test : ℕ → Bool) (a n x : ℕ) → 1 ≤ a → ((y : ℕ) → x + n ≤ y → test y ≡ true) →
@@ -53,6 +53,15 @@ passing_least test a (suc n) x y pos h k le m t =
       | inr lt ↦ ih (multiple_steps y (x + a) a pos m (multiple_sum x a a h k) (omega arith))
     ]
 
+pub passing_from : (test : ℕ → Bool) (a n x : ℕ) → x ≤ first_passing test a n x
+unfolding first_passing
+passing_from test a zero x = omega arith
+passing_from test a (suc n) x = go (passing_from test a n (x + a)) (test x)
+  where
+    go : x + a ≤ first_passing test a n (x + a) → (b : Bool) → x ≤ cond b x (first_passing test a n (x + a))
+    go ih true = omega arith
+    go ih false = omega arith
+
 -- ---- free addresses
 pub free_at : (I : Instance) (placed : List Entry) (x y : ℕ) (e : Entry) → is_free I placed x y ≡ true → IsIn e placed →
     (y ≤ e.1) ⊎ (e.1 + (buffer I e.0).size ≤ x)
@@ -85,36 +94,45 @@ IsClearRule I rule = (b : ℕ) (placed : List Entry) → IsClear I b placed (rul
 itself_multiple : (a : ℕ) → a % a ≡ 0
 itself_multiple a = mod_self a
 
+pub floor_is_multiple : (I : Instance) (b : ℕ) → IsInstance I → floor (buffer I b) % (buffer I b).alignment ≡ 0
+unfolding floor
+floor_is_multiple I b s = next_is_multiple (buffer I b).lowest (buffer I b).alignment (sound I b s).1
+
 pub first_is_clear : (I : Instance) → IsInstance I → IsClearRule I first_place
 unfolding first_place
 first_is_clear I s b placed = record {
-  aligned = passing_multiple test (buffer I b).alignment (highest I placed) 0 (zero_multiple (buffer I b).alignment)
-      (itself_multiple (buffer I b).alignment);
+  aligned = passing_multiple test (buffer I b).alignment (highest I placed) (floor (buffer I b))
+      (floor_is_multiple I b s) (itself_multiple (buffer I b).alignment);
+  above = (let k = passing_from test (buffer I b).alignment (highest I placed) (floor (buffer I b)) in
+      let l = lowest_to_floor (buffer I b) in omega arith);
   apart = λ e i. free_at I placed found (found + (buffer I b).size) e
-      (passing_passes test (buffer I b).alignment (highest I placed) 0 (sound I b s).1 past) i;
+      (passing_passes test (buffer I b).alignment (highest I placed) (floor (buffer I b)) (sound I b s).1 past) i;
 }
   where
     test : ℕ → Bool
     test x = is_free I placed x (x + (buffer I b).size)
 
     found : ℕ
-    found = first_passing test (buffer I b).alignment (highest I placed) 0
+    found = first_passing test (buffer I b).alignment (highest I placed) (floor (buffer I b))
 
-    zero_multiple : (a : ℕ) → 0 % a ≡ 0
-    zero_multiple a = omega arith
-
-    past : (y : ℕ) → 0 + highest I placed ≤ y → is_free I placed y (y + (buffer I b).size) ≡ true
+    past : (y : ℕ) → floor (buffer I b) + highest I placed ≤ y → is_free I placed y (y + (buffer I b).size) ≡ true
     past y le = free_from I placed y (y + (buffer I b).size)
         (λ e i. inr (let k = under_highest I placed e i in omega arith))
 
--- no aligned place below first-fit's is apart from all
+floor_to_clear : (I : Instance) (b : ℕ) (placed : List Entry) (y : ℕ) → IsInstance I → IsClear I b placed y →
+    floor (buffer I b) ≤ y
+unfolding floor
+floor_to_clear I b placed y s c =
+    next_is_least (buffer I b).lowest (buffer I b).alignment y (sound I b s).1 c.above c.aligned
+
+-- no aligned place below first-fit's, and not below the lowest, is apart from all
 pub first_is_least : (I : Instance) (b : ℕ) (placed : List Entry) (y : ℕ) → IsInstance I → IsClear I b placed y →
     first_place I b placed ≤ y
 unfolding first_place
 first_is_least I b placed y s c =
-    passing_least (λ x. is_free I placed x (x + (buffer I b).size)) (buffer I b).alignment (highest I placed) 0 y
-    (sound I b s).1
-    (omega arith) (itself_multiple (buffer I b).alignment) (omega arith) c.aligned
+    passing_least (λ x. is_free I placed x (x + (buffer I b).size)) (buffer I b).alignment (highest I placed)
+    (floor (buffer I b)) y (sound I b s).1
+    (floor_is_multiple I b s) (itself_multiple (buffer I b).alignment) (floor_to_clear I b placed y s c) c.aligned
     (free_from I placed y (y + (buffer I b).size) c.apart)
 
 -- ---- the tightest range is one of them
@@ -140,9 +158,24 @@ free_range_is_free I placed r i =
     (stretches I placed) r i).1).1
 
 pub holds_is : (I : Instance) (b : ℕ) (r : Range) → holds I b r ≡ true →
-    next_multiple_of r.start (buffer I b).alignment + (buffer I b).size ≤ r.stop
+    least_from I b r.start + (buffer I b).size ≤ r.stop
 unfolding holds
-holds_is I b r h = at_most (next_multiple_of r.start (buffer I b).alignment + (buffer I b).size) r.stop h
+holds_is I b r h = at_most (least_from I b r.start + (buffer I b).size) r.stop h
+
+-- ---- the least place that b may have from x on
+pub from_is_multiple : (I : Instance) (b x : ℕ) → IsInstance I → least_from I b x % (buffer I b).alignment ≡ 0
+unfolding least_from
+from_is_multiple I b x s = next_is_multiple (max x (buffer I b).lowest) (buffer I b).alignment (sound I b s).1
+
+pub from_is_above : (I : Instance) (b x : ℕ) → (x ≤ least_from I b x) × ((buffer I b).lowest ≤ least_from I b x)
+unfolding least_from
+from_is_above I b x = (omega arith, omega arith)
+
+pub from_is_least : (I : Instance) (b x y : ℕ) → IsInstance I → x ≤ y → (buffer I b).lowest ≤ y →
+    y % (buffer I b).alignment ≡ 0 → least_from I b x ≤ y
+unfolding least_from
+from_is_least I b x y s lx ll m =
+    next_is_least (max x (buffer I b).lowest) (buffer I b).alignment y (sound I b s).1 (omega arith) m
 
 pub best_is_clear : (I : Instance) → IsInstance I → IsClearRule I best_place
 unfolding best_place
@@ -154,12 +187,14 @@ best_is_clear I s b placed = go (tightest (filter (holds I b) (free_ranges I pla
     go : (o : Option Range) → tightest (filter (holds I b) (free_ranges I placed)) ≡ o →
         IsClear I b placed (start_in I b placed o)
     go None e = record {
-      aligned = next_is_multiple (highest I placed) (buffer I b).alignment (sound I b s).1;
+      aligned = from_is_multiple I b (highest I placed) s;
+      above = (from_is_above I b (highest I placed)).1;
       apart = λ f i. inr (let k = under_highest I placed f i in
-          let m = next_at_or_above (highest I placed) (buffer I b).alignment (sound I b s).1 in omega arith);
+          let m = (from_is_above I b (highest I placed)).0 in omega arith);
     }
     go (Some r) e = record {
-      aligned = next_is_multiple r.start (buffer I b).alignment (sound I b s).1;
+      aligned = from_is_multiple I b r.start s;
+      above = (from_is_above I b r.start).1;
       apart = λ f i. within f i (range_of (tightest_is_in (filter (holds I b) (free_ranges I placed)) r e));
     }
       where
@@ -169,9 +204,9 @@ best_is_clear I s b placed = go (tightest (filter (holds I b) (free_ranges I pla
             (x.1, free_range_is_free I placed r x.0)
 
         within : (f : Entry) → IsIn f placed → (holds I b r ≡ true) × (is_free I placed r.start r.stop ≡ true) →
-            IsApart (buffer I b) (next_multiple_of r.start (buffer I b).alignment) (buffer I f.0) f.1
+            IsApart (buffer I b) (least_from I b r.start) (buffer I f.0) f.1
         within f i x =
-            let m = next_at_or_above r.start (buffer I b).alignment (sound I b s).1 in
+            let m = (from_is_above I b r.start).0 in
             let h = holds_is I b r x.0 in
             elim (free_at I placed r.start r.stop f x.1 i) [
               | inl q ↦ inl (omega arith)

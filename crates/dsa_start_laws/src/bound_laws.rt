@@ -1,21 +1,25 @@
 //! Laws of the lower bound.
 
-ghost use Rattle.std.specs.Prelude.{◌≡◌, ℕ, ◌<◌, ◌≤◌, ◌⊎◌, List, length, map};
-ghost use Rattle.dsa_terms.specs.Buffers.{Instance, IsInstance, IsLive, buffer};
+ghost use Rattle.std.specs.Prelude.{◌≡◌, ◌≢◌, ℕ, ◌<◌, ◌≤◌, ◌⊎◌, List, [], length, map};
+ghost use Rattle.dsa_terms.specs.Buffers.{Instance, IsInstance, IsLive, buffer, floor};
 ghost use Rattle.dsa_terms.specs.Claims.{IsIn};
-ghost use Rattle.dsa_terms.specs.Layouts.{IsFeasible};
-ghost use Rattle.dsa_terms.specs.Bounds.{bound_modulus, bound_moment, HasSections, highest_stack, IsReached, lower_bound, moduli, stack, stack_log};
+ghost use Rattle.dsa_terms.specs.Layouts.{IsFeasible, IsMultiple};
+ghost use Rattle.dsa_terms.specs.Bounds.{bound_height, bound_modulus, bound_moment, counted, HasSections, heights, highest_at, highest_stack, IsReached, line_height, lower_bound, moduli, stack, stack_line, stack_log};
 ghost use Rattle.dsa_terms.specs.Lean.{IsLean};
-ghost use Rattle.dsa_terms.specs.Logs.{IsAccepted, greatest};
+ghost use Rattle.dsa_terms.specs.Logs.{IsAccepted, IsLegal, Line, greatest};
 ghost use Rattle.dsa_terms.specs.Plans.{load};
 
-/// The line of a stack is accepted at each capacity below it. So the lower bound, the greatest
-/// stack of all moments and moduli, is at most each capacity that has a layout.
+/// The line of a stack, at the least height with which it is legal, is accepted at each capacity
+/// below it. So the lower bound, the greatest stack of all moments, moduli and heights, is at most
+/// each capacity that has a layout.
 pub fn bound_is_low()
-    ensures log { (I : Instance) (t G C : ℕ) → 1 ≤ G → C < stack I t G →
-        IsAccepted I (stack_log I t G C) }
-    ensures lean { (I : Instance) (t G C : ℕ) → IsLean I (stack_log I t G C) }
-    ensures most { (I : Instance) (t G : ℕ) → IsIn G (moduli I) → stack I t G ≤ lower_bound I }
+    ensures log { (I : Instance) (t H G C : ℕ) → 1 ≤ G → IsMultiple H G → C < stack I t H G →
+        IsAccepted I (stack_log I t H G C) }
+    ensures height { (I : Instance) (t H G C h : ℕ) (earlier : List Line) →
+        IsLegal I C earlier (stack_line I t H G h) → line_height I t H G C ≤ h }
+    ensures lean { (I : Instance) (t H G C : ℕ) → IsLean I (stack_log I t H G C) }
+    ensures most { (I : Instance) (t H G : ℕ) → IsIn G (moduli I) → IsIn H (heights I G) →
+        stack I t H G ≤ lower_bound I }
     ensures reached { (I : Instance) → (lower_bound I ≡ 0) ⊎ IsReached I (lower_bound I) }
     ensures low { (I : Instance) (C : ℕ) → IsInstance I → IsFeasible I C → lower_bound I ≤ C }
     ensures positive { (I : Instance) (t b : ℕ) → IsInstance I → b < length I →
@@ -32,14 +36,28 @@ pub fn bound_modulus_is_least()
 {}
 
 /// A stack never falls where more buffers are live. So the starts of the sections come to what all
-/// moments come to, and the moment of the bound reaches it.
+/// moments come to, and the moment and the height of the bound, which is the least there, reach it.
 pub fn sections_reach_the_bound()
-    ensures grows { (I : Instance) (t s G : ℕ) →
+    ensures grows { (I : Instance) (t s H G : ℕ) →
         ((b : ℕ) → b < length I → IsLive (buffer I b) t → IsLive (buffer I b) s) →
-        stack I t G ≤ stack I s G }
+        stack I t H G ≤ stack I s H G }
     ensures same { (I : Instance) (sections : List ℕ) (G : ℕ) → HasSections I sections →
-        greatest (map (λ s. stack I s G) sections) ≡ highest_stack I G }
+        greatest (map (λ s. highest_at I s G) sections) ≡ highest_stack I G }
     ensures moment { (I : Instance) (sections : List ℕ) → HasSections I sections →
         1 ≤ lower_bound I → IsIn (bound_moment I sections) sections
-        × (stack I (bound_moment I sections) (bound_modulus I) ≡ lower_bound I) }
+        × (highest_at I (bound_moment I sections) (bound_modulus I) ≡ lower_bound I) }
+    ensures height { (I : Instance) (sections : List ℕ) → HasSections I sections →
+        1 ≤ lower_bound I → IsIn (bound_height I sections) (heights I (bound_modulus I))
+        × (stack I (bound_moment I sections) (bound_height I sections) (bound_modulus I)
+        ≡ lower_bound I) }
+    ensures lowest { (I : Instance) (sections : List ℕ) (H : ℕ) → IsIn H (heights I (bound_modulus I)) →
+        stack I (bound_moment I sections) H (bound_modulus I) ≡ lower_bound I →
+        bound_height I sections ≤ H }
+{}
+
+/// No stack is higher than the one from the least floor of what it counts. So the floors of the
+/// buffers that are live at a moment are enough heights for it.
+pub fn floors_are_enough()
+    ensures { (I : Instance) (t H G : ℕ) → counted I t H G ≢ [] → (b : ℕ)
+        × IsIn b (counted I t H G) × (stack I t H G ≤ stack I t (floor (buffer I b)) G) }
 {}

@@ -5,7 +5,8 @@ ghost use Rattle.dsa_terms.specs.Buffers.{Instance, IsInstance};
 ghost use Rattle.dsa_terms.specs.Claims.{Entry, IsIn};
 ghost use Rattle.dsa_terms.specs.Fits.{best_place, first_place, free_ranges, IsClear, IsFreeRange, is_tighter, Range, tightest};
 
-/// Where first-fit puts a buffer it is aligned and apart from its neighbours, and nowhere lower.
+/// Where first-fit puts a buffer it is aligned, at or above its lowest and apart from its
+/// neighbours, and nowhere lower.
 pub fn first_place_is_least()
     ensures clear { (I : Instance) (b : ℕ) (placed : List Entry) → IsInstance I →
         IsClear I b placed (first_place I b placed) }
@@ -13,8 +14,8 @@ pub fn first_place_is_least()
         IsClear I b placed x → first_place I b placed ≤ x }
 {}
 
-/// Where best-fit puts a buffer it is aligned and apart from its neighbours. Its free ranges are
-/// the greatest that meet no neighbour, and of several it takes one that none is tighter than.
+/// Where best-fit puts a buffer it is aligned, at or above its lowest and apart from its
+/// neighbours. Its free ranges are the greatest that meet no neighbour, and of several it takes one that none is tighter than.
 pub fn best_place_is_tightest()
     ensures clear { (I : Instance) (b : ℕ) (placed : List Entry) → IsInstance I →
         IsClear I b placed (best_place I b placed) }

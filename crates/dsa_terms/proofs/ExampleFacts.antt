@@ -23,7 +23,7 @@ plain_is_live = refl
 
 -- gaps that touch, that overlap, and that are written otherwise leave the same moments
 abbrev with_gaps : List (ℕ × ℕ) → Buffer
-with_gaps gaps = record { lower = 0; upper = 9; size = 1; alignment = 1; gaps = gaps }
+with_gaps gaps = record { lower = 0; upper = 9; size = 1; alignment = 1; gaps = gaps; lowest = 0 }
 
 touching : have_same_moments (with_gaps ((2, 4) ∷ (4, 6) ∷ [])) (with_gaps ((2, 6) ∷ [])) ≡ true
 unfolding have_same_moments some_before is_live

@@ -218,14 +218,14 @@ none_work = refl
 
 -- ---- one claim: its first placement, also where every buffer is a choice, and its height
 evens_first : first evens 5 ((0, 0) ∷ (1, 0) ∷ (2, 0) ∷ []) ≡ Some ((0, 0) ∷ (1, 4) ∷ (2, 1) ∷ [])
-unfolding first is_tall comes_before ends_below is_twin child up step have_same_moments do_share some_before
-    is_live buffer
+unfolding first is_tall comes_before ends_below is_twin child up step have_same_moments do_share some_before is_live
+    buffer
 evens_first = refl
 
 -- buffer 1 has to start at 2 or above, and buffer 2, whose up is lower, comes before it
 evens_bounded : first evens 6 ((0, 0) ∷ (1, 1) ∷ (2, 0) ∷ []) ≡ Some ((0, 0) ∷ (1, 4) ∷ (2, 1) ∷ [])
-unfolding first is_tall comes_before ends_below is_twin child up step have_same_moments do_share some_before
-    is_live buffer
+unfolding first is_tall comes_before ends_below is_twin child up step have_same_moments do_share some_before is_live
+    buffer
 evens_bounded = refl
 
 evens_plain : plain_first evens 5 ((0, 0) ∷ (1, 0) ∷ (2, 0) ∷ []) ≡ Some ((0, 0) ∷ (1, 4) ∷ (2, 1) ∷ [])

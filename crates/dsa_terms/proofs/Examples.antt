@@ -11,6 +11,7 @@ plain lower upper size alignment = record {
   size = size;
   alignment = alignment;
   gaps = [];
+  lowest = 0;
 }
 
 -- five buffers of size 4, up to three of them live at once
@@ -27,7 +28,7 @@ evens = plain 0 1 1 2 ∷ plain 0 1 1 2 ∷ plain 0 1 2 1 ∷ []
 
 -- a buffer with a gap
 abbrev pub gapped : Buffer
-gapped = record { lower = 0; upper = 10; size = 4; alignment = 1; gaps = (4, 6) ∷ [] }
+gapped = record { lower = 0; upper = 10; size = 4; alignment = 1; gaps = (4, 6) ∷ []; lowest = 0 }
 
 -- a gap that is filled: the other buffer is live in it alone
 abbrev pub filled : Instance
@@ -56,6 +57,33 @@ unlike = plain 1 5 1 3 ∷ plain 4 5 4 3 ∷ plain 2 4 5 1 ∷ plain 4 7 1 2 ∷
 -- a buffer that is followed by another, so that they share no moment
 abbrev pub one_by_one : Instance
 one_by_one = plain 0 1 3 1 ∷ plain 1 2 5 1 ∷ []
+
+-- a buffer that may not stand below an offset
+abbrev pub raised : ℕ → ℕ → ℕ → ℕ → Buffer
+raised size alignment lowest upper = record {
+  lower = 0;
+  upper = upper;
+  size = size;
+  alignment = alignment;
+  gaps = [];
+  lowest = lowest;
+}
+
+-- two of size 4, the first from 6 on
+abbrev pub low : Instance
+low = raised 4 1 6 1 ∷ plain 0 1 4 1 ∷ []
+
+-- one of size 3 from 1 on, and one of size 2, which is best put below it
+abbrev pub lifted : Instance
+lifted = raised 3 1 1 1 ∷ plain 0 1 2 1 ∷ []
+
+-- two of size 3 aligned to four, from 5 and so from 8 on, and one of size 2
+abbrev pub high_fours : Instance
+high_fours = raised 3 4 5 2 ∷ raised 3 4 5 2 ∷ plain 0 1 2 1 ∷ []
+
+-- two of size 4, the first from 4 on, where the second just fits below it
+abbrev pub tied : Instance
+tied = raised 4 1 4 1 ∷ plain 0 1 4 1 ∷ []
 
 -- ---- a log of five lines that refutes `evens` at 4
 abbrev pub over_2 : Line

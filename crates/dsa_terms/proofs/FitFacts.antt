@@ -1,9 +1,9 @@
 -- Fits and orders: clear places, free ranges, the tightest of them, buffers placed in turn, and lists in order.
 use Rattle.std.proofs.Common.{◌≡◌, ◌≢◌, ℕ, zero, suc, ◌+◌, ◌==◌, ◌≤◌, ◌⊎◌, inl, inr, Bool, true, false, nat_lt, nat_le, List, [], ◌∷◌, map, Some, None, refl, ap, ap₂, arith}
 use Rattle.std.proofs.lemmas.Bool.Decides.{nat_tests}
-use Rattle.dsa_terms.specs.Buffers.{Buffer, Instance, is_live, buffer, do_share, some_before}
+use Rattle.dsa_terms.specs.Buffers.{Buffer, Instance, is_live, buffer, do_share, some_before, floor}
 use Rattle.dsa_terms.specs.Claims.{Entry, IsIn}
-use Rattle.dsa_terms.specs.Fits.{top, highest, neighbours, is_free, IsClear, first_passing, FitRule, first_place, Range, IsOpen, IsFreeRange, stretches, free_ranges, holds, is_tighter, tighter_of, tightest, start_in, best_place, fitted, HasEach}
+use Rattle.dsa_terms.specs.Fits.{top, highest, neighbours, is_free, IsClear, first_passing, FitRule, first_place, Range, IsOpen, IsFreeRange, stretches, free_ranges, holds, is_tighter, tighter_of, tightest, start_in, best_place, fitted, HasEach, least_from}
 use Rattle.dsa_terms.specs.Orders.{put_by, ordered_by, IsOrdered, IsOrder, falls_by, area}
 use Rattle.dsa_terms.proofs.Examples.{plain, evens, gapped, filled, overrun}
 
@@ -18,7 +18,7 @@ sizes = plain 0 1 1 1 ∷ plain 0 1 1 1 ∷ plain 0 1 1 1 ∷ plain 0 1 2 3 ∷ 
 -- size 1 is clear between the two, at 4, and not at 5
 small_is_clear : IsClear sizes 2 taken 4
 unfolding buffer
-small_is_clear = record { aligned = refl; apart = apart }
+small_is_clear = record { aligned = refl; above = omega arith; apart = apart }
   where
     apart : (e : Entry) → IsIn e taken → (4 + 1 ≤ e.1) ⊎ (e.1 + (buffer sizes e.0).size ≤ 4)
     apart e (inl q) = rw q (inr (omega arith))
@@ -40,7 +40,8 @@ threes_unaligned c = let h = c.aligned in cc
 
 -- the two rules: the lowest place, and the shortest range
 two_rules : map (λ (rule : FitRule). rule sizes 2 taken) (first_place ∷ best_place ∷ []) ≡ 0 ∷ 4 ∷ []
-unfolding first_place first_passing best_place free_ranges stretches holds is_tighter is_free highest top buffer
+unfolding first_place floor first_passing best_place free_ranges stretches holds least_from is_tighter is_free highest
+    top buffer
 two_rules = refl
 
 -- ---- free ranges
@@ -114,32 +115,32 @@ tightest_of_none = refl
 
 -- in 4..9 a multiple of three is at 6; without a range past the tops 4 and 6 a multiple of five is at 10
 start_in_range : start_in sizes 3 taken (Some (range 4 9)) ≡ 6
-unfolding range buffer
+unfolding range least_from buffer
 start_in_range = refl
 
 start_past_all : start_in sizes 4 taken None ≡ 10
-unfolding highest top buffer
+unfolding least_from highest top buffer
 start_past_all = refl
 
 -- ---- placed in turn, the last first: each beside those alone that it shares a moment with
 evens_fitted : fitted first_place evens (2 ∷ 0 ∷ 1 ∷ []) [] ≡ (1, 4) ∷ (0, 2) ∷ (2, 0) ∷ []
-unfolding neighbours first_place first_passing is_free highest top do_share some_before is_live buffer
+unfolding neighbours first_place floor first_passing is_free highest top do_share some_before is_live buffer
 evens_fitted = refl
 
 -- in the gap of the first, and past it
 filled_fitted : fitted best_place filled (0 ∷ 1 ∷ []) [] ≡ (1, 0) ∷ (0, 0) ∷ []
-unfolding neighbours best_place free_ranges stretches holds is_tighter is_free highest top do_share some_before
-    is_live buffer
+unfolding neighbours best_place free_ranges stretches holds least_from is_tighter is_free highest top do_share
+    some_before is_live buffer
 filled_fitted = refl
 
 overrun_fitted : fitted best_place overrun (0 ∷ 1 ∷ []) [] ≡ (1, 4) ∷ (0, 0) ∷ []
-unfolding neighbours best_place free_ranges stretches holds is_tighter is_free highest top do_share some_before
-    is_live buffer
+unfolding neighbours best_place free_ranges stretches holds least_from is_tighter is_free highest top do_share
+    some_before is_live buffer
 overrun_fitted = refl
 
 -- beside two that are placed already
 fitted_on : fitted first_place evens (1 ∷ []) ((2, 1) ∷ (0, 0) ∷ []) ≡ (1, 4) ∷ (2, 1) ∷ (0, 0) ∷ []
-unfolding neighbours first_place first_passing is_free highest top do_share some_before is_live buffer
+unfolding neighbours first_place floor first_passing is_free highest top do_share some_before is_live buffer
 fitted_on = refl
 
 -- an order of all three, and one without the last

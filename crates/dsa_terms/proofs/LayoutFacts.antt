@@ -22,7 +22,7 @@ filled_not_shared s = do_share-false gapped (plain 4 6 4 1) s.0 refl s.1 s.2
 
 -- a lifetime 0..9 with the gaps 0..2 and 5..9 leaves the moments of 2..5
 abbrev middle : Buffer
-middle = record { lower = 0; upper = 9; size = 4; alignment = 1; gaps = (5, 9) ∷ (0, 2) ∷ [] }
+middle = record { lower = 0; upper = 9; size = 4; alignment = 1; gaps = (5, 9) ∷ (0, 2) ∷ []; lowest = 0 }
 
 middle_moments : HaveSameMoments middle (plain 2 5 1 2)
 unfolding have_same_moments some_before is_live
@@ -72,12 +72,17 @@ second_overlaps (inr h) = omega arith
 -- size 3 at 1 above size 1 at 0, which is aligned to four, reaches 4
 small_below_layout : IsLayout small_below 4 (1 ∷ 0 ∷ [])
 unfolding buffer
-small_below_layout = record { count = refl; aligned = aligned; within = within; apart = apart }
+small_below_layout = record { count = refl; aligned = aligned; above = above; within = within; apart = apart }
   where
     aligned : (b : ℕ) → b < 2 → IsMultiple (slice_index (1 ∷ 0 ∷ []) b) (buffer small_below b).alignment
     aligned zero lt = refl
     aligned (suc zero) lt = refl
     aligned (suc (suc b)) lt = absurd (omega arith)
+
+    above : (b : ℕ) → b < 2 → (buffer small_below b).lowest ≤ slice_index (1 ∷ 0 ∷ []) b
+    above zero lt = omega arith
+    above (suc zero) lt = omega arith
+    above (suc (suc b)) lt = absurd (omega arith)
 
     within : (b : ℕ) → b < 2 → slice_index (1 ∷ 0 ∷ []) b + (buffer small_below b).size ≤ 4
     within zero lt = omega arith
@@ -130,12 +135,17 @@ overrun_at_7 offsets l =
 -- one of which is live in the gap of the other alone: both fit at 0 into 4
 filled_fits : IsFeasible filled 4
 unfolding buffer
-filled_fits = (0 ∷ 0 ∷ [], record { count = refl; aligned = aligned; within = within; apart = apart })
+filled_fits = (0 ∷ 0 ∷ [], record { count = refl; aligned = aligned; above = above; within = within; apart = apart })
   where
     aligned : (b : ℕ) → b < 2 → IsMultiple (slice_index (0 ∷ 0 ∷ []) b) (buffer filled b).alignment
     aligned zero lt = refl
     aligned (suc zero) lt = refl
     aligned (suc (suc b)) lt = absurd (omega arith)
+
+    above : (b : ℕ) → b < 2 → (buffer filled b).lowest ≤ slice_index (0 ∷ 0 ∷ []) b
+    above zero lt = omega arith
+    above (suc zero) lt = omega arith
+    above (suc (suc b)) lt = absurd (omega arith)
 
     within : (b : ℕ) → b < 2 → slice_index (0 ∷ 0 ∷ []) b + (buffer filled b).size ≤ 4
     within zero lt = omega arith

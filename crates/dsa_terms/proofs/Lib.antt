@@ -8,6 +8,7 @@ pub mod Examples
 mod ExampleFacts
 mod ExampleSearchFacts
 mod ExampleBoundFacts
+pub mod ExampleLowFacts
 mod ExampleStartFacts
 mod LayoutFacts
 mod ClaimFacts

@@ -91,13 +91,13 @@ second_is_none = refl
 -- a part of one buffer, and then one of three that needs a capacity of 5
 both_parts :
     first_of_all two_parts 5 ((0 ∷ []) ∷ (1 ∷ 2 ∷ 3 ∷ []) ∷ []) ≡ Some ((0, 0) ∷ (1, 0) ∷ (2, 4) ∷ (3, 1) ∷ [])
-unfolding first is_tall comes_before ends_below is_twin child up step have_same_moments do_share some_before
-    is_live buffer
+unfolding first is_tall comes_before ends_below is_twin child up step have_same_moments do_share some_before is_live
+    buffer
 both_parts = refl
 
 second_part_at_4 : first_of_all two_parts 4 ((0 ∷ []) ∷ (1 ∷ 2 ∷ 3 ∷ []) ∷ []) ≡ None
-unfolding first is_tall comes_before ends_below is_twin child up step have_same_moments do_share some_before
-    is_live buffer
+unfolding first is_tall comes_before ends_below is_twin child up step have_same_moments do_share some_before is_live
+    buffer
 second_part_at_4 = refl
 
 -- offsets in order of the buffers

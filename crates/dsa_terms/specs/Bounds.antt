@@ -1,64 +1,98 @@
--- The lower bound: sizes that are stacked at one moment, rounded up to one modulus.
-use Rattle.std.specs.Prelude.{◌≡◌, ◌<◌, ℕ, ◌-◌, ◌%◌, min, ◌==◌, ◌&&◌, List, [], ◌∷◌, map, length}
+-- The lower bound: sizes that are stacked at one moment, from one height on, rounded up to one modulus.
+use Rattle.std.specs.Prelude.{◌≡◌, ◌<◌, ℕ, ◌+◌, ◌-◌, ◌%◌, min, cond, ◌==◌, ◌&&◌, nat_le, List, [], ◌∷◌, map, length}
 use Rattle.std.specs.List.{filter, find, sum_by, reduce}
 use Rattle.std.specs.Option.{unwrap_or}
 use Rattle.std.specs.Int.{next_multiple_of}
-use Rattle.dsa_terms.specs.Buffers.{Buffer, Instance, buffer, is_live, IsLive}
+use Rattle.dsa_terms.specs.Buffers.{Buffer, Instance, buffer, is_live, IsLive, floor}
 use Rattle.dsa_terms.specs.Claims.{IsIn}
-use Rattle.dsa_terms.specs.Logs.{greatest, Log, Over}
-use Rattle.dsa_terms.specs.Parts.{numbers, whole}
+use Rattle.dsa_terms.specs.Logs.{greatest, Line, Log, Over}
+use Rattle.dsa_terms.specs.Parts.{is_empty, numbers}
 
--- the buffers that are live at t and have an alignment that is a multiple of G
-unfoldable pub counted : Instance → ℕ → ℕ → List ℕ
-counted I t G = filter (λ b. is_live (buffer I b) t && ((buffer I b).alignment % G == 0)) (numbers (length I))
+-- the buffers that are live at t, cannot start below H, and have an alignment that is a multiple of G
+unfoldable pub counted : Instance → ℕ → ℕ → ℕ → List ℕ
+counted I t H G =
+    filter (λ b. is_live (buffer I b) t && nat_le H (floor (buffer I b)) && ((buffer I b).alignment % G == 0))
+    (numbers (length I))
 
 -- the size of b rounded up to a multiple of G
 unfoldable pub rounded_size : Instance → ℕ → ℕ → ℕ
 rounded_size I G b = next_multiple_of (buffer I b).size G
 
--- the sum of the counted sizes rounded up to G, less the greatest single rounding, and 0 where none is counted
-unfoldable pub stack : Instance → ℕ → ℕ → ℕ
-stack I t G =
-    sum_by (rounded_size I G) (counted I t G)
-    - greatest (map (λ b. rounded_size I G b - (buffer I b).size) (counted I t G))
+-- the sum of the counted sizes rounded up to G, less the greatest single rounding
+unfoldable pub pile : Instance → ℕ → ℕ → ℕ → ℕ
+pile I t H G =
+    sum_by (rounded_size I G) (counted I t H G)
+    - greatest (map (λ b. rounded_size I G b - (buffer I b).size) (counted I t H G))
+
+-- H with the pile on it, and 0 where none is counted
+unfoldable pub stack : Instance → ℕ → ℕ → ℕ → ℕ
+stack I t H G = cond (is_empty (counted I t H G)) 0 (H + pile I t H G)
 
 -- the moduli in question: 1 and the alignments
 unfoldable pub moduli : Instance → List ℕ
 moduli I = 1 ∷ map (λ (b : Buffer). b.alignment) I
 
+-- the heights in question: those of 0 and the floors that are multiples of G
+unfoldable pub heights : Instance → ℕ → List ℕ
+heights I G = filter (λ H. H % G == 0) (0 ∷ map floor I)
+
 -- the moments before the last upper; no buffer is live at another
 unfoldable pub moments : Instance → List ℕ
 moments I = numbers (greatest (map (λ (b : Buffer). b.upper) I))
 
+-- the greatest stack at t by one modulus over all heights
+unfoldable pub highest_at : Instance → ℕ → ℕ → ℕ
+highest_at I t G = greatest (map (λ H. stack I t H G) (heights I G))
+
 -- the greatest stack over all moments by one modulus
 unfoldable pub highest_stack : Instance → ℕ → ℕ
-highest_stack I G = greatest (map (λ t. stack I t G) (moments I))
+highest_stack I G = greatest (map (λ t. highest_at I t G) (moments I))
 
--- the lower bound: the greatest stack over all moments and all moduli in question
+-- the lower bound: the greatest stack over all moments, all moduli and all heights in question
 unfoldable pub lower_bound : Instance → ℕ
 lower_bound I = greatest (map (highest_stack I) (moduli I))
 
--- a modulus in question and a moment at which the stack is so high
+-- a modulus and a height in question and a moment at which the stack is so high
 pub record IsReached (I : Instance) (value : ℕ) : Type 0 where
   pub modulus : ℕ
   pub moment : ℕ
+  pub height : ℕ
   pub among : IsIn modulus (moduli I)
-  pub reached : value ≡ stack I moment modulus
+  pub from : IsIn height (heights I modulus)
+  pub reached : value ≡ stack I moment height modulus
+
+-- the least of some numbers, and the other number where there are none
+unfoldable pub least_of : List ℕ → ℕ → ℕ
+least_of numbers other = unwrap_or (reduce min numbers) other
 
 -- the least modulus that reaches the lower bound
 unfoldable pub bound_modulus : Instance → ℕ
-bound_modulus I = unwrap_or (reduce min (filter (λ G. highest_stack I G == lower_bound I) (moduli I))) 1
+bound_modulus I = least_of (filter (λ G. highest_stack I G == lower_bound I) (moduli I)) 1
 
 -- the first of the given moments, the starts of sections, at which that modulus reaches it, and 0 where none does
 unfoldable pub bound_moment : Instance → List ℕ → ℕ
-bound_moment I starts = unwrap_or (find (λ t. stack I t (bound_modulus I) == lower_bound I) starts) 0
+bound_moment I starts = unwrap_or (find (λ t. highest_at I t (bound_modulus I) == lower_bound I) starts) 0
 
--- the log of one Over line from height 0 on: the buffers that are counted at t by G, with bounds 0
-unfoldable pub stack_log : Instance → ℕ → ℕ → ℕ → Log
-stack_log I t G C = record {
+-- the least height that reaches it with that modulus at that moment
+unfoldable pub bound_height : Instance → List ℕ → ℕ
+bound_height I starts =
+    least_of
+    (filter (λ H. stack I (bound_moment I starts) H (bound_modulus I) == lower_bound I) (heights I (bound_modulus I))) 0
+
+-- the least multiple of G on which the pile from H on is above C
+unfoldable pub line_height : Instance → ℕ → ℕ → ℕ → ℕ → ℕ
+line_height I t H G C = next_multiple_of (C + 1 - pile I t H G) G
+
+-- the Over line at t by G of the buffers that are counted from H on, with the height and all bounds h
+unfoldable pub stack_line : Instance → ℕ → ℕ → ℕ → ℕ → Line
+stack_line I t H G h = Over (map (λ b. (b, h)) (counted I t H G)) t h G
+
+-- the log of that line alone, as low as it is above C
+unfoldable pub stack_log : Instance → ℕ → ℕ → ℕ → ℕ → Log
+stack_log I t H G C = record {
   count = length I;
   capacity = C;
-  lines = Over (whole (counted I t G)) t 0 G ∷ [];
+  lines = stack_line I t H G (line_height I t H G C) ∷ [];
   final = 0;
 }
 

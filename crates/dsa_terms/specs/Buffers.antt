@@ -2,14 +2,17 @@
 use Rattle.std.specs.Prelude.{◌≡◌, ℕ, ◌≤◌, ◌<◌, Bool, true, false, not, ◌&&◌, ◌||◌, nat_lt, nat_le, List, slice_index_or, zero, suc, max, []}
 use Rattle.std.specs.Bool.{beq}
 use Rattle.std.specs.List.{All, list_any}
+use Rattle.std.specs.Int.{next_multiple_of}
 
--- a buffer by its numbers; its lifetime and each gap (a, b) go from a up to and not including b
+-- a buffer by its numbers: its lifetime and each gap (a, b) go from a up to and not including b, and its offset may not
+-- be below `lowest`
 pub record Buffer : Type 0 where
   pub lower : ℕ
   pub upper : ℕ
   pub size : ℕ
   pub alignment : ℕ
   pub gaps : List (ℕ × ℕ)
+  pub lowest : ℕ
 
 -- an instance is a list of buffers, and a buffer's number is its place
 abbrev pub Instance : Type 0
@@ -50,11 +53,15 @@ have_same_moments b c = not (some_before (max b.upper c.upper) (λ t. not (beq (
 
 -- what stands at a number that is no buffer's: live at no moment
 abbrev pub no_buffer : Buffer
-no_buffer = record { lower = 0; upper = 0; size = 1; alignment = 1; gaps = [] }
+no_buffer = record { lower = 0; upper = 0; size = 1; alignment = 1; gaps = []; lowest = 0 }
 
 -- the buffer of a number
 unfoldable pub buffer : Instance → ℕ → Buffer
 buffer I b = slice_index_or I b no_buffer
+
+-- the least offset that b may have: the least multiple of its alignment at or above its lowest
+unfoldable pub floor : Buffer → ℕ
+floor b = next_multiple_of b.lowest b.alignment
 
 -- a buffer has a size, an alignment and a lifetime, each of at least 1
 abbrev pub IsSound : Buffer → Type 0

@@ -2,7 +2,7 @@
 use Rattle.std.specs.Prelude.{◌≡◌, ℕ, ◌+◌, ◌-◌, ◌*◌, ◌<◌, ◌≤◌, ◌≢◌, ◌⊎◌, not, cond, ◌==◌, nat_lt, max, List, [], ◌∷◌, map, length}
 use Rattle.std.specs.List.{filter}
 use Rattle.std.specs.Int.{next_multiple_of}
-use Rattle.dsa_terms.specs.Buffers.{Instance, buffer, IsLive, do_share}
+use Rattle.dsa_terms.specs.Buffers.{Instance, buffer, IsLive, do_share, floor}
 use Rattle.dsa_terms.specs.Layouts.{IsMultiple, IsApart}
 
 -- a buffer's number with a bound, or with an offset
@@ -71,9 +71,9 @@ child I l e = map (λ f. (f.0, max (up I f) (up I e + step I e.0 f.0))) (filter 
 abbrev pub Covers : Instance → Claim → Claim → Type 0
 Covers I k l = (e : Entry) → IsIn e k → (f : Entry) × IsIn f l × (f.0 ≡ e.0) × (e.1 ≤ up I f)
 
--- all bounds are 0
-abbrev pub IsWhole : Claim → Type 0
-IsWhole l = (e : Entry) → IsIn e l → e.1 ≡ 0
+-- no bound is above its buffer's floor, so each layout meets the claim
+abbrev pub IsWhole : Instance → Claim → Type 0
+IsWhole I l = (e : Entry) → IsIn e l → e.1 ≤ floor (buffer I e.0)
 
 -- the weight of offsets: that of buffer b counts n - b times, n being the number of buffers
 abbrev pub weight : Instance → (ℕ → ℕ) → Claim → ℕ

@@ -1,9 +1,9 @@
 -- First-fit and best-fit: where a buffer goes beside those that are placed, and an order of buffers placed so.
-use Rattle.std.specs.Prelude.{◌<◌, ◌≤◌, ◌⊎◌, ℕ, zero, suc, ◌+◌, ◌-◌, cond, ◌==◌, ◌||◌, ◌&&◌, nat_le, nat_lt, Bool, List, [], ◌∷◌, map, length, ◌≡◌, Option}
+use Rattle.std.specs.Prelude.{◌<◌, ◌≤◌, ◌⊎◌, ℕ, max, zero, suc, ◌+◌, ◌-◌, cond, ◌==◌, ◌||◌, ◌&&◌, nat_le, nat_lt, Bool, List, [], ◌∷◌, map, length, ◌≡◌, Option}
 use Rattle.std.specs.declared.option.Option.TheVariants.{Some, None}
 use Rattle.std.specs.List.{filter, flat_map, list_all}
 use Rattle.std.specs.Int.{next_multiple_of}
-use Rattle.dsa_terms.specs.Buffers.{Instance, buffer, do_share}
+use Rattle.dsa_terms.specs.Buffers.{Instance, buffer, do_share, floor}
 use Rattle.dsa_terms.specs.Layouts.{IsMultiple, IsApart}
 use Rattle.dsa_terms.specs.Claims.{Entry, IsIn}
 use Rattle.dsa_terms.specs.Logs.{greatest}
@@ -25,9 +25,10 @@ neighbours I b placed = filter (λ e. do_share (buffer I b) (buffer I e.0)) plac
 unfoldable pub is_free : Instance → List Entry → ℕ → ℕ → Bool
 is_free I placed x y = list_all (λ e. nat_le y e.1 || nat_le (top I e) x) placed
 
--- b at x is aligned, and apart from each placed one
+-- b at x is aligned, at or above its lowest, and apart from each placed one
 pub record IsClear (I : Instance) (b : ℕ) (placed : List Entry) (x : ℕ) : Type 0 where
   pub aligned : IsMultiple x (buffer I b).alignment
+  pub above : (buffer I b).lowest ≤ x
   pub apart : (e : Entry) → IsIn e placed → IsApart (buffer I b) x (buffer I e.0) e.1
 
 -- of x, x + a, x + a + a and so on, the first that passes the test, or the one after n that fail
@@ -39,10 +40,11 @@ first_passing test a (suc n) x = cond (test x) x (first_passing test a n (x + a)
 abbrev pub FitRule : Type 0
 FitRule = Instance → ℕ → List Entry → ℕ
 
--- first-fit: the least multiple of b's alignment at which b is apart from each of them
+-- first-fit: the least multiple of b's alignment, from its floor on, at which b is apart from each of them
 unfoldable pub first_place : FitRule
 first_place I b placed =
-    first_passing (λ x. is_free I placed x (x + (buffer I b).size)) (buffer I b).alignment (highest I placed) 0
+    first_passing (λ x. is_free I placed x (x + (buffer I b).size)) (buffer I b).alignment (highest I placed)
+    (floor (buffer I b))
 
 -- addresses from one up to and not including another
 pub record Range : Type 0 where
@@ -70,9 +72,13 @@ unfoldable pub free_ranges : Instance → List Entry → List Range
 free_ranges I placed =
     filter (λ (r : Range). nat_lt r.start r.stop && is_free I placed r.start r.stop) (stretches I placed)
 
--- the range has room for b at its least multiple of b's alignment
+-- the least multiple of b's alignment at or above both x and b's lowest
+unfoldable pub least_from : Instance → ℕ → ℕ → ℕ
+least_from I b x = next_multiple_of (max x (buffer I b).lowest) (buffer I b).alignment
+
+-- the range has room for b at the least place that b may have there
 unfoldable pub holds : Instance → ℕ → Range → Bool
-holds I b r = nat_le (next_multiple_of r.start (buffer I b).alignment + (buffer I b).size) r.stop
+holds I b r = nat_le (least_from I b r.start + (buffer I b).size) r.stop
 
 -- r is shorter than s, or as long and lower
 unfoldable pub is_tighter : Range → Range → Bool
@@ -92,8 +98,8 @@ tightest (r ∷ rs) = tighter_of r (tightest rs)
 
 -- where b begins in the range, and without one past all the placed
 abbrev pub start_in : Instance → ℕ → List Entry → Option Range → ℕ
-start_in I b placed (Some r) = next_multiple_of r.start (buffer I b).alignment
-start_in I b placed None = next_multiple_of (highest I placed) (buffer I b).alignment
+start_in I b placed (Some r) = least_from I b r.start
+start_in I b placed None = least_from I b (highest I placed)
 
 -- best-fit: in the shortest free range that holds b, the lowest of them, and where none does past all the placed
 unfoldable pub best_place : FitRule

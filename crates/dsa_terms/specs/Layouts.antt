@@ -10,10 +10,12 @@ IsMultiple x a = x % a ≡ 0
 abbrev pub IsApart : Buffer → ℕ → Buffer → ℕ → Type 0
 IsApart b x c y = (x + b.size ≤ y) ⊎ (y + c.size ≤ x)
 
--- a layout: an offset for each buffer, aligned, within C, and any two buffers apart at each moment at which both live
+-- a layout: an offset for each buffer, aligned, at or above its lowest, within C, and any two buffers apart at each
+-- moment at which both live
 pub record IsLayout (I : Instance) (C : ℕ) (offsets : List ℕ) : Type 0 where
   pub count : length offsets ≡ length I
   pub aligned : (b : ℕ) → b < length I → IsMultiple (slice_index offsets b) (buffer I b).alignment
+  pub above : (b : ℕ) → b < length I → (buffer I b).lowest ≤ slice_index offsets b
   pub within : (b : ℕ) → b < length I → slice_index offsets b + (buffer I b).size ≤ C
   pub apart : (b c t : ℕ) → b < length I → c < length I → b ≢ c →
       IsLive (buffer I b) t → IsLive (buffer I c) t →

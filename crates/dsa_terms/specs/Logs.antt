@@ -92,4 +92,4 @@ pub record Log : Type 0 where
 pub record IsAccepted (I : Instance) (log : Log) : Type 0 where
   pub same_count : log.count ≡ length I
   pub legal : (k : ℕ) (line : Line) → slice_get log.lines k ≡ Some line → IsLegal I log.capacity (take k log.lines) line
-  pub whole : (line : Line) × (slice_get log.lines log.final ≡ Some line) × IsWhole (claim_of line)
+  pub whole : (line : Line) × (slice_get log.lines log.final ≡ Some line) × IsWhole I (claim_of line)

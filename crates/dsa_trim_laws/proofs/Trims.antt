@@ -114,7 +114,7 @@ trimmed_is_accepted I log a = record { same_count = a.same_count; legal = legal;
     last = let k = last_kept I log a in omega arith
 
     whole : (line : Line) × (slice_get (kept_lines (needed log) log.lines)
-        (length (kept_lines (needed log) log.lines) - 1) ≡ Some line) × IsWhole (claim_of line)
+        (length (kept_lines (needed log) log.lines) - 1) ≡ Some line) × IsWhole I (claim_of line)
     whole =
         let w = a.whole in (
           moved_line (renumbered (needed log)) w.0,

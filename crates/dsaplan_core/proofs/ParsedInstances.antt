@@ -4,7 +4,7 @@ use Rattle.std.specs.Option.{option_map_or, option_or}
 use Rattle.std.proofs.lemmas.Bool.Decides.{nat_tests}
 use Rattle.std.proofs.lemmas.List.Elements.{All-cons}
 use Rattle.dsa_terms.specs.Buffers.{Buffer, Instance, IsInstance, IsSound}
-use Rattle.dsa_model.specs.Buffer.{buffer_fault, gap_fault, number_fault}
+use Rattle.dsa_model.specs.Buffer.{buffer_fault, gap_fault, lowest_fault, number_fault}
 use Rattle.dsa_model.proofs.Faults.{neither, not_so, map_none}
 use Rattle.csv_instance.specs.Records.{Record}
 use Rattle.csv_instance.specs.Parse.{content_fault, header_fault, id_fault, parse, row_buffer, row_fault, rows_fault}
@@ -18,7 +18,7 @@ positive n is = grind (arith, nat_tests)
 
 buffer_sound : (b : Buffer) → buffer_fault b ≡ None → IsSound b
 buffer_sound b is =
-    let numbers = (neither (number_fault b) (gap_fault b) is).0 in
+    let numbers = (neither (number_fault b) (option_or (gap_fault b) (lowest_fault b)) is).0 in
     let one = neither _ _ numbers in
     let two = neither _ _ one.1 in
     let three = neither _ _ two.1 in

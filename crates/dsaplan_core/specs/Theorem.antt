@@ -59,8 +59,8 @@ pub record Asked (words : List Word) (old : FilesSeen) : Type 0 where
   pub words_ask : request_of words ≡ Ok (record { verb = verb; pairs = pairs })
   pub input : IsInput old (word_at pairs option.Input) table instance
 
--- the output holds the text of offsets that are a layout at the capacity: each is aligned and within the capacity, and
--- no two buffers overlap at a moment at which both are live
+-- the output holds the text of offsets that are a layout at the capacity: each is aligned, at or above its buffer's
+-- lowest and within the capacity, and no two buffers overlap at a moment at which both are live
 pub record HoldsLayout {words : List Word} {old : FilesSeen} (a : Asked words old) (new : FilesSeen) (C : ℕ) : Type 0 where
   pub offsets : List ℕ
   pub layout : IsLayout a.instance C offsets

@@ -16,7 +16,7 @@ words capacity = record { capacity = capacity; input = codes "i"; output = codes
 
 -- ---- at 8 they fit, and nothing is written
 pub laid_at_8 : IsLayout two 8 (0 ∷ 4 ∷ [])
-unfolding buffer is_live some_before faults.first_unaligned faults.first_above faults.first_overlap
+unfolding buffer is_live some_before faults.first_unaligned faults.first_too_low faults.first_above faults.first_overlap
     faults.overlap_after faults.overlap first_common
 laid_at_8 = (layout_exactly two 8 (0 ∷ 4 ∷ [])).0 refl
 

@@ -89,7 +89,7 @@ found_with_four_steps : IsFoundWithin small_below 4 4
 found_with_four_steps = record {
   least = four_is_least;
   offsets = 1 ∷ 0 ∷ [];
-  refutation = Some (stack_log small_below 0 1 3);
+  refutation = Some (stack_log small_below 0 0 1 3);
   planned = small_below_plan_at_4;
   layout = laid_at_4;
   height = four_high;
@@ -117,7 +117,7 @@ open_between_4_and_5 : IsLeftOpen small_below 0 4 5
 open_between_4_and_5 = record {
   short = short_of_the_hunt 0 (lit≤ tt);
   offsets = 0 ∷ 4 ∷ [];
-  refutation = stack_log small_below 0 1 3;
+  refutation = stack_log small_below 0 0 1 3;
   opened = four_is_open;
   within_steps = record {
     layout_steps = 0;
@@ -150,6 +150,7 @@ none_laid : IsLayout [] 0 []
 none_laid = record {
   count = refl;
   aligned = λ b lt. absurd (omega arith);
+  above = λ b lt. absurd (omega arith);
   within = λ b lt. absurd (omega arith);
   apart = λ b c t lt. absurd (omega arith);
 }

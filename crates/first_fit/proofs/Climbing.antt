@@ -3,7 +3,7 @@ use Rattle.std.proofs.Common.{◌≡◌, ◌^◌, ◌%◌, ℕ, ◌+◌, ◌<◌
 use Rattle.std.specs.Int.{next_multiple_of}
 use Rattle.std.specs.List.{All}
 use Rattle.std.specs.List.Sorted.{IsNonDecreasingBy}
-use Rattle.dsa_terms.specs.Buffers.{Instance, IsInstance, buffer}
+use Rattle.dsa_terms.specs.Buffers.{Buffer, Instance, IsInstance, buffer, floor}
 use Rattle.dsa_terms.specs.Claims.{Entry, IsIn}
 use Rattle.dsa_terms.specs.Fits.{IsClear, first_place, top}
 use Rattle.dsa_terms.specs.Layouts.{IsApart}
@@ -11,6 +11,7 @@ use Rattle.dsa_terms.proofs.Numbers.{next_at_or_above, next_is_below, next_is_le
 use Rattle.dsa_terms.proofs.Places.{in_at, place_of}
 use Rattle.dsa_terms.proofs.NumberTests.{below_or_last}
 use Rattle.dsa_start_laws.proofs.Places.{first_is_clear, first_is_least}
+use Rattle.dsa_model.specs.Buffer.{IsBuffer}
 use Rattle.first_fit.specs.Taken.{AreTaken, IsLow, IsSpanOf}
 use Rattle.first_fit.specs.declared.spans.Span.{Span}
 
@@ -21,36 +22,44 @@ no_span = record { start = 0; stop = 0 }
 abbrev pub IsBeside : ℕ → ℕ → Span → Type 0
 IsBeside x size s = (x + size ≤ s.start) ⊎ (s.stop ≤ x)
 
--- aligned, beside the first k, and no higher than what is beside all
-pub record IsClimbed (size a : ℕ) (spans : List Span) (k x : ℕ) : Type 0 where
+-- aligned, at or above the lowest, beside the first k, and no higher than what is so and beside all
+pub record IsClimbed (size a lowest : ℕ) (spans : List Span) (k x : ℕ) : Type 0 where
   pub aligned : x % a ≡ 0
+  pub above : lowest ≤ x
   pub beside : (j : ℕ) → j < k → IsBeside x size (slice_index_or spans j no_span)
-  pub least : (y : ℕ) → y % a ≡ 0 → ((s : Span) → IsIn s spans → IsBeside y size s) → x ≤ y
+  pub least : (y : ℕ) → y % a ≡ 0 → lowest ≤ y → ((s : Span) → IsIn s spans → IsBeside y size s) → x ≤ y
 
-pub record IsClimbing (size a : ℕ) (spans : List Span) (k x : ℕ) : Type 0 where
+pub record IsClimbing (size a lowest : ℕ) (spans : List Span) (k x : ℕ) : Type 0 where
   pub limit : x ≤ 2 ^ 50 + 2 ^ 32
-  pub climbed : IsNonDecreasingBy (λ (s : Span). s.start) spans → IsClimbed size a spans k x
+  pub climbed : IsNonDecreasingBy (λ (s : Span). s.start) spans → IsClimbed size a lowest spans k x
 
-pub climbing_none : (size a : ℕ) (spans : List Span) → IsClimbing size a spans 0 0
-climbing_none size a spans = record {
-  limit = omega arith;
+-- from the floor on
+pub climbing_none : (size : ℕ) (b : Buffer) (spans : List Span) (x : ℕ) → IsBuffer b → x ≡ floor b →
+    IsClimbing size b.alignment b.lowest spans 0 x
+unfolding floor
+climbing_none size b spans x h e = rw e (record {
+  limit = (let k = next_is_below b.lowest b.alignment pos in let l = h.within_lowest in let m = h.within_alignment in
+      omega arith);
   climbed = λ up. record {
-    aligned = zero_multiple a;
+    aligned = next_is_multiple b.lowest b.alignment pos;
+    above = next_at_or_above b.lowest b.alignment pos;
     beside = λ j lt. absurd (omega arith);
-    least = λ y m h. omega arith;
+    least = λ y m low clear. next_is_least b.lowest b.alignment y pos low m;
   };
-}
+})
   where
-    zero_multiple : (a : ℕ) → 0 % a ≡ 0
-    zero_multiple a = omega arith
+    pos : 1 ≤ b.alignment
+    pos = h.sound.1
 
 -- beside the next one too
-pub climbing_stays : (size a : ℕ) (spans : List Span) (k x : ℕ) → IsBeside x size (slice_index_or spans k no_span) →
-    IsClimbing size a spans k x → IsClimbing size a spans (k + 1) x
-climbing_stays size a spans k x here h = record {
+pub climbing_stays : (size a lowest : ℕ) (spans : List Span) (k x : ℕ) →
+    IsBeside x size (slice_index_or spans k no_span) →
+    IsClimbing size a lowest spans k x → IsClimbing size a lowest spans (k + 1) x
+climbing_stays size a lowest spans k x here h = record {
   limit = h.limit;
   climbed = λ up. let c = h.climbed up in record {
     aligned = c.aligned;
+    above = c.above;
     beside = λ j lt. elim (below_or_last j k lt) [
       | inl less ↦ c.beside j less
       | inr e ↦ subst (λ (j : ℕ). IsBeside x size (slice_index_or spans j no_span)) (sym e) here
@@ -60,19 +69,20 @@ climbing_stays size a spans k x here h = record {
 }
 
 -- up past the next one, which it would meet
-pub climbing_past : (size a : ℕ) (spans : List Span) (k x : ℕ) → 1 ≤ a → a ≤ 2 ^ 32 → k < length spans →
+pub climbing_past : (size a lowest : ℕ) (spans : List Span) (k x : ℕ) → 1 ≤ a → a ≤ 2 ^ 32 → k < length spans →
     All IsLow spans → (slice_index_or spans k no_span).start < x + size → x < (slice_index_or spans k no_span).stop →
-    IsClimbing size a spans k x →
-    IsClimbing size a spans (k + 1) (next_multiple_of (slice_index_or spans k no_span).stop a)
-climbing_past size a spans k x pos most lt low under over h = record {
+    IsClimbing size a lowest spans k x →
+    IsClimbing size a lowest spans (k + 1) (next_multiple_of (slice_index_or spans k no_span).stop a)
+climbing_past size a lowest spans k x pos most lt low under over h = record {
   limit = (let b = next_is_below stop a pos in let l = (low k no_span lt).limit in omega arith);
   climbed = λ up. let c = h.climbed up in record {
     aligned = next_is_multiple stop a pos;
+    above = (let n = c.above in let m = above in omega arith);
     beside = λ j less. elim (below_or_last j k less) [
       | inl early ↦ before j early up (c.beside j early)
       | inr e ↦ subst (λ (j : ℕ). IsBeside next size (slice_index_or spans j no_span)) (sym e) (inr above)
     ];
-    least = λ y m clear. next_is_least stop a y pos (past y (c.least y m clear)
+    least = λ y m from clear. next_is_least stop a y pos (past y (c.least y m from clear)
         (clear (slice_index_or spans k no_span) (in_at spans k no_span lt))) m;
   };
 }
@@ -100,19 +110,20 @@ climbing_past size a spans k x pos most lt low under over h = record {
 -- beside all: first-fit's place
 pub climbed_is_first : (I : Instance) (b : ℕ) (placed : List Entry) (spans : List Span) (k x : ℕ) → IsInstance I →
     AreTaken I placed spans → length spans ≤ k →
-    IsClimbing (buffer I b).size (buffer I b).alignment spans k x → x ≡ first_place I b placed
+    IsClimbing (buffer I b).size (buffer I b).alignment (buffer I b).lowest spans k x → x ≡ first_place I b placed
 unfolding top
 climbed_is_first I b placed spans k x s t le h =
     both x (first_place I b placed)
-    (c.least (first_place I b placed) clear.aligned (λ r i. let q = t.each r i in
+    (c.least (first_place I b placed) clear.aligned clear.above (λ r i. let q = t.each r i in
     of_entry r q.0 q.2 (clear.apart q.0 q.1)))
     (first_is_least I b placed x s (record {
       aligned = c.aligned;
+      above = c.above;
       apart = λ e i. let q = t.all e i in let p = place_of spans q.0 no_span q.1 in
           to_entry q.0 e q.2 (subst (IsBeside x (buffer I b).size) p.2 (c.beside p.0 (let z = p.1 in omega arith)));
     }))
   where
-    c : IsClimbed (buffer I b).size (buffer I b).alignment spans k x
+    c : IsClimbed (buffer I b).size (buffer I b).alignment (buffer I b).lowest spans k x
     c = h.climbed t.sorted
 
     clear : IsClear I b placed (first_place I b placed)

@@ -1,11 +1,11 @@
 -- What the definitions come to on small instances.
 use Rattle.std.proofs.Common.{◌≡◌, ◌^◌, ◌-◌, ◌<◌, ◌⊎◌, inl, inr, true, false, ℕ, zero, suc, List, [], ◌∷◌, length, None, Some, refl, sym, ap, subst, lit≤, arith}
 use Rattle.std.specs.List.Sorted.{IsNonDecreasingBy}
-use Rattle.dsa_terms.specs.Buffers.{buffer, do_share, is_live, some_before}
+use Rattle.dsa_terms.specs.Buffers.{buffer, do_share, floor, is_live, some_before}
 use Rattle.dsa_terms.specs.Claims.{Entry, IsIn}
-use Rattle.dsa_terms.specs.Fits.{best_place, first_passing, first_place, free_ranges, highest, holds, is_free, is_tighter, neighbours, stretches, top}
+use Rattle.dsa_terms.specs.Fits.{best_place, first_passing, first_place, free_ranges, highest, holds, is_free, is_tighter, least_from, neighbours, stretches, top}
 use Rattle.dsa_terms.specs.Orders.{falls_by, rises_by}
-use Rattle.dsa_terms.proofs.Examples.{evens, five, two_of_four, unlike}
+use Rattle.dsa_terms.proofs.Examples.{evens, five, high_fours, lifted, low, two_of_four, unlike}
 use Rattle.dsa_terms.proofs.Places.{all_from_in}
 use Rattle.first_fit.specs.Free.{narrowed, narrower, range_of}
 use Rattle.first_fit.specs.Orders.{before_by, numbers_in_order, order_key, keyed}
@@ -31,8 +31,17 @@ lower_range = refl
 
 -- buffer 2 of `evens` has size 2
 no_room : narrowed evens 2 None (between 4 5) ≡ None
-unfolding holds buffer
+unfolding holds least_from buffer
 no_room = refl
+
+-- buffer 0 of `low` has size 4, and its lowest is 6
+room_from_6 : narrowed low 0 None (between 0 10) ≡ Some (between 0 10)
+unfolding holds least_from buffer
+room_from_6 = refl
+
+no_room_from_6 : narrowed low 0 None (between 0 9) ≡ None
+unfolding holds least_from buffer
+no_room_from_6 = refl
 
 same_addresses : range_of (record { start = 4; stop = 6 }) ≡ between 4 6
 same_addresses = refl
@@ -73,13 +82,39 @@ by_area = refl
 
 -- two of the starts
 first_by_lower : offsets_by unlike (First, LowerRising) ≡ 0 ∷ 9 ∷ 1 ∷ 2 ∷ 13 ∷ 6 ∷ []
-unfolding rises_by neighbours first_place first_passing is_free highest top do_share some_before is_live buffer
+unfolding rises_by neighbours first_place first_passing is_free highest top floor do_share some_before is_live buffer
 first_by_lower = refl
 
 best_by_lower : offsets_by unlike (Best, LowerRising) ≡ 0 ∷ 9 ∷ 1 ∷ 8 ∷ 1 ∷ 6 ∷ []
-unfolding rises_by neighbours best_place free_ranges stretches holds is_tighter is_free highest top do_share
+unfolding rises_by neighbours best_place free_ranges stretches holds least_from is_tighter is_free highest top do_share
     some_before is_live buffer
 best_by_lower = refl
+
+-- the first of `low` goes to its lowest, and the other below it
+first_of_low : offsets_by low (First, SizeFalling) ≡ 6 ∷ 0 ∷ []
+unfolding falls_by neighbours first_place first_passing is_free highest top floor do_share some_before is_live buffer
+first_of_low = refl
+
+best_of_low : offsets_by low (Best, SizeFalling) ≡ 6 ∷ 0 ∷ []
+unfolding falls_by neighbours best_place free_ranges stretches holds least_from is_tighter is_free highest top do_share
+    some_before is_live buffer
+best_of_low = refl
+
+-- the first of `lifted` goes to 1, and leaves no room below it
+first_of_lifted : offsets_by lifted (First, SizeFalling) ≡ 1 ∷ 4 ∷ []
+unfolding falls_by neighbours first_place first_passing is_free highest top floor do_share some_before is_live buffer
+first_of_lifted = refl
+
+best_of_lifted : offsets_by lifted (Best, SizeFalling) ≡ 1 ∷ 4 ∷ []
+unfolding falls_by neighbours best_place free_ranges stretches holds least_from is_tighter is_free highest top do_share
+    some_before is_live buffer
+best_of_lifted = refl
+
+-- from 5 on the least multiple of four is 8
+best_of_high_fours : offsets_by high_fours (Best, LowerRising) ≡ 8 ∷ 12 ∷ 0 ∷ []
+unfolding rises_by neighbours best_place free_ranges stretches holds least_from is_tighter is_free highest top do_share
+    some_before is_live buffer
+best_of_high_fours = refl
 
 -- ---- a rule, an order that has each buffer once, and addresses by rising start
 first_rule : rule_of First ≡ first_place
@@ -126,13 +161,13 @@ not_all t = let q = t.all (1, 4) (inl refl) in elim q.1 [
   | inr i ↦ absurd i
 ]
 
-low : IsSpanOf two_of_four (0, 0) (span 0 3)
+low_span : IsSpanOf two_of_four (0, 0) (span 0 3)
 unfolding top buffer
-low = record { start = refl; stop = refl }
+low_span = record { start = refl; stop = refl }
 
-high : IsSpanOf two_of_four (1, 4) (span 4 7)
+high_span : IsSpanOf two_of_four (1, 4) (span 4 7)
 unfolding top buffer
-high = record { start = refl; stop = refl }
+high_span = record { start = refl; stop = refl }
 
 -- the addresses of both, whichever was placed first
 both_taken : AreTaken two_of_four ((1, 4) ∷ (0, 0) ∷ []) (span 0 3 ∷ span 4 7 ∷ [])
@@ -148,13 +183,13 @@ both_taken = record { sorted = sorted; each = each; all = all }
 
     each : (s : Span) → IsIn s (span 0 3 ∷ span 4 7 ∷ []) →
         (e : Entry) × IsIn e ((1, 4) ∷ (0, 0) ∷ []) × IsSpanOf two_of_four e s
-    each s (inl q) = ((0, 0), inr (inl refl), subst (IsSpanOf two_of_four (0, 0)) (sym q) low)
-    each s (inr (inl q)) = ((1, 4), inl refl, subst (IsSpanOf two_of_four (1, 4)) (sym q) high)
+    each s (inl q) = ((0, 0), inr (inl refl), subst (IsSpanOf two_of_four (0, 0)) (sym q) low_span)
+    each s (inr (inl q)) = ((1, 4), inl refl, subst (IsSpanOf two_of_four (1, 4)) (sym q) high_span)
     each s (inr (inr i)) = absurd i
 
     all : (e : Entry) → IsIn e ((1, 4) ∷ (0, 0) ∷ []) →
         (s : Span) × IsIn s (span 0 3 ∷ span 4 7 ∷ []) × IsSpanOf two_of_four e s
     all e (inl q) =
-        (span 4 7, inr (inl refl), subst (λ (f : Entry). IsSpanOf two_of_four f (span 4 7)) (sym q) high)
-    all e (inr (inl q)) = (span 0 3, inl refl, subst (λ (f : Entry). IsSpanOf two_of_four f (span 0 3)) (sym q) low)
+        (span 4 7, inr (inl refl), subst (λ (f : Entry). IsSpanOf two_of_four f (span 4 7)) (sym q) high_span)
+    all e (inr (inl q)) = (span 0 3, inl refl, subst (λ (f : Entry). IsSpanOf two_of_four f (span 0 3)) (sym q) low_span)
     all e (inr (inr i)) = absurd i

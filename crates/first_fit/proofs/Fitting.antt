@@ -1,26 +1,25 @@
 -- Buffers placed one after another: how high they reach, and the offsets that are kept of them.
-use Rattle.std.proofs.Common.{◌≡◌, ◌^◌, ℕ, ◌+◌, ◌*◌, ◌<◌, ◌≤◌, ◌⊎◌, inl, inr, Bool, true, false, cond, ◌==◌, List, [], ◌∷◌, ◌++◌, length, map, filter, drop, reverse, slice_index, slice_index_or, slice_set, replicate, Option, Some, None, refl, sym, ap, ◌∙◌, arith, add-one, drop-cons}
-use Rattle.std.specs.Int.{next_multiple_of}
+use Rattle.std.proofs.Common.{◌≡◌, ◌^◌, ℕ, ◌+◌, ◌*◌, ◌<◌, ◌≤◌, ◌⊎◌, inl, inr, Bool, true, false, cond, ◌==◌, max, List, [], ◌∷◌, ◌++◌, length, map, filter, drop, reverse, slice_index, slice_index_or, slice_set, replicate, Option, Some, None, refl, sym, ap, ◌∙◌, arith, add-one, drop-cons}
 use Rattle.std.specs.List.{All}
 use Rattle.std.proofs.lemmas.List.{drop_all, get_or-replicate, get_or-set_same, get_or-set_other, length-replicate, length-set, reverse-append}
 use Rattle.std.proofs.lemmas.List.Sorted.{IsPermutation-reverse, IsPermutation-sym}
 use Rattle.std.proofs.lemmas.List.FromFn.{fill_by_all, length-map-range_with_len}
 use Rattle.dsa_terms.specs.Buffers.{Instance, IsInstance, buffer, do_share}
 use Rattle.dsa_terms.specs.Claims.{Entry, IsIn, number_of}
-use Rattle.dsa_terms.specs.Fits.{FitRule, HasEach, IsFreeRange, Range, best_place, first_place, fitted, free_ranges, highest, holds, neighbours, start_in, tightest, top}
+use Rattle.dsa_terms.specs.Fits.{FitRule, HasEach, IsFreeRange, Range, best_place, first_place, fitted, free_ranges, highest, holds, least_from, neighbours, start_in, tightest, top}
 use Rattle.dsa_terms.specs.Layouts.{IsLayout}
 use Rattle.dsa_terms.specs.Parts.{numbers, offsets_of}
 use Rattle.dsa_terms.specs.Plans.{layout_height}
 use Rattle.dsa_terms.proofs.Lists.{from_append, from_filter, from_map, greatest_under}
 use Rattle.dsa_terms.proofs.Moments.{sound}
-use Rattle.dsa_terms.proofs.Numbers.{next_at_or_above, next_is_below, next_is_multiple}
+use Rattle.dsa_terms.proofs.Numbers.{next_is_below}
 use Rattle.dsa_terms.proofs.NumberTests.{differ, equal}
 use Rattle.dsa_terms.proofs.Places.{all_from_in, in_from_all, in_permutation}
 use Rattle.dsa_terms.proofs.Ranges.{from_range}
 use Rattle.dsa_search_laws.proofs.Search.{has_seat}
 use Rattle.dsa_search_laws.proofs.Parts.{offset_at}
 use Rattle.dsa_start_laws.proofs.Fits.{fitted_has, fitted_is_stacked, stacked_is_layout}
-use Rattle.dsa_start_laws.proofs.Places.{IsClearRule, best_is_clear, first_is_clear, first_is_least, holds_is, tightest_is_in, under_highest}
+use Rattle.dsa_start_laws.proofs.Places.{IsClearRule, best_is_clear, first_is_clear, first_is_least, from_is_above, from_is_multiple, holds_is, tightest_is_in, under_highest}
 use Rattle.dsa_start_laws.proofs.Ranges.{free_ranges_exactly}
 use Rattle.dsa_model.specs.Buffer.{IsBuffer}
 use Rattle.dsa_model.proofs.Instances.{sound_buffer}
@@ -33,39 +32,47 @@ use Rattle.first_fit.specs.declared.fits.Fit.TheVariants.{Best, First}
 abbrev pub rise : ℕ
 rise = 2 ^ 40 + 2 ^ 32
 
--- the rule puts a buffer no higher than just above all the placed
+-- how high so many buffers can reach, even where nothing but their lowest lifts the first of them
+abbrev pub most_high : ℕ → ℕ
+most_high k = (k + 1) * rise
+
+-- the rule puts a buffer no higher than just above all the placed and its lowest
 abbrev pub IsLowRule : Instance → FitRule → Type 0
 IsLowRule I rule = (b : ℕ) (placed : List Entry) →
-    rule I b placed + (buffer I b).size < highest I placed + (buffer I b).alignment + (buffer I b).size
+    rule I b placed < max (highest I placed) (buffer I b).lowest + (buffer I b).alignment
+
+from_is_low : (I : Instance) (b x : ℕ) → IsInstance I →
+    least_from I b x < max x (buffer I b).lowest + (buffer I b).alignment
+unfolding least_from
+from_is_low I b x s = next_is_below (max x (buffer I b).lowest) (buffer I b).alignment (sound I b s).1
 
 pub first_is_low : (I : Instance) → IsInstance I → IsLowRule I first_place
 first_is_low I s b placed =
-    let a = (sound I b s).1 in
-    let n = next_at_or_above (highest I placed) (buffer I b).alignment a in
-    let k = first_is_least I b placed (next_multiple_of (highest I placed) (buffer I b).alignment) s (record {
-      aligned = next_is_multiple (highest I placed) (buffer I b).alignment a;
-      apart = λ e i. inr (let u = under_highest I placed e i in omega arith);
+    let n = from_is_above I b (highest I placed) in
+    let k = first_is_least I b placed (least_from I b (highest I placed)) s (record {
+      aligned = from_is_multiple I b (highest I placed) s;
+      above = n.1;
+      apart = λ e i. inr (let u = under_highest I placed e i in let m = n.0 in omega arith);
     }) in
-    let l = next_is_below (highest I placed) (buffer I b).alignment a in
+    let l = from_is_low I b (highest I placed) s in
     omega arith
 
 pub best_is_low : (I : Instance) → IsInstance I → IsLowRule I best_place
 unfolding best_place
 best_is_low I s b placed = go (tightest (filter (holds I b) (free_ranges I placed))) refl
   where
-    a : 1 ≤ (buffer I b).alignment
-    a = (sound I b s).1
-
     go : (o : Option Range) → tightest (filter (holds I b) (free_ranges I placed)) ≡ o →
-        start_in I b placed o + (buffer I b).size < highest I placed + (buffer I b).alignment + (buffer I b).size
-    go None e = let l = next_is_below (highest I placed) (buffer I b).alignment (sound I b s).1 in omega arith
+        start_in I b placed o < max (highest I placed) (buffer I b).lowest + (buffer I b).alignment
+    go None e = from_is_low I b (highest I placed) s
     go (Some r) e =
         let q = from_filter (holds I b) (free_ranges I placed) r
         (tightest_is_in (filter (holds I b) (free_ranges I placed)) r e) in
         let h = holds_is I b r q.1 in
         let f : IsFreeRange I placed r = (free_ranges_exactly I placed r s).0 q.0 in
         let u = f.is_open.under in
-        let p = (sound I b s).1 in
+        let p = sound I b s in
+        let q = p.0 in
+        let a = p.1 in
         omega arith
 
 pub rule_is_clear : (I : Instance) (rule : Fit) → IsInstance I → IsClearRule I (rule_of rule)
@@ -90,35 +97,35 @@ highest_of_neighbours I b placed m h = greatest_under (map (top I) others) m (λ
 
 pub placed_top : (I : Instance) (rule : FitRule) (b k : ℕ) (placed : List Entry) → IsLowRule I rule →
     IsBuffer (buffer I b) →
-    ((e : Entry) → IsIn e placed → top I e ≤ k * rise) →
-    top I (b, rule I b (neighbours I b placed)) ≤ (k + 1) * rise
+    ((e : Entry) → IsIn e placed → top I e ≤ most_high k) →
+    top I (b, rule I b (neighbours I b placed)) ≤ most_high (k + 1)
 unfolding top
 placed_top I rule b k placed low x h =
     let a = low b (neighbours I b placed) in
-    let m = highest_of_neighbours I b placed (k * rise) h in
-    let s = x.within_size in let n = x.within_alignment in
+    let m = highest_of_neighbours I b placed (most_high k) h in
+    let s = x.within_size in let n = x.within_alignment in let l = x.within_lowest in
     omega arith
 
 pub fitted_tops : (I : Instance) (rule : FitRule) (order : List ℕ) (k : ℕ) (placed : List Entry) → IsLowRule I rule →
-    ((b : ℕ) → IsIn b order → IsBuffer (buffer I b)) → ((e : Entry) → IsIn e placed → top I e ≤ k * rise) →
-    (e : Entry) → IsIn e (fitted rule I order placed) → top I e ≤ (k + length order) * rise
+    ((b : ℕ) → IsIn b order → IsBuffer (buffer I b)) → ((e : Entry) → IsIn e placed → top I e ≤ most_high k) →
+    (e : Entry) → IsIn e (fitted rule I order placed) → top I e ≤ most_high (k + length order)
 fitted_tops I rule [] k placed low x h e i = let z = h e i in omega arith
 fitted_tops I rule (b ∷ bs) k placed low x h e i =
     let z = fitted_tops I rule bs (k + 1) ((b, rule I b (neighbours I b placed)) ∷ placed) low (λ c j. x c (inr j)) tops
     e i in
     omega arith
   where
-    tops : (f : Entry) → IsIn f ((b, rule I b (neighbours I b placed)) ∷ placed) → top I f ≤ (k + 1) * rise
+    tops : (f : Entry) → IsIn f ((b, rule I b (neighbours I b placed)) ∷ placed) → top I f ≤ most_high (k + 1)
     tops f (inl q) = rw q (placed_top I rule b k placed low (x b (inl refl)) h)
     tops f (inr j) = let z = h f j in omega arith
 
 pub fitted_height : (I : Instance) (rule : FitRule) (order : List ℕ) → IsLowRule I rule → All IsBuffer I →
     IsOrderOf I order →
-    layout_height I (offsets_of I (fitted rule I order [])) ≤ length order * rise
+    layout_height I (offsets_of I (fitted rule I order [])) ≤ most_high (length order)
 unfolding layout_height top
 fitted_height I rule order low all o = greatest_under (map (λ b. slice_index offsets b + (buffer I b).size)
     (numbers (length I)))
-    (length order * rise) (λ x i.
+    (most_high (length order)) (λ x i.
     let r = from_map (λ b. slice_index offsets b + (buffer I b).size) (numbers (length I)) x i in
     let lt : r.0 < length I = let z = (from_range (length I) 0 r.0 r.1).1 in omega arith in
     let z = fitted_tops I rule order 0 [] low (λ b j. sound_buffer I b all
@@ -145,7 +152,7 @@ pub record IsFitting (I : Instance) (rule : FitRule) (order : List ℕ) (k : ℕ
   pub left : fitted rule I order [] ≡ fitted rule I (drop k order) (reverse placed)
   pub kept : offsets ≡ offsets_of I (reverse placed)
   pub in_range : All (λ (e : Entry). e.0 < length I) placed
-  pub tops : All (λ (e : Entry). top I e ≤ k * rise) placed
+  pub tops : All (λ (e : Entry). top I e ≤ most_high k) placed
 
 pub fitting_none : (I : Instance) (rule : FitRule) (order : List ℕ) (n : ℕ) (offsets : List ℕ) → n ≡ length I →
     offsets ≡ replicate n 0 → IsFitting I rule order 0 [] offsets
@@ -202,11 +209,11 @@ fitting_more I rule order k placed more offsets now b d x low all o lt is at gro
         | inl j ↦ in_from_all (λ (e : Entry). e.0 < length I) placed h.in_range e j
         | inr q ↦ rw q bn
       ]);
-  tops = all_from_in (λ (e : Entry). top I e ≤ (k + 1) * rise) (placed ++ (b, x) ∷ [])
+  tops = all_from_in (λ (e : Entry). top I e ≤ most_high (k + 1)) (placed ++ (b, x) ∷ [])
       (λ e i. elim (in_more placed (b, x) e i) [
-        | inl j ↦ (let z = in_from_all (λ (e : Entry). top I e ≤ k * rise) placed h.tops e j in omega arith)
+        | inl j ↦ (let z = in_from_all (λ (e : Entry). top I e ≤ most_high k) placed h.tops e j in omega arith)
         | inr q ↦ rw (q, at) (placed_top I rule b k (reverse placed) low (sound_buffer I b all bn) (λ f j.
-            in_from_all (λ (e : Entry). top I e ≤ k * rise) placed h.tops f
+            in_from_all (λ (e : Entry). top I e ≤ most_high k) placed h.tops f
             (in_permutation (reverse placed) placed f (IsPermutation-sym placed (reverse placed)
             (IsPermutation-reverse placed)) j)))
       ]);

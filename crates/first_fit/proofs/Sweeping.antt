@@ -2,11 +2,10 @@
 use Rattle.std.proofs.Common.{◌≡◌, ◌^◌, ℕ, ◌+◌, ◌-◌, ◌<◌, ◌≤◌, ◌⊎◌, ◌↔◌, inl, inr, Bool, true, false, cond, ◌==◌, ◌&&◌, ◌||◌, max, nat_lt, List, ◌∷◌, length, map, filter, drop, slice_index_or, Option, None, Some, IfSome, option_map, refl, sym, ap, ap₂, ◌∙◌, arith, add-one, drop-cons}
 use Rattle.std.proofs.lemmas.Bool.Decides.{nat_tests}
 use Rattle.std.proofs.lemmas.List.{drop_all}
-use Rattle.std.specs.Int.{next_multiple_of}
 use Rattle.std.specs.List.{All}
-use Rattle.dsa_terms.specs.Buffers.{Instance, IsInstance, buffer}
+use Rattle.dsa_terms.specs.Buffers.{Instance, IsInstance}
 use Rattle.dsa_terms.specs.Claims.{Entry, IsIn}
-use Rattle.dsa_terms.specs.Fits.{Range, best_place, free_ranges, highest, holds, is_tighter, start_in, tighter_of, tightest, top}
+use Rattle.dsa_terms.specs.Fits.{Range, best_place, free_ranges, highest, holds, is_tighter, least_from, start_in, tighter_of, tightest, top}
 use Rattle.dsa_terms.specs.Logs.{greatest}
 use Rattle.dsa_terms.proofs.Lists.{from_filter, into_filter, from_map, none_or_some, greatest_under}
 use Rattle.dsa_terms.proofs.NumberTests.{is_below, not_below}
@@ -258,13 +257,13 @@ swept I b placed spans k reach best s t le h = (
 pub swept_to : (I : Instance) (b : ℕ) (placed : List Entry) (spans : List Span) (k reach : ℕ) (best : Option Span) →
     IsInstance I → AreTaken I placed spans → length spans ≤ k → IsSweeping I b spans k reach best → (free : Span) →
     best ≡ Some free →
-    next_multiple_of free.start (buffer I b).alignment ≡ best_place I b placed
+    least_from I b free.start ≡ best_place I b placed
 swept_to I b placed spans k reach best s t le h free e = sym
     ((swept I b placed spans k reach best s t le h).0 ∙ rw e refl)
 
 pub swept_past : (I : Instance) (b : ℕ) (placed : List Entry) (spans : List Span) (k reach : ℕ) (best : Option Span) →
     IsInstance I → AreTaken I placed spans → length spans ≤ k → IsSweeping I b spans k reach best → best ≡ None →
-    next_multiple_of reach (buffer I b).alignment ≡ best_place I b placed
+    least_from I b reach ≡ best_place I b placed
 swept_past I b placed spans k reach best s t le h e =
     let r = swept I b placed spans k reach best s t le h in
     rw r.1 (sym (r.0 ∙ rw e refl))

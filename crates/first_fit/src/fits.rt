@@ -71,9 +71,10 @@ pub(crate) fn fitted(
     Ok(offsets)
 }
 
-/// First-fit: the buffers are placed in the order, each at its least aligned offset at which it is
-/// apart from all placed buffers that share a moment with it. The offsets, by number, in bytes. The
-/// rule is that of storage allocation (Knuth, The Art of Computer Programming, volume 1, 2.5).
+/// First-fit: the buffers are placed in the order, each at its least aligned offset, at or above its
+/// lowest, at which it is apart from all placed buffers that share a moment with it. The offsets, by
+/// number, in bytes. The rule is that of storage allocation (Knuth, The Art of Computer Programming,
+/// volume 1, 2.5).
 ///
 /// The caller owes an order that has each buffer once.
 #[tactic(auto, unfolding(dsa_terms::specs::Fits::first_fit))]
@@ -89,9 +90,10 @@ pub fn first_fit(alloc: Global, instance: &Instance, order: &[u32]) -> Result<Ve
 
 /// Best-fit: the buffers are placed in the order. A free range is a greatest range of addresses
 /// that meets no placed buffer that shares a moment with the one to place, and that ends at or
-/// below the greatest top of these. Of the free ranges that hold the buffer at their least aligned
-/// offset it takes the shortest, and of those the lowest. Where none holds it, it goes to the least
-/// aligned offset at or above the greatest top. The offsets, by number, in bytes.
+/// below the greatest top of these. Of the free ranges that hold the buffer at the least aligned
+/// offset there that is not below its lowest, it takes the shortest, and of those the lowest. Where
+/// none holds it, it goes to the least aligned offset at or above both the greatest top and its
+/// lowest. The offsets, by number, in bytes.
 ///
 /// The caller owes an order that has each buffer once.
 #[tactic(auto, unfolding(dsa_terms::specs::Fits::best_fit))]

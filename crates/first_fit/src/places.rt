@@ -4,15 +4,15 @@ ghost use Rattle.std.specs.Prelude.{◌≡◌, ◌^◌, ◌<◌, ◌≤◌, leng
 ghost use Rattle.std.specs.List.{All};
 ghost use Rattle.dsa_terms.specs.Buffers.{IsInstance};
 ghost use Rattle.dsa_terms.specs.Claims.{Entry};
-ghost use Rattle.dsa_terms.specs.Fits.{best_place, first_place, holds};
+ghost use Rattle.dsa_terms.specs.Fits.{best_place, first_place, holds, least_from};
 ghost use Rattle.first_fit.specs.Free.{IsBelow, narrowed, range_of};
 ghost use Rattle.first_fit.specs.Taken.{AreTaken, IsLow};
 
 use crate::spans::Span;
 use dsa_model::Instance;
 
-/// The least aligned offset at which `b` meets none of the addresses, which are by rising start:
-/// from 0 on, up past each that it would meet.
+/// The least aligned offset, at or above its lowest, at which `b` meets none of the addresses, which
+/// are by rising start: from its floor on, up past each that it would meet.
 pub(crate) fn first_place(instance: &Instance, b: u32, taken: &[Span]) -> u64
     requires sound { IsInstance instance.now }
     requires in_range { b < length instance.now }
@@ -22,7 +22,7 @@ pub(crate) fn first_place(instance: &Instance, b: u32, taken: &[Span]) -> u64
 {
     let buffer = instance.buffer(b);
     let size = buffer.size();
-    let mut offset = 0;
+    let mut offset = buffer.floor();
     for span in taken {
         if span.start < offset + size && offset < span.stop {
             offset = buffer.least_offset(span.stop);
@@ -31,15 +31,26 @@ pub(crate) fn first_place(instance: &Instance, b: u32, taken: &[Span]) -> u64
     offset
 }
 
-/// Whether `b` has room in the range at the least aligned offset there.
+/// The least aligned offset of `b` at or above both an address and its lowest.
+#[tactic(auto, unfolding(dsa_terms::specs::Fits::least_from))]
+fn least_from(instance: &Instance, b: u32, from: u64) -> u64
+    requires in_range { b < length instance.now }
+    requires limit { from ≤ 2 ^ 50 }
+    ensures value { result ≡ least_from instance.now b from }
+    ensures limit { result ≤ 2 ^ 51 }
+{
+    let buffer = instance.buffer(b);
+    buffer.least_offset(from.max(buffer.lowest()))
+}
+
+/// Whether `b` has room in the range at the least offset that it may have there.
 #[tactic(auto, unfolding(dsa_terms::specs::Fits::holds))]
 fn has_room(instance: &Instance, b: u32, range: Span) -> bool
     requires in_range { b < length instance.now }
     requires limit { range.start ≤ 2 ^ 50 }
     ensures { result ≡ holds instance.now b (range_of range) }
 {
-    let buffer = instance.buffer(b);
-    buffer.least_offset(range.start) + buffer.size() <= range.stop
+    least_from(instance, b, range.start) + instance.buffer(b).size() <= range.stop
 }
 
 /// The range where it holds `b` and is shorter than the best range so far, which is lower; else
@@ -64,7 +75,7 @@ fn narrowed(instance: &Instance, b: u32, best: Option<Span>, range: Span) -> Opt
     Some(range)
 }
 
-/// The least aligned offset of `b` in the shortest free range that holds it, the lowest of them;
+/// The least offset that `b` may have in the shortest free range that holds it, the lowest of them;
 /// and past all the addresses where none holds it. The addresses are by rising start, so a free
 /// range is what lies between the greatest stop so far and the next start.
 pub(crate) fn best_place(instance: &Instance, b: u32, taken: &[Span]) -> u64
@@ -90,5 +101,5 @@ pub(crate) fn best_place(instance: &Instance, b: u32, taken: &[Span]) -> u64
         Some(free) => free.start,
         None => reach,
     };
-    instance.buffer(b).least_offset(from)
+    least_from(instance, b, from)
 }

@@ -11,10 +11,10 @@ use Rattle.lifetime.specs.Thin.{AreAmong, IsBetween, IsThin, StandsFor, last_of}
 
 -- a buffer with a gap, which another one fills and outlasts
 abbrev gapped : Buffer
-gapped = record { lower = 0; upper = 10; size = 4; alignment = 1; gaps = (4, 6) ∷ [] }
+gapped = record { lower = 0; upper = 10; size = 4; alignment = 1; gaps = (4, 6) ∷ []; lowest = 0 }
 
 abbrev filling : Buffer
-filling = record { lower = 4; upper = 7; size = 4; alignment = 1; gaps = [] }
+filling = record { lower = 4; upper = 7; size = 4; alignment = 1; gaps = []; lowest = 0 }
 
 abbrev two : Instance
 two = gapped ∷ filling ∷ []
@@ -114,7 +114,7 @@ stands_for_zero = record {
 
 -- two buffers of one lifetime, of which one has a gap
 abbrev unbroken : Buffer
-unbroken = record { lower = 0; upper = 10; size = 4; alignment = 1; gaps = [] }
+unbroken = record { lower = 0; upper = 10; size = 4; alignment = 1; gaps = []; lowest = 0 }
 
 abbrev again : Instance
 again = gapped ∷ unbroken ∷ []

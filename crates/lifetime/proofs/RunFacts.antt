@@ -10,8 +10,8 @@ use Rattle.lifetime.specs.Thin.{StandForAll, StandsFor}
 -- the first buffer has a gap from 4 to 6, which the second one fills and outlasts by one moment
 abbrev two : Instance
 two =
-    record { lower = 0; upper = 10; size = 4; alignment = 1; gaps = (4, 6) ∷ [] }
-    ∷ record { lower = 4; upper = 7; size = 4; alignment = 1; gaps = [] } ∷ []
+    record { lower = 0; upper = 10; size = 4; alignment = 1; gaps = (4, 6) ∷ []; lowest = 0 }
+    ∷ record { lower = 4; upper = 7; size = 4; alignment = 1; gaps = []; lowest = 0 } ∷ []
 
 abbrev pub listed : List Section → SectionList
 listed sections = record { sections = sections; of_buffers = [] }

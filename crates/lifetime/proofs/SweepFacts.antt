@@ -13,7 +13,7 @@ use Rattle.lifetime.specs.Switching.{IsSwitched}
 
 -- one buffer, live at the moments 0 and 1
 abbrev pub only : Buffer
-only = record { lower = 0; upper = 2; size = 1; alignment = 1; gaps = [] }
+only = record { lower = 0; upper = 2; size = 1; alignment = 1; gaps = []; lowest = 0 }
 
 abbrev pub one : Instance
 one = only ∷ []

@@ -22,7 +22,7 @@ fn instance_of(
     for (lower, upper, size, alignment) in rows {
         let own = if instance.len() == 0 { gaps } else { &[] };
         let (lower, upper) = (*lower as u64, *upper as u64);
-        let buffer = Buffer::new(alloc, lower, upper, *size as u64, *alignment as u64, own)?;
+        let buffer = Buffer::new(alloc, lower, upper, *size as u64, *alignment as u64, own, 0)?;
         if instance.len() < 512 {
             instance.push(buffer)?;
         }
@@ -119,7 +119,7 @@ fn made_instance(alloc: Global, start: u64) -> Result<Instance, Fail<BufferFault
         let from = lower + (seed >> 36) % 6;
         let to = from + 1 + (seed >> 42) % 4;
         let upper = to + 1 + (seed >> 48) % 6;
-        let buffer = Buffer::new(alloc, lower, upper, 1, 1, &[(from, to)])?;
+        let buffer = Buffer::new(alloc, lower, upper, 1, 1, &[(from, to)], 0)?;
         if instance.len() < 512 {
             instance.push(buffer)?;
         }

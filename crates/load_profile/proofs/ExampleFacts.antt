@@ -7,7 +7,7 @@ use Rattle.lifetime.specs.SectionList.{SectionList, start_of}
 use Rattle.load_profile.specs.LoadProfile.{Exceeds, IsFirstGreatest, IsGreatestOf, IsPeakOf, LoadProfile, load_of, loads_of}
 
 abbrev sized : ℕ → Buffer
-sized size = record { lower = 0; upper = 1; size = size; alignment = 1; gaps = [] }
+sized size = record { lower = 0; upper = 1; size = size; alignment = 1; gaps = []; lowest = 0 }
 
 abbrev three : Instance
 three = sized 4 ∷ sized 2 ∷ sized 1 ∷ []

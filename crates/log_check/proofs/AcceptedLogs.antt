@@ -1,8 +1,8 @@
 -- The text of an accepted log has no fault.
-use Rattle.std.proofs.Common.{◌≡◌, ℕ, zero, suc, not, nat_lt, ◌==◌, List, [], ◌∷◌, map, length, take, Option, Some, None, slice_get, option_map, Result, Ok, Err, IfOk, refl, sym, ap, subst, ◌∙◌, arith}
+use Rattle.std.proofs.Common.{◌≡◌, ℕ, zero, suc, not, ◌==◌, List, [], ◌∷◌, map, length, take, Option, Some, None, slice_get, option_map, Result, Ok, Err, IfOk, refl, sym, ap, subst, ◌∙◌}
 use Rattle.std.specs.Option.{option_or}
 use Rattle.std.specs.List.{AllZip}
-use Rattle.dsa_terms.specs.Buffers.{Instance}
+use Rattle.dsa_terms.specs.Buffers.{Instance, buffer, floor}
 use Rattle.dsa_terms.specs.Claims.{Entry, IsWhole}
 use Rattle.dsa_terms.specs.Logs.{Line, Over, Cases, claim_of, IsLegal, IsLegalReason, IsLegalCite, Log, IsAccepted}
 use Rattle.dsa_terms.specs.Firsts.{when}
@@ -10,6 +10,7 @@ use Rattle.dsa_model.specs.Fails.{UnlessNoMemory, IfFault}
 use Rattle.dsa_model.specs.declared.fail.Fail.{Fail}
 use Rattle.dsa_model.specs.declared.fail.Fail.TheVariants.{Fault, NoMemory}
 use Rattle.dsa_terms.proofs.NumberTests.{same, not_below}
+use Rattle.canonical_order.specs.Claims.{is_above_floor}
 use Rattle.refute_log.specs.Lines.{HasCites}
 use Rattle.refute_log.specs.Reasons.{claim_reason, rule_reason}
 use Rattle.refute_log.specs.declared.reason.Reason.TheVariants as reason
@@ -89,11 +90,12 @@ none_illegal I C lines h = none_from (illegal_at I C (map raw_line_of lines)) 0 
     (λ k lt. ap (option_map (fault.Illegal k)) (no_reason_at I C lines k h))
 
 -- ---- the end
-no_end_fault : (end : ℕ) (line : Line) → HasCites line → IsWhole (claim_of line) →
-    end_fault end (Some (raw_line_of line)) ≡ None
-no_end_fault end line k w = rw (line_back line k) (ap (option_map (λ (e : Entry). fault.EndNotWhole end e.0))
-    (find_none (λ (e : Entry). nat_lt 0 e.1) (claim_of line)
-    (λ e i. not_below 0 e.1 (let z : e.1 ≡ 0 = w e i in omega arith))))
+no_end_fault : (I : Instance) (end : ℕ) (line : Line) → HasCites line → IsWhole I (claim_of line) →
+    end_fault I end (Some (raw_line_of line)) ≡ None
+unfolding is_above_floor
+no_end_fault I end line k w = rw (line_back line k) (ap (λ (o : Option Entry).
+    option_map (fault.EndNotWhole end) (option_map (λ (e : Entry). e.0) o))
+    (find_none (is_above_floor I) (claim_of line) (λ e i. not_below (floor (buffer I e.0)) e.1 (w e i))))
 
 -- ---- logs
 no_fault : (I : Instance) (log : Log) → IsAccepted I log → check_fault I (raw_log_of log) ≡ None
@@ -103,10 +105,10 @@ no_fault I log h =
     let g = get_mapped raw_line_of log.lines log.final ∙ ap (option_map raw_line_of) w.1 in
     none_of_three (when (not (log.count == length I)) (fault.WrongCount log.count (length I)))
     (illegal_fault I log.capacity (map raw_line_of log.lines))
-    (end_fault log.final (slice_get (map raw_line_of log.lines) log.final))
+    (end_fault I log.final (slice_get (map raw_line_of log.lines) log.final))
     (ap (λ b. when (not b) (fault.WrongCount log.count (length I))) (same log.count (length I) h.same_count))
     (none_illegal I log.capacity log.lines h.legal)
-    (ap (end_fault log.final) g ∙ no_end_fault log.final w.0 k w.2)
+    (ap (end_fault I log.final) g ∙ no_end_fault I log.final w.0 k w.2)
 
 -- where there is a fault, no log with that text is accepted
 pub faulty_is_not_accepted : (I : Instance) (raw : RawLog) (r : Result Log (Fail CheckFault)) →
@@ -160,7 +162,7 @@ fault_is_found I raw (Err NoMemory) a s fault e = a
 pub illegal_line : (I : Instance) (raw : RawLog) (f : CheckFault) → raw.count ≡ length I →
     illegal_fault I raw.capacity raw.lines ≡ Some f → check_fault I raw ≡ Some f
 illegal_line I raw f e h = rw (same raw.count (length I) e)
-    (ap (λ o. option_or o (option_or (end_fault raw.end (slice_get raw.lines raw.end)) None)) h)
+    (ap (λ o. option_or o (option_or (end_fault I raw.end (slice_get raw.lines raw.end)) None)) h)
 
 pub illegal_lines : (I : Instance) (raw : RawLog) (lines : List RawLine) (fail : Fail CheckFault) →
     raw.count ≡ length I → lines ≡ raw.lines → IfFault (λ f. illegal_fault I raw.capacity lines ≡ Some f) fail →

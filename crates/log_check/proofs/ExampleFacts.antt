@@ -1,9 +1,10 @@
 -- Worked logs: the sample log has no fault, and each changed one has the fault that is said.
 use Rattle.std.proofs.Common.{◌≡◌, ◌^◌, ◌-◌, ℕ, false, [], ◌∷◌, map, Some, None, refl}
-use Rattle.dsa_terms.specs.Buffers.{buffer, do_share, have_same_moments, is_live, some_before}
+use Rattle.dsa_terms.specs.Buffers.{Instance, buffer, do_share, floor, have_same_moments, is_live, some_before}
 use Rattle.dsa_terms.specs.Claims.{child, step, up}
 use Rattle.dsa_terms.specs.Logs.{Below, ByLine, Cases, Twin, ends_below, is_stacked, is_twin, rounded, rounding}
-use Rattle.dsa_terms.proofs.Examples.{evens, sample}
+use Rattle.dsa_terms.proofs.Examples.{evens, low, raised, sample}
+use Rattle.canonical_order.specs.Claims.{is_above_floor}
 use Rattle.refute_log.specs.Reasons.{covers}
 use Rattle.refute_log.specs.declared.line.Cite.TheVariants as cite
 use Rattle.refute_log.specs.declared.reason.Reason.TheVariants as reason
@@ -47,7 +48,7 @@ sample_as_text = refl
 
 sample_has_none : check_fault evens (raw_log_of sample) ≡ None
 unfolding covers child step do_share some_before have_same_moments is_twin ends_below is_stacked rounded rounding up
-    is_live buffer
+    is_live buffer floor is_above_floor
 sample_has_none = refl
 
 -- the count comes before all lines
@@ -94,12 +95,38 @@ end_of_no_line = refl
 
 end_with_bounds : check_fault evens (log_of over_2 case_12 case_all 2) ≡ Some (fault.EndNotWhole 2 1)
 unfolding covers child step do_share some_before have_same_moments is_twin ends_below is_stacked rounded rounding up
-    is_live buffer
+    is_live buffer floor is_above_floor
 end_with_bounds = refl
 
--- the least buffer whose bound is above 0
-least_raised : end_fault 7 (Some (raw.Over 0 0 1 ((0, 0) ∷ (1, 2) ∷ (2, 1) ∷ []))) ≡ Some (fault.EndNotWhole 7 1)
+-- the least buffer whose bound is above its floor
+least_raised :
+    end_fault evens 7 (Some (raw.Over 0 0 1 ((0, 0) ∷ (1, 2) ∷ (2, 1) ∷ []))) ≡ Some (fault.EndNotWhole 7 1)
+unfolding is_above_floor floor buffer
 least_raised = refl
+
+-- ---- a buffer of size 4 from 6 on, and one from 0 on: at 9 a log may end at 6, and not at 7
+abbrev of_one : RawLine → RawLog
+of_one line = record { count = 2; capacity = 9; lines = line ∷ []; end = 0 }
+
+ends_at_the_floor : check_fault low (of_one (raw.Over 0 6 1 ((0, 6) ∷ []))) ≡ None
+unfolding is_stacked rounded rounding up is_live is_above_floor floor buffer
+ends_at_the_floor = refl
+
+ends_above_it : check_fault low (of_one (raw.Over 0 7 1 ((0, 7) ∷ []))) ≡ Some (fault.EndNotWhole 0 0)
+unfolding is_stacked rounded rounding up is_live is_above_floor floor buffer
+ends_above_it = refl
+
+-- the floor of a buffer aligned to four is 8 where its lowest is 6
+abbrev fours : Instance
+fours = raised 4 4 6 1 ∷ []
+
+whole_up_to_8 : end_fault fours 0 (Some (raw.Over 0 8 4 ((0, 8) ∷ []))) ≡ None
+unfolding is_above_floor floor buffer
+whole_up_to_8 = refl
+
+not_whole_at_9 : end_fault fours 0 (Some (raw.Over 0 8 4 ((0, 9) ∷ []))) ≡ Some (fault.EndNotWhole 0 0)
+unfolding is_above_floor floor buffer
+not_whole_at_9 = refl
 
 -- ---- one line
 no_such_line : reason_at evens 4 (over_2 ∷ []) 1 ≡ None

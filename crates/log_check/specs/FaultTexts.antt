@@ -12,7 +12,7 @@ count_text said actual = codes "count " ++ decimal said ++ codes " " ++ decimal 
 abbrev pub illegal_text : ℕ → List ℕ → List ℕ
 illegal_text line text = codes "line " ++ decimal line ++ codes " " ++ text
 
--- an end, and a buffer whose bound is above 0
+-- an end, and a buffer whose bound is above its floor
 abbrev pub end_fault_text : ℕ → ℕ → List ℕ
 end_fault_text end buffer = codes "end " ++ decimal end ++ codes " bound " ++ decimal buffer
 

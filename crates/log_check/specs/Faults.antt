@@ -1,12 +1,13 @@
 -- The first fault of a log that is not accepted.
-use Rattle.std.specs.Prelude.{ℕ, Bool, true, not, ◌==◌, nat_lt, List, [], ◌∷◌, map, length, take, Option, Some, None, option_map, find, slice_get}
+use Rattle.std.specs.Prelude.{ℕ, Bool, true, not, ◌==◌, List, [], ◌∷◌, map, length, take, Option, Some, None, option_map, slice_get}
 use Rattle.std.specs.Str.{bytes_eq}
 use Rattle.dsa_terms.specs.Buffers.{Instance}
-use Rattle.dsa_terms.specs.Claims.{Entry, buffers_of}
+use Rattle.dsa_terms.specs.Claims.{buffers_of}
 use Rattle.dsa_terms.specs.Logs.{Line, Over, Cases, Cite, ByLine, Below, Twin, claim_of}
 use Rattle.dsa_terms.specs.Parts.{numbers}
 use Rattle.dsa_terms.specs.Search.{first_some}
 use Rattle.dsa_terms.specs.Firsts.{when, first_fault}
+use Rattle.canonical_order.specs.Claims.{is_above_floor, least_buffer}
 use Rattle.refute_log.specs.Reasons.{claim_reason, rule_reason}
 use Rattle.refute_log.specs.declared.reason.Reason.{Reason}
 use Rattle.refute_log.specs.declared.reason.Reason.TheVariants as reason
@@ -58,16 +59,16 @@ illegal_at I C lines k = option_map (fault.Illegal k) (reason_at I C lines k)
 abbrev pub illegal_fault : Instance → ℕ → List RawLine → Option CheckFault
 illegal_fault I C lines = first_some (illegal_at I C lines) (numbers (length lines))
 
--- the end names no line, or one with a bound above 0, at the least buffer that has one
-abbrev pub end_fault : ℕ → Option RawLine → Option CheckFault
-end_fault end None = Some (fault.EndRange end)
-end_fault end (Some line) =
-    option_map (λ (e : Entry). fault.EndNotWhole end e.0) (find (λ (e : Entry). nat_lt 0 e.1) (claim_of (line_of line)))
+-- the end names no line, or one with a bound above its buffer's floor, at the least buffer that has one
+abbrev pub end_fault : Instance → ℕ → Option RawLine → Option CheckFault
+end_fault I end None = Some (fault.EndRange end)
+end_fault I end (Some line) =
+    option_map (fault.EndNotWhole end) (least_buffer (is_above_floor I) (claim_of (line_of line)))
 
 -- the first fault of a log: its count, then the least line that is not legal, then its end
 abbrev pub check_fault : Instance → RawLog → Option CheckFault
 check_fault I log = first_fault (
     when (not (log.count == length I)) (fault.WrongCount log.count (length I))
     ∷ illegal_fault I log.capacity log.lines
-    ∷ end_fault log.end (slice_get log.lines log.end)
+    ∷ end_fault I log.end (slice_get log.lines log.end)
     ∷ [])

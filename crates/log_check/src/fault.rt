@@ -11,6 +11,6 @@ pub enum CheckFault {
     Illegal { line: u64, reason: Reason },
     /// The end names no line.
     EndRange { end: u64 },
-    /// The end names a line in which this buffer, the least such, has a bound above 0.
+    /// The end names a line in which this buffer, the least such, has a bound above its floor.
     EndNotWhole { end: u64, buffer: u32 },
 }

@@ -21,7 +21,7 @@ fn illegal_text(alloc: Global, line: u64, text: &str) -> Result<String, NoMemory
     Ok(format!(in alloc; "line {line} {text}")?)
 }
 
-/// An end, and a buffer whose bound is above 0.
+/// An end, and a buffer whose bound is above its floor.
 fn end_text(alloc: Global, end: u64, buffer: u32) -> Result<String, NoMemory>
     ensures { IfOk result (λ made. string_bytes made ≡ end_fault_text end buffer) }
 {

@@ -24,7 +24,7 @@ end 2\n";
 fn buffers(alloc: Global, sizes: &[(u64, u64)]) -> Option<Instance> {
     let mut instance = Instance::new(alloc);
     for pair in sizes {
-        let buffer = Buffer::new(alloc, 0, 1, pair.0, pair.1, &[]).ok()?;
+        let buffer = Buffer::new(alloc, 0, 1, pair.0, pair.1, &[], 0).ok()?;
         if instance.len() < 512 {
             instance.push(buffer).ok()?;
         }

@@ -9,13 +9,15 @@ fn a_log_takes_legal_lines_and_closes_at_a_whole_claim(rt: HostRuntime) {
     let alloc = rt.alloc();
     let mut three = Instance::new(alloc);
     for alignment in [2, 2, 1] {
-        let buffer = Buffer::new(alloc, 0, 1, 3 - alignment, alignment, &[]).expect(&rt, "memory");
+        let buffer = Buffer::new(alloc, 0, 1, 3 - alignment, alignment, &[], 0).expect(
+            &rt, "memory",
+        );
         if three.len() < BUFFER_LIMIT {
             three.push(buffer).expect(&rt, "memory");
         }
     }
     let mut log = Log::new(alloc, &three, 3);
-    let claim = Claim::whole(alloc, &[0, 1, 2]).expect(&rt, "memory");
+    let claim = Claim::from_pairs(alloc, &[(0, 0), (1, 0), (2, 0)]).expect(&rt, "memory");
     let line = Line::Over {
         claim,
         moment: 0,

@@ -11,7 +11,7 @@ use Rattle.log_trim.specs.Ends.{IsEndClaim}
 -- the last line is whole
 pub whole_last : (I : Instance) (log : Log) (kept : OpenLog) (n : ℕ) → IsAccepted I (trimmed log) →
     kept.lines ≡ kept_lines (needed log) log.lines → n ≡ length kept.lines →
-    (line : Line) × (slice_get kept.lines (n - 1) ≡ Some line) × IsWhole (claim_of line)
+    (line : Line) × (slice_get kept.lines (n - 1) ≡ Some line) × IsWhole I (claim_of line)
 unfolding trimmed
 whole_last I log kept n a e len = rw (len, e) a.whole
 

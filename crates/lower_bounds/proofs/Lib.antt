@@ -1,7 +1,14 @@
-pub mod Stacking
+pub mod Piles
+pub mod Orders
+pub mod Tallest
+pub mod Tallying
+pub mod AllTallies
+pub mod Whole
+pub mod CrudeBounds
 pub mod Candidates
 pub mod Raising
 pub mod SoFar
 pub mod Reaching
 pub mod Lines
-mod ExampleFacts
+pub mod StackFacts
+mod BoundFacts

@@ -1,61 +1,136 @@
 -- The one line of a bound, and the limits of its numbers.
-use Rattle.std.proofs.Common.{◌≡◌, ℕ, suc, ◌+◌, ◌*◌, ◌%◌, ◌^◌, ◌<◌, ◌≤◌, ◌⊎◌, inl, inr, List, [], ◌∷◌, ◌++◌, length, filter, Some, slice_get, refl, ap, ◌∙◌, arith, suc-mul}
+use Rattle.std.proofs.Common.{◌≡◌, ℕ, ◌+◌, ◌-◌, ◌%◌, ◌^◌, ◌<◌, ◌≤◌, ◌⊎◌, inl, inr, Bool, true, false, cond, List, [], ◌∷◌, ◌++◌, length, filter, map, Some, slice_get, sym, refl, ap, ◌∙◌, arith, append-nil}
+use Rattle.std.proofs.lemmas.List.{length-map, map-append}
 use Rattle.std.proofs.lemmas.List.FromFn.{length-range_with_len}
-use Rattle.std.proofs.lemmas.List.Sums.{sum_by-cons}
 use native.Mathlib.Nat.{mod-eq_of_lt}
-use Rattle.std.specs.List.{All, sum_by}
-use Rattle.dsa_terms.specs.Bounds.{counted, rounded_size, stack, stack_log}
+use Rattle.std.specs.Int.{next_multiple_of}
+use Rattle.std.specs.List.{All}
+use Rattle.dsa_terms.specs.Bounds.{counted, line_height, pile, stack, stack_line, stack_log}
 use Rattle.dsa_terms.specs.Buffers.{Instance, buffer}
-use Rattle.dsa_terms.specs.Claims.{Entry, IsIn, IsWhole, Rises}
+use Rattle.dsa_terms.specs.Claims.{Entry, IsIn, IsWhole, Rises, buffers_of}
+use Rattle.dsa_terms.specs.Layouts.{IsMultiple}
 use Rattle.dsa_terms.specs.Logs.{IsAccepted, IsLegal, Line, Log, Over}
-use Rattle.dsa_terms.specs.Parts.{numbers, whole}
-use Rattle.dsa_terms.proofs.Lists.{from_map, length-filter_le, nil_or_not}
+use Rattle.dsa_terms.specs.Parts.{numbers}
+use Rattle.dsa_terms.proofs.Lists.{length-filter_le, nil_or_not}
 use Rattle.dsa_terms.proofs.Moments.{live_before}
-use Rattle.dsa_terms.proofs.Numbers.{next_is_below}
 use Rattle.dsa_terms.proofs.NumberTests.{equal}
-use Rattle.dsa_search_laws.proofs.Members.{whole_is_whole}
-use Rattle.dsa_start_laws.proofs.Stacks.{in_counted}
+use Rattle.dsa_start_laws.proofs.Stacks.{in_bound, in_counted, over_stack, stack_of_some}
 use Rattle.dsa_model.specs.Buffer.{IsBuffer}
 use Rattle.dsa_model.proofs.Instances.{sound_buffer}
 use Rattle.canonical_order.specs.Claims.{IsBoundedBy}
 use Rattle.refute_log.specs.Logs.{OpenLog, ended}
 use Rattle.refute_log.specs.Lines.{IsWithin}
-use Rattle.lifetime.proofs.Lists.{rises-numbers}
+use Rattle.lifetime.proofs.Lists.{filter_more, rises-numbers}
 use Rattle.lower_bounds.specs.Best.{IsBoundOf}
-use Rattle.lower_bounds.specs.Stacks.{counts_at}
+use Rattle.lower_bounds.specs.Stacks.{IsModulus, counts_at, total_of}
 use Rattle.lower_bounds.specs.declared.value.Bound.{Bound}
+use Rattle.lower_bounds.proofs.Orders.{floor_limit}
+use Rattle.lower_bounds.proofs.Piles.{total_limit}
 
-pub counted_from : (I : Instance) (t G n : ℕ) (members : List ℕ) → members ≡ filter (counts_at I t G) (numbers n) →
-    n ≡ length I → members ≡ counted I t G
-unfolding counted
-counted_from I t G n members e f = e ∙ ap (λ n. filter (counts_at I t G) (numbers n)) f
+-- ---- the counted buffers, each with the same bound
+abbrev pub lifted : ℕ → List ℕ → List Entry
+lifted h members = map (λ (b : ℕ). let e : Entry = (b, h) in e) members
 
-pub rises_counted : (I : Instance) (t G : ℕ) → Rises (counted I t G)
-unfolding counted
-rises_counted I t G = rises-numbers (counts_at I t G) (length I)
+pub lifted_more : (p : ℕ → Bool) (h b : ℕ) (xs ys : List Entry) → xs ≡ lifted h (filter p (numbers b)) →
+    p b ≡ true → ys ≡ xs ++ (b, h) ∷ [] → ys ≡ lifted h (filter p (numbers (b + 1)))
+lifted_more p h b xs ys e t q = q ∙ (ap (λ zs. zs ++ (b, h) ∷ []) e
+    ∙ (sym (map-append (λ (b : ℕ). let e : Entry = (b, h) in e) (filter p (numbers b)) (b ∷ []))
+    ∙ ap (lifted h) (sym (filter_more p b ∙ ap (λ t. filter p (numbers b) ++ cond t (b ∷ []) []) t))))
 
-pub few_counted : (I : Instance) (t G : ℕ) → length (counted I t G) ≤ length I
+pub lifted_same : (p : ℕ → Bool) (h b : ℕ) (xs ys : List Entry) → xs ≡ lifted h (filter p (numbers b)) →
+    p b ≡ false → ys ≡ xs → ys ≡ lifted h (filter p (numbers (b + 1)))
+lifted_same p h b xs ys e t q = q ∙ (e ∙ ap (lifted h) (sym (filter_more p b
+    ∙ (ap (λ t. filter p (numbers b) ++ cond t (b ∷ []) []) t ∙ append-nil (filter p (numbers b))))))
+
+pub lifted_all : (I : Instance) (t H G h n : ℕ) (xs : List Entry) →
+    xs ≡ lifted h (filter (counts_at I t H G) (numbers n)) → n ≡ length I → xs ≡ lifted h (counted I t H G)
 unfolding counted
-few_counted I t G =
-    let k = length-filter_le (counts_at I t G) (numbers (length I)) in
+lifted_all I t H G h n xs e m = e ∙ ap (λ n. lifted h (filter (counts_at I t H G) (numbers n))) m
+
+buffers_of_lifted : (h : ℕ) (bs : List ℕ) → buffers_of (lifted h bs) ≡ bs
+buffers_of_lifted h [] = refl
+buffers_of_lifted h (b ∷ bs) = ap (λ cs. b ∷ cs) (buffers_of_lifted h bs)
+
+pub rises_lifted : (I : Instance) (t H G h : ℕ) (xs : List Entry) → xs ≡ lifted h (counted I t H G) →
+    Rises (buffers_of xs)
+unfolding counted
+rises_lifted I t H G h xs e = rw (e, buffers_of_lifted h (filter (counts_at I t H G) (numbers (length I))))
+    (rises-numbers (counts_at I t H G) (length I))
+
+few_counted : (I : Instance) (t H G : ℕ) → length (counted I t H G) ≤ length I
+unfolding counted
+few_counted I t H G =
+    let k = length-filter_le (counts_at I t H G) (numbers (length I)) in
     let n : length (numbers (length I)) ≡ length I = length-range_with_len 0 (length I) in
     omega arith
 
--- ---- a stack with something in it
-no_stack : (I : Instance) (t G : ℕ) → counted I t G ≡ [] → stack I t G ≡ 0
-unfolding stack
-no_stack I t G e = rw e refl
+pub few_lifted : (I : Instance) (t H G h : ℕ) (xs : List Entry) → xs ≡ lifted h (counted I t H G) →
+    length I ≤ 512 → length xs < 2 ^ 32
+few_lifted I t H G h xs e few = rw e (
+    let k = few_counted I t H G in
+    let m = length-map (counted I t H G) (λ (b : ℕ). let e : Entry = (b, h) in e) in
+    omega arith)
 
-some_counted : (I : Instance) (t G C : ℕ) → C < stack I t G → (b : ℕ) × IsIn b (counted I t G)
-some_counted I t G C lt = elim (nil_or_not (counted I t G))
-    [ inl e ↦ absurd (let k = no_stack I t G e in omega arith) | inr r ↦ r ]
+pub lifted_bounds : (I : Instance) (t H G h : ℕ) (xs : List Entry) → xs ≡ lifted h (counted I t H G) →
+    h ≤ 2 ^ 60 → IsBoundedBy (2 ^ 60) xs
+lifted_bounds I t H G h xs e le f i =
+    let r = in_bound h (counted I t H G) f (rw e at i) in
+    let q = r.1 in
+    omega arith
 
--- the modulus is within the alignments of what is counted
-modulus_limit : (I : Instance) (t G b : ℕ) → All IsBuffer I → IsIn b (counted I t G) → G ≤ 2 ^ 32
-modulus_limit I t G b h i =
-    let q = in_counted I t G b i in
+-- ---- the numbers of a bound above a capacity
+pub record IsAbove (I : Instance) (b : Bound) (C : ℕ) : Type 0 where
+  pub modulus : 1 ≤ b.modulus
+  pub multiple : IsMultiple b.height b.modulus
+  pub value : b.capacity ≡ b.height + pile I b.moment b.height b.modulus
+  pub below : C < b.capacity
+  pub member : ℕ
+  pub counts : IsIn member (counted I b.moment b.height b.modulus)
+  pub accepted : IsAccepted I (stack_log I b.moment b.height b.modulus C)
+
+pub is_above : (I : Instance) (b : Bound) (C : ℕ) → IsBoundOf I b → C < b.capacity →
+    ((t H G C : ℕ) → 1 ≤ G → IsMultiple H G → C < stack I t H G → IsAccepted I (stack_log I t H G C)) → IsAbove I b C
+is_above I b C (inl e) lt law = absurd (omega arith)
+is_above I b C (inr r) lt law = go (nil_or_not (counted I b.moment b.height b.modulus))
+  where
+    above : C < stack I b.moment b.height b.modulus
+    above = let k = r.2 in omega arith
+
+    go : (counted I b.moment b.height b.modulus ≡ []) ⊎ ((c : ℕ) × IsIn c (counted I b.moment b.height b.modulus)) →
+        IsAbove I b C
+    go (inl e) = absurd ((over_stack I b.moment b.height b.modulus C above).0 e)
+    go (inr c) = record {
+      modulus = r.0;
+      multiple = r.1;
+      value = r.2 ∙ stack_of_some I b.moment b.height b.modulus
+          (over_stack I b.moment b.height b.modulus C above).0;
+      below = lt;
+      member = c.0;
+      counts = c.1;
+      accepted = law b.moment b.height b.modulus C r.0 r.1 above;
+    }
+
+pub height_in : (I : Instance) (b : Bound) (C : ℕ) → IsAbove I b C → b.height ≤ b.capacity
+height_in I b C a = let k = a.value in omega arith
+
+-- the height of the line is the least with which it is legal
+pub height_is : (I : Instance) (b : Bound) (C h : ℕ) → IsAbove I b C →
+    h ≡ next_multiple_of (C + 1 - (b.capacity - b.height)) b.modulus →
+    h ≡ line_height I b.moment b.height b.modulus C
+unfolding line_height
+height_is I b C h a e =
+    let p : b.capacity - b.height ≡ pile I b.moment b.height b.modulus = (let k = a.value in omega arith) in
+    e ∙ ap (λ n. next_multiple_of (C + 1 - n) b.modulus) p
+
+-- ---- how great they are
+modulus_limit : (I : Instance) (t H G b : ℕ) → All IsBuffer I → 1 ≤ G → IsIn b (counted I t H G) → IsModulus G
+modulus_limit I t H G b h pos i =
+    let q = in_counted I t H G b i in
     let s = sound_buffer I b h q.0 in
-    divides (buffer I b).alignment G s.sound.1 s.within_alignment (equal ((buffer I b).alignment % G) 0 q.2)
+    record {
+      some = pos;
+      limit = divides (buffer I b).alignment G s.sound.1 s.within_alignment (equal ((buffer I b).alignment % G) 0 q.3);
+    }
   where
     divides : (a G : ℕ) → 1 ≤ a → a ≤ 2 ^ 32 → a % G ≡ 0 → G ≤ 2 ^ 32
     divides a G pos le z = go (cases G a)
@@ -67,102 +142,78 @@ modulus_limit I t G b h i =
         go (inl k) = omega arith
         go (inr k) = absurd (let e : a % G ≡ a = mod-eq_of_lt k in omega arith)
 
--- what one buffer adds
-rounded_limit : (I : Instance) (t G b : ℕ) → All IsBuffer I → 1 ≤ G → IsIn b (counted I t G) →
-    rounded_size I G b ≤ 2 ^ 41
-unfolding rounded_size
-rounded_limit I t G b h some i =
-    let q = in_counted I t G b i in
-    let s = (sound_buffer I b h q.0).within_size in
-    let g = modulus_limit I t G b h i in
-    let k = next_is_below (buffer I b).size G some in
+pub height_limit : (I : Instance) (b : Bound) (C : ℕ) → IsAbove I b C → All IsBuffer I → b.height ≤ 2 ^ 41
+height_limit I b C a h =
+    let q = in_counted I b.moment b.height b.modulus a.member a.counts in
+    let l = floor_limit (buffer I a.member) (sound_buffer I a.member h q.0) in
+    let k = q.2 in
     omega arith
 
-sum_limit : (f : ℕ → ℕ) (xs : List ℕ) (m : ℕ) → ((x : ℕ) → IsIn x xs → f x ≤ m) → sum_by f xs ≤ length xs * m
-sum_limit f [] m h = omega arith
-sum_limit f (x ∷ xs) m h =
-    let k = h x (inl refl) in let z = sum_limit f xs m (λ y i. h y (inr i)) in
-    rw (sum_by-cons f x xs) (step (f x) (sum_by f xs) (length xs) m k z)
-  where
-    step : (a s n m : ℕ) → a ≤ m → s ≤ n * m → a + s ≤ suc n * m
-    step a s n m p q = let e : suc n * m ≡ n * m + m = suc-mul n m in omega arith
+pile_limit : (I : Instance) (t H G : ℕ) → All IsBuffer I → length I ≤ 512 → IsModulus G → pile I t H G ≤ 2 ^ 50
+unfolding pile total_of
+pile_limit I t H G h few m =
+    let k = total_limit I G (counted I t H G) (λ b i. sound_buffer I b h (in_counted I t H G b i).0) m in
+    let n = few_counted I t H G in
+    omega arith
 
-pub stack_limit : (I : Instance) (t G : ℕ) → All IsBuffer I → length I ≤ 512 → 1 ≤ G → stack I t G ≤ 2 ^ 60
-unfolding stack
-stack_limit I t G h few some =
-    let k = sum_limit (rounded_size I G) (counted I t G) (2 ^ 41) (λ b i. rounded_limit I t G b h some i) in
-    let n = few_counted I t G in omega arith
+pub capacity_limit : (I : Instance) (b : Bound) (C : ℕ) → IsAbove I b C → All IsBuffer I → length I ≤ 512 → C ≤ 2 ^ 60
+capacity_limit I b C a h few =
+    let m = modulus_limit I b.moment b.height b.modulus a.member h a.modulus a.counts in
+    let p = pile_limit I b.moment b.height b.modulus h few m in
+    let t = height_limit I b C a h in
+    let v = a.value in
+    let l = a.below in
+    omega arith
 
--- ---- the numbers of a bound above a capacity
-pub record IsAbove (I : Instance) (b : Bound) (C : ℕ) : Type 0 where
-  pub buffers : All IsBuffer I
-  pub few : length I ≤ 512
-  pub modulus : 1 ≤ b.modulus
-  pub above : C < stack I b.moment b.modulus
-  pub accepted : IsAccepted I (stack_log I b.moment b.modulus C)
+pub line_within : (I : Instance) (b : Bound) (C h : ℕ) (claim : List Entry) → IsAbove I b C → All IsBuffer I →
+    claim ≡ lifted h (counted I b.moment b.height b.modulus) → h ≤ b.height →
+    IsWithin (Over claim b.moment h b.modulus)
+line_within I b C h claim a buffers e le =
+    let q = in_counted I b.moment b.height b.modulus a.member a.counts in
+    let s = (sound_buffer I a.member buffers q.0).upper_limit in
+    let l = live_before (buffer I a.member) b.moment q.1 in
+    let g = (modulus_limit I b.moment b.height b.modulus a.member buffers a.modulus a.counts).limit in
+    let t = height_limit I b C a buffers in (
+      lifted_bounds I b.moment b.height b.modulus h claim e (omega arith),
+      omega arith,
+      omega arith,
+      omega arith,
+    )
 
-pub is_above : (I : Instance) (b : Bound) (C : ℕ) → All IsBuffer I → length I ≤ 512 → IsBoundOf I b → C < b.capacity →
-    ((t G C : ℕ) → 1 ≤ G → C < stack I t G → IsAccepted I (stack_log I t G C)) → IsAbove I b C
-is_above I b C h few (inl e) lt law = absurd (omega arith)
-is_above I b C h few (inr r) lt law =
-    let above : C < stack I b.moment b.modulus = (let k = r.1 in omega arith) in
-    record { buffers = h; few = few; modulus = r.0; above = above; accepted = law b.moment b.modulus C r.0 above }
+-- ---- the line, and the log with that line alone
+line_is : (I : Instance) (b : Bound) (C h : ℕ) (claim : List Entry) →
+    claim ≡ lifted h (counted I b.moment b.height b.modulus) → h ≡ line_height I b.moment b.height b.modulus C →
+    Over claim b.moment h b.modulus
+    ≡ stack_line I b.moment b.height b.modulus (line_height I b.moment b.height b.modulus C)
+unfolding stack_line
+line_is I b C h claim e q = rw (e, q) refl
 
-pub capacity_limit : (I : Instance) (b : Bound) (C : ℕ) → IsAbove I b C → C ≤ 2 ^ 60
-capacity_limit I b C a = let k = stack_limit I b.moment b.modulus a.buffers a.few a.modulus in let z = a.above in omega
-    arith
-
-whole_bounds : (members : List ℕ) → IsBoundedBy (2 ^ 60) (whole members)
-whole_bounds members e i =
-    let r = from_map (λ (b : ℕ). let f : Entry = (b, 0) in f) members e i in
-    let k : e.1 ≡ 0 = ap (λ (e : Entry). e.1) r.2 in omega arith
-
-pub line_within : (I : Instance) (b : Bound) (C : ℕ) (members : List ℕ) (claim : List Entry) → IsAbove I b C →
-    members ≡ counted I b.moment b.modulus → claim ≡ whole members →
-    IsWithin (Over claim b.moment 0 b.modulus)
-line_within I b C members claim a e f =
-    let r = some_counted I b.moment b.modulus C a.above in
-    let q = in_counted I b.moment b.modulus r.0 r.1 in
-    let s = (sound_buffer I r.0 a.buffers q.0).upper_limit in
-    let l = live_before (buffer I r.0) b.moment q.1 in
-    let g = modulus_limit I b.moment b.modulus r.0 a.buffers r.1 in
-    (rw f (whole_bounds members), omega arith, omega arith, omega arith)
-
--- the one line is legal
-pub line_legal : (I : Instance) (b : Bound) (C : ℕ) (claim : List Entry) → IsAbove I b C →
-    claim ≡ whole (counted I b.moment b.modulus) → IsLegal I C [] (Over claim b.moment 0 b.modulus)
+pub legal_after : (I : Instance) (b : Bound) (C h : ℕ) (claim : List Entry) (old : OpenLog) → IsAbove I b C →
+    claim ≡ lifted h (counted I b.moment b.height b.modulus) → h ≡ line_height I b.moment b.height b.modulus C →
+    old ≡ record { count = length I; capacity = C; lines = [] } →
+    IsLegal I old.capacity old.lines (Over claim b.moment h b.modulus)
 unfolding stack_log
-line_legal I b C claim a e =
-    rw e (a.accepted.legal 0 (Over (whole (counted I b.moment b.modulus)) b.moment 0 b.modulus) refl)
+legal_after I b C h claim old a e q f = rw (f, line_is I b C h claim e q)
+    (a.accepted.legal 0 (stack_line I b.moment b.height b.modulus (line_height I b.moment b.height b.modulus C)) refl)
 
--- the log with the one line
-pub log_is : (I : Instance) (b : Bound) (C end : ℕ) (claim : List Entry) (old new : OpenLog) (closed : Log) →
-    claim ≡ whole (counted I b.moment b.modulus) →
+pub log_is : (I : Instance) (b : Bound) (C h end : ℕ) (claim : List Entry) (old new : OpenLog) (closed : Log) →
+    claim ≡ lifted h (counted I b.moment b.height b.modulus) → h ≡ line_height I b.moment b.height b.modulus C →
     old ≡ record { count = length I; capacity = C; lines = [] } → end ≡ length old.lines →
-    new ≡ record old { lines = old.lines ++ Over claim b.moment 0 b.modulus ∷ [] } →
-    closed ≡ ended new end → closed ≡ stack_log I b.moment b.modulus C
+    new ≡ record old { lines = old.lines ++ Over claim b.moment h b.modulus ∷ [] } →
+    closed ≡ ended new end → closed ≡ stack_log I b.moment b.height b.modulus C
 unfolding stack_log
-log_is I b C end claim old new closed e f g h k = rw (k, h, g, f, e) refl
+log_is I b C h end claim old new closed e q f g m k = rw (k, m, g, f, line_is I b C h claim e q) refl
 
 pub end_line : (I : Instance) (C end : ℕ) (line : Line) (old new : OpenLog) →
     old ≡ record { count = length I; capacity = C; lines = [] } → end ≡ length old.lines →
     new ≡ record old { lines = old.lines ++ line ∷ [] } → slice_get new.lines end ≡ Some line
 end_line I C end line old new f g h = rw (h, g, f) refl
 
-pub legal_after : (I : Instance) (b : Bound) (C : ℕ) (claim : List Entry) (old : OpenLog) → IsAbove I b C →
-    claim ≡ whole (counted I b.moment b.modulus) →
-    old ≡ record { count = length I; capacity = C; lines = [] } →
-    IsLegal I old.capacity old.lines (Over claim b.moment 0 b.modulus)
-legal_after I b C claim old a e f = rw f (line_legal I b C claim a e)
-
-pub claim_is : (I : Instance) (b : Bound) (members given : List ℕ) (claim : List Entry) →
-    members ≡ counted I b.moment b.modulus → given ≡ members → claim ≡ whole given →
-    claim ≡ whole (counted I b.moment b.modulus)
-claim_is I b members given claim e f g = g ∙ ap whole (f ∙ e)
-
-pub few_members_of : (I : Instance) (t G : ℕ) (members given : List ℕ) → members ≡ counted I t G → given ≡ members →
-    length I ≤ 512 → length given < 2 ^ 32
-few_members_of I t G members given e f few = rw (f, e) (let k = few_counted I t G in omega arith)
-
-pub whole_of : (members : List ℕ) (claim : List Entry) → claim ≡ whole members → IsWhole claim
-whole_of members claim e = rw e (whole_is_whole members)
+-- no bound is above its buffer's floor
+pub whole_of : (I : Instance) (b : Bound) (h : ℕ) (claim : List Entry) →
+    claim ≡ lifted h (counted I b.moment b.height b.modulus) → h ≤ b.height → IsWhole I claim
+whole_of I b h claim e le f i =
+    let r = in_bound h (counted I b.moment b.height b.modulus) f (rw e at i) in
+    let k = (in_counted I b.moment b.height b.modulus f.0 r.0).2 in
+    let q = r.1 in
+    omega arith

@@ -1,10 +1,12 @@
 //! A lower bound on the capacity, by what is live at one moment, and its log of one line.
 #![tactic(auto)]
 
+mod crude;
+mod falling;
 mod highest;
 mod moduli;
 mod one_line;
-mod stacks;
+mod tallies;
 mod value;
 
 pub use highest::bound;

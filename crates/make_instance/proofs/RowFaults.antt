@@ -11,7 +11,7 @@ use Rattle.dsa_model.specs.Numbers.{written_number}
 use Rattle.dsa_model.proofs.Live.{is_ever, live_from}
 use Rattle.csv_instance.specs.Gaps.{gaps_of}
 use Rattle.csv_instance.specs.Numbers.{time_limit}
-use Rattle.csv_instance.specs.Parse.{alignment_of, bad_column, row_buffer, content_fault}
+use Rattle.csv_instance.specs.Parse.{number_or, bad_column, row_buffer, content_fault}
 use Rattle.csv_instance.specs.declared.fault.InstanceFault.TheVariants as fault
 use Rattle.csv_instance.proofs.IdLemmas.{AllNone}
 use Rattle.csv_instance.proofs.OffsetLemmas.{number-decimal}
@@ -35,7 +35,7 @@ none_mapped f o h = rw h refl
 -- ---- the buffer
 
 no_number_fault : (lower upper size alignment : ℕ) (gaps : List (ℕ × ℕ)) → lower < upper → 0 < size → size ≤ 64
-    → 0 < alignment → alignment ≤ 4 → number_fault (buffer_of lower upper size alignment gaps) ≡ None
+    → 0 < alignment → alignment ≤ 4 → number_fault (buffer_of lower upper size alignment gaps 0) ≡ None
 no_number_fault lower upper size alignment gaps lasts some small some2 narrow =
     let one : nat_le upper lower ≡ false = grind (arith, nat_tests) in
     let two : (size == 0) ≡ false = grind (arith, nat_tests) in
@@ -45,7 +45,7 @@ no_number_fault lower upper size alignment gaps lasts some small some2 narrow =
     rw (one, two, three, four, five) refl
 
 live_first : (lower upper size alignment : ℕ) (gap : Option (ℕ × ℕ)) → lower < upper → IsGapIn lower upper gap
-    → is_ever_live (buffer_of lower upper size alignment (option_to_list gap)) ≡ true
+    → is_ever_live (buffer_of lower upper size alignment (option_to_list gap) 0) ≡ true
 live_first lower upper size alignment gap lasts inside =
     is_ever _ lower (live_from _ lower (omega arith) lasts (outside gap inside))
   where
@@ -56,7 +56,7 @@ live_first lower upper size alignment gap lasts inside =
         rw before refl
 
 no_gap_fault : (lower upper size alignment : ℕ) (gap : Option (ℕ × ℕ)) → lower < upper → IsGapIn lower upper gap
-    → gap_fault (buffer_of lower upper size alignment (option_to_list gap)) ≡ None
+    → gap_fault (buffer_of lower upper size alignment (option_to_list gap) 0) ≡ None
 no_gap_fault lower upper size alignment None lasts inside =
     rw (live_first lower upper size alignment None lasts inside) refl
 no_gap_fault lower upper size alignment (Some (a, b)) lasts inside =
@@ -67,13 +67,15 @@ no_gap_fault lower upper size alignment (Some (a, b)) lasts inside =
     rw (one, two, three, live_first lower upper size alignment (Some (a, b)) lasts inside) refl
 
 abbrev buffer_by : Row → Buffer
-buffer_by row = buffer_of row.lower row.upper row.size row.alignment (option_to_list row.gap)
+buffer_by row = buffer_of row.lower row.upper row.size row.alignment (option_to_list row.gap) 0
 
 no_fault : (row : Row) → IsMade row → buffer_fault (buffer_by row) ≡ None
 no_fault row h =
-    rw (no_number_fault row.lower row.upper row.size row.alignment (option_to_list row.gap) h.lasts h.some_size h.small
-    h.some_alignment h.narrow)
-    (no_gap_fault row.lower row.upper row.size row.alignment row.gap h.lasts h.gap)
+    rw (
+      no_number_fault row.lower row.upper row.size row.alignment (option_to_list row.gap) h.lasts h.some_size h.small
+          h.some_alignment h.narrow,
+      no_gap_fault row.lower row.upper row.size row.alignment row.gap h.lasts h.gap,
+    ) refl
 
 -- ---- what the row says of it
 
@@ -86,7 +88,7 @@ gaps_are lower upper (Some (a, b)) soon inside =
 number : (n : ℕ) → n < 2048 → written_number time_limit (decimal n) ≡ Some n
 number n small = number-decimal time_limit n (omega arith) (omega arith)
 
-alignment : (n : ℕ) → n < 2048 → alignment_of (decimal n) ≡ Some n
+alignment : (n : ℕ) → n < 2048 → number_or 1 (decimal n) ≡ Some n
 alignment n small =
     let some : (length (decimal n) == 0) ≡ false = long _ (decimal_nonempty n (omega arith)) in
     rw some (number n small)

@@ -1,7 +1,7 @@
 -- Brackets of two buffers aligned to four: 7 is their least capacity.
 use Rattle.std.proofs.Common.{◌≡◌, ℕ, zero, suc, ◌<◌, ◌≤◌, inl, inr, [], ◌∷◌, slice_get, take, Option, Some, None, refl, sym, ap, ◌∙◌, subst, lit<, lit≤, arith}
-use Rattle.dsa_terms.specs.Buffers.{IsInstance, buffer, do_share, have_same_moments, is_live, some_before}
-use Rattle.dsa_terms.specs.Claims.{child, Claim, Entry, IsClaim, IsIn, step, up}
+use Rattle.dsa_terms.specs.Buffers.{IsInstance, buffer, do_share, floor, have_same_moments, is_live, some_before}
+use Rattle.dsa_terms.specs.Claims.{child, Claim, Entry, IsClaim, IsIn, IsWhole, step, up}
 use Rattle.dsa_terms.specs.Layouts.{IsLayout}
 use Rattle.dsa_terms.specs.Logs.{ends_below, is_stacked, is_twin, IsAccepted, IsLegal, IsOver, Line, Log, Over, rounded, rounding}
 use Rattle.dsa_terms.specs.Parts.{is_cut, last_cut, part_of, parts, searched}
@@ -40,7 +40,8 @@ both_claim = record { rises = (above_0, (above_1, tt)); in_range = ranges }
     ranges e (inr (inr h)) = absurd h
 
 six_accepted : IsAccepted two_of_four six
-six_accepted = record { same_count = refl; legal = legal; whole = (Over both 0 0 4, refl, zeros) }
+unfolding floor buffer
+six_accepted = record { same_count = refl; legal = legal; whole = (Over both 0 0 4, refl, whole) }
   where
     line_legal : IsLegal two_of_four 6 [] (Over both 0 0 4)
     line_legal = record { claim = both_claim; not_empty = λ e. cc; reason = over_six }
@@ -49,10 +50,10 @@ six_accepted = record { same_count = refl; legal = legal; whole = (Over both 0 0
     legal zero line e = let s : Over both 0 0 4 ≡ line = cc in subst (IsLegal two_of_four 6 []) s line_legal
     legal (suc k) line e = absurd cc
 
-    zeros : (e : Entry) → IsIn e both → e.1 ≡ 0
-    zeros e (inl h) = ap (λ (f : Entry). f.1) h
-    zeros e (inr (inl h)) = ap (λ (f : Entry). f.1) h
-    zeros e (inr (inr h)) = absurd h
+    whole : IsWhole two_of_four both
+    whole e (inl h) = rw h (omega arith)
+    whole e (inr (inl h)) = rw h (omega arith)
+    whole e (inr (inr h)) = absurd h
 
 -- it shows the lower end 7 and no other; without a log the lower end is 0
 shows_7 : Refutes two_of_four 7 (Some six)

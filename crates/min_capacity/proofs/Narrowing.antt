@@ -19,6 +19,7 @@ layout_at_height : (I : Instance) (C : ℕ) (offsets : List ℕ) → IsLayout I 
 layout_at_height I C offsets h = record {
   count = h.count;
   aligned = h.aligned;
+  above = h.above;
   within = λ b lt. under_layout_height I offsets b lt;
   apart = h.apart;
 }

@@ -8,20 +8,23 @@ fn the_child_of_a_whole_claim_is_made(rt: HostRuntime) {
     let alloc = rt.alloc();
     let mut three = Instance::new(alloc);
     for alignment in [2, 2, 1] {
-        let buffer = Buffer::new(alloc, 0, 1, 3 - alignment, alignment, &[]).expect(&rt, "memory");
+        let buffer = Buffer::new(alloc, 0, 1, 3 - alignment, alignment, &[], 0).expect(
+            &rt, "memory",
+        );
         if three.len() < BUFFER_LIMIT {
             three.push(buffer).expect(&rt, "memory");
         }
     }
-    let whole = Claim::whole(alloc, &[0, 1, 2]).expect(&rt, "memory");
-    let claim = Claim::from_pairs(alloc, whole.pairs()).expect(&rt, "memory");
+    assert!(rt; three.len() == 3);
+    let whole = Claim::whole(alloc, &three, &[0, 1, 2]).expect(&rt, "memory");
+    assert_eq!(rt; whole.pairs(), [(0, 0), (1, 0), (2, 0)].as_slice());
+    let claim = Claim::from_pairs(alloc, &[(0, 0), (1, 0), (2, 0)]).expect(&rt, "memory");
     assert!(rt; whole.out_of_range(three.len()).is_none());
     let view = View {
         instance: &three,
         claim: &claim,
     };
     let left = child(alloc, &view, 2).expect(&rt, "memory");
-    assert!(rt; three.len() == 3);
     assert_eq!(rt; step(&three, 2, 0), 2);
     let table = LowTable::of(alloc, view.instance(), &claim).expect(&rt, "memory");
     assert!(rt; table.is_free(2));

@@ -21,7 +21,7 @@ fn instance_of(
     for (lower, upper, size, alignment) in rows {
         let own = if instance.len() == 0 { gaps } else { &[] };
         let (lower, upper) = (*lower as u64, *upper as u64);
-        let buffer = Buffer::new(alloc, lower, upper, *size as u64, *alignment as u64, own)?;
+        let buffer = Buffer::new(alloc, lower, upper, *size as u64, *alignment as u64, own, 0)?;
         if instance.len() < 512 {
             instance.push(buffer)?;
         }

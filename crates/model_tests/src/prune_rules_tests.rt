@@ -9,7 +9,9 @@ fn a_twin_stands_before_the_second_of_two_alike(rt: HostRuntime) {
     let alloc = rt.alloc();
     let mut three = Instance::new(alloc);
     for alignment in [2, 2, 1] {
-        let buffer = Buffer::new(alloc, 0, 1, 3 - alignment, alignment, &[]).expect(&rt, "memory");
+        let buffer = Buffer::new(alloc, 0, 1, 3 - alignment, alignment, &[], 0).expect(
+            &rt, "memory",
+        );
         if three.len() < BUFFER_LIMIT {
             three.push(buffer).expect(&rt, "memory");
         }

@@ -23,7 +23,7 @@ fn instance_of(
         let is_last = instance.len() as usize == rows.len().saturating_sub(1);
         let own = if is_last { gaps } else { &[] };
         let (lower, upper) = (*lower as u64, *upper as u64);
-        let buffer = Buffer::new(alloc, lower, upper, *size as u64, *alignment as u64, own)?;
+        let buffer = Buffer::new(alloc, lower, upper, *size as u64, *alignment as u64, own, 0)?;
         if instance.len() < BUFFER_LIMIT {
             instance.push(buffer)?;
         }
@@ -84,9 +84,9 @@ fn the_least_buffer_with_a_gap_or_an_alignment_is_told(rt: HostRuntime) -> Resul
 fn a_slot_is_free_again_where_its_buffer_ends(rt: HostRuntime) -> Result<(), test::Fail> {
     let alloc = rt.alloc();
     let mut instance = Instance::new(alloc);
-    instance.push(Buffer::new(alloc, 0, 2, 3, 1, &[])?)?;
-    instance.push(Buffer::new(alloc, 2, 3, 5, 1, &[])?)?;
-    instance.push(Buffer::new(alloc, 1, 3, 7, 1, &[])?)?;
+    instance.push(Buffer::new(alloc, 0, 2, 3, 1, &[], 0)?)?;
+    instance.push(Buffer::new(alloc, 2, 3, 5, 1, &[], 0)?)?;
+    instance.push(Buffer::new(alloc, 1, 3, 7, 1, &[], 0)?)?;
     let members: [u32; 3] = [0, 1, 2];
     assert_eq!(rt;
         slots(alloc, &instance, &members)?.as_slice(),

@@ -2,10 +2,10 @@
 -- capacity is 7, and on a small buffer that belongs below, whose least capacity stays open without steps.
 use Rattle.std.proofs.Common.{◌≡◌, ◌<◌, ℕ, ◌+◌, ◌≤◌, inl, inr, [], ◌∷◌, Some, None, refl, sym, ap, subst, ◌∙◌, ◌-◌, lit<, lit≤, arith}
 use Rattle.std.specs.Global.{Vec}
-use Rattle.dsa_terms.specs.Bounds.{counted, highest_stack, lower_bound, moduli, moments, rounded_size, stack, stack_log}
-use Rattle.dsa_terms.specs.Buffers.{buffer, do_share, have_same_moments, is_live, some_before}
+use Rattle.dsa_terms.specs.Bounds.{counted, highest_stack, lower_bound, moduli, moments, rounded_size, stack, stack_log, pile, heights, highest_at, stack_line, line_height}
+use Rattle.dsa_terms.specs.Buffers.{buffer, do_share, have_same_moments, is_live, some_before, floor}
 use Rattle.dsa_terms.specs.Claims.{child, step, up}
-use Rattle.dsa_terms.specs.Fits.{best_fit, best_place, first_fit, first_passing, first_place, free_ranges, highest, holds, is_free, is_tighter, neighbours, stretches, top}
+use Rattle.dsa_terms.specs.Fits.{best_fit, best_place, first_fit, first_passing, first_place, free_ranges, highest, holds, is_free, is_tighter, neighbours, stretches, top, least_from}
 use Rattle.dsa_terms.specs.Layouts.{IsInfeasible, IsLayout}
 use Rattle.dsa_terms.specs.Logs.{Log, ends_below, is_twin}
 use Rattle.dsa_terms.specs.Orders.{falls_by, orders, rises_by}
@@ -46,7 +46,7 @@ past_the_capacity a = let k : 4 + 3 ≤ 6 = a.layout.within 1 (lit< tt) in omega
 
 -- ---- capacities that are decided
 abbrev six_log : Log
-six_log = stack_log two_of_four 0 4 6
+six_log = stack_log two_of_four 0 0 4 6
 
 module _ (offsets : Vec ℕ) where
   laid_out_at_7 : offsets.items ≡ 0 ∷ 4 ∷ [] → Decides two_of_four 7 None (Layout offsets)
@@ -65,11 +65,11 @@ module _ (offsets : Vec ℕ) where
   a_layout_is_not_by_the_bound h = h
 
 refuted_at_6 : Decides two_of_four 6 None (Refuted six_log)
-refuted_at_6 = line_refutes two_of_four 0 4 6 two_sound (lit≤ tt) (let e = seven_stacked in omega arith)
+refuted_at_6 = line_refutes two_of_four 0 0 4 6 two_sound (lit≤ tt) refl (let e = seven_stacked in omega arith)
 
 -- the log is one at 6
 not_refuted_at_5 : Decides two_of_four 5 None (Refuted six_log) → ⊥
-unfolding stack_log
+unfolding stack_log stack_line line_height pile
 not_refuted_at_5 r = let k : 6 ≡ 5 = r.its_capacity in omega arith
 
 -- no log refutes 7, at which there is a layout
@@ -87,7 +87,7 @@ by_the_bound_at_6 = bound_log
 
 -- the same line at another capacity
 not_by_the_bound_at_5 : IsByBound two_of_four 5 (Refuted one_line) → ⊥
-unfolding stack_log
+unfolding stack_log stack_line line_height pile
 not_by_the_bound_at_5 h = apart 6 5 (lit< tt) (ap (λ (log : Log). log.capacity) h.one_line)
   where
     apart : (m n : ℕ) → n < m → m ≡ n → ⊥
@@ -95,7 +95,7 @@ not_by_the_bound_at_5 h = apart 6 5 (lit< tt) (ap (λ (log : Log). log.capacity)
 
 module _ (b : Bracket) where
   open_at_4 : b.low ≡ 4 → b.high ≡ 5 → b.layout.items ≡ 0 ∷ 4 ∷ [] →
-      b.log ≡ Some (stack_log small_below 0 1 3) → Decides small_below 4 (Some 0) (Open b)
+      b.log ≡ Some (stack_log small_below 0 0 1 3) → Decides small_below 4 (Some 0) (Open b)
   open_at_4 low high layout log = four_is_spent b low high layout log
 
   -- nothing stays open where no number of steps is given
@@ -114,17 +114,17 @@ module _ (b : Bracket) where
 -- ---- least capacities
 below_work : work_of_least small_below ≡ 4
 unfolding hunted hunt whole_work work planned plan layout_height starts orders falls_by rises_by first_fit best_fit
-    neighbours first_place first_passing best_place free_ranges stretches holds is_tighter is_free highest top do_share
+    neighbours first_place floor first_passing best_place free_ranges stretches holds least_from is_tighter is_free highest top do_share
     some_before is_live buffer searched parts part_of is_cut last_cut first is_tall comes_before ends_below is_twin
-    child up step have_same_moments lower_bound highest_stack moduli moments stack counted rounded_size best_start
+    child up step have_same_moments lower_bound highest_stack highest_at heights moduli moments stack pile counted rounded_size best_start
     lowest_place
 below_work = refl
 
 -- three steps are too few
 left_open : (b : Bracket) → b.low ≡ 4 → b.high ≡ 5 → b.layout.items ≡ 0 ∷ 4 ∷ [] →
-    b.log ≡ Some (stack_log small_below 0 1 3) → IsOpenAfter small_below (Some 3) b
+    b.log ≡ Some (stack_log small_below 0 0 1 3) → IsOpenAfter small_below (Some 3) b
 left_open b low high layout log = record {
-  below_log = stack_log small_below 0 1 3;
+  below_log = stack_log small_below 0 0 1 3;
   its_log = log;
   stays_open = rw (low, high, layout) four_is_open;
   from_bound = let e = below_bound in omega arith;
@@ -168,7 +168,7 @@ module _ (b : Bracket) where
       fits none = none (0 ∷ 4 ∷ []) seven_is_laid
 
   four_stays_open : b.low ≡ 4 → b.high ≡ 5 → b.layout.items ≡ 0 ∷ 4 ∷ [] →
-      b.log ≡ Some (stack_log small_below 0 1 3) → FindsLeast small_below (Some 3) (least.Open b)
+      b.log ≡ Some (stack_log small_below 0 0 1 3) → FindsLeast small_below (Some 3) (least.Open b)
   four_stays_open low high layout log = left_open b low high layout log
 
   nothing_stays_open : FindsLeast small_below None (least.Open b) → ⊥

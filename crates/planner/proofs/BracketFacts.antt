@@ -1,12 +1,13 @@
 -- The lower bound of two buffers of size 3 aligned to four, which is 7, with the log below it, and the first bracket of
 -- a small buffer that belongs below, from 4 to 5.
 use Rattle.std.proofs.Common.{◌≡◌, ℕ, ◌≤◌, inl, inr, List, [], ◌∷◌, Some, None, refl, sym, ap, ◌∙◌, lit≤, arith}
-use Rattle.dsa_terms.specs.Bounds.{bound_modulus, counted, highest_stack, lower_bound, moduli, moments, rounded_size, stack, stack_log}
-use Rattle.dsa_terms.specs.Buffers.{buffer, is_live}
+use Rattle.dsa_terms.specs.Bounds.{bound_modulus, counted, highest_stack, lower_bound, moduli, moments, rounded_size, stack, stack_log, pile, heights, highest_at, least_of, stack_line, line_height}
+use Rattle.dsa_terms.specs.Buffers.{buffer, is_live, floor}
 use Rattle.dsa_terms.specs.Logs.{Cases, Line, Log, Over}
 use Rattle.dsa_terms.specs.Plans.{layout_height}
 use Rattle.dsa_terms.proofs.Examples.{small_below, two_of_four}
 use Rattle.dsa_terms.proofs.ExamplePlanFacts.{small_below_plan_at_5, two_of_four_plan_at_7}
+use Rattle.dsa_start_laws.proofs.Stacks.{zero_height}
 use Rattle.dsa_start_laws.proofs.Planned.{planned_is_layout}
 use Rattle.lower_bounds.specs.declared.value.Bound.{Bound}
 use Rattle.min_capacity.specs.declared.brackets.Bracket.{Bracket}
@@ -16,21 +17,23 @@ use Rattle.planner.proofs.ExampleLeastFacts.{below_best, below_bound, below_log,
 
 -- ---- the lower bound with its modulus
 two_bound : lower_bound two_of_four ≡ 7
-unfolding lower_bound highest_stack moduli moments stack counted rounded_size is_live buffer
+unfolding lower_bound highest_stack highest_at heights moduli moments stack pile counted floor rounded_size is_live buffer
 two_bound = refl
 
 two_modulus : bound_modulus two_of_four ≡ 4
-unfolding bound_modulus lower_bound highest_stack moduli moments stack counted rounded_size is_live buffer
+unfolding bound_modulus least_of lower_bound highest_stack highest_at heights moduli moments stack pile counted floor rounded_size is_live buffer
 two_modulus = refl
 
 abbrev bound_at : ℕ → ℕ → ℕ → Bound
-bound_at capacity moment modulus = record { capacity = capacity; moment = moment; modulus = modulus }
+bound_at capacity moment modulus = record { capacity = capacity; moment = moment; modulus = modulus; height = 0 }
 
 seven_by_four : IsLowerBound two_of_four (bound_at 7 0 4)
 seven_by_four = record {
   capacity = sym two_bound;
   modulus = sym two_modulus;
-  reached = inr (lit≤ tt, sym seven_stacked);
+  reached = inr (lit≤ tt, refl, sym seven_stacked);
+  from = λ some. zero_height two_of_four 4;
+  least = λ H i e. omega arith;
 }
 
 -- the sizes alone come to 6
@@ -42,22 +45,25 @@ seven_by_one : IsLowerBound two_of_four (bound_at 7 0 1) → ⊥
 seven_by_one h = let m = h.modulus in let e = two_modulus in omega arith
 
 -- nothing is live at moment 1
-none_stacked : stack two_of_four 1 4 ≡ 0
-unfolding stack counted rounded_size is_live buffer
+none_stacked : stack two_of_four 1 0 4 ≡ 0
+unfolding stack pile counted floor rounded_size is_live buffer
 none_stacked = refl
 
 seven_at_another_moment : IsLowerBound two_of_four (bound_at 7 1 4) → ⊥
 seven_at_another_moment h = elim h.reached [
   | inl e ↦ omega (arith, e)
-  | inr r ↦ let e = r.1 in let z = none_stacked in omega arith
+  | inr r ↦ let e = r.2 in let z = none_stacked in omega arith
 ]
 
 -- ---- the log of the bound
-six_by_stack : IsStackRefutation two_of_four 6 (stack_log two_of_four 0 4 6)
+six_by_stack : IsStackRefutation two_of_four 6 (stack_log two_of_four 0 0 4 6)
 six_by_stack = record {
-  refutation = line_refutes two_of_four 0 4 6 two_sound (lit≤ tt) (let e = seven_stacked in omega arith);
+  refutation = line_refutes two_of_four 0 0 4 6 two_sound (lit≤ tt) refl (let e = seven_stacked in omega arith);
   by_bound = record {
     moment = 0;
+    height = 0;
+    from = zero_height two_of_four (bound_modulus two_of_four);
+    least = λ H i e. omega arith;
     reached = rw two_modulus (seven_stacked ∙ sym two_bound);
     one_line = rw two_modulus refl;
   };
@@ -69,8 +75,8 @@ modulus_of [] = 0
 modulus_of (Over l T H G ∷ lines) = G
 modulus_of (Cases l cites ∷ lines) = 0
 
-not_by_another_modulus : IsStackRefutation two_of_four 5 (stack_log two_of_four 0 1 5) → ⊥
-unfolding stack_log
+not_by_another_modulus : IsStackRefutation two_of_four 5 (stack_log two_of_four 0 0 1 5) → ⊥
+unfolding stack_log stack_line line_height pile
 not_by_another_modulus h =
     let q : 1 ≡ bound_modulus two_of_four = ap (λ (log : Log). modulus_of log.lines) h.by_bound.one_line in
     let e = two_modulus in
@@ -81,7 +87,7 @@ not_at_seven : (log : Log) → IsStackRefutation two_of_four 7 log → ⊥
 not_at_seven log h = h.refutation.infeasible (0 ∷ 4 ∷ [])
     (planned_is_layout two_of_four 7 (0 ∷ 4 ∷ []) two_sound two_of_four_plan_at_7)
 
-log_below_seven : IsLogBelow two_of_four 7 (Some (stack_log two_of_four 0 4 6))
+log_below_seven : IsLogBelow two_of_four 7 (Some (stack_log two_of_four 0 0 4 6))
 log_below_seven = (lit≤ tt, six_by_stack)
 
 no_log_below_seven : IsLogBelow two_of_four 7 None → ⊥
@@ -95,13 +101,13 @@ some_log_below_zero log h = let k : 1 ≤ 0 = h.0 in omega arith
 
 -- ---- the first bracket
 from_four_to_five : (b : Bracket) → b.low ≡ 4 → b.high ≡ 5 → b.layout.items ≡ 0 ∷ 4 ∷ [] →
-    b.log ≡ Some (stack_log small_below 0 1 3) → IsFirstBracket small_below b
+    b.log ≡ Some (stack_log small_below 0 0 1 3) → IsFirstBracket small_below b
 from_four_to_five b low high layout log = record {
   low = low ∙ sym below_bound;
   log = rw (log, below_bound) (
     lit≤ tt,
     record {
-      refutation = line_refutes small_below 0 1 3 below_sound (lit≤ tt) (let e = four_stacked in omega arith);
+      refutation = line_refutes small_below 0 0 1 3 below_sound (lit≤ tt) refl (let e = four_stacked in omega arith);
       by_bound = below_log;
     },
   );

@@ -1,8 +1,8 @@
 -- Small instances, and what the definitions say of them.
-use Rattle.std.proofs.Common.{◌≡◌, [], ◌∷◌, Some, None, refl, arith}
-use Rattle.dsa_terms.specs.Bounds.{bound_modulus, counted, highest_stack, lower_bound, moduli, moments, rounded_size, stack, stack_log}
-use Rattle.dsa_terms.specs.Buffers.{buffer, do_share, is_live, some_before}
-use Rattle.dsa_terms.specs.Fits.{best_fit, best_place, first_fit, first_passing, first_place, free_ranges, highest, holds, is_free, is_tighter, neighbours, stretches, top}
+use Rattle.std.proofs.Common.{◌≡◌, [], ◌∷◌, Some, None, inl, refl, arith}
+use Rattle.dsa_terms.specs.Bounds.{bound_modulus, counted, highest_stack, lower_bound, moduli, moments, rounded_size, stack, stack_log, pile, heights, highest_at, least_of, stack_line, line_height}
+use Rattle.dsa_terms.specs.Buffers.{buffer, do_share, is_live, some_before, floor}
+use Rattle.dsa_terms.specs.Fits.{best_fit, best_place, first_fit, first_passing, first_place, free_ranges, highest, holds, is_free, is_tighter, neighbours, stretches, top, least_from}
 use Rattle.dsa_terms.specs.Logs.{Over, Log}
 use Rattle.dsa_terms.specs.Orders.{falls_by, orders, rises_by}
 use Rattle.dsa_terms.specs.Parts.{is_cut, last_cut, part_of, parts}
@@ -17,19 +17,19 @@ use Rattle.planner.specs.Openings.{AreGiven}
 
 -- all starts of three buffers have height 5, and the first of them is taken
 start_at_5 : start_within evens 5 ≡ Some (2 ∷ 4 ∷ 0 ∷ [])
-unfolding layout_height starts orders falls_by rises_by first_fit best_fit neighbours first_place first_passing
-    best_place free_ranges stretches holds is_tighter is_free highest top do_share some_before is_live buffer
+unfolding layout_height starts orders falls_by rises_by first_fit best_fit neighbours first_place floor first_passing
+    best_place free_ranges stretches holds least_from is_tighter is_free highest top do_share some_before is_live buffer
 start_at_5 = refl
 
 no_start_at_4 : start_within evens 4 ≡ None
-unfolding layout_height starts orders falls_by rises_by first_fit best_fit neighbours first_place first_passing
-    best_place free_ranges stretches holds is_tighter is_free highest top do_share some_before is_live buffer
+unfolding layout_height starts orders falls_by rises_by first_fit best_fit neighbours first_place floor first_passing
+    best_place free_ranges stretches holds least_from is_tighter is_free highest top do_share some_before is_live buffer
 no_start_at_4 = refl
 
 -- the search has a layout of height 4, and no start has
 no_start_where_the_search_has_one : start_within small_below 4 ≡ None
-unfolding layout_height starts orders falls_by rises_by first_fit best_fit neighbours first_place first_passing
-    best_place free_ranges stretches holds is_tighter is_free highest top do_share some_before is_live buffer
+unfolding layout_height starts orders falls_by rises_by first_fit best_fit neighbours first_place floor first_passing
+    best_place free_ranges stretches holds least_from is_tighter is_free highest top do_share some_before is_live buffer
 no_start_where_the_search_has_one = refl
 
 -- two buffers of size 3, aligned to four, come to 7; one line refutes 6
@@ -37,15 +37,22 @@ abbrev pub one_line : Log
 one_line = record { count = 2; capacity = 6; lines = Over ((0, 0) ∷ (1, 0) ∷ []) 0 0 4 ∷ []; final = 0 }
 
 pub bound_log : IsBoundLog two_of_four 6 one_line
-unfolding stack stack_log counted rounded_size bound_modulus lower_bound highest_stack moduli moments is_live buffer
-bound_log = record { moment = 0; reached = refl; one_line = refl }
+unfolding stack pile stack_log stack_line line_height counted floor rounded_size bound_modulus least_of lower_bound highest_stack highest_at heights moduli moments is_live buffer
+bound_log = record {
+  moment = 0;
+  height = 0;
+  from = inl refl;
+  reached = refl;
+  least = λ H i e. omega arith;
+  one_line = refl;
+}
 
 -- no buffers have no peak, no parts, and nothing to bound
 abbrev pub no_facts : Facts
 no_facts = record { buffers = 0; peak = None; parts = 0; bound = 0; modulus = 1; best = 0 }
 
 pub facts_of_none : AreFactsOf [] no_facts
-unfolding parts part_of last_cut is_cut bound_modulus lower_bound highest_stack moduli moments stack counted
+unfolding parts part_of last_cut is_cut bound_modulus least_of lower_bound highest_stack highest_at heights moduli moments stack pile counted floor
     layout_height best_start lowest_place starts orders first_fit best_fit
 facts_of_none = record { buffers = refl; peak = refl; parts = refl; bound = refl; modulus = refl; best = refl }
 

@@ -17,3 +17,4 @@ mod AnswerFacts
 mod BracketFacts
 mod StartFacts
 mod SearchFacts
+mod LowFacts

@@ -1,8 +1,9 @@
 -- Accepted logs as refutations of their capacity.
-use Rattle.std.proofs.Common.{◌≡◌, ℕ, ◌<◌, inl, inr, refl, sym, ap, subst, ◌∙◌, arith}
+use Rattle.std.proofs.Common.{◌≡◌, ℕ, List, ◌<◌, ◌≤◌, inl, inr, refl, sym, ap, subst, ◌∙◌, arith}
 use Rattle.std.specs.List.{All}
-use Rattle.dsa_terms.specs.Bounds.{bound_modulus, lower_bound, stack, stack_log}
+use Rattle.dsa_terms.specs.Bounds.{bound_height, bound_modulus, bound_moment, heights, lower_bound, stack, stack_log, stack_line, line_height, pile}
 use Rattle.dsa_terms.specs.Buffers.{Instance, IsInstance}
+use Rattle.dsa_terms.specs.Claims.{IsIn}
 use Rattle.dsa_terms.specs.Layouts.{IsInfeasible}
 use Rattle.dsa_terms.specs.Lean.{IsLean}
 use Rattle.dsa_terms.specs.Logs.{Log, IsAccepted}
@@ -14,6 +15,7 @@ use Rattle.lower_bounds.specs.Best.{IsBoundOf}
 use Rattle.lower_bounds.specs.declared.value.Bound.{Bound}
 use Rattle.search_core.specs.Decisions.{IsRefutation}
 use Rattle.planner.specs.Decides.{LeavesNoLayout, IsStackRefutation}
+use Rattle.planner.specs.FirstBracket.{IsLowerBound}
 
 infeasible_at : (I : Instance) (C : ℕ) (log : Log) → IsInstance I → IsAccepted I log → log.capacity ≡ C →
     IsInfeasible I C
@@ -29,35 +31,53 @@ search_refutes I C log s h = record {
   lean = h.lean;
 }
 
--- ---- the log of the bound
-stack_capacity : (I : Instance) (t G C : ℕ) → (stack_log I t G C).capacity ≡ C
-unfolding stack_log
-stack_capacity I t G C = refl
+-- ---- the bound
+pub is_lower_bound : (I : Instance) (starts : List ℕ) (b : Bound) → b.capacity ≡ lower_bound I →
+    b.modulus ≡ bound_modulus I → b.moment ≡ bound_moment I starts → b.height ≡ bound_height I starts → IsBoundOf I b →
+    (1 ≤ lower_bound I → IsIn (bound_height I starts) (heights I (bound_modulus I))) →
+    ((H : ℕ) → IsIn H (heights I (bound_modulus I)) →
+    stack I (bound_moment I starts) H (bound_modulus I) ≡ lower_bound I → bound_height I starts ≤ H) →
+    IsLowerBound I b
+is_lower_bound I starts b c m t h is from least = record {
+  capacity = c;
+  modulus = m;
+  reached = is;
+  from = rw (c, m, h) from;
+  least = rw (c, m, t, h) least;
+}
 
-stack_refutes : (I : Instance) (t G C : ℕ) (log : Log) → All IsBuffer I → log ≡ stack_log I t G C →
+-- ---- the log of the bound
+stack_capacity : (I : Instance) (t H G C : ℕ) → (stack_log I t H G C).capacity ≡ C
+unfolding stack_log stack_line line_height pile
+stack_capacity I t H G C = refl
+
+stack_refutes : (I : Instance) (t H G C : ℕ) (log : Log) → All IsBuffer I → log ≡ stack_log I t H G C →
     IsAccepted I log → LeavesNoLayout I C log
-stack_refutes I t G C log s q a =
-    let e : log.capacity ≡ C = ap (λ (l : Log). l.capacity) q ∙ stack_capacity I t G C in
+stack_refutes I t H G C log s q a =
+    let e : log.capacity ≡ C = ap (λ (l : Log). l.capacity) q ∙ stack_capacity I t H G C in
     let P : Log → Type 0 = IsLean I in
     record {
       accepted = a;
       its_capacity = e;
       infeasible = infeasible_at I C log (sound_instance I s) a e;
-      lean = subst P (sym q) (stack_is_lean I t G C);
+      lean = subst P (sym q) (stack_is_lean I t H G C);
     }
 
-reaches : (I : Instance) (C : ℕ) (b : Bound) → IsBoundOf I b → C < b.capacity → b.capacity ≡ stack I b.moment b.modulus
+reaches : (I : Instance) (C : ℕ) (b : Bound) → IsBoundOf I b → C < b.capacity →
+    b.capacity ≡ stack I b.moment b.height b.modulus
 reaches I C b (inl z) lt = absurd (omega arith)
-reaches I C b (inr h) lt = h.1
+reaches I C b (inr h) lt = h.2
 
-pub bound_refutes : (I : Instance) (C : ℕ) (b : Bound) (log : Log) → All IsBuffer I → b.capacity ≡ lower_bound I →
-    b.modulus ≡ bound_modulus I → IsBoundOf I b → C < b.capacity → log ≡ stack_log I b.moment b.modulus C →
-    IsAccepted I log → IsStackRefutation I C log
-bound_refutes I C b log s e m h lt q a = record {
-  refutation = stack_refutes I b.moment b.modulus C log s q a;
+pub bound_refutes : (I : Instance) (C : ℕ) (b : Bound) (log : Log) → All IsBuffer I → IsLowerBound I b →
+    C < b.capacity → log ≡ stack_log I b.moment b.height b.modulus C → IsAccepted I log → IsStackRefutation I C log
+bound_refutes I C b log s h lt q a = record {
+  refutation = stack_refutes I b.moment b.height b.modulus C log s q a;
   by_bound = record {
     moment = b.moment;
-    reached = rw (← m) (sym (reaches I C b h lt) ∙ e);
-    one_line = rw (← m) q;
+    height = b.height;
+    from = rw (← h.modulus) (h.from (omega arith));
+    reached = rw (← h.modulus) (sym (reaches I C b h.reached lt) ∙ h.capacity);
+    least = rw (← h.modulus, ← h.capacity) h.least;
+    one_line = rw (← h.modulus) q;
   };
 }

@@ -43,8 +43,8 @@ module _ (offsets : Vec ℕ) where
   no_layout_at_3 : EndsSearch small_below 3 None (decided.Layout offsets) → ⊥
   no_layout_at_3 h = let q = sym none_found_at_3 ∙ h.chosen in absurd cc
 
-log_at_3 : EndsSearch small_below 3 None (decided.Refuted (stack_log small_below 0 1 3))
-log_at_3 = line_refutes small_below 0 1 3 below_sound (lit≤ tt) (let e = four_stacked in omega arith)
+log_at_3 : EndsSearch small_below 3 None (decided.Refuted (stack_log small_below 0 0 1 3))
+log_at_3 = line_refutes small_below 0 0 1 3 below_sound (lit≤ tt) refl (let e = four_stacked in omega arith)
 
 no_log_at_4 : (log : Log) → EndsSearch small_below 4 None (decided.Refuted log) → ⊥
 no_log_at_4 log h = h.infeasible (1 ∷ 0 ∷ []) laid_at_4

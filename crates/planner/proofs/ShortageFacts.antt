@@ -1,9 +1,9 @@
 -- Steps that are too few, and steps that are enough, for two buffers of which the starts come to 5 and the bound to 4.
 use Rattle.std.proofs.Common.{◌≡◌, ◌+◌, ◌/◌, ◌≤◌, ℕ, refl, sym, lit<, lit≤, arith}
 use Rattle.dsa_terms.specs.Bounds.{lower_bound}
-use Rattle.dsa_terms.specs.Buffers.{buffer, do_share, have_same_moments, is_live, some_before}
+use Rattle.dsa_terms.specs.Buffers.{buffer, do_share, have_same_moments, is_live, some_before, floor}
 use Rattle.dsa_terms.specs.Claims.{child, step, up}
-use Rattle.dsa_terms.specs.Fits.{best_fit, best_place, first_fit, first_passing, first_place, free_ranges, highest, holds, is_free, is_tighter, neighbours, stretches, top}
+use Rattle.dsa_terms.specs.Fits.{best_fit, best_place, first_fit, first_passing, first_place, free_ranges, highest, holds, is_free, is_tighter, neighbours, stretches, top, least_from}
 use Rattle.dsa_terms.specs.Logs.{ends_below, is_twin}
 use Rattle.dsa_terms.specs.Orders.{falls_by, orders, rises_by}
 use Rattle.dsa_terms.specs.Parts.{is_cut, last_cut, part_of, parts, searched, whole_work}
@@ -36,7 +36,7 @@ below_the_bound k L H h =
 -- ---- halving from 4 to 5 takes these four alone
 halving : hunted small_below 4 5 ≡ 4
 unfolding hunted hunt whole_work work plan layout_height starts orders falls_by rises_by first_fit best_fit neighbours
-    first_place first_passing best_place free_ranges stretches holds is_tighter is_free highest top do_share
+    first_place floor first_passing best_place free_ranges stretches holds least_from is_tighter is_free highest top do_share
     some_before is_live buffer searched parts part_of is_cut last_cut first is_tall comes_before ends_below is_twin
     child up step have_same_moments
 halving = refl

@@ -1,7 +1,8 @@
 -- What deciding a capacity comes to: a layout that is the answer, or a log.
-use Rattle.std.specs.Prelude.{◌≡◌, ℕ, List, Option, Some}
-use Rattle.dsa_terms.specs.Bounds.{bound_modulus, lower_bound, stack, stack_log}
+use Rattle.std.specs.Prelude.{◌≡◌, ◌≤◌, ℕ, List, Option, Some}
+use Rattle.dsa_terms.specs.Bounds.{bound_modulus, heights, lower_bound, stack, stack_log}
 use Rattle.dsa_terms.specs.Buffers.{Instance}
+use Rattle.dsa_terms.specs.Claims.{IsIn}
 use Rattle.dsa_terms.specs.Layouts.{IsLayout, IsInfeasible}
 use Rattle.dsa_terms.specs.Lean.{IsLean}
 use Rattle.dsa_terms.specs.Logs.{Log, IsAccepted}
@@ -18,11 +19,16 @@ pub record LeavesNoLayout (I : Instance) (C : ℕ) (log : Log) : Type 0 where
   pub infeasible : IsInfeasible I C
   pub lean : IsLean I log
 
--- the one line of a stack that is as high as the lower bound, by the bound's modulus
+-- the one line of a stack that is as high as the lower bound, by the bound's modulus and from the least height with
+-- which it is as high
 pub record IsBoundLog (I : Instance) (C : ℕ) (log : Log) : Type 0 where
   pub moment : ℕ
-  pub reached : stack I moment (bound_modulus I) ≡ lower_bound I
-  pub one_line : log ≡ stack_log I moment (bound_modulus I) C
+  pub height : ℕ
+  pub from : IsIn height (heights I (bound_modulus I))
+  pub reached : stack I moment height (bound_modulus I) ≡ lower_bound I
+  pub least : (H : ℕ) → IsIn H (heights I (bound_modulus I)) → stack I moment H (bound_modulus I) ≡ lower_bound I →
+      height ≤ H
+  pub one_line : log ≡ stack_log I moment height (bound_modulus I) C
 
 -- a log that refutes the capacity by the one line of the lower bound's stack
 pub record IsStackRefutation (I : Instance) (C : ℕ) (log : Log) : Type 0 where

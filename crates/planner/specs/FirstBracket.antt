@@ -1,8 +1,9 @@
 -- The bracket from which the least capacity is sought: the lower bound and the best start.
 use Rattle.std.specs.Prelude.{◌≡◌, ℕ, ◌-◌, ◌<◌, ◌≤◌, ◌^◌, Option}
 use Rattle.std.specs.declared.option.Option.TheVariants.{Some, None}
-use Rattle.dsa_terms.specs.Bounds.{bound_modulus, lower_bound}
+use Rattle.dsa_terms.specs.Bounds.{bound_modulus, heights, lower_bound, stack}
 use Rattle.dsa_terms.specs.Buffers.{Instance}
+use Rattle.dsa_terms.specs.Claims.{IsIn}
 use Rattle.dsa_terms.specs.Layouts.{IsLayout}
 use Rattle.dsa_terms.specs.Logs.{Log}
 use Rattle.dsa_terms.specs.Plans.{layout_height}
@@ -12,11 +13,13 @@ use Rattle.lower_bounds.specs.declared.value.Bound.{Bound}
 use Rattle.min_capacity.specs.declared.brackets.Bracket.{Bracket}
 use Rattle.planner.specs.Decides.{IsStackRefutation}
 
--- the lower bound of the instance, with its modulus
+-- the lower bound of the instance, with its modulus and the least height that reaches it at its moment
 pub record IsLowerBound (I : Instance) (b : Bound) : Type 0 where
   pub capacity : b.capacity ≡ lower_bound I
   pub modulus : b.modulus ≡ bound_modulus I
   pub reached : IsBoundOf I b
+  pub from : 1 ≤ b.capacity → IsIn b.height (heights I b.modulus)
+  pub least : (H : ℕ) → IsIn H (heights I b.modulus) → stack I b.moment H b.modulus ≡ b.capacity → b.height ≤ H
 
 -- there is no log where the bound is 0, and else it is the bound's at one less
 abbrev pub IsLogBelow : Instance → ℕ → Option Log → Type 0

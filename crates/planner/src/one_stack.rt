@@ -7,6 +7,7 @@ ghost use Rattle.planner.specs.Decides.{IsStackRefutation};
 ghost use Rattle.planner.specs.FirstBracket.{IsLowerBound};
 
 use dsa_model::{Instance, NoMemory};
+use dsa_start_laws::sections_reach_the_bound;
 use lifetime::Sections;
 use lower_bounds::{Bound, bound};
 use refute_log::ClosedLog;
@@ -21,6 +22,7 @@ pub(crate) fn bound_of(
     requires { AreSectionsOf instance.now sections.now }
     ensures { IfOk result (IsLowerBound instance.now) }
 {
+    sections_reach_the_bound();
     Ok(bound(alloc, instance, sections)?)
 }
 

@@ -45,7 +45,7 @@ rows =
 
 pub one_plain : IsPlain one
 unfolding buffer
-one_plain zero lt = (refl, lit≤ tt)
+one_plain zero lt = (refl, lit≤ tt, refl)
 one_plain (suc b) lt = absurd (omega arith)
 
 pub one_laid : IsLayout one 1 (0 ∷ [])
@@ -53,10 +53,15 @@ unfolding buffer
 one_laid = record {
   count = refl;
   aligned = aligned;
+  above = above;
   within = within;
   apart = λ b c t lb lc differ live also. absurd (differ (omega arith));
 }
   where
+    above : (b : ℕ) → b < 1 → (buffer one b).lowest ≤ slice_index (0 ∷ []) b
+    above zero lt = lit≤ tt
+    above (suc b) lt = absurd (omega arith)
+
     aligned : (b : ℕ) → b < 1 → IsMultiple (slice_index (0 ∷ []) b) (buffer one b).alignment
     aligned zero lt = refl
     aligned (suc b) lt = absurd (omega arith)

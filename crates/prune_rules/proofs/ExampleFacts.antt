@@ -12,8 +12,8 @@ made lower upper size alignment gaps = record {
   upper = upper;
   size = size;
   alignment = alignment;
-  gaps =
-      gaps;
+  gaps = gaps;
+  lowest = 0;
 }
 
 -- two buffers of size 1 at even offsets and one of size 2
@@ -61,6 +61,11 @@ alike_but_for_a_moment = refl
 alike_but_for_the_size : are_alike (made 0 1 1 2 []) (made 0 1 2 2 []) ≡ false
 alike_but_for_the_size = refl
 
+-- lowests may differ, since the bounds of a claim say how low its buffers start
+alike_at_other_lowests : are_alike (record (made 0 1 1 2 []) { lowest = 6 }) (made 0 1 1 2 []) ≡ true
+unfolding have_same_moments some_before is_live
+alike_at_other_lowests = refl
+
 -- ---- twins
 twin : is_twin three (0, 1) (1, 2) ≡ true
 unfolding is_twin have_same_moments some_before is_live up buffer
@@ -79,6 +84,18 @@ not_lower = refl
 other_size : is_twin three (1, 0) (2, 0) ≡ false
 unfolding is_twin have_same_moments some_before is_live up buffer
 other_size = refl
+
+-- a lowest of its own does not matter where the low is no higher
+abbrev lifted : Instance
+lifted = record (made 0 1 1 2 []) { lowest = 6 } ∷ made 0 1 1 2 [] ∷ []
+
+twin_at_another_lowest : is_twin lifted (0, 6) (1, 6) ≡ true
+unfolding is_twin have_same_moments some_before is_live up buffer
+twin_at_another_lowest = refl
+
+lifted_above : is_twin lifted (0, 6) (1, 0) ≡ false
+unfolding is_twin have_same_moments some_before is_live up buffer
+lifted_above = refl
 
 -- the same moments, however the gaps are written
 gaps_in_pieces : is_twin gapped (0, 0) (1, 0) ≡ true

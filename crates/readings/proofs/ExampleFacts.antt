@@ -45,17 +45,17 @@ opens_two old new name next o held comes =
         ∙ ap (λ r. instance_or_fault r (next two_rows)) two_parse
 
 pub overlap_at_4 : layout_fault two 10 (0 ∷ 2 ∷ []) ≡ Some (layout.Overlap 0 1 4)
-unfolding buffer is_live some_before faults.first_unaligned faults.first_above faults.first_overlap
+unfolding buffer is_live some_before faults.first_unaligned faults.first_too_low faults.first_above faults.first_overlap
     faults.overlap_after faults.overlap first_common
 overlap_at_4 = refl
 
 pub apart_at_8 : layout_fault two 8 (0 ∷ 4 ∷ []) ≡ None
-unfolding buffer is_live some_before faults.first_unaligned faults.first_above faults.first_overlap
+unfolding buffer is_live some_before faults.first_unaligned faults.first_too_low faults.first_above faults.first_overlap
     faults.overlap_after faults.overlap first_common
 apart_at_8 = refl
 
 above_7 : layout_fault two 7 (0 ∷ 4 ∷ []) ≡ Some (layout.Above 1)
-unfolding buffer is_live some_before faults.first_unaligned faults.first_above
+unfolding buffer is_live some_before faults.first_unaligned faults.first_too_low faults.first_above
 above_7 = refl
 
 abbrev pub overlaps : Outcome

@@ -1,12 +1,12 @@
 -- Answers of a decider for two buffers of size 3 aligned to four, which fit into 7; and the steps of halving.
 use Rattle.std.proofs.Common.{◌≡◌, ℕ, zero, suc, ◌+◌, ◌*◌, ◌<◌, inl, inr, [], ◌∷◌, slice_get, take, cond, nat_le, Some, None, refl, subst, arith}
-use Rattle.dsa_terms.specs.Buffers.{is_live, buffer}
-use Rattle.dsa_terms.specs.Claims.{Entry, Claim, IsIn, up}
+use Rattle.dsa_terms.specs.Buffers.{is_live, buffer, floor}
+use Rattle.dsa_terms.specs.Claims.{Entry, Claim, IsIn, IsWhole, up}
 use Rattle.dsa_terms.specs.Layouts.{IsLayout}
 use Rattle.dsa_terms.specs.Logs.{is_stacked, rounded, rounding, Over, Line, IsLegal, IsAccepted, Log}
 use Rattle.dsa_terms.specs.Plans.{layout_height}
 use Rattle.dsa_terms.proofs.Examples.{two_of_four}
-use Rattle.dsa_model.specs.LayoutFaults.{first_unaligned, first_above, first_overlap, overlap_after, overlap}
+use Rattle.dsa_model.specs.LayoutFaults.{first_unaligned, first_too_low, first_above, first_overlap, overlap_after, overlap}
 use Rattle.dsa_model.proofs.LayoutFaults.{layout_exactly}
 use Rattle.refute_log.specs.Answers.{Offsets, Refutation, NoAnswer}
 use Rattle.refute_log.specs.Decided.{answer_of, IsRight, TurnsOut, IfSpent}
@@ -17,7 +17,7 @@ use Rattle.refute_log.specs.declared.decided.Decided.TheVariants.{Layout, Refute
 
 -- ---- a layout at 0 and 4, and a log at 6 of one line: both at 0 or above, rounded up to 4, less one rounding
 seats : IsLayout two_of_four 7 (0 ∷ 4 ∷ [])
-unfolding first_unaligned first_above first_overlap overlap_after overlap buffer
+unfolding first_unaligned first_too_low first_above first_overlap overlap_after overlap buffer
 seats = (layout_exactly two_of_four 7 (0 ∷ 4 ∷ [])).0 refl
 
 abbrev both : Claim
@@ -27,7 +27,7 @@ abbrev six : Log
 six = record { count = 2; capacity = 6; lines = Over both 0 0 4 ∷ []; final = 0 }
 
 six_accepted : IsAccepted two_of_four six
-unfolding is_stacked rounded rounding up is_live buffer
+unfolding is_stacked rounded rounding up is_live buffer floor
 six_accepted = record { same_count = refl; legal = legal; whole = (Over both 0 0 4, refl, whole) }
   where
     after_0 : (y : ℕ) → IsIn y (1 ∷ []) → 0 < y
@@ -50,9 +50,9 @@ six_accepted = record { same_count = refl; legal = legal; whole = (Over both 0 0
     legal zero line h = let e : Over both 0 0 4 ≡ line = cc in subst (IsLegal two_of_four 6 []) e is_legal
     legal (suc k) line h = absurd cc
 
-    whole : (e : Entry) → IsIn e both → e.1 ≡ 0
-    whole e (inl q) = rw q refl
-    whole e (inr (inl q)) = rw q refl
+    whole : IsWhole two_of_four both
+    whole e (inl q) = rw q (omega arith)
+    whole e (inr (inl q)) = rw q (omega arith)
     whole e (inr (inr i)) = absurd i
 
 is_six : ended (record { count = 2; capacity = 6; lines = Over both 0 0 4 ∷ [] }) 0 ≡ six

@@ -1,7 +1,7 @@
 -- Worked reasons: a log of five lines, and what is wrong with lines that differ from its own.
-use Rattle.std.proofs.Common.{◌≡◌, ℕ, [], ◌∷◌, Option, Some, None, refl, cond, nat_le}
-use Rattle.dsa_terms.specs.Buffers.{Buffer, Instance, is_live, buffer, do_share, have_same_moments, some_before}
-use Rattle.dsa_terms.specs.Claims.{up, step, child}
+use Rattle.std.proofs.Common.{◌≡◌, ℕ, inl, inr, [], ◌∷◌, Option, Some, None, refl, cond, nat_le, arith}
+use Rattle.dsa_terms.specs.Buffers.{Buffer, Instance, is_live, buffer, do_share, floor, have_same_moments, some_before}
+use Rattle.dsa_terms.specs.Claims.{IsWhole, up, step, child}
 use Rattle.dsa_terms.specs.Logs.{is_stacked, rounded, rounding, ends_below, is_twin, ByLine, Below, Twin, Line, Over, Cases}
 use Rattle.refute_log.specs.Halvings.{halving}
 use Rattle.refute_log.specs.Lines.{HasCites}
@@ -14,8 +14,8 @@ plain lower upper size alignment = record {
   upper = upper;
   size = size;
   alignment = alignment;
-  gaps =
-      [];
+  gaps = [];
+  lowest = 0;
 }
 
 -- two buffers of size 1 at even offsets and one of size 2, all live at moment 0
@@ -73,6 +73,28 @@ height_by_ones = refl
 low_ones_are_left_out : stack_height three ((0, 0) ∷ (1, 2) ∷ (2, 1) ∷ []) 0 2 1 ≡ 3
 unfolding is_stacked rounded rounding up is_live buffer
 low_ones_are_left_out = refl
+
+-- ---- a buffer of size 4 from 6 on, and one that may start at 0
+abbrev low : Instance
+low = record (plain 0 1 4 1) { lowest = 6 } ∷ plain 0 1 4 1 ∷ []
+
+-- a line is legal at whatever bounds are stacked above the capacity; an end has none above a floor
+from_the_floor : first_reason low 9 [] (Over ((0, 6) ∷ []) 0 6 1) ≡ None
+unfolding is_stacked rounded rounding up is_live buffer
+from_the_floor = refl
+
+from_above_it : first_reason low 9 [] (Over ((0, 7) ∷ []) 0 7 1) ≡ None
+unfolding is_stacked rounded rounding up is_live buffer
+from_above_it = refl
+
+floor_is_whole : IsWhole low ((0, 6) ∷ [])
+unfolding floor buffer
+floor_is_whole e (inl q) = rw q (omega arith)
+floor_is_whole e (inr i) = absurd i
+
+above_is_not_whole : IsWhole low ((0, 7) ∷ []) → ⊥
+unfolding floor buffer
+above_is_not_whole w = let h = w (0, 7) (inl refl) in omega arith
 
 -- ---- the reasons, in order
 no_claim : first_reason three 4 [] (Over [] 0 3 0) ≡ Some reason.EmptyClaim

@@ -228,6 +228,6 @@ legal_is_kept I C earlier line n w h = record {
 -- a log that belongs is accepted with the end of a whole line
 pub is_accepted : (I : Instance) (log : OpenLog) (end : ℕ) (line : Line) (closed : Log) → closed ≡ ended log end →
     Belongs I log →
-    slice_get log.lines end ≡ Some line → IsWhole (claim_of line) → IsAccepted I closed
+    slice_get log.lines end ≡ Some line → IsWhole I (claim_of line) → IsAccepted I closed
 is_accepted I log end line closed e b at w =
     rw e (record { same_count = b.same_count; legal = b.legal; whole = (line, at, w) })

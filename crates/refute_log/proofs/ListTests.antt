@@ -1,9 +1,9 @@
 -- Tests of lists and what they say, and the parts of a reason.
 use Rattle.std.proofs.Common.{◌≡◌, ℕ, zero, suc, ◌+◌, ◌<◌, Bool, true, false, not, ◌&&◌, ◌==◌, nat_le, List, [], ◌∷◌, map, length, drop, Option, Some, None, slice_get, slice_index_or, All, subst, refl, sym, ap, ◌∙◌, arith}
 use Rattle.std.specs.Option.{option_or}
-use Rattle.std.specs.List.{list_any, list_all}
+use Rattle.std.specs.List.{list_any}
 use Rattle.dsa_terms.specs.Buffers.{Instance}
-use Rattle.dsa_terms.specs.Claims.{Claim, Entry, up, child, Covers, IsWhole}
+use Rattle.dsa_terms.specs.Claims.{Claim, Entry, up, child, Covers}
 use Rattle.dsa_terms.proofs.NumberTests.{equal, same, at_most, is_at_most}
 use Rattle.dsa_terms.specs.Logs.{Line, claim_of, Cite}
 use Rattle.dsa_terms.proofs.Lists.{all_at, all_from, any_gives, any_from}
@@ -102,12 +102,6 @@ next_cite {X = X} f I earlier l es cites n e d o lt lu p r = rw (add_one n) (go 
         rw k refl)
     go (y ∷ ys) (z ∷ zs) (suc n) lt lu p r = go ys zs n (omega arith) (omega arith) p r
 
--- ---- whole claims
-pub whole_gives : (l : Claim) → list_all (λ (e : Entry). e.1 == 0) l ≡ true → IsWhole l
-whole_gives l h e i = equal e.1 0 (all_at (λ (e : Entry). e.1 == 0) l e h i)
-
-pub whole_from : (l : Claim) → IsWhole l → list_all (λ (e : Entry). e.1 == 0) l ≡ true
-whole_from l h = all_from (λ (e : Entry). e.1 == 0) l (λ e i. same e.1 0 (h e i))
-
+-- ---- lines by number
 pub same_line : {X : Type 0} (xs : List X) (k : ℕ) (x y : X) → slice_get xs k ≡ Some x → slice_get xs k ≡ Some y → x ≡ y
 same_line xs k x y h j = cc

@@ -71,7 +71,8 @@ impl ClosedLog {
         self.log.line(k)
     }
 
-    /// The number of its end, a line whose bounds are all 0 where `Log::close` gave it.
+    /// The number of its end, a line without a bound above its buffer's floor where `Log::close`
+    /// gave it.
     pub fn end(&self) -> u64
         ensures value { result ≡ self.now.final }
         ensures in_log { result < length self.now.lines }

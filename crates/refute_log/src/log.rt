@@ -86,21 +86,22 @@ impl Log {
         Ok(number)
     }
 
-    /// The log with that line for its end, exactly where its bounds are all 0; otherwise the log as
-    /// it was. A closed log is accepted, so no layout of the instance fits within its capacity. The
-    /// log is of the instance, and has the line.
+    /// The log with that line for its end, exactly where each of its bounds is at most its buffer's
+    /// floor; otherwise the log as it was. A closed log is accepted, so no layout of the instance
+    /// fits within its capacity. The log is of the instance, and has the line.
     pub fn close(self, instance: &Instance, end: u64) -> Result<ClosedLog, Log>
         requires belongs { Belongs instance.now self }
         requires in_log { end < length self.lines }
         ensures whole { (line : LineTerm) → slice_get self.lines end ≡ Some line →
-            MatchResult result (λ _. IsWhole (claim_of line)) (λ _. IsWhole (claim_of line) → ⊥) }
+            MatchResult result (λ _. IsWhole instance.now (claim_of line))
+            (λ _. IsWhole instance.now (claim_of line) → ⊥) }
         ensures closed { IfOk result (λ closed. closed ≡ ended self end) }
         ensures accepted { IfOk result (λ closed. IsAccepted instance.now closed) }
         ensures infeasible { IfOk result (λ closed. IsInfeasible instance.now closed.capacity) }
         ensures unchanged { IfErr result (λ log. log ≡ self) }
     {
         refutes(instance);
-        if self.line(end).claim().is_whole() {
+        if self.line(end).claim().is_whole(instance) {
             Ok(ClosedLog::with_end(self, end))
         } else {
             Err(self)

@@ -84,7 +84,8 @@ pub enum Status {
     CycleRefused(CycleFault),
     /// A plan by size class is written: its height, and the greatest load, in bytes.
     Classed { height: u64, load: u64 },
-    /// The instance is not plain, for this buffer first: it has a gap or an alignment above 1.
+    /// The instance is not plain, for this buffer first: it has a gap, an alignment
+    /// above 1 or a lowest above 0.
     NotPlain { buffer: u32 },
     /// An irreducible set of so many buffers that do not fit is written, with a log that proves it.
     Core { members: u32 },

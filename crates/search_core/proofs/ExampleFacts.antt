@@ -24,7 +24,7 @@ use Rattle.search_core.specs.Outcomes.{LinesAreCounted, spends_after}
 
 abbrev plain : ℕ → ℕ → ℕ → ℕ → Buffer
 plain lower upper size alignment = record
-    { lower = lower; upper = upper; size = size; alignment = alignment; gaps = [] }
+    { lower = lower; upper = upper; size = size; alignment = alignment; gaps = []; lowest = 0 }
 
 abbrev two : Instance
 two = plain 0 1 3 1 ∷ plain 0 1 1 4 ∷ []

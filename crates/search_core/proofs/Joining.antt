@@ -14,7 +14,7 @@ use Rattle.search_core.proofs.Taking.{more_after, some_part}
 
 -- the work of these parts
 abbrev pub work_of_parts : Instance → ℕ → List (List ℕ) → ℕ
-work_of_parts I C ps = sum_by (λ p. work I C (whole p)) ps
+work_of_parts I C ps = sum_by (λ p. work I C (whole I p)) ps
 
 -- the first i parts have the seats, and used the units
 pub record IsJoining (I : Instance) (C : ℕ) (ps : List (List ℕ)) (i : ℕ) (seats : List Entry)
@@ -41,17 +41,17 @@ module _ (I : Instance) (C : ℕ) (ps : List (List ℕ)) where
   -- the work of the next part, with that of those after it, is within what is left
   left_work : (i : ℕ) (seats : List Entry) (before between : Units) → i < length ps →
       IsJoining I C ps i seats before between →
-      between.used + (work I C (whole (slice_index_or ps i [])) + work_of_parts I C
+      between.used + (work I C (whole I (slice_index_or ps i [])) + work_of_parts I C
       (drop (i + 1) ps)) ≤ before.used + work_of_parts I C ps
   left_work i seats before between lt j = rw (
     next_part ps i lt,
-    sum_by-cons (λ p. work I C (whole p))
+    sum_by-cons (λ p. work I C (whole I p))
         (slice_index_or ps i []) (drop (i + 1) ps),
   ) at j.work
 
   pub part_work : (i : ℕ) (seats : List Entry) (before between : Units) → ps ≡ parts I → i < length ps →
       IsJoining I C ps i seats before between →
-      between.used + work I C (whole (slice_index_or ps i [])) ≤ before.used + whole_work I C
+      between.used + work I C (whole I (slice_index_or ps i [])) ≤ before.used + whole_work I C
   unfolding whole_work
   part_work i seats before between q lt j = let k = left_work i seats before between lt j in rw (← q) (omega arith)
 
@@ -62,9 +62,10 @@ module _ (I : Instance) (C : ℕ) (ps : List (List ℕ)) where
 
   pub joining_next : (i : ℕ) (seats found all : List Entry) (before between after : Units) → i < length ps →
       IsJoining I C ps i seats before between →
-      first I C (whole (slice_index_or ps i [])) ≡ Some found → all ≡ seats ++ found → after.most ≡ between.most →
+      first I C (whole I (slice_index_or ps i [])) ≡ Some found → all ≡ seats ++ found → after.most ≡ between.most →
       between.used ≤ after.used → AreMore between after →
-      after.used ≤ between.used + work I C (whole (slice_index_or ps i [])) → IsJoining I C ps (i + 1) all before after
+      after.used ≤ between.used + work I C (whole I (slice_index_or ps i [])) →
+      IsJoining I C ps (i + 1) all before after
   joining_next i seats found all before between after lt j some q most units more used = record {
     left = j.left ∙ (rw (next_part ps i lt, some, q) (join_along seats found (first_of_all I C (drop (i + 1) ps))));
     most = most ∙ j.most;
@@ -75,7 +76,7 @@ module _ (I : Instance) (C : ℕ) (ps : List (List ℕ)) where
 
   pub part_refuted : (i : ℕ) (seats : List Entry) (before between : Units) → ps ≡ parts I → i < length ps →
       IsJoining I C ps i seats before between →
-      first I C (whole (slice_index_or ps i [])) ≡ None → searched I C ≡ None
+      first I C (whole I (slice_index_or ps i [])) ≡ None → searched I C ≡ None
   unfolding searched
   part_refuted i seats before between q lt j none =
       let k : first_of_all I C ps ≡ None = j.left ∙ (rw (next_part ps i lt, none) refl) in

@@ -55,3 +55,4 @@ mod OpenedFacts
 mod TurnFacts
 mod WalkFacts
 mod NoTwinFacts
+mod LowFacts

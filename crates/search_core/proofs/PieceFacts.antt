@@ -13,12 +13,12 @@ use Rattle.search_core.specs.Outcomes.{IsDecided}
 use Rattle.search_core.specs.Pieces.{IfPieceSpent, IsPiece, PieceIsCounted, UnlessPieceSpent}
 use Rattle.search_core.proofs.RefutationFacts.{from_zero, found_at_3, log_of, lone, none_at_3, refuted_at_2}
 
-seated_at_3 : first lone 3 (whole (0 ∷ [])) ≡ Some ((0, 0) ∷ [])
+seated_at_3 : first lone 3 (whole lone (0 ∷ [])) ≡ Some ((0, 0) ∷ [])
 unfolding first is_tall comes_before ends_below is_twin child up step have_same_moments do_share some_before is_live
     buffer
 seated_at_3 = refl
 
-not_seated_at_2 : first lone 2 (whole (0 ∷ [])) ≡ None
+not_seated_at_2 : first lone 2 (whole lone (0 ∷ [])) ≡ None
 unfolding first is_tall comes_before ends_below is_twin child up step have_same_moments do_share some_before is_live
     buffer
 not_seated_at_2 = refl

@@ -100,8 +100,8 @@ refuted_at_2 = record {
   };
 }
   where
-    whole : IsWhole ((0, 0) ∷ [])
-    whole e (inl q) = rw q refl
+    whole : IsWhole lone ((0, 0) ∷ [])
+    whole e (inl q) = rw q (omega arith)
     whole e (inr z) = absurd z
 
 -- it is a log at 2

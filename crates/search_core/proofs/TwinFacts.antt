@@ -7,7 +7,7 @@ use Rattle.prune_rules.specs.Twins.{are_alike}
 use Rattle.search_core.specs.TwinMarks.{AreTwinMarks}
 
 abbrev aligned : ℕ → Buffer
-aligned alignment = record { lower = 0; upper = 1; size = 3; alignment = alignment; gaps = [] }
+aligned alignment = record { lower = 0; upper = 1; size = 3; alignment = alignment; gaps = []; lowest = 0 }
 
 abbrev three : Instance
 three = aligned 2 ∷ aligned 2 ∷ aligned 4 ∷ []

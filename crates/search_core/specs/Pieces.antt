@@ -10,8 +10,8 @@ use Rattle.search_core.specs.Meters.{AreMoreBy, Units}
 
 -- the first layout of the part, or a log that refutes the capacity where there is none
 abbrev pub IsPiece : Instance → ℕ → List ℕ → Piece → Type 0
-IsPiece I C p (piece.Seats seats) = first I C (whole p) ≡ Some seats.items
-IsPiece I C p (piece.Refuted log) = (first I C (whole p) ≡ None) × IsRefutation I C log
+IsPiece I C p (piece.Seats seats) = first I C (whole I p) ≡ Some seats.items
+IsPiece I C p (piece.Refuted log) = (first I C (whole I p) ≡ None) × IsRefutation I C log
 IsPiece I C p piece.Spent = ⊤
 
 -- the fact holds where the budget is spent

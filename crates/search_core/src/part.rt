@@ -41,9 +41,11 @@ pub(crate) fn search_part(
     requires part { IsIn members.now (parts task.now.instance.now) }
     ensures most { meter.new.most ≡ meter.old.most }
     ensures units { meter.old.used ≤ meter.new.used }
-    ensures used { let most = work task.now.instance.now task.now.capacity (whole members.now) in
+    ensures used { let I = task.now.instance.now in
+        let most = work I task.now.capacity (whole I members.now) in
         meter.new.used ≤ meter.old.used + most }
-    ensures spent { let most = work task.now.instance.now task.now.capacity (whole members.now) in
+    ensures spent { let I = task.now.instance.now in
+        let most = work I task.now.capacity (whole I members.now) in
         IfOk result (IfPieceSpent (AreSpent meter.new × (meter.new.used < meter.old.used + most))) }
     ensures taken { IfOk result (UnlessPieceSpent (AreMore meter.old meter.new)) }
     ensures counted { IfOk result (PieceIsCounted meter.old meter.new) }

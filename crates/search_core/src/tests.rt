@@ -7,23 +7,35 @@ use refute_log::{ClosedLog, Decided, Decider};
 use split_sections::parts;
 use std::alloc::Global;
 
-/// Lower, upper, size and alignment of each buffer.
-type Rows = &'static [(u32, u32, u64, u64)];
+/// Lower, upper, size, alignment and lowest of each buffer.
+type Rows = &'static [(u32, u32, u64, u64, u64)];
 
 /// Two buffers at even offsets and a third one of their sizes together.
-const THREE: Rows = &[(0, 1, 1, 2), (0, 1, 1, 2), (0, 1, 2, 1)];
+const THREE: Rows = &[(0, 1, 1, 2, 0), (0, 1, 1, 2, 0), (0, 1, 2, 1, 0)];
 
 /// The same after a buffer that is a part of its own.
-const LATE: Rows = &[(0, 2, 1, 1), (2, 3, 1, 2), (2, 3, 1, 2), (2, 3, 2, 1)];
+const LATE: Rows = &[
+    (0, 2, 1, 1, 0),
+    (2, 3, 1, 2, 0),
+    (2, 3, 1, 2, 0),
+    (2, 3, 2, 1, 0),
+];
 
 /// A small one that is aligned has to stand below.
-const TWO: Rows = &[(0, 1, 3, 1), (0, 1, 1, 4)];
+const TWO: Rows = &[(0, 1, 3, 1, 0), (0, 1, 1, 4, 0)];
+
+/// One that may start at 1 or above stands best on one that may start at 0.
+const LIFTED: Rows = &[(0, 1, 3, 1, 1), (0, 1, 2, 1, 0)];
+
+/// One that may start at 6 or above leaves room below it.
+const LOW: Rows = &[(0, 1, 4, 1, 6), (0, 1, 4, 1, 0)];
 
 fn instance_of(alloc: Global, rows: Rows) -> Result<Instance, Fail<BufferFault>> {
     let mut instance = Instance::new(alloc);
     for row in rows {
-        let (lower, upper, size, alignment) = *row;
-        let buffer = Buffer::new(alloc, lower as u64, upper as u64, size, alignment, &[])?;
+        let (lower, upper, size, alignment, lowest) = *row;
+        let (lower, upper) = (lower as u64, upper as u64);
+        let buffer = Buffer::new(alloc, lower, upper, size, alignment, &[], lowest)?;
         if instance.len() < BUFFER_LIMIT {
             instance.push(buffer)?;
         }
@@ -48,11 +60,13 @@ fn answer_at(
 #[test]
 fn the_first_layout_of_each_part_is_found(rt: HostRuntime) {
     let alloc = rt.alloc();
-    let cases: [(Rows, u32, &[u64]); 4] = [
+    let cases: [(Rows, u32, &[u64]); 6] = [
         (&[], 0, &[]),
         (THREE, 5, &[0, 4, 1]),
         (LATE, 5, &[0, 0, 4, 1]),
         (TWO, 4, &[1, 0]),
+        (LIFTED, 5, &[2, 0]),
+        (LOW, 10, &[6, 0]),
     ];
     for (rows, capacity, offsets) in cases {
         let answer = answer_at(alloc, rows, capacity, Budget::unlimited()).expect(&rt, "memory");
@@ -94,7 +108,7 @@ fn a_refutation_names_buffers_of_one_part(rt: HostRuntime) {
 fn tower(alloc: Global) -> Result<Instance, Fail<BufferFault>> {
     let mut instance = Instance::new(alloc);
     for _ in 0..BUFFER_LIMIT {
-        let buffer = Buffer::new(alloc, 0, 1, 1, 1, &[])?;
+        let buffer = Buffer::new(alloc, 0, 1, 1, 1, &[], 0)?;
         if instance.len() < BUFFER_LIMIT {
             instance.push(buffer)?;
         }

@@ -118,17 +118,20 @@ pub(crate) fn search(
     requires in_range { All (λ b. b < length task.now.instance.now) members.now }
     requires log { IsSearchLog task.now.instance.now task.now.capacity log.old }
     ensures log { OnOk result (IsSearchLog task.now.instance.now task.now.capacity log.new) }
-    ensures grown { OnOk result (Extends (whole members.now) log.old.lines log.new.lines) }
+    ensures grown { let I = task.now.instance.now in
+        OnOk result (Extends (whole I members.now) log.old.lines log.new.lines) }
     ensures most { meter.new.most ≡ meter.old.most }
     ensures units { meter.old.used ≤ meter.new.used }
-    ensures used { let most = work task.now.instance.now task.now.capacity (whole members.now) in
+    ensures used { let I = task.now.instance.now in
+        let most = work I task.now.capacity (whole I members.now) in
         meter.new.used ≤ meter.old.used + most }
-    ensures spent { let most = work task.now.instance.now task.now.capacity (whole members.now) in
+    ensures spent { let I = task.now.instance.now in
+        let most = work I task.now.capacity (whole I members.now) in
         IfOk result (IfFoundSpent (AreSpent meter.new × (meter.new.used < meter.old.used + most))) }
     ensures taken { log.old.lines ≡ [] →
         IfOk result (UnlessFoundSpent (AreMore meter.old meter.new)) }
     ensures found { let I = task.now.instance.now in
-        IfOk result (IsFound I task.now.capacity (whole members.now) log.new.lines) }
+        IfOk result (IsFound I task.now.capacity (whole I members.now) log.new.lines) }
     ensures counted { OnOk result (AreCounted meter.old meter.new
         (length log.old.lines) (length log.new.lines)) }
 {

@@ -56,9 +56,9 @@ fn next_buffer(alloc: Global, draws: &mut Draws) -> Result<Buffer, Fail<BufferFa
     let upper = lower + length;
     if draws.below(4) == 0 && length >= 3 {
         let gaps = [(lower + 1, upper - 1)];
-        return Buffer::new(alloc, lower, upper, size, alignment, &gaps);
+        return Buffer::new(alloc, lower, upper, size, alignment, &gaps, 0);
     }
-    Buffer::new(alloc, lower, upper, size, alignment, &[])
+    Buffer::new(alloc, lower, upper, size, alignment, &[], 0)
 }
 
 /// The instance of a seed.

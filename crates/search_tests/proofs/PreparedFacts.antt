@@ -1,6 +1,6 @@
 -- The decider of the tests, and a buffer of size 12 that it could be of.
 use Rattle.std.proofs.Common.{◌≡◌, ℕ, ◌+◌, ◌<◌, ◌≤◌, ◌≢◌, zero, suc, [], ◌∷◌, slice_index, take, slice_get, inl, inr, Some, None, refl, ap, subst, lit<, lit≤, arith}
-use Rattle.dsa_terms.specs.Buffers.{Instance, IsLive, buffer, is_live}
+use Rattle.dsa_terms.specs.Buffers.{Instance, IsLive, buffer, floor, is_live}
 use Rattle.dsa_terms.specs.Claims.{Claim, Entry, IsClaim, IsIn, up}
 use Rattle.dsa_terms.specs.Layouts.{IsApart, IsLayout, IsMultiple}
 use Rattle.dsa_terms.specs.Logs.{is_stacked, IsAccepted, IsLegal, IsOver, Line, Log, Over, rounded, rounding}
@@ -17,7 +17,7 @@ at_11 : twelve_from_twelve 11 ≡ None
 at_11 = refl
 
 abbrev twelve : Instance
-twelve = record { lower = 0; upper = 1; size = 12; alignment = 1; gaps = [] } ∷ []
+twelve = record { lower = 0; upper = 1; size = 12; alignment = 1; gaps = []; lowest = 0 } ∷ []
 
 unspent : PreparedValue
 unspent = record { subject = twelve; spends = 0 }
@@ -29,8 +29,12 @@ twelve_high = refl
 
 laid_at_12 : IsLayout twelve 12 (0 ∷ [])
 unfolding buffer
-laid_at_12 = record { count = refl; aligned = aligned; within = within; apart = apart }
+laid_at_12 = record { count = refl; aligned = aligned; above = above; within = within; apart = apart }
   where
+    above : (b : ℕ) → b < 1 → (buffer twelve b).lowest ≤ slice_index (0 ∷ []) b
+    above zero lt = lit≤ tt
+    above (suc b) lt = absurd (omega arith)
+
     aligned : (b : ℕ) → b < 1 → IsMultiple (slice_index (0 ∷ []) b) (buffer twelve b).alignment
     aligned zero lt = refl
     aligned (suc b) lt = absurd (omega arith)
@@ -82,8 +86,8 @@ eleven_accepted = record { same_count = refl; legal = legal; whole = (Over it 0 
     legal zero line e = let s : Over it 0 0 1 ≡ line = cc in subst (IsLegal twelve 11 []) s line_legal
     legal (suc k) line e = absurd cc
 
-    zeros : (e : Entry) → IsIn e it → e.1 ≡ 0
-    zeros e (inl h) = ap (λ (f : Entry). f.1) h
+    zeros : (e : Entry) → IsIn e it → e.1 ≤ floor (buffer twelve e.0)
+    zeros e (inl h) = let z : e.1 ≡ 0 = ap (λ (f : Entry). f.1) h in omega (arith, z)
     zeros e (inr h) = absurd h
 
 both_right : AreRight twelve (0 ∷ []) eleven

@@ -17,7 +17,7 @@ use std::alloc::Global;
 fn four(alloc: Global) -> Result<Instance, Fail<BufferFault>> {
     let mut four = Instance::new(alloc);
     for (lower, size, alignment) in [(0, 1, 2), (0, 1, 2), (0, 2, 1), (1, 1, 1)] {
-        let buffer = Buffer::new(alloc, lower, lower + 1, size, alignment, &[])?;
+        let buffer = Buffer::new(alloc, lower, lower + 1, size, alignment, &[], 0)?;
         if four.len() < BUFFER_LIMIT {
             four.push(buffer)?;
         }

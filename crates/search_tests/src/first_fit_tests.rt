@@ -23,6 +23,7 @@ fn instance(alloc: Global, rows: &[Row]) -> Result<Instance, test::Fail> {
             size as u64,
             alignment as u64,
             &[],
+            0,
         )?;
         if instance.len() < BUFFER_LIMIT {
             instance.push(buffer)?;

@@ -93,7 +93,7 @@ impl Decider for Prepared<'_> {
 fn make_five(alloc: Global) -> Result<Instance, Fail<BufferFault>> {
     let mut five = Instance::new(alloc);
     for (lower, upper) in [(0u32, 3u32), (3, 9), (0, 9), (9, 21), (0, 21)] {
-        let buffer = Buffer::new(alloc, lower as u64, upper as u64, 4, 1, &[])?;
+        let buffer = Buffer::new(alloc, lower as u64, upper as u64, 4, 1, &[], 0)?;
         if five.len() < 512 {
             five.push(buffer)?;
         }
@@ -106,7 +106,7 @@ fn log_at(alloc: Global, five: &Instance, capacity: u64) -> Option<ClosedLog>
     requires { capacity ≤ 2 ^ 60 }
     ensures { IfSome result (λ log. IsAccepted five.now log × (log.capacity ≡ capacity)) }
 {
-    let claim = Claim::whole(alloc, &[0, 2, 4]).ok()?;
+    let claim = Claim::from_pairs(alloc, &[(0, 0), (2, 0), (4, 0)]).ok()?;
     let mut log = Log::new(alloc, five, capacity);
     let line = Line::Over {
         claim,

@@ -54,7 +54,7 @@ fn instance_of(alloc: Global, rows: Rows) -> Result<Instance, Fail<BufferFault>>
     let mut instance = Instance::new(alloc);
     for row in rows {
         let (lower, upper, size, alignment) = *row;
-        let buffer = Buffer::new(alloc, lower as u64, upper as u64, size, alignment, &[])?;
+        let buffer = Buffer::new(alloc, lower as u64, upper as u64, size, alignment, &[], 0)?;
         if instance.len() < BUFFER_LIMIT {
             instance.push(buffer)?;
         }

@@ -73,7 +73,7 @@ fn pop(sky: &mut Skyline) -> Option<u64> {
 fn three(alloc: Global) -> Result<Instance, Fail<BufferFault>> {
     let mut instance = Instance::new(alloc);
     for alignment in [2u32, 2, 1] {
-        let buffer = Buffer::new(alloc, 0, 1, 3 - alignment as u64, alignment as u64, &[])?;
+        let buffer = Buffer::new(alloc, 0, 1, 3 - alignment as u64, alignment as u64, &[], 0)?;
         if instance.len() < BUFFER_LIMIT {
             instance.push(buffer)?;
         }
@@ -128,7 +128,7 @@ fn sixty(alloc: Global, state: &mut u64) -> Result<Instance, Fail<BufferFault>> 
         let upper = lower + 1 + next(state, 20) as u64;
         let size = 1 + next(state, 9) as u64;
         let alignment = 1 + next(state, 4) as u64;
-        let buffer = Buffer::new(alloc, lower, upper, size, alignment, &[])?;
+        let buffer = Buffer::new(alloc, lower, upper, size, alignment, &[], 0)?;
         if instance.len() < BUFFER_LIMIT {
             instance.push(buffer)?;
         }

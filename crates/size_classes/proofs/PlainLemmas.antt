@@ -8,9 +8,9 @@ use Rattle.dsa_terms.specs.Buffers.{Buffer, Instance, buffer, no_buffer}
 use Rattle.dsa_terms.specs.Claims.{IsIn}
 use Rattle.dsa_terms.specs.Parts.{is_empty}
 use Rattle.dsa_terms.proofs.Moments.{or_false}
-use Rattle.dsa_terms.proofs.NumberTests.{is_below, less, not_below, not_less}
+use Rattle.dsa_terms.proofs.NumberTests.{is_below, not_below, not_less}
 use Rattle.dsa_terms.proofs.Places.{in_at}
-use Rattle.size_classes.specs.Plain.{HasNoGaps, first_rough, IsPlain, is_rough}
+use Rattle.size_classes.specs.Plain.{first_rough, IsPlain, IsPlainAt, is_rough}
 
 none_passes : (p : Buffer → Bool) (i : ℕ) (xs : List Buffer) (x : Buffer) → position_from p i xs ≡ None → IsIn x xs →
     p x ≡ false
@@ -31,32 +31,40 @@ buffer_in : (I : Instance) (b : ℕ) → b < length I → IsIn (buffer I b) I
 unfolding buffer
 buffer_in I b lt = in_at I b no_buffer lt
 
-has_neither : (x : Buffer) → is_rough x ≡ false → (x.gaps ≡ []) × (x.alignment ≤ 1)
-has_neither x h =
-    let r = or_false (not (is_empty x.gaps)) (nat_lt 1 x.alignment) h in
-    (no_gaps x.gaps r.0, not_less 1 x.alignment r.1)
+is_smooth : (x : Buffer) → is_rough x ≡ false → (x.gaps ≡ []) × (x.alignment ≤ 1) × (x.lowest ≡ 0)
+is_smooth x h =
+    let r = or_false (not (is_empty x.gaps) || nat_lt 1 x.alignment) (nat_lt 0 x.lowest) h in
+    let s = or_false (not (is_empty x.gaps)) (nat_lt 1 x.alignment) r.0 in
+    (no_gaps x.gaps s.0, not_less 1 x.alignment s.1, zero_of (not_less 0 x.lowest r.1))
+  where
+    zero_of : {n : ℕ} → n ≤ 0 → n ≡ 0
+    zero_of h = omega arith
 
 pub plain_from : (I : Instance) → first_rough I ≡ None → IsPlain I
 unfolding first_rough
 plain_from I h b lt =
-    has_neither (buffer I b)
+    is_smooth (buffer I b)
     (none_passes is_rough 0 I (buffer I b) (sym (position_from-zero is_rough I) ∙ h) (buffer_in I b lt))
 
 -- ---- the first that is rough
-has_gap_or_alignment : (gaps : List (ℕ × ℕ)) (alignment : ℕ) → (not (is_empty gaps) || nat_lt 1 alignment) ≡ true →
-    gaps ≡ [] → 1 < alignment
-has_gap_or_alignment [] alignment h is = less 1 alignment h
-has_gap_or_alignment (g ∷ gs) alignment h is = absurd cc
+is_not_smooth : (gaps : List (ℕ × ℕ)) (alignment lowest : ℕ) →
+    (not (is_empty gaps) || nat_lt 1 alignment || nat_lt 0 lowest) ≡ true →
+    gaps ≡ [] → alignment ≤ 1 → lowest ≡ 0 → ⊥
+is_not_smooth [] alignment lowest h is few none = absurd (no _ _ (not_below 1 alignment few) (not_below 0 lowest (omega arith)) h)
+  where
+    no : (a b : Bool) → a ≡ false → b ≡ false → (a || b) ≡ true → ⊥
+    no a b e f h = absurd cc
+is_not_smooth (g ∷ gs) alignment lowest h is few none = absurd cc
 
 pub first_is_rough : (I : Instance) (b : ℕ) → first_rough I ≡ Some b →
-    (b < length I) × (HasNoGaps I b → 1 < (buffer I b).alignment)
-    × ((c : ℕ) → c < b → HasNoGaps I c × ((buffer I c).alignment ≤ 1))
+    (b < length I) × (IsPlainAt I b → ⊥) × ((c : ℕ) → c < b → IsPlainAt I c)
 unfolding first_rough buffer
 first_is_rough I b h =
     let r = position-Some is_rough I b no_buffer h in (
       r.0,
-      has_gap_or_alignment (slice_index_or I b no_buffer).gaps (slice_index_or I b no_buffer).alignment r.1,
-      λ c lt. has_neither (slice_index_or I c no_buffer) (r.2 c lt),
+      λ p. is_not_smooth (slice_index_or I b no_buffer).gaps (slice_index_or I b no_buffer).alignment
+          (slice_index_or I b no_buffer).lowest r.1 p.0 p.1 p.2,
+      λ c lt. is_smooth (slice_index_or I c no_buffer) (r.2 c lt),
     )
 
 rough_place : (I : Instance) (b : ℕ) → b ≤ length I → ((c : ℕ) → c < b → is_rough (buffer I c) ≡ false) →

@@ -109,6 +109,7 @@ pub plan_is_layout : (I : Instance) → IsInstance I → IsPlain I → IsLayout 
 plan_is_layout I s p = record {
   count = plan_count I;
   aligned = λ b lt. one_multiple (slice_index (class_plan I) b) (buffer I b).alignment (p b lt).1 (sound I b s).1;
+  above = λ b lt. let q = (p b lt).2 in omega arith;
   within = λ b lt. let e = plan_at I b lt in let f = offset_is I b in let z = ends b lt in
       let g = start_grows I (suc (class_of (buffer I b).size)) (suc (last_class I))
       (let u = under_last I b lt in omega arith) in

@@ -7,13 +7,17 @@ use Rattle.dsa_terms.specs.Parts.{is_empty}
 abbrev pub HasNoGaps : Instance → ℕ → Type 0
 HasNoGaps I b = (buffer I b).gaps ≡ []
 
--- no buffer has a gap or an alignment above 1
-abbrev pub IsPlain : Instance → Type 0
-IsPlain I = (b : ℕ) → b < length I → HasNoGaps I b × ((buffer I b).alignment ≤ 1)
+-- the buffer has no gap, no alignment above 1 and no lowest above 0
+abbrev pub IsPlainAt : Instance → ℕ → Type 0
+IsPlainAt I b = HasNoGaps I b × ((buffer I b).alignment ≤ 1) × ((buffer I b).lowest ≡ 0)
 
--- the buffer has a gap or an alignment above 1
+-- so is each buffer
+abbrev pub IsPlain : Instance → Type 0
+IsPlain I = (b : ℕ) → b < length I → IsPlainAt I b
+
+-- the buffer has a gap, an alignment above 1 or a lowest above 0
 abbrev pub is_rough : Buffer → Bool
-is_rough b = not (is_empty b.gaps) || nat_lt 1 b.alignment
+is_rough b = not (is_empty b.gaps) || nat_lt 1 b.alignment || nat_lt 0 b.lowest
 
 -- the least buffer that is
 unfoldable pub first_rough : Instance → Option ℕ

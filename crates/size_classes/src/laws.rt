@@ -6,17 +6,16 @@ ghost use Rattle.dsa_terms.specs.Claims.{IsIn, Rises};
 ghost use Rattle.dsa_terms.specs.Layouts.{IsLayout, IsLeast};
 ghost use Rattle.dsa_terms.specs.Plans.{IsPeak, load};
 ghost use Rattle.size_classes.specs.Classes.{class_of};
-ghost use Rattle.size_classes.specs.Plain.{first_rough, HasNoGaps, IsPlain};
+ghost use Rattle.size_classes.specs.Plain.{first_rough, IsPlain, IsPlainAt};
 ghost use Rattle.size_classes.specs.Plans.{AllOf, class_height, class_plan, power_height};
 ghost use Rattle.size_classes.specs.Slots.{AreMembers, IsSlotting, most_live, slot_of};
 
-/// An instance of which no buffer is rough is plain; the first buffer that is rough has a gap or an
-/// alignment above 1, and none before it has.
+/// An instance of which no buffer is rough is plain; the first buffer that is rough has a gap, an
+/// alignment above 1 or a lowest above 0, and none before it has.
 pub fn smooth_is_plain()
     ensures none { (I : Instance) → first_rough I ≡ None → IsPlain I }
     ensures some { (I : Instance) (b : ℕ) → first_rough I ≡ Some b →
-        (b < length I) × (HasNoGaps I b → 1 < (buffer I b).alignment)
-        × ((c : ℕ) → c < b → HasNoGaps I c × ((buffer I c).alignment ≤ 1)) }
+        (b < length I) × (IsPlainAt I b → ⊥) × ((c : ℕ) → c < b → IsPlainAt I c) }
 {}
 
 /// The class of a size is the least number of which two to the power is at least the size.

@@ -7,14 +7,14 @@ ghost use Rattle.size_classes.specs.Plain.{first_rough, is_rough};
 
 use dsa_model::{Buffer, Instance};
 
-/// Whether the buffer has a gap or an alignment above 1.
+/// Whether the buffer has a gap, an alignment above 1 or a lowest above 0.
 fn is_rough(buffer: &Buffer) -> bool
     ensures { result ≡ is_rough buffer.now }
 {
-    !buffer.gaps().is_empty() || buffer.alignment() > 1
+    !buffer.gaps().is_empty() || buffer.alignment() > 1 || buffer.lowest() > 0
 }
 
-/// The least buffer that has a gap or an alignment above 1.
+/// The least buffer that has a gap, an alignment above 1 or a lowest above 0.
 pub(crate) fn first_rough(instance: &Instance) -> Option<u32>
     ensures value { result ≡ first_rough instance.now }
     ensures buffers { All IsBuffer instance.now }

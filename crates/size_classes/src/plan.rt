@@ -16,8 +16,8 @@ use std::alloc::Global;
 /// How many classes there are: no size is above 2^40.
 const CLASSES: u32 = 41;
 
-/// Why an instance has no plan by size class: this buffer, the least such one, has a gap or an
-/// alignment above 1.
+/// Why an instance has no plan by size class: this buffer, the least such one, has a gap, an
+/// alignment above 1 or a lowest above 0.
 #[derive(Clone, Copy, Debug, PartialEq, Eq)]
 pub struct NotPlain {
     pub buffer: u32,
@@ -65,7 +65,7 @@ fn peak_load(alloc: Global, instance: &Instance) -> Result<u64, NoMemory>
 /// two to the power is at least the size. Each class is a row of slots as wide as its greatest
 /// size, and has as many as its buffers that are live at one moment at most; its buffers get their
 /// slots as `slots` says. The rows stand one above another by rising class. The least buffer with a
-/// gap or an alignment above 1, where there is one.
+/// gap, an alignment above 1 or a lowest above 0, where there is one.
 pub fn classes(alloc: Global, instance: &Instance) -> Result<ClassPlan, Fail<NotPlain>>
     ensures value { UnlessNoMemory result
         (λ plan. (plan.offsets.items ≡ class_plan instance.now)

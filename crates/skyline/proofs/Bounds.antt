@@ -9,7 +9,7 @@ use Rattle.dsa_terms.proofs.Moments.{sound}
 use Rattle.dsa_terms.proofs.Numbers.{next_is_below}
 use Rattle.dsa_model.proofs.Instances.{sound_instance}
 use Rattle.dsa_search_laws.proofs.Placing.{in_buffers, up_at_or_above}
-use Rattle.dsa_search_laws.proofs.Members.{buffers_of-whole, whole_is_whole}
+use Rattle.dsa_search_laws.proofs.Members.{buffers_of-whole}
 use Rattle.dsa_model.specs.Buffer.{IsBuffer}
 use Rattle.lifetime.specs.SectionList.{AreSectionsOf, SectionList}
 use Rattle.canonical_order.specs.Stands.{Stands}
@@ -19,33 +19,33 @@ use Rattle.skyline.specs.Skylines.{IsSkyline}
 use Rattle.skyline.specs.Standing.{IsStack, claim_after, raised}
 use Rattle.skyline.proofs.Carrying.{alignment_limited, has_place, last_of_claims, member_in_range, raised_limited, rises_after, stack_in_range}
 use Rattle.skyline.proofs.SectionFacts.{members_few}
-use Rattle.skyline.proofs.Standing.{up_is_raised}
+use Rattle.skyline.proofs.Standing.{has_lowests, up_is_raised}
 
 -- a bound is at most the up, which is the rounded height to which the standing buffers raise
 pub bound_low : (I : Instance) (members bs : List ℕ) (e : Entry) → All IsBuffer I → length I ≤ 512 →
-    All (λ b. b < length I) members → Rises members → IsStack I (whole members) bs →
-    IsIn e (claim_after I (whole members) bs) → e.1 < 2 ^ 54
+    All (λ b. b < length I) members → Rises members → IsStack I (whole I members) bs →
+    IsIn e (claim_after I (whole I members) bs) → e.1 < 2 ^ 54
 bound_low I members bs e buffers count range rise stack i =
     let s = sound_instance I buffers in
-    let w = whole_is_whole members in
-    let b = in_buffers (claim_after I (whole members) bs) e i in
+    let w = has_lowests I members in
+    let b = in_buffers (claim_after I (whole I members) bs) e i in
     let lt = member_in_range I members bs e.0 range b in
-    let u = up_is_raised I (whole members) bs e s w i in
+    let u = up_is_raised I (whole I members) bs e s w i in
     let f = up_at_or_above I e s in
-    let n = next_is_below (raised I (whole members) bs e.0) (buffer I e.0).alignment (sound I e.0 s).1 in
+    let n = next_is_below (raised I (whole I members) bs e.0) (buffer I e.0).alignment (sound I e.0 s).1 in
     let a = alignment_limited I e.0 buffers lt in
-    let r = raised_limited I (whole members) bs e.0 s buffers w stack (stack_in_range I members bs range stack) in
+    let r = raised_limited I (whole I members) bs e.0 s buffers w stack (stack_in_range I members bs range stack) lt in
     let p = has_place I members bs e.0 rise stack b in
     let q = members_few I members range rise count in
     omega arith
 
 all_low : (I : Instance) (members bs : List ℕ) → All IsBuffer I → length I ≤ 512 → All (λ b. b < length I) members →
-    Rises members → IsStack I (whole members) bs → AreLow (claims_of I (whole members) bs)
+    Rises members → IsStack I (whole I members) bs → AreLow (claims_of I (whole I members) bs)
 all_low I members [] buffers count range rise stack l e (inl q) i =
     bound_low I members [] e buffers count range rise stack (subst (λ (l : Claim). IsIn e l) q i)
 all_low I members [] buffers count range rise stack l e (inr j) i = absurd j
 all_low I members (b ∷ bs) buffers count range rise stack l e j i =
-    elim (from_append (claims_of I (whole members) bs) (claim_after I (whole members) (b ∷ bs) ∷ []) l j) [
+    elim (from_append (claims_of I (whole I members) bs) (claim_after I (whole I members) (b ∷ bs) ∷ []) l j) [
       | inl k ↦ all_low I members bs buffers count range rise stack.1 l e k i
       | inr k ↦ elim k [
         | inl q ↦ bound_low I members (b ∷ bs) e buffers count range rise stack (subst (λ (l : Claim). IsIn e l) q i)
@@ -54,34 +54,34 @@ all_low I members (b ∷ bs) buffers count range rise stack l e j i =
     ]
 
 -- as a contract sees it
-pub low_of_view : (I : Instance) (S : SectionList) (members : List ℕ) (n : ℕ) (stack floors hs : List ℕ)
+pub low_of_view : (I : Instance) (S : SectionList) (members : List ℕ) (n : ℕ) (stack ledges hs : List ℕ)
     (rows : List (List ℕ)) (flags : List Bool) (k : Sky) →
-    record { instance = I; sections = S; claims = claims_of I (whole members) (reverse (take n stack)) } ≡ k →
-    IsSkyline I S members n stack floors hs rows flags → AreLow k.claims
-low_of_view I S members n stack floors hs rows flags k e h =
+    record { instance = I; sections = S; claims = claims_of I (whole I members) (reverse (take n stack)) } ≡ k →
+    IsSkyline I S members n stack ledges hs rows flags → AreLow k.claims
+low_of_view I S members n stack ledges hs rows flags k e h =
     subst AreLow (ap (λ (k : Sky). k.claims) e)
     (all_low I members (reverse (take n stack)) h.carries.buffers h.carries.count h.carries.in_range h.carries.rise
     h.carries.stands)
 
-pub belongs_of_view : (I : Instance) (S : SectionList) (members : List ℕ) (n : ℕ) (stack floors hs : List ℕ)
+pub belongs_of_view : (I : Instance) (S : SectionList) (members : List ℕ) (n : ℕ) (stack ledges hs : List ℕ)
     (rows : List (List ℕ)) (flags : List Bool) (k : Sky) →
-    record { instance = I; sections = S; claims = claims_of I (whole members) (reverse (take n stack)) } ≡ k →
-    IsSkyline I S members n stack floors hs rows flags → AreSectionsOf k.instance k.sections
-belongs_of_view I S members n stack floors hs rows flags k e h =
+    record { instance = I; sections = S; claims = claims_of I (whole I members) (reverse (take n stack)) } ≡ k →
+    IsSkyline I S members n stack ledges hs rows flags → AreSectionsOf k.instance k.sections
+belongs_of_view I S members n stack ledges hs rows flags k e h =
     subst (λ (k : Sky). AreSectionsOf k.instance k.sections) e h.carries.belongs
 
-pub stands_of_view : (I : Instance) (S : SectionList) (members : List ℕ) (n : ℕ) (stack floors hs : List ℕ)
+pub stands_of_view : (I : Instance) (S : SectionList) (members : List ℕ) (n : ℕ) (stack ledges hs : List ℕ)
     (rows : List (List ℕ)) (flags : List Bool) (k : Sky) →
-    record { instance = I; sections = S; claims = claims_of I (whole members) (reverse (take n stack)) } ≡ k →
-    IsSkyline I S members n stack floors hs rows flags → Stands k.instance (last_claim k.claims)
-stands_of_view I S members n stack floors hs rows flags k e h =
+    record { instance = I; sections = S; claims = claims_of I (whole I members) (reverse (take n stack)) } ≡ k →
+    IsSkyline I S members n stack ledges hs rows flags → Stands k.instance (last_claim k.claims)
+stands_of_view I S members n stack ledges hs rows flags k e h =
     subst (λ (k : Sky). Stands k.instance (last_claim k.claims)) e
-    (subst (Stands I) (sym (last_of_claims I (whole members) (reverse (take n stack)))) (record {
+    (subst (Stands I) (sym (last_of_claims I (whole I members) (reverse (take n stack)))) (record {
       claim = record {
-        rises = rises_after I (whole members) (reverse (take n stack))
-            (subst Rises (sym (buffers_of-whole members)) h.carries.rise);
+        rises = rises_after I (whole I members) (reverse (take n stack))
+            (subst Rises (sym (buffers_of-whole I members)) h.carries.rise);
         in_range = λ e i. member_in_range I members (reverse (take n stack)) e.0 h.carries.in_range
-            (in_buffers (claim_after I (whole members) (reverse (take n stack))) e i);
+            (in_buffers (claim_after I (whole I members) (reverse (take n stack))) e i);
       };
       bounds = λ e i.
           let b = bound_low I members (reverse (take n stack)) e h.carries.buffers h.carries.count h.carries.in_range

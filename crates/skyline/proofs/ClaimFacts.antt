@@ -1,6 +1,6 @@
 -- Bounds of claims, and the claims of a skyline on which nothing stands.
 use Rattle.std.proofs.Common.{◌≡◌, ◌^◌, ◌<◌, inl, inr, [], ◌∷◌, refl, subst, sym, lit<, arith}
-use Rattle.dsa_terms.specs.Buffers.{Instance}
+use Rattle.dsa_terms.specs.Buffers.{Instance, buffer}
 use Rattle.dsa_terms.specs.Claims.{Entry, IsIn}
 use Rattle.lifetime.specs.SectionList.{SectionList}
 use Rattle.skyline.specs.Skies.{AreLow, at_first}
@@ -21,9 +21,9 @@ high_bound h =
     let k = h ((1, 0) ∷ (2, 18014398509481984) ∷ []) (2, 18014398509481984) (inr (inl refl)) (inr (inl refl)) in
     omega arith
 
--- of three buffers the last two are the members: one claim is there, in which both may start at 0
+-- of three buffers the last two are the members: one claim is there, in which each may start at its lowest
 module _ (I : Instance) (S : SectionList) where
-  one_claim : (at_first I S (1 ∷ 2 ∷ [])).claims ≡ ((1, 0) ∷ (2, 0) ∷ []) ∷ []
+  one_claim : (at_first I S (1 ∷ 2 ∷ [])).claims ≡ ((1, (buffer I 1).lowest) ∷ (2, (buffer I 2).lowest) ∷ []) ∷ []
   one_claim = refl
 
   same_instance : (at_first I S (1 ∷ 2 ∷ [])).instance ≡ I

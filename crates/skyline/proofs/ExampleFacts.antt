@@ -3,17 +3,18 @@ use Rattle.std.proofs.Common.{◌≡◌, ℕ, ◌+◌, false, List, [], ◌∷�
 use Rattle.dsa_terms.specs.Buffers.{Buffer, Instance, is_live, buffer, do_share, some_before}
 use Rattle.dsa_terms.specs.Claims.{child, number_of, step, up}
 use Rattle.dsa_terms.specs.Parts.{whole}
+use Rattle.dsa_terms.proofs.Examples.{high_fours, low}
 use Rattle.lifetime.specs.SectionList.{SectionList, section_with}
-use Rattle.skyline.specs.Carried.{claims_of, floor_at, heights_after, offsets_after}
+use Rattle.skyline.specs.Carried.{claims_of, ledge_at, heights_after, offsets_after}
 use Rattle.skyline.specs.LowsOf.{has_level, least_low, low_of}
 use Rattle.skyline.specs.Overloads.{free_load, is_left, least_of, least_up, over, overloaded}
 use Rattle.skyline.specs.Places.{at_places, set_each}
 use Rattle.skyline.specs.Skies.{last_claim}
-use Rattle.skyline.specs.Standing.{claim_after, floor, offset_after, raised, top_under}
+use Rattle.skyline.specs.Standing.{claim_after, ledge, offset_after, raised, top_under}
 
 abbrev pub plain : ℕ → ℕ → ℕ → ℕ → Buffer
 plain lower upper size alignment =
-    record { lower = lower; upper = upper; size = size; alignment = alignment; gaps = [] }
+    record { lower = lower; upper = upper; size = size; alignment = alignment; gaps = []; lowest = 0 }
 
 abbrev pub all_three : List ℕ
 all_three = 0 ∷ 1 ∷ 2 ∷ []
@@ -29,20 +30,20 @@ one_section = record {
 }
 
 -- buffers 0 and 1 stand at 0 and 2
-claims_are : claims_of together (whole all_three) (1 ∷ 0 ∷ []) ≡
+claims_are : claims_of together (whole together all_three) (1 ∷ 0 ∷ []) ≡
     ((0, 0) ∷ (1, 0) ∷ (2, 0) ∷ []) ∷ ((1, 1) ∷ (2, 1) ∷ []) ∷ ((2, 3) ∷ []) ∷ []
 unfolding child up step do_share some_before is_live buffer
 claims_are = refl
 
-offsets_are : offsets_after together (whole all_three) (1 ∷ 0 ∷ []) ≡ 2 ∷ 0 ∷ []
+offsets_are : offsets_after together (whole together all_three) (1 ∷ 0 ∷ []) ≡ 2 ∷ 0 ∷ []
 unfolding child up step do_share some_before is_live buffer
 offsets_are = refl
 
-heights_are : heights_after together one_section (whole all_three) (1 ∷ 0 ∷ []) ≡ 3 ∷ []
+heights_are : heights_after together one_section (whole together all_three) (1 ∷ 0 ∷ []) ≡ 3 ∷ []
 unfolding child up step do_share some_before is_live buffer
 heights_are = refl
 
-last_is : last_claim (claims_of together (whole all_three) (1 ∷ 0 ∷ [])) ≡ (2, 3) ∷ []
+last_is : last_claim (claims_of together (whole together all_three) (1 ∷ 0 ∷ [])) ≡ (2, 3) ∷ []
 unfolding child up step do_share some_before is_live buffer
 last_is = refl
 
@@ -78,37 +79,61 @@ second_is_full : overloaded in_turn
 unfolding overloaded over least_up free_load is_left up buffer
 second_is_full = refl
 
--- ---- the floor
-floor_of_smaller : floor_at (2 ∷ 0 ∷ []) (7 ∷ 5 ∷ []) 1 ≡ 8
-floor_of_smaller = refl
+-- ---- the ledge
+ledge_of_smaller : ledge_at (2 ∷ 0 ∷ []) (7 ∷ 5 ∷ []) 1 ≡ 8
+ledge_of_smaller = refl
 
-floor_of_greater : floor_at (2 ∷ 0 ∷ []) (7 ∷ 5 ∷ []) 3 ≡ 7
-floor_of_greater = refl
+ledge_of_greater : ledge_at (2 ∷ 0 ∷ []) (7 ∷ 5 ∷ []) 3 ≡ 7
+ledge_of_greater = refl
 
--- ---- heights and the floor give the low of a buffer, and not its bound
+-- ---- heights and the ledge give the low of a buffer, and not its bound
 -- buffer 1 has to start at a multiple of 4, and shares a moment with buffer 0 alone
 abbrev rounded_twice : Instance
 rounded_twice = plain 0 2 1 1 ∷ plain 0 1 1 4 ∷ plain 1 2 1 2 ∷ []
 
 -- its bound once the buffers 0 and 2 stand
-bound_is_4 : number_of (claim_after rounded_twice (whole all_three) (2 ∷ 0 ∷ [])) 1 ≡ 4
+bound_is_4 : number_of (claim_after rounded_twice (whole rounded_twice all_three) (2 ∷ 0 ∷ [])) 1 ≡ 4
 unfolding child up step do_share some_before is_live buffer
 bound_is_4 = refl
 
--- the greatest of the tops and the floor is less
-tops_and_floor_are_3 : max (top_under rounded_twice (whole all_three) (2 ∷ 0 ∷ []) 1)
-    (floor rounded_twice (whole all_three) (2 ∷ 0 ∷ []) 1) ≡ 3
+-- the greatest of the tops and the ledge is less
+tops_and_ledge_are_3 : max (top_under rounded_twice (whole rounded_twice all_three) (2 ∷ 0 ∷ []) 1)
+    (ledge rounded_twice (whole rounded_twice all_three) (2 ∷ 0 ∷ []) 1) ≡ 3
 unfolding child up step do_share some_before is_live buffer
-tops_and_floor_are_3 = refl
+tops_and_ledge_are_3 = refl
 
-raised_is_3 : raised rounded_twice (whole all_three) (2 ∷ 0 ∷ []) 1 ≡ 3
+raised_is_3 : raised rounded_twice (whole rounded_twice all_three) (2 ∷ 0 ∷ []) 1 ≡ 3
 unfolding child up step do_share some_before is_live buffer
 raised_is_3 = refl
 
 -- and the least multiple is the same
-low_is_4 : offset_after rounded_twice (whole all_three) (2 ∷ 0 ∷ []) 1 ≡ 4
+low_is_4 : offset_after rounded_twice (whole rounded_twice all_three) (2 ∷ 0 ∷ []) 1 ≡ 4
 unfolding child up step do_share some_before is_live buffer
 low_is_4 = refl
+
+-- ---- the lowest: buffer 0 has to start at 6 or above, also where buffer 1 stands at 0 with its top at 4
+low_claims : claims_of low (whole low (0 ∷ 1 ∷ [])) (1 ∷ []) ≡ ((0, 6) ∷ (1, 0) ∷ []) ∷ ((0, 6) ∷ []) ∷ []
+unfolding child up step do_share some_before is_live buffer
+low_claims = refl
+
+raised_to_lowest : raised low (whole low (0 ∷ 1 ∷ [])) (1 ∷ []) 0 ≡ 6
+unfolding child up step do_share some_before is_live buffer
+raised_to_lowest = refl
+
+tops_and_ledge_are_4 : max (top_under low (whole low (0 ∷ 1 ∷ [])) (1 ∷ []) 0)
+    (ledge low (whole low (0 ∷ 1 ∷ [])) (1 ∷ []) 0) ≡ 4
+unfolding child up step do_share some_before is_live buffer
+tops_and_ledge_are_4 = refl
+
+-- one that stands above its lowest raises the other past both
+above_lowest : offsets_after low (whole low (0 ∷ 1 ∷ [])) (1 ∷ 0 ∷ []) ≡ 10 ∷ 6 ∷ []
+unfolding child up step do_share some_before is_live buffer
+above_lowest = refl
+
+-- a lowest of 5 with the alignment 4 gives the low 8
+rounded_lowest : offset_after high_fours (whole high_fours all_three) [] 0 ≡ 8
+unfolding child up step do_share some_before is_live buffer
+rounded_lowest = refl
 
 -- ---- places
 written : set_each (λ s. s + 10) (0 ∷ 2 ∷ []) (5 ∷ 6 ∷ 7 ∷ []) ≡ 10 ∷ 6 ∷ 12 ∷ []

@@ -22,11 +22,11 @@ pub record LoadFacts (I : Instance) (S : SectionList) (ls : List ℕ) (b : ℕ) 
   pub sections : All (λ s. s < length ls) (sections_of S b)
   pub enough : All (λ s. (buffer I b).size ≤ slice_index ls s) (sections_of S b)
 
-pub push_facts : (I : Instance) (S : SectionList) (members : List ℕ) (n : ℕ) (stack floors hs : List ℕ)
+pub push_facts : (I : Instance) (S : SectionList) (members : List ℕ) (n : ℕ) (stack ledges hs : List ℕ)
     (rows : List (List ℕ)) (flags : List Bool) (ls : List ℕ) (b : ℕ) →
-    IsLoaded I S members n stack floors hs rows flags ls →
-    HasBuffer (claim_after I (whole members) (reverse (take n stack))) b → LoadFacts I S ls b
-push_facts I S members n stack floors hs rows flags ls b h i = record {
+    IsLoaded I S members n stack ledges hs rows flags ls →
+    HasBuffer (claim_after I (whole I members) (reverse (take n stack))) b → LoadFacts I S ls b
+push_facts I S members n stack ledges hs rows flags ls b h i = record {
   in_range = lt;
   rise = rise_of I S p b lt;
   sections = λ k d l. let r = section_in_range I S p (slice_index_or (sections_of S b) k d) b lt
@@ -35,7 +35,7 @@ push_facts I S members n stack floors hs rows flags ls b h i = record {
       let j = in_at (sections_of S b) k d l in
       let r = section_in_range I S p (slice_index_or (sections_of S b) k d) b lt j in
       let e = h.loads.each (slice_index_or (sections_of S b) k d) r in
-      let w = load_with I S (claim_after I (whole members) (reverse (take n stack))) b
+      let w = load_with I S (claim_after I (whole I members) (reverse (take n stack))) b
       (slice_index_or (sections_of S b) k d) p lt r i j in
       omega (arith, e, w);
 }
@@ -46,17 +46,17 @@ push_facts I S members n stack floors hs rows flags ls b h i = record {
     lt : b < length I
     lt = member_in_range I members (reverse (take n stack)) b h.sky.carries.in_range i
 
-pub pushed_loads : (I : Instance) (S : SectionList) (members : List ℕ) (n : ℕ) (stack floors hs : List ℕ)
+pub pushed_loads : (I : Instance) (S : SectionList) (members : List ℕ) (n : ℕ) (stack ledges hs : List ℕ)
     (rows : List (List ℕ)) (flags : List Bool) (ls : List ℕ) (b : ℕ) (ls' : List ℕ) →
-    IsLoaded I S members n stack floors hs rows flags ls →
-    HasBuffer (claim_after I (whole members) (reverse (take n stack))) b → n < length stack →
+    IsLoaded I S members n stack ledges hs rows flags ls →
+    HasBuffer (claim_after I (whole I members) (reverse (take n stack))) b → n < length stack →
     ls' ≡ set_each (λ s. slice_index ls s - (buffer I b).size) (sections_of S b) ls →
-    HasLoads I S (claim_after I (whole members) (reverse (take (n + 1) (slice_set stack n b)))) ls'
-pushed_loads I S members n stack floors hs rows flags ls b ls' h i lt e =
-    subst (λ (bs : List ℕ). HasLoads I S (claim_after I (whole members) bs) ls') (sym (reverse_set stack n b lt))
-    (subst (HasLoads I S (child I (claim_after I (whole members) (reverse (take n stack)))
-    (entry_of (claim_after I (whole members) (reverse (take n stack))) b))) (sym e)
-    (lighter I S (claim_after I (whole members) (reverse (take n stack))) b ls h.sky.carries.belongs
+    HasLoads I S (claim_after I (whole I members) (reverse (take (n + 1) (slice_set stack n b)))) ls'
+pushed_loads I S members n stack ledges hs rows flags ls b ls' h i lt e =
+    subst (λ (bs : List ℕ). HasLoads I S (claim_after I (whole I members) bs) ls') (sym (reverse_set stack n b lt))
+    (subst (HasLoads I S (child I (claim_after I (whole I members) (reverse (take n stack)))
+    (entry_of (claim_after I (whole I members) (reverse (take n stack))) b))) (sym e)
+    (lighter I S (claim_after I (whole I members) (reverse (take n stack))) b ls h.sky.carries.belongs
     (member_in_range I members (reverse (take n stack)) b h.sky.carries.in_range i) i h.loads))
 
 -- at a pop
@@ -66,18 +66,18 @@ pub record BackFacts (I : Instance) (S : SectionList) (ls : List ℕ) (b : ℕ) 
   pub sections : All (λ s. s < length ls) (sections_of S b)
   pub room : All (λ s. slice_index ls s + (buffer I b).size < 2 ^ 64) (sections_of S b)
 
-last_loads : (I : Instance) (S : SectionList) (members : List ℕ) (n : ℕ) (stack floors hs : List ℕ)
+last_loads : (I : Instance) (S : SectionList) (members : List ℕ) (n : ℕ) (stack ledges hs : List ℕ)
     (rows : List (List ℕ)) (flags : List Bool) (ls : List ℕ) →
-    IsLoaded I S members n stack floors hs rows flags ls → 0 < n →
-    HasLoads I S (claim_after I (whole members) (slice_index stack (n - 1) ∷ reverse (take (n - 1) stack))) ls
-last_loads I S members n stack floors hs rows flags ls h pos =
-    subst (λ (bs : List ℕ). HasLoads I S (claim_after I (whole members) bs) ls)
+    IsLoaded I S members n stack ledges hs rows flags ls → 0 < n →
+    HasLoads I S (claim_after I (whole I members) (slice_index stack (n - 1) ∷ reverse (take (n - 1) stack))) ls
+last_loads I S members n stack ledges hs rows flags ls h pos =
+    subst (λ (bs : List ℕ). HasLoads I S (claim_after I (whole I members) bs) ls)
     (reverse_last stack n pos (omega (arith, h.sky.depth, h.sky.stack_room))) h.loads
 
-pub pop_facts : (I : Instance) (S : SectionList) (members : List ℕ) (n : ℕ) (stack floors hs : List ℕ)
+pub pop_facts : (I : Instance) (S : SectionList) (members : List ℕ) (n : ℕ) (stack ledges hs : List ℕ)
     (rows : List (List ℕ)) (flags : List Bool) (ls : List ℕ) (b : ℕ) →
-    IsLoaded I S members n stack floors hs rows flags ls → 0 < n → b ≡ slice_index stack (n - 1) → BackFacts I S ls b
-pop_facts I S members n stack floors hs rows flags ls b h pos e = subst (BackFacts I S ls) (sym e) (record {
+    IsLoaded I S members n stack ledges hs rows flags ls → 0 < n → b ≡ slice_index stack (n - 1) → BackFacts I S ls b
+pop_facts I S members n stack ledges hs rows flags ls b h pos e = subst (BackFacts I S ls) (sym e) (record {
   in_range = lt;
   rise = rise_of I S p (slice_index stack (n - 1)) lt;
   sections = λ k d l. let r = section_in_range I S p (slice_index_or (sections_of S (slice_index stack (n - 1))) k d)
@@ -87,11 +87,11 @@ pop_facts I S members n stack floors hs rows flags ls b h pos e = subst (BackFac
       let j = in_at (sections_of S (slice_index stack (n - 1))) k d l in
       let r = section_in_range I S p (slice_index_or (sections_of S (slice_index stack (n - 1))) k d)
       (slice_index stack (n - 1)) lt j in
-      let x = (last_loads I S members n stack floors hs rows flags ls h pos).each
+      let x = (last_loads I S members n stack ledges hs rows flags ls h pos).each
       (slice_index_or (sections_of S (slice_index stack (n - 1))) k d) r in
-      let w = load_with I S (claim_after I (whole members) (reverse (take (n - 1) stack))) (slice_index stack (n - 1))
+      let w = load_with I S (claim_after I (whole I members) (reverse (take (n - 1) stack))) (slice_index stack (n - 1))
       (slice_index_or (sections_of S (slice_index stack (n - 1))) k d) p lt r c.0 j in
-      let m = load_limited I S (claim_after I (whole members) (reverse (take (n - 1) stack)))
+      let m = load_limited I S (claim_after I (whole I members) (reverse (take (n - 1) stack)))
       (slice_index_or (sections_of S (slice_index stack (n - 1))) k d) h.sky.carries.buffers h.sky.carries.count p
       r in
       omega (arith, x, w, m);
@@ -100,24 +100,24 @@ pop_facts I S members n stack floors hs rows flags ls b h pos e = subst (BackFac
     p : AreSectionsOf I S
     p = h.sky.carries.belongs
 
-    c : IsIn (slice_index stack (n - 1)) (buffers_of (claim_after I (whole members) (reverse (take (n - 1) stack)))) ×
+    c : IsIn (slice_index stack (n - 1)) (buffers_of (claim_after I (whole I members) (reverse (take (n - 1) stack)))) ×
         Unit {0}
-    c = ((last_stands I S members n stack floors hs rows flags h.sky pos).stands.0, tt)
+    c = ((last_stands I S members n stack ledges hs rows flags h.sky pos).stands.0, tt)
 
     lt : slice_index stack (n - 1) < length I
     lt = member_in_range I members (reverse (take (n - 1) stack)) (slice_index stack (n - 1)) h.sky.carries.in_range c.0
 
-pub popped_loads : (I : Instance) (S : SectionList) (members : List ℕ) (n : ℕ) (stack floors hs : List ℕ)
+pub popped_loads : (I : Instance) (S : SectionList) (members : List ℕ) (n : ℕ) (stack ledges hs : List ℕ)
     (rows : List (List ℕ)) (flags : List Bool) (ls : List ℕ) (ls' : List ℕ) →
-    IsLoaded I S members n stack floors hs rows flags ls → 0 < n →
+    IsLoaded I S members n stack ledges hs rows flags ls → 0 < n →
     ls' ≡ set_each (λ s. slice_index ls s + (buffer I (slice_index stack (n - 1))).size)
     (sections_of S (slice_index stack (n - 1))) ls →
-    HasLoads I S (claim_after I (whole members) (reverse (take (n - 1) stack))) ls'
-popped_loads I S members n stack floors hs rows flags ls ls' h pos e =
-    subst (HasLoads I S (claim_after I (whole members) (reverse (take (n - 1) stack)))) (sym e)
-    (heavier I S (claim_after I (whole members) (reverse (take (n - 1) stack)))
+    HasLoads I S (claim_after I (whole I members) (reverse (take (n - 1) stack))) ls'
+popped_loads I S members n stack ledges hs rows flags ls ls' h pos e =
+    subst (HasLoads I S (claim_after I (whole I members) (reverse (take (n - 1) stack)))) (sym e)
+    (heavier I S (claim_after I (whole I members) (reverse (take (n - 1) stack)))
     (slice_index stack (n - 1)) ls h.sky.carries.belongs
     (member_in_range I members (reverse (take (n - 1) stack)) (slice_index stack (n - 1)) h.sky.carries.in_range
-    (last_stands I S members n stack floors hs rows flags h.sky pos).stands.0)
-    (last_stands I S members n stack floors hs rows flags h.sky pos).stands.0
-    (last_loads I S members n stack floors hs rows flags ls h pos))
+    (last_stands I S members n stack ledges hs rows flags h.sky pos).stands.0)
+    (last_stands I S members n stack ledges hs rows flags h.sky pos).stands.0
+    (last_loads I S members n stack ledges hs rows flags ls h pos))

@@ -196,15 +196,15 @@ load_limited I S l s h n p ls =
 pub first_has_loads : (I : Instance) (S : SectionList) (members ls : List ℕ) (flags : List Bool) → AreSectionsOf I S →
     length ls ≡ count_of S → ((s : ℕ) → s < count_of S → slice_index ls s ≡ sum_by (λ b. (buffer I b).size)
     (filter (λ b. slice_index_or flags b false) (members_of S s))) →
-    ((c : ℕ) → c < length I → (slice_index_or flags c false ≡ true) ↔ IsIn c members) → HasLoads I S (whole members) ls
+    ((c : ℕ) → c < length I → (slice_index_or flags c false ≡ true) ↔ IsIn c members) → HasLoads I S (whole I members) ls
 unfolding free_load
 first_has_loads I S members ls flags p count each marks = record {
   count = count;
   each = λ s ls'. each s ls' ∙ same_sum (λ b. (buffer I b).size) (λ b. slice_index_or flags b false)
-      (is_left (whole members)) (members_of S s)
-      (λ c i. agree (slice_index_or flags c false) (is_left (whole members) c)
-      (λ h. gives_left (whole members) c (subst (IsIn c) (sym (buffers_of-whole members))
+      (is_left (whole I members)) (members_of S s)
+      (λ c i. agree (slice_index_or flags c false) (is_left (whole I members) c)
+      (λ h. gives_left (whole I members) c (subst (IsIn c) (sym (buffers_of-whole I members))
       ((marks c (member_in I S p s c ls' i)).0 h)))
-      (λ h. (marks c (member_in I S p s c ls' i)).1 (subst (IsIn c) (buffers_of-whole members)
-      (left_gives (whole members) c h))));
+      (λ h. (marks c (member_in I S p s c ls' i)).1 (subst (IsIn c) (buffers_of-whole I members)
+      (left_gives (whole I members) c h))));
 }

@@ -55,20 +55,20 @@ marked-more marks ms i n li lt len h c lc =
         go (inr ne) (inr e) = absurd (ne e)
 
 -- the fields of a new skyline
-pub new_sky : (I : Instance) (S : SectionList) (members stack floors hs : List ℕ) (saved : List (Vec ℕ Global))
+pub new_sky : (I : Instance) (S : SectionList) (members stack ledges hs : List ℕ) (saved : List (Vec ℕ Global))
     (flags : List Bool) →
     All IsBuffer I → length I ≤ 512 → AreSectionsOf I S → All (λ b. b < length I) members → Rises members →
-    length stack ≡ length members → length floors ≡ length members → hs ≡ replicate (count_of S) 0 →
+    length stack ≡ length members → length ledges ≡ length members → hs ≡ replicate (count_of S) 0 →
     length saved ≡ length I →
     ((b : ℕ) (d : Vec ℕ Global) → b < length I → slice_index_or flags b false ≡ true →
     vec_len (slice_index_or saved b d) ≡ length (sections_of S b)) →
     length flags ≡ length I → ((c : ℕ) → c < length I → (slice_index_or flags c false ≡ true) ↔ IsIn c members) →
-    IsSkyline I S members 0 stack floors hs (map items_of saved) flags
-new_sky I S members stack floors hs saved flags buffers count belongs range rise stacks floor_room heights rows rooms
+    IsSkyline I S members 0 stack ledges hs (map items_of saved) flags
+new_sky I S members stack ledges hs saved flags buffers count belongs range rise stacks ledge_room heights rows rooms
     flag_count marks = record {
       depth = omega arith;
       stack_room = stacks;
-      floor_room = floor_room;
+      ledge_room = ledge_room;
       carries = record {
         buffers = buffers;
         count = count;
@@ -83,7 +83,7 @@ new_sky I S members stack floors hs saved flags buffers count belongs range rise
         saved_room = λ b lt m. room saved rows b lt (λ d. rooms b d lt ((marks b lt).1 m));
         free_count = flag_count;
         free = λ c l. subst (λ (xs : List ℕ). (slice_index_or flags c false ≡ true) ↔ IsIn c xs)
-            (sym (buffers_of-whole members)) (marks c l);
+            (sym (buffers_of-whole I members)) (marks c l);
       };
     }
   where

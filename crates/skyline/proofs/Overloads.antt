@@ -192,17 +192,17 @@ unfolding overloaded
 overloaded_none I S l C n le h = sym (none_is (over I S l C) (count_of S) (λ k lt. h k (omega arith)))
 
 -- ---- a load, as a contract sees it
-pub load_of_view : (I : Instance) (S : SectionList) (members : List ℕ) (n : ℕ) (stack floors hs : List ℕ)
+pub load_of_view : (I : Instance) (S : SectionList) (members : List ℕ) (n : ℕ) (stack ledges hs : List ℕ)
     (rows : List (List ℕ)) (flags : List Bool) (ls : List ℕ) (k : Sky) (s : ℕ) →
-    record { instance = I; sections = S; claims = claims_of I (whole members) (reverse (take n stack)) } ≡ k →
-    IsLoaded I S members n stack floors hs rows flags ls → s < count_of k.sections →
+    record { instance = I; sections = S; claims = claims_of I (whole I members) (reverse (take n stack)) } ≡ k →
+    IsLoaded I S members n stack ledges hs rows flags ls → s < count_of k.sections →
     (s < length ls) × ((slice_index ls s ≡ free_load k.instance k.sections (last_claim k.claims) s) ×
     (slice_index ls s ≤ 512 * 2 ^ 40))
-load_of_view I S members n stack floors hs rows flags ls k s e h lt = (
+load_of_view I S members n stack ledges hs rows flags ls k s e h lt = (
   omega (arith, here, h.loads.count),
   (
     same,
-    (let m = load_limited I S (claim_after I (whole members) (reverse (take n stack))) s
+    (let m = load_limited I S (claim_after I (whole I members) (reverse (take n stack))) s
         h.sky.carries.buffers h.sky.carries.count h.sky.carries.belongs here in let d = h.loads.each s here in
         omega arith),
   ),
@@ -213,5 +213,5 @@ load_of_view I S members n stack floors hs rows flags ls k s e h lt = (
 
     same : slice_index ls s ≡ free_load k.instance k.sections (last_claim k.claims) s
     same = h.loads.each s here ∙ ap (λ l. free_load I S l s)
-        (sym (last_of_claims I (whole members) (reverse (take n stack))))
+        (sym (last_of_claims I (whole I members) (reverse (take n stack))))
         ∙ ap (λ (x : Sky). free_load x.instance x.sections (last_claim x.claims) s) e

@@ -4,6 +4,7 @@ use Rattle.std.proofs.lemmas.List.Elements.{All-cons, All-nil}
 use Rattle.dsa_terms.specs.Buffers.{buffer, do_share, is_live, some_before}
 use Rattle.dsa_terms.specs.Claims.{IsIn, child, step, up}
 use Rattle.dsa_terms.specs.Parts.{whole}
+use Rattle.dsa_terms.proofs.Examples.{high_fours}
 use Rattle.dsa_model.specs.Buffer.{IsBuffer, is_ever_live}
 use Rattle.lifetime.specs.SectionList.{sections_of}
 use Rattle.lifetime.proofs.SweepFacts.{one, only}
@@ -14,7 +15,7 @@ use Rattle.skyline.specs.Carried.{Carries, IsSaved}
 use Rattle.skyline.specs.Loads.{HasLoads, IsLoaded}
 use Rattle.skyline.specs.Overloads.{FitsFrom, free_load, is_left, over_at}
 use Rattle.skyline.specs.Skylines.{IsSkyline}
-use Rattle.skyline.specs.Standing.{IsStack, claim_after}
+use Rattle.skyline.specs.Standing.{HasLowests, IsStack, claim_after}
 use Rattle.skyline.proofs.ExampleFacts.{all_three, one_section, together}
 
 -- ---- loads on top of a height
@@ -37,21 +38,23 @@ fits_nowhere : FitsFrom 9 5 None
 fits_nowhere = tt
 
 -- ---- stacks
-one_on_another : IsStack together (whole all_three) (1 ∷ 0 ∷ [])
+one_on_another : IsStack together (whole together all_three) (1 ∷ 0 ∷ [])
 unfolding child up step do_share some_before is_live buffer
 one_on_another = (inl refl, (inl refl, tt))
 
 -- no buffer stands twice
-not_twice : IsStack together (whole all_three) (0 ∷ 0 ∷ []) → ⊥
+not_twice : IsStack together (whole together all_three) (0 ∷ 0 ∷ []) → ⊥
 unfolding child up step do_share some_before is_live buffer
 not_twice (i, j) = elim i [ inl e ↦ omega arith | inr k ↦ elim k [ inl e ↦ omega arith | inr n ↦ n ] ]
 
 -- below buffer 1 the height is 1, and below buffer 0 it is 0
-heights_saved : IsSaved together one_section (whole all_three) ((0 ∷ []) ∷ (1 ∷ []) ∷ (0 ∷ []) ∷ []) (1 ∷ 0 ∷ [])
+heights_saved : IsSaved together one_section (whole together all_three) ((0 ∷ []) ∷ (1 ∷ []) ∷ (0 ∷ []) ∷ [])
+    (1 ∷ 0 ∷ [])
 unfolding child up step do_share some_before is_live buffer
 heights_saved = (refl, (refl, tt))
 
-not_of_the_top : IsSaved together one_section (whole all_three) ((0 ∷ []) ∷ (3 ∷ []) ∷ (0 ∷ []) ∷ []) (1 ∷ 0 ∷ []) → ⊥
+not_of_the_top : IsSaved together one_section (whole together all_three) ((0 ∷ []) ∷ (3 ∷ []) ∷ (0 ∷ []) ∷ [])
+    (1 ∷ 0 ∷ []) → ⊥
 unfolding child up step do_share some_before is_live buffer
 not_of_the_top (e, r) = absurd cc
 
@@ -59,11 +62,11 @@ not_of_the_top (e, r) = absurd cc
 apart : (m n : ℕ) → n < m → m ≡ n → ⊥
 apart m n lt e = omega arith
 
-loads_of_all : HasLoads together one_section (whole all_three) (4 ∷ [])
+loads_of_all : HasLoads together one_section (whole together all_three) (4 ∷ [])
 unfolding free_load is_left buffer
 loads_of_all = record { count = refl; each = each }
   where
-    each : (s : ℕ) → s < 1 → slice_index (4 ∷ []) s ≡ free_load together one_section (whole all_three) s
+    each : (s : ℕ) → s < 1 → slice_index (4 ∷ []) s ≡ free_load together one_section (whole together all_three) s
     each zero lt = refl
     each (suc s) lt = absurd (omega arith)
 
@@ -71,6 +74,17 @@ loads_of_all = record { count = refl; each = each }
 loads_of_two : HasLoads together one_section ((1, 0) ∷ (2, 0) ∷ []) (4 ∷ []) → ⊥
 unfolding free_load is_left buffer
 loads_of_two h = apart 4 3 (lit< tt) (h.each 0 (lit< tt))
+
+-- ---- bounds that are the lowests, and one that is a floor
+fives_and_zero : HasLowests high_fours ((0, 5) ∷ (2, 0) ∷ [])
+unfolding buffer
+fives_and_zero e (inl q) = rw q refl
+fives_and_zero e (inr (inl q)) = rw q refl
+fives_and_zero e (inr (inr i)) = absurd i
+
+not_the_floor : HasLowests high_fours ((0, 8) ∷ []) → ⊥
+unfolding buffer
+not_the_floor h = apart 8 5 (lit< tt) (h (0, 8) (inl refl))
 
 -- ---- the one buffer of an instance stands at 0
 abbrev rows : List (List ℕ)
@@ -100,7 +114,7 @@ alone_stands = record {
     room (suc b) lt i = absurd (omega arith)
 
     free : (b : ℕ) → b < 1 →
-        (slice_index_or (false ∷ []) b false ≡ true) ↔ HasBuffer (claim_after one (whole (0 ∷ [])) (0 ∷ [])) b
+        (slice_index_or (false ∷ []) b false ≡ true) ↔ HasBuffer (claim_after one (whole one (0 ∷ [])) (0 ∷ [])) b
     free zero lt = (λ e. absurd cc, λ i. absurd i)
     free (suc b) lt = absurd (omega arith)
 
@@ -110,7 +124,7 @@ unfolding child up step do_share some_before is_live buffer
 not_free h = (h.free 0 (lit< tt)).0 refl
 
 one_deep : IsSkyline one its_section (0 ∷ []) 1 (0 ∷ []) (0 ∷ []) (1 ∷ []) rows (false ∷ [])
-one_deep = record { depth = lit≤ tt; stack_room = refl; floor_room = refl; carries = alone_stands }
+one_deep = record { depth = lit≤ tt; stack_room = refl; ledge_room = refl; carries = alone_stands }
 
 not_two_deep : IsSkyline one its_section (0 ∷ []) 2 (0 ∷ []) (0 ∷ []) (1 ∷ []) rows (false ∷ []) → ⊥
 not_two_deep h = let k = h.depth in omega arith

@@ -2,12 +2,12 @@
 use Rattle.std.proofs.Common.{◌≡◌, ◌+◌, ◌<◌, ◌≤◌, ℕ, zero, suc, Bool, true, false, cond, List, [], ◌∷◌, length, replicate, slice_index, max, refl, ap, ◌∙◌, arith}
 use Rattle.std.proofs.lemmas.List.{length-replicate}
 use Rattle.dsa_terms.specs.Buffers.{Instance, IsInstance, buffer, do_share}
-use Rattle.dsa_terms.specs.Claims.{Claim, IsIn, IsWhole}
+use Rattle.dsa_terms.specs.Claims.{Claim, IsIn}
 use Rattle.dsa_terms.specs.Logs.{greatest}
 use Rattle.dsa_terms.proofs.Numbers.{next_at_or_above}
 use Rattle.dsa_terms.proofs.Moments.{sound}
 use Rattle.lifetime.specs.SectionList.{count_of, sections_of, AreSectionsOf, SectionList}
-use Rattle.skyline.specs.Standing.{claim_after, offset_after, IsStack, raised, top_under}
+use Rattle.skyline.specs.Standing.{claim_after, offset_after, HasLowests, IsStack, raised, top_under}
 use Rattle.skyline.specs.Places.{at_places}
 use Rattle.skyline.specs.Carried.{heights_after}
 use Rattle.skyline.proofs.Places.{greatest_met, greatest_unmet, under_greatest, length-set_each}
@@ -38,7 +38,7 @@ AllIn I (b ∷ bs) = (b < length I) × AllIn I bs
 
 -- the greatest height over the sections of a buffer is the greatest top that it shares a moment with
 pub heights_are_tops : (I : Instance) (S : SectionList) (root : Claim) (bs : List ℕ) (c : ℕ) → IsInstance I →
-    AreSectionsOf I S → IsWhole root → IsStack I root bs → AllIn I bs → c < length I →
+    AreSectionsOf I S → HasLowests I root → IsStack I root bs → AllIn I bs → c < length I →
     greatest (at_places (heights_after I S root bs) (sections_of S c)) ≡ top_under I root bs c
 heights_are_tops I S root [] c s p w h r lt = zeros (count_of S) (sections_of S c)
 heights_are_tops I S root (b ∷ bs) c s p w h r lt =
@@ -46,7 +46,7 @@ heights_are_tops I S root (b ∷ bs) c s p w h r lt =
     (heights_are_tops I S root bs c s p w h.1 r.1 lt)
   where
     one_more : (I : Instance) (S : SectionList) (root : Claim) (bs : List ℕ) (b c : ℕ) → IsInstance I →
-        AreSectionsOf I S → IsWhole root → HasBuffer (claim_after I root bs) b → IsStack I root bs → b < length I →
+        AreSectionsOf I S → HasLowests I root → HasBuffer (claim_after I root bs) b → IsStack I root bs → b < length I →
         c < length I →
         greatest (at_places (heights_after I S root bs) (sections_of S b)) ≡ top_under I root bs b →
         greatest (at_places (heights_after I S root bs) (sections_of S c)) ≡ top_under I root bs c →

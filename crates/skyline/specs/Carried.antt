@@ -40,18 +40,18 @@ pub record Carries (I : Instance) (S : SectionList) (members bs ys hs : List ℕ
   pub belongs : AreSectionsOf I S
   pub in_range : All (λ b. b < length I) members
   pub rise : Rises members
-  pub stands : IsStack I (whole members) bs
-  pub offsets : ys ≡ offsets_after I (whole members) bs
-  pub heights : hs ≡ heights_after I S (whole members) bs
-  pub saved : IsSaved I S (whole members) rows bs
+  pub stands : IsStack I (whole I members) bs
+  pub offsets : ys ≡ offsets_after I (whole I members) bs
+  pub heights : hs ≡ heights_after I S (whole I members) bs
+  pub saved : IsSaved I S (whole I members) rows bs
   pub saved_count : length rows ≡ length I
   pub saved_room : (b : ℕ) → b < length I → IsIn b members →
       length (slice_index_or rows b []) ≡ length (sections_of S b)
   pub free_count : length flags ≡ length I
   pub free : (b : ℕ) → b < length I →
-      (slice_index_or flags b false ≡ true) ↔ HasBuffer (claim_after I (whole members) bs) b
+      (slice_index_or flags b false ≡ true) ↔ HasBuffer (claim_after I (whole I members) bs) b
 
--- the floor by the standing buffers and their offsets, the last one first
-abbrev pub floor_at : List ℕ → List ℕ → ℕ → ℕ
-floor_at [] ys c = 0
-floor_at (b ∷ bs) ys c = slice_index ys 0 + cond (nat_lt c b) 1 0
+-- the ledge by the standing buffers and their offsets, the last one first
+abbrev pub ledge_at : List ℕ → List ℕ → ℕ → ℕ
+ledge_at [] ys c = 0
+ledge_at (b ∷ bs) ys c = slice_index ys 0 + cond (nat_lt c b) 1 0

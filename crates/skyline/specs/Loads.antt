@@ -14,7 +14,7 @@ pub record HasLoads (I : Instance) (S : SectionList) (l : Claim) (loads : List �
   pub each : (s : ℕ) → s < count_of S → slice_index loads s ≡ free_load I S l s
 
 -- a skyline with the loads of its last claim
-pub record IsLoaded (I : Instance) (S : SectionList) (members : List ℕ) (n : ℕ) (stack floors hs : List ℕ)
+pub record IsLoaded (I : Instance) (S : SectionList) (members : List ℕ) (n : ℕ) (stack ledges hs : List ℕ)
     (rows : List (List ℕ)) (flags : List Bool) (ls : List ℕ) : Type 0 where
-  pub sky : IsSkyline I S members n stack floors hs rows flags
-  pub loads : HasLoads I S (claim_after I (whole members) (reverse (take n stack))) ls
+  pub sky : IsSkyline I S members n stack ledges hs rows flags
+  pub loads : HasLoads I S (claim_after I (whole I members) (reverse (take n stack))) ls

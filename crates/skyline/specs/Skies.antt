@@ -13,7 +13,7 @@ pub record Sky : Type 0 where
 
 -- the whole claim of the members alone
 abbrev pub at_first : Instance → SectionList → List ℕ → Sky
-at_first I S members = record { instance = I; sections = S; claims = whole members ∷ [] }
+at_first I S members = record { instance = I; sections = S; claims = whole I members ∷ [] }
 
 -- the last claim of the list
 abbrev pub last_claim : List Claim → Claim

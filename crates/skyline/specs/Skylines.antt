@@ -5,9 +5,9 @@ use Rattle.lifetime.specs.SectionList.{SectionList}
 use Rattle.skyline.specs.Carried.{Carries}
 
 -- n buffers stand, the first ones of the stack, and there is a place for each member
-pub record IsSkyline (I : Instance) (S : SectionList) (members : List ℕ) (n : ℕ) (stack floors hs : List ℕ)
+pub record IsSkyline (I : Instance) (S : SectionList) (members : List ℕ) (n : ℕ) (stack ledges hs : List ℕ)
     (rows : List (List ℕ)) (flags : List Bool) : Type 0 where
   pub depth : n ≤ length members
   pub stack_room : length stack ≡ length members
-  pub floor_room : length floors ≡ length members
-  pub carries : Carries I S members (reverse (take n stack)) (reverse (take n floors)) hs rows flags
+  pub ledge_room : length ledges ≡ length members
+  pub carries : Carries I S members (reverse (take n stack)) (reverse (take n ledges)) hs rows flags

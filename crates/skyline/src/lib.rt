@@ -1,7 +1,7 @@
 //! A claim that buffers are taken from and put back to, as a list of claims.
 #![tactic(auto)]
 
-mod floors;
+mod ledges;
 mod lows;
 mod lows_of;
 mod rooms;

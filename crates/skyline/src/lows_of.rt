@@ -5,7 +5,7 @@ ghost use Rattle.std.specs.List.{All};
 ghost use Rattle.skyline.specs.LowsOf.{least_low};
 ghost use Rattle.skyline.specs.Overloads.{FitsFrom};
 
-use crate::floors::lesser;
+use crate::ledges::lesser;
 
 /// The greatest of the levels, and 0 for none.
 pub(crate) fn greatest_level(levels: &[u64]) -> u64

@@ -10,7 +10,7 @@ ghost use Rattle.canonical_order.specs.Stands.{Stands};
 ghost use Rattle.skyline.specs.Overloads.{FitsFrom, least_up, over, overloaded};
 ghost use Rattle.skyline.specs.Skies.{AreLow, at_first, last_claim};
 
-use crate::floors::{floor_above, lesser};
+use crate::ledges::{ledge_above, lesser};
 use crate::lows_of::{greatest_level, least_low};
 use crate::rooms::{first_loads, make_rows, mark};
 use crate::rows::{burden, highest, lighten, raise, restore, save};
@@ -29,7 +29,7 @@ pub struct Skyline<'a> {
     members: Vec<u32>,
     depth: usize,
     stack: Vec<u32>,
-    floors: Vec<u64>,
+    ledges: Vec<u64>,
     heights: Vec<u64>,
     saved: Vec<Vec<u64>>,
     free: Vec<bool>,
@@ -49,18 +49,19 @@ impl<'a> Model for Skyline<'a> {
     ghost view = { λ s. record {
       instance = s.instance.now;
       sections = s.sections.now;
-      claims = claims_of s.instance.now (whole s.members.items)
+      claims = claims_of s.instance.now (whole s.instance.now s.members.items)
           (reverse (take s.depth s.stack.items));
     } };
 
     ghost invariant = { λ s. IsLoaded s.instance.now s.sections.now s.members.items s.depth
-        s.stack.items s.floors.items s.heights.items (map items_of s.saved.items) s.free.items
+        s.stack.items s.ledges.items s.heights.items (map items_of s.saved.items) s.free.items
         s.loads.items };
 }
 
 impl<'a> Skyline<'a> {
-    /// The whole claim of the members alone, with the room for all later calls. The caller owes the
-    /// sections of the instance, and members that rise and are in range.
+    /// The whole claim of the members alone, in which the bound of each is its lowest, with the room
+    /// for all later calls. The caller owes the sections of the instance, and members that rise and
+    /// are in range.
     pub fn new(
         alloc: Global,
         instance: &'a Instance,
@@ -75,7 +76,7 @@ impl<'a> Skyline<'a> {
         let count = instance.len();
         let heights = vec![in alloc; 0u64; sections.count() as usize]?;
         let stack = vec![in alloc; 0u32; members.len()]?;
-        let floors = vec![in alloc; 0u64; members.len()]?;
+        let ledges = vec![in alloc; 0u64; members.len()]?;
         let free = mark(alloc, count as usize, members)?;
         let saved = make_rows(alloc, sections, &free)?;
         let loads = first_loads(alloc, instance, sections, &free)?;
@@ -86,7 +87,7 @@ impl<'a> Skyline<'a> {
             members,
             depth: 0,
             stack,
-            floors,
+            ledges,
             heights,
             saved,
             free,
@@ -124,7 +125,7 @@ impl<'a> Skyline<'a> {
         raise(&mut self.heights, sections, offset + size);
         lighten(&mut self.loads, sections, size);
         self.stack[self.depth] = b;
-        self.floors[self.depth] = offset;
+        self.ledges[self.depth] = offset;
         self.free[b as usize] = false;
         self.depth += 1;
         offset
@@ -207,18 +208,19 @@ impl<'a> Skyline<'a> {
         self.free[b as usize]
     }
 
-    /// The low of the buffer: the least multiple of its alignment at or above the heights of its
-    /// sections and the floor.
+    /// The low of the buffer: the least multiple of its alignment at or above its lowest, the heights
+    /// of its sections and the ledge.
     pub(crate) fn least_offset(&self, b: u32) -> u64
         requires { HasBuffer (last_claim self.now.claims) b }
         ensures value { result ≡ up self.now.instance (entry_of (last_claim self.now.claims) b) }
         ensures limit { result < 2 ^ 54 }
         ensures stands { Stands self.now.instance (last_claim self.now.claims) }
     {
+        let buffer = self.instance.buffer(b);
         let top = highest(&self.heights, self.sections.sections_of(b));
-        let floor = floor_above(&self.stack, &self.floors, self.depth, b);
-        let bound = if top < floor { floor } else { top };
-        self.instance.buffer(b).least_offset(bound)
+        let ledge = ledge_above(&self.stack, &self.ledges, self.depth, b);
+        let bound = top.max(ledge).max(buffer.lowest());
+        buffer.least_offset(bound)
     }
 
     /// The least low of the section's members that are in the last claim, where there is one and

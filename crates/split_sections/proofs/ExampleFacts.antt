@@ -9,7 +9,7 @@ use Rattle.split_sections.specs.Sweep.{BeginsAt, IsRun, lower_entry}
 use Rattle.split_sections.proofs.Kept.{in_range_at}
 
 abbrev pub lives : ℕ → ℕ → Buffer
-lives lower upper = record { lower = lower; upper = upper; size = 1; alignment = 1; gaps = [] }
+lives lower upper = record { lower = lower; upper = upper; size = 1; alignment = 1; gaps = []; lowest = 0 }
 
 -- the second and the third touch, the first comes last
 abbrev pub three : Instance

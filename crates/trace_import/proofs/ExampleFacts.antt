@@ -7,13 +7,13 @@ use Rattle.csv.specs.Writing.{fields_text, is_blank}
 use Rattle.dsa_model.specs.Buffer.{is_ever_live}
 use Rattle.csv_instance.specs.Parse.{parse}
 use Rattle.csv_instance.specs.Records.{table_of}
-use Rattle.dsa_terms.specs.Buffers.{is_live, buffer, do_share, some_before, have_same_moments}
+use Rattle.dsa_terms.specs.Buffers.{is_live, buffer, do_share, some_before, have_same_moments, floor}
 use Rattle.dsa_terms.specs.Claims.{up, step, child}
 use Rattle.dsa_terms.specs.Logs.{ends_below, is_twin}
 use Rattle.dsa_terms.specs.Search.{is_tall, comes_before, first}
 use Rattle.dsa_terms.specs.Parts.{is_cut, last_cut, part_of, parts, searched}
 use Rattle.dsa_terms.specs.Plans.{layout_height, plan}
-use Rattle.dsa_terms.specs.Fits.{top, highest, neighbours, is_free, first_passing, first_place, stretches, free_ranges, holds, is_tighter, best_place, first_fit, best_fit}
+use Rattle.dsa_terms.specs.Fits.{top, highest, neighbours, is_free, first_passing, first_place, stretches, free_ranges, holds, is_tighter, best_place, first_fit, best_fit, least_from}
 use Rattle.dsa_terms.specs.Orders.{falls_by, rises_by, orders}
 use Rattle.dsa_terms.specs.Starts.{starts, planned}
 use Rattle.dsa_terms.proofs.Examples.{plain}
@@ -156,15 +156,15 @@ unfolding import_text imported fields_text is_blank digits records_from strip_bo
 parses = refl
 
 twice_at_11 : planned (imported twice) 11 ≡ None
-unfolding imported planned plan layout_height starts orders falls_by rises_by first_fit best_fit neighbours first_place
-    first_passing best_place free_ranges stretches holds is_tighter is_free highest top do_share some_before is_live
+unfolding imported planned plan layout_height starts orders falls_by rises_by first_fit best_fit neighbours first_place floor
+    first_passing best_place free_ranges stretches holds least_from is_tighter is_free highest top do_share some_before is_live
     buffer searched parts part_of is_cut last_cut first is_tall comes_before ends_below is_twin child up step
     have_same_moments
 twice_at_11 = refl
 
 twice_at_12 : planned (imported twice) 12 ≡ Some (8 ∷ 0 ∷ 8 ∷ [])
-unfolding imported planned plan layout_height starts orders falls_by rises_by first_fit best_fit neighbours first_place
-    first_passing best_place free_ranges stretches holds is_tighter is_free highest top do_share some_before is_live
+unfolding imported planned plan layout_height starts orders falls_by rises_by first_fit best_fit neighbours first_place floor
+    first_passing best_place free_ranges stretches holds least_from is_tighter is_free highest top do_share some_before is_live
     buffer searched parts part_of is_cut last_cut first is_tall comes_before ends_below is_twin child up step
     have_same_moments
 twice_at_12 = refl

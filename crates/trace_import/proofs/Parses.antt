@@ -20,7 +20,7 @@ use Rattle.dsa_model.proofs.NumberLemmas.{own}
 use Rattle.csv_instance.specs.Columns.{field_of}
 use Rattle.csv_instance.specs.Layout.{text_of}
 use Rattle.csv_instance.specs.Numbers.{time_limit}
-use Rattle.csv_instance.specs.Parse.{alignment_of, bad_column, buffer_limit, content_fault, id_fault, id_faults, parse, row_buffer, rows_fault}
+use Rattle.csv_instance.specs.Parse.{number_or, bad_column, buffer_limit, content_fault, id_fault, id_faults, parse, row_buffer, rows_fault}
 use Rattle.csv_instance.specs.Records.{Record, table_of}
 use Rattle.csv_instance.specs.declared.columns.Column.TheVariants.{Id}
 use Rattle.csv_instance.specs.declared.fault.InstanceFault.TheVariants as fault
@@ -56,7 +56,7 @@ record IsRow (line upper size alignment : ℕ) : Type 0 where
 number : (n : ℕ) → n ≤ 2 ^ 60 → written_number time_limit (decimal n) ≡ Some n
 number n small = number-decimal time_limit n (omega arith) (omega arith)
 
-alignment_is : (n : ℕ) → n ≤ 2 ^ 60 → alignment_of (decimal n) ≡ Some n
+alignment_is : (n : ℕ) → n ≤ 2 ^ 60 → number_or 1 (decimal n) ≡ Some n
 alignment_is n small =
     let some : (length (decimal n) == 0) ≡ false = long _ (decimal_nonempty n (omega arith)) in
     rw some (number n small)
@@ -74,18 +74,18 @@ module _ (line upper size alignment : ℕ) (id : List ℕ) (w : IsRow line upper
   size_is : written_number time_limit (decimal size) ≡ Some size
   size_is = number size (omega (arith, w.small))
 
-  its_alignment : alignment_of (decimal alignment) ≡ Some alignment
+  its_alignment : number_or 1 (decimal alignment) ≡ Some alignment
   its_alignment = alignment_is alignment (omega (arith, w.narrow))
 
   buffer_is : row_buffer import_header (import_row line upper size alignment id)
-      ≡ buffer_of line upper size alignment []
+      ≡ buffer_of line upper size alignment [] 0
   buffer_is = rw (line_is, upper_is, size_is, its_alignment) refl
 
-  no_number_fault : number_fault (buffer_of line upper size alignment []) ≡ None
+  no_number_fault : number_fault (buffer_of line upper size alignment [] 0) ≡ None
   no_number_fault = close w.lasts w.some_size w.small w.some_alignment w.narrow
     where
       close : line < upper → 1 ≤ size → size ≤ 2 ^ 40 → 1 ≤ alignment → alignment ≤ 2 ^ 32 →
-          number_fault (buffer_of line upper size alignment []) ≡ None
+          number_fault (buffer_of line upper size alignment [] 0) ≡ None
       close a b c d e =
           let one : nat_le upper line ≡ false = grind (arith, nat_tests) in
           let two : (size == 0) ≡ false = grind (arith, nat_tests) in
@@ -94,14 +94,14 @@ module _ (line upper size alignment : ℕ) (id : List ℕ) (w : IsRow line upper
           let five : nat_lt (2 ^ 32) alignment ≡ false = grind (arith, nat_tests) in
           rw (one, two, three, four, five) refl
 
-  no_gap_fault : gap_fault (buffer_of line upper size alignment []) ≡ None
+  no_gap_fault : gap_fault (buffer_of line upper size alignment [] 0) ≡ None
   no_gap_fault =
-      let ever : is_ever_live (buffer_of line upper size alignment []) ≡ true =
+      let ever : is_ever_live (buffer_of line upper size alignment [] 0) ≡ true =
       is_ever _ line (live_from _ line (omega arith) w.lasts refl) in
       rw ever refl
 
-  no_fault : buffer_fault (buffer_of line upper size alignment []) ≡ None
-  no_fault = rw (no_number_fault) no_gap_fault
+  no_fault : buffer_fault (buffer_of line upper size alignment [] 0) ≡ None
+  no_fault = rw (no_number_fault, no_gap_fault) refl
 
   content_good : (k : ℕ) → content_fault import_header k (import_row line upper size alignment id) ≡ None
   content_good k =
@@ -232,7 +232,7 @@ buffers_are (Free id ∷ es) line w soon = buffers_are es (line + 1) (λ i s a j
 buffers_are (Alloc id size alignment ∷ es) line w soon =
     rw (buffer_is line (end_of line id es) size alignment id
     (row_within line id size alignment es w soon))
-    (ap (λ (bs : List Buffer). buffer_of line (end_of line id es) size alignment [] ∷ bs)
+    (ap (λ (bs : List Buffer). buffer_of line (end_of line id es) size alignment [] 0 ∷ bs)
     (buffers_are es (line + 1) (λ i s a j. w i s a (inr j)) (omega arith)))
 
 pub rows_counted : (es : List Event) (line : ℕ) → length (import_rows line es) ≡ length (imported_from line es)

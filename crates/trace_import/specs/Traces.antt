@@ -46,6 +46,7 @@ allocated line id size alignment after = record {
   size = size;
   alignment = alignment;
   gaps = [];
+  lowest = 0;
 }
 
 -- the buffers of lines that begin with that number

@@ -1,4 +1,4 @@
-use Rattle.dsa_start_laws.proofs.Stacks.{stack_is_accepted, stack_under_bound, bound_reached, bound_is_low}
+use Rattle.dsa_start_laws.proofs.Stacks.{stack_is_accepted, legal_height, stack_under_bound, bound_reached, bound_is_low}
 use Rattle.dsa_start_laws.proofs.BoundModuli.{bound_is_positive}
 use Rattle.dsa_start_laws.proofs.Bounds.{load_under_bound}
 use Rattle.dsa_start_laws.proofs.Peaks.{stack_is_lean}
@@ -6,6 +6,9 @@ use Rattle.dsa_start_laws.proofs.bound_laws.bound_is_low.Goals as goal
 
 pub returns-clause-log : goal.returns-clause-log
 returns-clause-log c = stack_is_accepted
+
+pub returns-clause-height : goal.returns-clause-height
+returns-clause-height c = λ I t H G C h earlier l. legal_height I t H G C h earlier l
 
 pub returns-clause-lean : goal.returns-clause-lean
 returns-clause-lean c = stack_is_lean

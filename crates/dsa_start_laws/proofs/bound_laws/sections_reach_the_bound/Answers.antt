@@ -1,4 +1,4 @@
-use Rattle.dsa_start_laws.proofs.Bounds.{stack_grows, sections_reach, bound_moment_reaches}
+use Rattle.dsa_start_laws.proofs.Bounds.{stack_grows, sections_reach, bound_moment_reaches, bound_height_reaches, bound_height_least}
 use Rattle.dsa_start_laws.proofs.bound_laws.sections_reach_the_bound.Goals as goal
 
 pub returns-clause-grows : goal.returns-clause-grows
@@ -9,3 +9,9 @@ returns-clause-same c = sections_reach
 
 pub returns-clause-moment : goal.returns-clause-moment
 returns-clause-moment c = bound_moment_reaches
+
+pub returns-clause-height : goal.returns-clause-height
+returns-clause-height c = bound_height_reaches
+
+pub returns-clause-lowest : goal.returns-clause-lowest
+returns-clause-lowest c = bound_height_least

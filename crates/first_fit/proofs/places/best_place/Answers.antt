@@ -20,7 +20,7 @@ loop-span-preserved c = elim c.if-reach-span.branch [
 ]
 
 pub returns : goal.returns
-returns c = λ placed t. rw (c.least_offset.ensures, c.buffer.ensures.value) (elim c.match-best.branch [
+returns c = λ placed t. rw c.least_from.ensures.value (elim c.match-best.branch [
   | in-Some w ↦ rw w.from-is (swept_to _ _ _ _ _ _ _ c.requires.sound t c.loop-span-test.false c.loop-span.invariant _
       w.in-Some.is)
   | in-None w ↦ rw w.from-is (swept_past _ _ _ _ _ _ _ c.requires.sound t c.loop-span-test.false c.loop-span.invariant

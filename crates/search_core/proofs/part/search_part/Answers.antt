@@ -1,12 +1,10 @@
 use Rattle.std.proofs.Common.{length, ap}
 use Rattle.std.proofs.lemmas.Option.{slice_get_within}
 use Rattle.dsa_terms.specs.Logs.{Log}
-use Rattle.dsa_terms.specs.Parts.{whole}
 use Rattle.dsa_search_laws.proofs.PartLists.{part_rises}
 use Rattle.refute_log.specs.Logs.{OpenLog}
 use Rattle.search_core.proofs.Counting.{counted_from_nothing}
-use Rattle.search_core.proofs.Descent.{is_instance}
-use Rattle.search_core.proofs.Parting.{part_in_range, refutes_part, stands_part, whole_end}
+use Rattle.search_core.proofs.Parting.{part_in_range, refutes_part, whole_end}
 use Rattle.search_core.proofs.part.search_part.Goals as goal
 
 pub search-requires-clause-rises : goal.search-requires-clause-rises
@@ -25,9 +23,7 @@ unreachable-requires c =
     let I = c.args.task.now.instance.now in
     let p = c.args.members.now in
     let found = rw c.in-Line.is at c.in_ok-seats.ensures.found in
-    let end = whole_end I c.search.new.log.lines p c.in-Line.end
-    (is_instance I (whole p) (stands_part I p c.len-count.ensures.buffers c.len-count.ensures.limit c.requires.part))
-    found.1 in
+    let end = whole_end I c.search.new.log.lines p c.in-Line.end found.1 in
     c.in-Err.ensures.whole end.0 (rw c.into_log.ensures end.1) end.2
 
 pub returns-in-Ok-clause-found : goal.returns-in-Ok-clause-found

@@ -10,10 +10,11 @@ pub turns-preserved : goal.turns-preserved
 turns-preserved c =
     let i = c.turns.invariant in
     let on = rw c.in-On.is at c.in_ok-step.ensures.turned in
+    let root = whole c.args.task.now.instance.now c.args.members.now in
     record {
       log = c.in_ok-step.ensures.log;
-      grown = extends_along (whole c.args.members.now) (whole c.args.members.now) c.args.log.now.lines c.turns.log.lines
-          c.step.new.log.lines (λ b h. h) i.grown (rw i.root at c.in_ok-step.ensures.grown);
+      grown = extends_along root root c.args.log.now.lines c.turns.log.lines c.step.new.log.lines (λ b h. h) i.grown
+          (rw i.root at c.in_ok-step.ensures.grown);
       place = on.place;
       root = on.root ∙ i.root;
       room = rw c.in-On.is at c.in_ok-step.ensures.room;
@@ -34,8 +35,9 @@ turns-preserved c =
 pub returns-in-Done-clause-grown : goal.returns-in-Done-clause-grown
 returns-in-Done-clause-grown c =
     let i = c.turns.invariant in
-    extends_along (whole c.args.members.now) (whole c.args.members.now) c.args.log.now.lines c.turns.log.lines
-    c.step.new.log.lines (λ b h. h) i.grown (rw i.root at c.in_ok-step.ensures.grown)
+    let root = whole c.args.task.now.instance.now c.args.members.now in
+    extends_along root root c.args.log.now.lines c.turns.log.lines c.step.new.log.lines (λ b h. h) i.grown
+    (rw i.root at c.in_ok-step.ensures.grown)
 
 pub returns-in-Done-clause-taken : goal.returns-in-Done-clause-taken
 returns-in-Done-clause-taken c e =

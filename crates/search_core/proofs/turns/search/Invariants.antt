@@ -13,15 +13,15 @@ decreases-turns l = turns_left l.task.instance.now l.task.capacity (place_of l.w
 abbrev pub invariant-turns : goal.invariant-turns
 invariant-turns l = record {
   log : IsSearchLog l.task.instance.now l.task.capacity l.log;
-  grown : Extends (whole l.members) l.fn.log.lines l.log.lines;
+  grown : Extends (whole l.task.instance.now l.members) l.fn.log.lines l.log.lines;
   place : IsPlace l.task.instance.now l.task.capacity l.log.lines (place_of l.walk);
-  root : sky_root l.walk.path.sky ≡ whole l.members;
+  root : sky_root l.walk.path.sky ≡ whole l.task.instance.now l.members;
   room : HasRoom l.walk.path;
   watched : HasWatches l.log.lines l.walk;
   most : l.meter.most ≡ l.fn.meter.most;
   taken : l.fn.log.lines ≡ [] → ((l.walk.line ≡ None) × (l.log.lines ≡ [])) ⊎ AreMore l.fn.meter l.meter;
   units : l.fn.meter.used ≤ l.meter.used;
   left : l.meter.used + owed l.task.instance.now l.task.capacity (place_of l.walk) ≤
-      l.fn.meter.used + work l.task.instance.now l.task.capacity (whole l.members);
+      l.fn.meter.used + work l.task.instance.now l.task.capacity (whole l.task.instance.now l.members);
   counted : AreCounted l.fn.meter l.meter (length l.fn.log.lines) (due_lines l.log.lines l.walk.path);
 }

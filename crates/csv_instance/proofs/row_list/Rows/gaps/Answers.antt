@@ -1,8 +1,11 @@
 use Rattle.std.proofs.Common.{◌<◌, ◌+◌, ◌∙◌, ap, arith, length, sym}
 use Rattle.dsa_terms.specs.Buffers.{Buffer}
 use Rattle.csv_instance.specs.KeptRows.{records_of}
-use Rattle.csv_instance.proofs.KeptLemmas.{kept_limits, kept_value}
+use Rattle.csv_instance.proofs.KeptLemmas.{kept_limits, kept_value, kept_within}
 use Rattle.csv_instance.proofs.row_list.Rows.gaps.Goals as goal
+
+pub index-requires : goal.index-requires
+index-requires c = kept_within c.self.inside c.args.r c.args.self.now c.self.invariant c.self.view_is c.requires
 
 pub returns-clause-value : goal.returns-clause-value
 returns-clause-value c =

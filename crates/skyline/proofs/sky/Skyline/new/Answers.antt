@@ -25,16 +25,16 @@ invariant_of-result c =
       c.in_ok-stack.stack.ok.0,
       c.in_ok-stack.ensures.len,
     ) in
-    let floors : length c.in_ok-floors.floors.items ≡ length c.args.members.now =
-    omega (arith, c.in_ok-floors.floors.ok.0, c.in_ok-floors.ensures.len) in
+    let ledges : length c.in_ok-ledges.ledges.items ≡ length c.args.members.now =
+    omega (arith, c.in_ok-ledges.ledges.ok.0, c.in_ok-ledges.ensures.len) in
     record {
       sky =
-          subst (λ (m : List ℕ). IsSkyline I S m 0 c.in_ok-stack.stack.items c.in_ok-floors.floors.items
+          subst (λ (m : List ℕ). IsSkyline I S m 0 c.in_ok-stack.stack.items c.in_ok-ledges.ledges.items
           c.in_ok-heights.heights.items (map items_of c.in_ok-saved.saved.items) c.in_ok-free.free.items)
           (sym copied)
-          (new_sky I S ms c.in_ok-stack.stack.items c.in_ok-floors.floors.items c.in_ok-heights.heights.items
+          (new_sky I S ms c.in_ok-stack.stack.items c.in_ok-ledges.ledges.items c.in_ok-heights.heights.items
           c.in_ok-saved.saved.items c.in_ok-free.free.items
-          l.buffers l.limit c.requires.sections c.requires.in_range c.requires.rises stack floors heights
+          l.buffers l.limit c.requires.sections c.requires.in_range c.requires.rises stack ledges heights
           (c.in_ok-saved.ensures.count ∙ ap length c.deref.ensures.value ∙ c.in_ok-free.ensures.count ∙ l.value)
           (λ b d lt t. c.in_ok-saved.ensures.rooms b d
           (omega (arith, l.value, lt, c.in_ok-free.ensures.count, ap length c.deref.ensures.value))
@@ -42,7 +42,7 @@ invariant_of-result c =
           (c.in_ok-free.ensures.count ∙ l.value)
           (λ b lt. c.in_ok-free.ensures.marks b (omega (arith, l.value, lt))));
       loads =
-          subst (λ (m : List ℕ). HasLoads I S (whole m) c.in_ok-loads.loads.items) (sym copied)
+          subst (λ (m : List ℕ). HasLoads I S (whole I m) c.in_ok-loads.loads.items) (sym copied)
           (first_has_loads I S ms c.in_ok-loads.loads.items c.in_ok-free.free.items c.requires.sections
           c.in_ok-loads.ensures.count
           (λ s lt. c.in_ok-loads.ensures.loads s lt

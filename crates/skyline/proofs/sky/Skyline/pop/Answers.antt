@@ -131,7 +131,7 @@ invariant_of-self c =
     record {
       sky =
           subst (λ (x : ℕ). IsSkyline a.instance.now a.sections.now a.members.items (a.depth - 1) a.stack.items
-          a.floors.items (with_items a.heights c.restore.new.heights).items (map items_of a.saved.items)
+          a.ledges.items (with_items a.heights c.restore.new.heights).items (map items_of a.saved.items)
           (slice_set a.free.items x true)) (sym f.is)
           (popped_sky _ _ _ _ _ _ _ _ _ _ c.self.invariant.sky f.above
           (λ kept e. subst (λ (x : ℕ). (with_items a.heights c.restore.new.heights).items ≡

@@ -95,7 +95,7 @@ index_mut-requires c =
 pub index_mut-requires-2 : goal.index_mut-requires-2
 index_mut-requires-2 c =
     let f = push_of_view _ _ _ _ _ _ _ _ _ _ _ c.args.b c.self.view_is c.self.invariant c.requires in
-    omega (arith, f.room, c.self.invariant.sky.floor_room, c.self.inside.floors.ok.0)
+    omega (arith, f.room, c.self.invariant.sky.ledge_room, c.self.inside.ledges.ok.0)
 
 pub index_mut-requires-3 : goal.index_mut-requires-3
 index_mut-requires-3 c =
@@ -108,9 +108,10 @@ invariant_of-self c =
     let b = c.args.b in
     let f = push_of_view _ _ _ _ _ _ _ _ _ _ _ c.args.b c.self.view_is c.self.invariant c.requires in
     let at : c.least_offset-offset.result ≡
-    offset_after a.instance.now (whole a.members.items) (reverse (take a.depth a.stack.items)) b =
+    offset_after a.instance.now (whole a.instance.now a.members.items) (reverse (take a.depth a.stack.items)) b =
     c.least_offset-offset.ensures.value
-    ∙ sym (up_of_view _ _ (whole a.members.items) (reverse (take a.depth a.stack.items)) _ b c.self.view_is) in
+    ∙ sym (up_of_view _ _ (whole a.instance.now a.members.items) (reverse (take a.depth a.stack.items)) _ b
+    c.self.view_is) in
     let size : c.size-size.result ≡ (buffer a.instance.now b).size =
     c.size-size.ensures.value ∙ ap (λ (x : Buffer). x.size) c.buffer.ensures.value in
     let top : c.raise.new.heights ≡ set_each (λ _. c.least_offset-offset.result + (buffer a.instance.now b).size)
@@ -153,7 +154,7 @@ invariant_of-self c =
     record {
       sky =
           subst (λ (rows : List (List ℕ)). IsSkyline a.instance.now a.sections.now a.members.items (a.depth + 1)
-          (slice_set a.stack.items a.depth b) (slice_set a.floors.items a.depth c.least_offset-offset.result)
+          (slice_set a.stack.items a.depth b) (slice_set a.ledges.items a.depth c.least_offset-offset.result)
           (with_items a.heights c.raise.new.heights).items rows (slice_set a.free.items b false))
           (sym (map-set items_of a.saved.items b (with_items c.index_mut-row.result.now c.save.new.saved)))
           (pushed_sky _ _ _ _ _ _ _ _ _ b c.least_offset-offset.result _ _ c.self.invariant.sky f.left at

@@ -1,0 +1,15 @@
+use Rattle.std.proofs.Common.{◌<◌, ◌+◌, ap, arith, length, sym}
+use Rattle.dsa_terms.specs.Buffers.{Buffer}
+use Rattle.csv_instance.specs.KeptRows.{records_of}
+use Rattle.csv_instance.proofs.KeptLemmas.{kept_value, kept_within}
+use Rattle.csv_instance.proofs.row_list.Rows.lowest.Goals as goal
+
+pub index-requires : goal.index-requires
+index-requires c = kept_within c.self.inside c.args.r c.args.self.now c.self.invariant c.self.view_is c.requires
+
+pub returns : goal.returns
+returns c =
+    let within : c.args.r + 1 < length (records_of c.self.inside) =
+    (let all = ap length c.self.view_is in let r = c.requires in omega arith) in
+    let is = kept_value c.self.inside c.args.r c.index.result.now c.self.invariant within c.index.ensures in
+    record { value = rw (← c.self.view_is) (sym (ap (λ (b : Buffer). b.lowest) is)) }

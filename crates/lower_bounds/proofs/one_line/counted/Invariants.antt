@@ -1,8 +1,0 @@
-use Rattle.std.proofs.Common.{◌≡◌}
-use Rattle.std.specs.List.{filter}
-use Rattle.dsa_terms.specs.Parts.{numbers}
-use Rattle.lower_bounds.specs.Stacks.{counts_at}
-use Rattle.lower_bounds.proofs.one_line.counted.Given as goal
-
-abbrev pub invariant-loop-b : goal.invariant-loop-b
-invariant-loop-b l = l.members.items ≡ filter (counts_at l.instance l.moment l.modulus) (numbers l.b)
