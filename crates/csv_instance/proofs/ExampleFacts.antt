@@ -9,13 +9,14 @@ use Rattle.dsa_terms.specs.Buffers.{is_live, some_before}
 use Rattle.dsa_model.specs.declared.buffer_fault.BufferFault.TheVariants as buffer
 use Rattle.dsa_model.specs.Numbers.{written_number}
 use Rattle.csv_instance.specs.Chosen.{chosen_records, chosen_text}
+use Rattle.csv_instance.specs.Columns.{column_named}
 use Rattle.csv_instance.specs.Gaps.{gaps_of}
 use Rattle.csv_instance.specs.Layout.{layout_text}
 use Rattle.csv_instance.specs.Numbers.{time_limit}
 use Rattle.csv_instance.specs.Offsets.{ids_of, layout_header_fault, parsed_offsets}
 use Rattle.csv_instance.specs.Parse.{number_or, header_fault, parse}
-use Rattle.csv_instance.specs.Records.{Record, table_of}
-use Rattle.csv_instance.specs.declared.columns.Column.TheVariants.{Id, Lower, Upper, Offset, Lowest}
+use Rattle.csv_instance.specs.Records.{Record, header_of, table_of}
+use Rattle.csv_instance.specs.declared.columns.Column.TheVariants.{Id, Lower, Upper, Gaps, Offset, Lowest}
 use Rattle.csv_instance.specs.declared.fault.InstanceFault.TheVariants as fault
 use Rattle.csv_instance.specs.declared.fault.OffsetsFault.TheVariants as offsets
 
@@ -94,6 +95,19 @@ missing = refl
 carried : header_fault (codes "note" ∷ codes "size" ∷ codes "id" ∷ codes "note" ∷ codes "upper" ∷ codes "lower" ∷ [])
     ≡ None
 carried = refl
+
+-- a name is that of a column byte for byte
+named : column_named (codes "gaps") ≡ Some Gaps
+named = refl
+
+misspelt : column_named (codes "Gaps") ≡ None
+misspelt = refl
+
+first_record : header_of (plain ∷ ([] ∷ []) ∷ []) ≡ plain
+first_record = refl
+
+no_header : header_of [] ≡ []
+no_header = refl
 
 -- ---- rows
 

@@ -1,5 +1,5 @@
 -- The columns that have a meaning, and the fields under them.
-use Rattle.std.specs.Prelude.{ℕ, List, [], ◌∷◌, Bool, Option, codes, slice_index_or, position, count_by, is_some, nat_le}
+use Rattle.std.specs.Prelude.{ℕ, List, [], ◌∷◌, Bool, Option, codes, slice_index_or, position, count_by, find, is_some, nat_le}
 use Rattle.std.specs.Option.{option_map_or}
 use Rattle.std.specs.Str.{bytes_eq}
 use Rattle.csv_instance.specs.Records.{Record}
@@ -20,6 +20,10 @@ name_of Lowest = codes "lowest"
 -- the columns that have a meaning
 abbrev pub named_columns : List Column
 named_columns = Id ∷ Lower ∷ Upper ∷ Size ∷ Alignment ∷ Gaps ∷ Offset ∷ Lowest ∷ []
+
+-- the one of them that has this name
+abbrev pub column_named : List ℕ → Option Column
+column_named name = find (λ c. bytes_eq (name_of c) name) named_columns
 
 -- those that an instance needs
 abbrev pub needed_columns : List Column

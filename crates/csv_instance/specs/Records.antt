@@ -1,11 +1,16 @@
 -- The records of a file.
-use Rattle.std.specs.Prelude.{ℕ, List, ◌≤◌, length}
+use Rattle.std.specs.Prelude.{ℕ, List, [], ◌∷◌, ◌≤◌, length}
 use Rattle.std.specs.List.{All}
 use Rattle.csv.specs.Reading.{default_config, records, strip_bom}
 
 -- a record: the bytes of its fields
 abbrev pub Record : Type 0
 Record = List (List ℕ)
+
+-- the header of a table
+abbrev pub header_of : List Record → Record
+header_of [] = []
+header_of (header ∷ rows) = header
 
 -- the table of these bytes: their records as the `csv` reader gives them, with commas, double quotes, no trimming,
 -- no row set apart as a header, records of any length, and one byte order mark taken off the start

@@ -4,7 +4,7 @@ ghost use Rattle.std.specs.Prelude.{◌≡◌, ◌<◌, [], List, ℕ, slice_ind
 ghost use Rattle.std.specs.Option.{option_map_or};
 ghost use Rattle.std.specs.Str.{bytes_eq};
 ghost use Rattle.csv.specs.Records.{fields_of};
-ghost use Rattle.csv_instance.specs.Columns.{name_of, column_place};
+ghost use Rattle.csv_instance.specs.Columns.{name_of, column_named, column_place};
 ghost use Rattle.csv_instance.specs.Places.{column_places};
 
 use csv::ByteRecord;
@@ -58,6 +58,16 @@ impl Column {
             Column::Offset => "offset",
             Column::Lowest => "lowest",
         }
+    }
+
+    /// The column of this name, byte for byte, and none where a column of this name has no meaning.
+    pub fn named(name: &[u8]) -> Option<Column>
+        ensures value { result ≡ column_named name.now }
+    {
+        NAMED
+            .iter()
+            .copied()
+            .find(|column| column_name(*column) == name)
     }
 }
 

@@ -4,11 +4,11 @@ ghost use Rattle.std.specs.Prelude.{◌≡◌, ◌∷◌, ◌++◌, ◌+◌, ◌
 ghost use Rattle.csv.specs.Records.{fields_of};
 ghost use Rattle.dsa_terms.specs.Buffers.{Buffer as BufferTerm};
 ghost use Rattle.dsa_model.specs.Fails.{UnlessNoMemory};
-ghost use Rattle.csv_instance.specs.Records.{HasShortFields, Record};
+ghost use Rattle.csv_instance.specs.Records.{HasShortFields, Record, header_of};
 ghost use Rattle.csv_instance.specs.Offsets.{ids_of};
 ghost use Rattle.csv_instance.specs.Parse.{parse};
 
-use crate::columns::{ColumnPlaces, field_under, find_columns};
+use crate::columns::{ColumnPlaces, field_at, field_under, find_columns};
 use crate::fault::InstanceFault;
 use crate::header::check_header;
 use crate::row::{check_id, read_buffer};
@@ -130,6 +130,22 @@ impl Table {
         ensures count { length self.now ≡ length result.now + 1 }
     {
         &self.instance
+    }
+
+    /// The number of columns of the header.
+    pub fn columns(&self) -> usize
+        ensures value { result ≡ length (header_of self.now) }
+    {
+        self.header.len()
+    }
+
+    /// The bytes of a column's name, as they stand in the header. The caller owes that `place` is
+    /// below the number of columns.
+    pub fn column_name(&self, place: usize) -> &[u8]
+        requires { place < length (header_of self.now) }
+        ensures value { result.now ≡ slice_index_or (header_of self.now) place [] }
+    {
+        field_at(&self.header, place)
     }
 
     /// The bytes of a buffer's id field, of which there are 1 to 255. The caller owes that `b` is
