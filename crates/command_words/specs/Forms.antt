@@ -5,7 +5,7 @@ use Rattle.command_words.specs.Options.{Word, option_word}
 use Rattle.command_words.specs.declared.option.OptionName.{OptionName}
 use Rattle.command_words.specs.declared.option.OptionName.TheVariants.{Capacity, Input, Output, Log, Layout, Trace, Steps, Seed, Count, Period}
 use Rattle.command_words.specs.declared.verb.Verb.{Verb}
-use Rattle.command_words.specs.declared.verb.Verb.TheVariants.{Solve, Least, Verify, Refute, Trim, Upgrade, Bounds, Report, Draw, Trial, Import, Unroll, Classes, Core}
+use Rattle.command_words.specs.declared.verb.Verb.TheVariants.{Solve, Least, Pack, Verify, Refute, Trim, Upgrade, Bounds, Inspect, Report, Draw, Trial, Import, Unroll, Classes, Core}
 use Rattle.command_words.specs.declared.form.Form as written
 
 -- the words of a command: its own; the options that it needs, in the order in which they are missed; those that it can
@@ -20,7 +20,8 @@ pub record Form : Type 0 where
 -- the commands that there are
 abbrev pub verbs : List Verb
 verbs =
-    Solve ∷ Least ∷ Verify ∷ Refute ∷ Trim ∷ Upgrade ∷ Bounds ∷ Report ∷ Draw ∷ Trial ∷ Import ∷ Unroll ∷ Classes ∷ Core ∷ []
+    Solve ∷ Least ∷ Pack ∷ Verify ∷ Refute ∷ Trim ∷ Upgrade ∷ Bounds ∷ Inspect ∷ Report ∷ Draw ∷ Trial ∷ Import ∷ Unroll
+    ∷ Classes ∷ Core ∷ []
 
 -- the form of each command
 abbrev pub form_of : Verb → Form
@@ -35,6 +36,13 @@ form_of Least = record {
   word = codes "least";
   needed = Input ∷ Output ∷ Log ∷ [];
   optional = Steps ∷ [];
+  reads = Input ∷ [];
+  writes = Output ∷ Log ∷ [];
+}
+form_of Pack = record {
+  word = codes "pack";
+  needed = Input ∷ Output ∷ Log ∷ Steps ∷ [];
+  optional = Capacity ∷ [];
   reads = Input ∷ [];
   writes = Output ∷ Log ∷ [];
 }
@@ -68,6 +76,13 @@ form_of Upgrade = record {
 }
 form_of Bounds = record {
   word = codes "bounds";
+  needed = Input ∷ [];
+  optional = [];
+  reads = Input ∷ [];
+  writes = [];
+}
+form_of Inspect = record {
+  word = codes "inspect";
   needed = Input ∷ [];
   optional = [];
   reads = Input ∷ [];

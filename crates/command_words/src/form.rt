@@ -41,6 +41,13 @@ impl Verb {
                 reads: &[Input],
                 writes: &[Output, Log],
             },
+            Verb::Pack => Form {
+                word: "pack",
+                needed: &[Input, Output, Log, Steps],
+                optional: &[Capacity],
+                reads: &[Input],
+                writes: &[Output, Log],
+            },
             Verb::Verify => Form {
                 word: "verify",
                 needed: &[Capacity, Input, Layout],
@@ -71,6 +78,13 @@ impl Verb {
             },
             Verb::Bounds => Form {
                 word: "bounds",
+                needed: &[Input],
+                optional: &[],
+                reads: &[Input],
+                writes: &[],
+            },
+            Verb::Inspect => Form {
+                word: "inspect",
                 needed: &[Input],
                 optional: &[],
                 reads: &[Input],

@@ -15,6 +15,9 @@ pub enum Verb {
     /// `least --input I --output O --log L`, and `--steps K` where it is given: lay the buffers out
     /// within the least capacity, and prove that they do not fit in less.
     Least,
+    /// `pack --input I --output O --log L --steps K`, and `--capacity C` where it is given: lay the
+    /// buffers out as low as so many steps can, or within the capacity, and prove what does not fit.
+    Pack,
     /// `verify --capacity C --input I --layout A`: judge a layout at the capacity.
     Verify,
     /// `refute --input I --log L`: check a log that claims that the buffers do not fit.
@@ -26,6 +29,8 @@ pub enum Verb {
     Upgrade,
     /// `bounds --input I`: print the facts of the instance.
     Bounds,
+    /// `inspect --input I`: print how each column of the header is read.
+    Inspect,
     /// `report --input I --layout A`: print the layout at the instance's peak.
     Report,
     /// `draw --input I --layout A --output P`: write a picture of the layout.
@@ -46,14 +51,16 @@ pub enum Verb {
 }
 
 /// The commands that there are.
-const VERBS: [Verb; 14] = [
+const VERBS: [Verb; 16] = [
     Verb::Solve,
     Verb::Least,
+    Verb::Pack,
     Verb::Verify,
     Verb::Refute,
     Verb::Trim,
     Verb::Upgrade,
     Verb::Bounds,
+    Verb::Inspect,
     Verb::Report,
     Verb::Draw,
     Verb::Trial,
