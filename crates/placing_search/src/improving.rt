@@ -1,0 +1,61 @@
+//! A layout that is no higher than the one given.
+
+ghost use Rattle.std.specs.Prelude.{◌≡◌, ◌<◌, ◌≤◌, IfOk};
+ghost use Rattle.first_fit.specs.Starts.{IsStart};
+
+use crate::beginnings::{BEGINNINGS, beginning};
+use crate::climbing::climb;
+use crate::draws::Draws;
+use dsa_model::{Instance, NoMemory};
+use first_fit::Start;
+use std::alloc::Global;
+
+/// A layout, and what it took to find it.
+#[derive(Debug, Drop)]
+pub struct Improved {
+    /// The layout with its height.
+    pub start: Start,
+    /// How often all buffers were placed.
+    pub passes: u64,
+}
+
+/// The lowest layout that is found by placing all buffers at most `passes` times, each time by
+/// first-fit in another order; the one given where none is lower. The search stops at the first
+/// whose height is at most `floor`, in bytes.
+///
+/// An order is kept where its layout is no higher than the one before. It begins with the order of
+/// the offsets given, and begins anew with another where many placings have not lowered the height.
+pub fn improve(
+    alloc: Global,
+    instance: &Instance,
+    start: Start,
+    floor: u64,
+    passes: u64,
+) -> Result<Improved, NoMemory>
+    requires { IsStart instance.now start }
+    ensures layout { IfOk result (λ improved. IsStart instance.now improved.start) }
+    ensures height { IfOk result (λ improved. improved.start.height ≤ start.height) }
+    ensures passes { IfOk result (λ improved. improved.passes ≤ passes) }
+    ensures idle { start.height ≤ floor →
+        IfOk result (λ improved. (improved.start ≡ start) × (improved.passes ≡ 0)) }
+    ensures spent { IfOk result (λ improved.
+        improved.passes < passes → improved.start.height ≤ floor) }
+{
+    let mut best = start;
+    let mut made = 0;
+    let mut draws = Draws::new();
+    let mut number = 0;
+    while made < passes && floor < best.height {
+        let order = beginning(alloc, instance, &best, number)?;
+        let climbed = climb(alloc, instance, order, &mut draws, floor, passes - made)?;
+        made += climbed.passes;
+        if climbed.start.height < best.height {
+            best = climbed.start;
+        }
+        number = (number + 1) % BEGINNINGS;
+    }
+    Ok(Improved {
+        start: best,
+        passes: made,
+    })
+}

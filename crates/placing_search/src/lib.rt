@@ -1,0 +1,11 @@
+//! Better layouts by placing the buffers in many orders, each by first-fit, an order made a little
+//! better at a time.
+#![tactic(auto)]
+
+mod beginnings;
+mod climbing;
+mod draws;
+mod improving;
+mod swaps;
+
+pub use improving::{Improved, improve};
