@@ -11,7 +11,7 @@ use Rattle.refute_log.specs.declared.decided.Decided.{Decided}
 use Rattle.refute_log.specs.declared.decided.Decided.TheVariants.{Layout, Refuted, Spent}
 use Rattle.min_capacity.specs.Brackets.{IsBracket, Refutes}
 use Rattle.min_capacity.specs.declared.brackets.Bracket.{Bracket}
-use Rattle.narrowing.specs.Narrowed.{after_answer, IsDecidedAt, IsLeftOpen, IsLogPaid, IsNarrowed, LayoutFalls, lines_of}
+use Rattle.narrowing.specs.Narrowed.{after_answer, IsDecidedAt, IsLogPaid, IsNarrowed, LayoutFalls, lines_of}
 
 -- a layout is one at its height
 at_height : (I : Instance) (C : ℕ) (offsets : List ℕ) → IsLayout I C offsets →
@@ -88,13 +88,12 @@ narrowed_by_answer I C b (Refuted log) sound h low high right = record {
 }
 narrowed_by_answer I C b Spent sound h low high right = narrowed_at_start I b h
 
--- the capacity is decided, or the bracket is as it was
-pub settled_by_answer : (I : Instance) (C : ℕ) (b : Bracket) (d : Decided) (P : Type 0) → b.low ≤ C → C < b.high →
-    IsRight I C d → IfSpent d P → IsDecidedAt C (after_answer I C b d) ⊎ (IsLeftOpen C b (after_answer I C b d) × P)
-settled_by_answer I C b (Layout offsets) P low high laid spent = inl (inl (layout_under I C offsets.items laid))
-settled_by_answer I C b (Refuted log) P low high right spent = inl (inr (refl, (log, refl, right.1)))
-settled_by_answer I C b Spent P low high right spent =
-    inr (record { same = refl; low = low; high = high }, spent)
+-- an answer but Spent decides the capacity
+pub decided_by_answer : (I : Instance) (C : ℕ) (b : Bracket) (d : Decided) → (d ≡ Spent → ⊥) → IsRight I C d →
+    IsDecidedAt C (after_answer I C b d)
+decided_by_answer I C b (Layout offsets) other laid = inl (layout_under I C offsets.items laid)
+decided_by_answer I C b (Refuted log) other right = inr (refl, (log, refl, right.1))
+decided_by_answer I C b Spent other right = absurd (other refl)
 
 -- a log that comes is paid for
 pub paid_by_answer : (I : Instance) (C u v w : ℕ) (start b : Bracket) (d : Decided) → start.low ≤ b.low → b.low ≤ C →

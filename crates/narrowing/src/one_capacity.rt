@@ -8,11 +8,13 @@ use crate::Tries;
 use crate::answers::with_answer;
 use dsa_model::{Instance, NoMemory};
 use min_capacity::Bracket;
+use refute_log::Decided;
 use std::alloc::Global;
 
-/// Tries one capacity inside a bracket, in bytes, within at most `steps` more units. A layout
-/// lowers the upper end to its height, a log at the capacity raises the lower end to one above it,
-/// and where the units are used up before, the bracket is the start's.
+/// Tries one capacity inside a bracket, in bytes, within at most `steps` more units: with a 16th of
+/// them first, and then with four times as many each time. A layout lowers the upper end to its
+/// height, a log at the capacity raises the lower end to one above it, and where the units are used
+/// up before, the bracket is the start's.
 ///
 /// The caller owes that the subject is the instance, the bracket, a capacity that is inside it and
 /// may be asked, and that the units do not pass 64 bits.
@@ -40,6 +42,14 @@ pub fn settle<T: Tries>(
     ensures log { IfOk result (IsLogPaid (T.units tries.old) (T.units tries.new) start) }
 {
     let _count = instance.len();
-    let decided = tries.attempt(alloc, capacity, steps)?;
-    Ok(with_answer(instance, start, capacity, decided))
+    let last = tries.used() + steps;
+    let mut slice = (steps / 16).max(1);
+    while tries.used() < last {
+        let limit = slice.min(last - tries.used());
+        match tries.attempt(alloc, capacity, limit)? {
+            Decided::Spent => slice = slice.saturating_mul(4),
+            decided => return Ok(with_answer(instance, start, capacity, decided)),
+        }
+    }
+    Ok(start)
 }
