@@ -15,7 +15,11 @@ use std::alloc::Global;
 const PATIENCE: u64 = 500;
 
 /// All buffers placed by first-fit in the order.
-fn place_all(alloc: Global, instance: &Instance, order: &[u32]) -> Result<Start, NoMemory>
+pub(crate) fn place_all(
+    alloc: Global,
+    instance: &Instance,
+    order: &[u32],
+) -> Result<Start, NoMemory>
     requires { IsOrderOf instance.now order.now }
     ensures { IfOk result (IsStart instance.now) }
 {
@@ -34,7 +38,7 @@ fn place_all(alloc: Global, instance: &Instance, order: &[u32]) -> Result<Start,
 pub(crate) fn climb(
     alloc: Global,
     instance: &Instance,
-    order: Vec<u32>,
+    mut order: Vec<u32>,
     draws: &mut Draws,
     floor: u64,
     passes: u64,
@@ -45,7 +49,6 @@ pub(crate) fn climb(
     ensures some { IfOk result (λ climbed. 0 < climbed.passes) }
     ensures passes { IfOk result (λ climbed. climbed.passes ≤ passes) }
 {
-    let mut order = order;
     let mut best = place_all(alloc, instance, &order)?;
     let mut made = 1;
     let mut idle = 0;

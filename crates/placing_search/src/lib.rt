@@ -7,5 +7,7 @@ mod climbing;
 mod draws;
 mod improving;
 mod swaps;
+#[cfg(test)]
+mod tests;
 
 pub use improving::{Improved, improve};

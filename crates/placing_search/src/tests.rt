@@ -1,0 +1,82 @@
+//! Instances that are laid out lower by another order than that of the file.
+
+use crate::climbing::place_all;
+use crate::improve;
+use dsa_model::{BUFFER_LIMIT, Buffer, Instance, NoMemory};
+use row_orders::{Order, in_order};
+use std::alloc::Global;
+
+/// A buffer without gaps: lower, upper, size and alignment.
+type Row = (u16, u16, u16, u16);
+
+/// A buffer that is large, and a small one of large alignment that is best put below it.
+const SMALL_BELOW: [Row; 2] = [(0, 1, 3, 1), (0, 1, 1, 4)];
+
+/// Two buffers of size 3 aligned to four, of which one stands on the other.
+const TWO_OF_FOUR: [Row; 2] = [(0, 1, 3, 4), (0, 1, 3, 4)];
+
+/// A rectangle of height 12 over ten moments, cut into ten buffers. The best of the six starts is
+/// 16 high.
+const CUT: [Row; 10] = [
+    (0, 10, 1, 1),
+    (0, 8, 4, 1),
+    (0, 7, 2, 1),
+    (9, 10, 5, 1),
+    (0, 9, 2, 1),
+    (7, 9, 3, 1),
+    (0, 10, 1, 1),
+    (0, 7, 1, 1),
+    (0, 10, 1, 1),
+    (8, 10, 4, 1),
+];
+
+/// The buffers of the rows.
+fn instance_of(alloc: Global, rows: &[Row]) -> Result<Instance, NoMemory> {
+    let mut instance = Instance::new(alloc);
+    for &(lower, upper, size, alignment) in rows {
+        let (lower, upper) = (lower as u64, upper as u64);
+        let (size, alignment) = (size as u64, alignment as u64);
+        let Ok(buffer) = Buffer::new(alloc, lower, upper, size, alignment, &[], 0) else {
+            return Err(NoMemory);
+        };
+        if instance.len() < BUFFER_LIMIT {
+            instance.push(buffer)?;
+        }
+    }
+    Ok(instance)
+}
+
+/// The height of first-fit by the file, the height that is found from there, and after how many
+/// placings.
+fn heights(
+    alloc: Global,
+    rows: &[Row],
+    floor: u64,
+    passes: u64,
+) -> Result<(u64, u64, u64), NoMemory> {
+    let instance = instance_of(alloc, rows)?;
+    let order = in_order(alloc, &instance, Order::File)?;
+    let start = place_all(alloc, &instance, &order)?;
+    let before = start.height;
+    let improved = improve(alloc, &instance, start, floor, passes)?;
+    Ok((before, improved.start.height, improved.passes))
+}
+
+#[test]
+fn other_orders_are_lower(rt: HostRuntime) {
+    let alloc = rt.alloc();
+    let rows: [(&[Row], u64, u64, (u64, u64, u64)); 8] = [
+        (&SMALL_BELOW, 4, 40, (5, 4, 2)),
+        (&SMALL_BELOW, 4, 1, (5, 5, 1)),
+        (&SMALL_BELOW, 5, 40, (5, 5, 0)),
+        (&TWO_OF_FOUR, 6, 40, (7, 7, 40)),
+        (&CUT, 12, 40, (18, 12, 21)),
+        (&CUT, 12, 20, (18, 14, 20)),
+        (&CUT, 12, 0, (18, 18, 0)),
+        (&[], 0, 40, (0, 0, 0)),
+    ];
+    for (instance, floor, passes, want) in rows {
+        let found = heights(alloc, instance, floor, passes).expect(&rt, "memory");
+        assert_eq!(rt; found, want, "down to {floor} by {passes}");
+    }
+}
