@@ -1,0 +1,62 @@
+-- The best start ends below 2 ^ 54, as the first of the six starts does.
+use Rattle.std.proofs.Common.{◌≡◌, ◌^◌, ◌<◌, ◌≤◌, ℕ, suc, inl, Bool, true, false, cond, List, [], ◌∷◌, length, refl, ap, ◌∙◌, arith}
+use Rattle.std.specs.List.{All}
+use Rattle.std.proofs.lemmas.List.FromFn.{length-range_with_len}
+use Rattle.dsa_terms.specs.Buffers.{Buffer, Instance}
+use Rattle.dsa_terms.specs.Claims.{IsIn}
+use Rattle.dsa_terms.specs.Fits.{first_fit, first_place}
+use Rattle.dsa_terms.specs.Orders.{falls_by, ordered_by, orders, put_by}
+use Rattle.dsa_terms.specs.Parts.{numbers}
+use Rattle.dsa_terms.specs.Plans.{layout_height}
+use Rattle.dsa_terms.specs.Starts.{best_start, starts}
+use Rattle.dsa_terms.proofs.Places.{all_from_in}
+use Rattle.dsa_terms.proofs.Ranges.{from_range, into_range}
+use Rattle.dsa_start_laws.proofs.Fits.{into_ordered_by}
+use Rattle.dsa_start_laws.proofs.Orders.{from_ordered_by}
+use Rattle.dsa_start_laws.proofs.Planned.{best_start_is_lowest}
+use Rattle.dsa_model.specs.Buffer.{IsBuffer}
+use Rattle.dsa_model.proofs.Instances.{sound_instance}
+use Rattle.first_fit.specs.Rules.{IsOrderOf}
+use Rattle.first_fit.proofs.Fitting.{first_is_low, fitting_limit}
+
+abbrev by_size : Instance → List ℕ
+by_size I = ordered_by (falls_by (λ (b : Buffer). b.size) I) (numbers (length I))
+
+length_put : (before : ℕ → ℕ → Bool) (b : ℕ) (cs : List ℕ) → length (put_by before b cs) ≡ suc (length cs)
+length_put before b [] = refl
+length_put before b (c ∷ cs) = go (length_put before b cs) (before b c)
+  where
+    go : length (put_by before b cs) ≡ suc (length cs) → (t : Bool) →
+        length (cond t (b ∷ c ∷ cs) (c ∷ put_by before b cs)) ≡ suc (suc (length cs))
+    go ih true = refl
+    go ih false = ap suc ih
+
+length_ordered : (before : ℕ → ℕ → Bool) (bs : List ℕ) → length (ordered_by before bs) ≡ length bs
+length_ordered before [] = refl
+length_ordered before (b ∷ bs) = length_put before b (ordered_by before bs) ∙ ap suc (length_ordered before bs)
+
+is_order : (I : Instance) → IsOrderOf I (by_size I)
+is_order I = record {
+  count = length_ordered (falls_by (λ (b : Buffer). b.size) I) (numbers (length I)) ∙ length-range_with_len 0 (length I);
+  in_range = all_from_in (λ b. b < length I) (by_size I) (λ b i.
+      let z = (from_range (length I) 0 b
+      (from_ordered_by (falls_by (λ (b : Buffer). b.size) I) (numbers (length I)) b i)).1 in
+      omega arith);
+  each = λ b lt. into_ordered_by (falls_by (λ (b : Buffer). b.size) I) (numbers (length I)) b
+      (into_range (length I) 0 b (omega arith) (omega arith));
+}
+
+first_low : (I : Instance) → All IsBuffer I → length I ≤ 512 → layout_height I (first_fit I (by_size I)) < 2 ^ 54
+unfolding first_fit
+first_low I all few = fitting_limit I first_place (by_size I) (first_fit I (by_size I))
+    (first_is_low I (sound_instance I all)) all (is_order I) few refl
+
+first_is_start : (I : Instance) → IsIn (first_fit I (by_size I)) (starts I)
+unfolding starts orders
+first_is_start I = inl refl
+
+pub best_low : (I : Instance) → All IsBuffer I → length I ≤ 512 → layout_height I (best_start I) < 2 ^ 54
+best_low I all few =
+    let low = first_low I all few in
+    let le = best_start_is_lowest I (first_fit I (by_size I)) (first_is_start I) in
+    omega arith

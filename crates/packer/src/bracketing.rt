@@ -1,0 +1,48 @@
+//! The bracket in which to pack.
+
+ghost use Rattle.std.specs.Prelude.{◌≡◌, ◌≤◌, IfOk};
+ghost use Rattle.packer.specs.Starts.{IsOpenFrom};
+
+use dsa_model::{Instance, NoMemory};
+use first_fit::Start;
+use min_capacity::Bracket;
+use placing_search::improve;
+use std::alloc::Global;
+
+/// The bracket with a layout that a sixth of the steps finds by placing orders, if it is lower,
+/// and how many steps are left. It stops early at `floor`, in bytes.
+pub(crate) fn improved(
+    alloc: Global,
+    instance: &Instance,
+    bracket: Bracket,
+    floor: u64,
+    steps: u64,
+) -> Result<(Bracket, u64), NoMemory>
+    requires { IsOpenFrom instance.now bracket }
+    ensures bracket { IfOk result (λ found. IsOpenFrom instance.now found.0) }
+    ensures low { IfOk result (λ found. found.0.low ≡ bracket.low) }
+    ensures log { IfOk result (λ found. found.0.log ≡ bracket.log) }
+    ensures steps { IfOk result (λ found. found.1 ≤ steps) }
+{
+    let _count = instance.len();
+    let Bracket {
+        low,
+        log,
+        high,
+        layout,
+    } = bracket;
+    let start = Start {
+        height: high,
+        offsets: layout,
+    };
+    let found = improve(alloc, instance, start, floor, steps / 6)?;
+    let left = steps - found.passes;
+    let start = found.start;
+    let lowered = Bracket {
+        low,
+        log,
+        high: start.height,
+        layout: start.offsets,
+    };
+    Ok((lowered, left))
+}

@@ -1,0 +1,8 @@
+use Rattle.std.proofs.Common.{◌≡◌, ◌+◌, ◌≤◌, length}
+use Rattle.portfolio.proofs.turns.Portfolio.search_elsewhere.Given as goal
+
+abbrev pub invariant-loop-order : goal.invariant-loop-order
+invariant-loop-order l = record {
+  left : l.left ≤ l.limit;
+  to_come : l.to_come + l.order-index ≡ length l.order-items + 1;
+}

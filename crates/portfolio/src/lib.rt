@@ -1,0 +1,10 @@
+//! Tries to decide a capacity by a search in one order of the buffers after another.
+#![tactic(auto)]
+
+mod elsewhere;
+mod searching;
+#[cfg(test)]
+mod tests;
+mod turns;
+
+pub use turns::Portfolio;
