@@ -1,6 +1,6 @@
 pub mod Concluding
 pub mod Decided
-mod BelowFacts
+pub mod BelowFacts
 mod FiveFacts
 mod SolveFacts
 mod LeastFacts

@@ -7,3 +7,4 @@ mod written;
 
 pub use least::Least;
 pub use solve::Solve;
+pub use written::both_files;

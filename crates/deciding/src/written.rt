@@ -16,7 +16,9 @@ use writings::{layout_file, log_file};
 
 /// The bracket's layout for the output and its log, where there is one, for the log's file, and the
 /// status that is told once they are written.
-pub(crate) fn both_files<'a>(
+///
+/// The caller owes as many offsets as the table has rows after its header.
+pub fn both_files<'a>(
     alloc: Global,
     table: &Table,
     bracket: &Bracket,

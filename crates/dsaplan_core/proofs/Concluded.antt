@@ -21,7 +21,7 @@ use Rattle.readings.specs.Checking.{checked}
 use Rattle.judging.specs.Judging.{ShowsLayout}
 use Rattle.judging.specs.Drawing.{drawing}
 use Rattle.checking.specs.Checking.{trimming, upgrading}
-use Rattle.fact_reports.specs.Reporting.{ShowsFacts}
+use Rattle.fact_reports.specs.Reporting.{ShowsColumns, ShowsFacts}
 use Rattle.trace_import.specs.Faults.{trace_of}
 use Rattle.trace_import.specs.Traces.{Trace}
 use Rattle.trace_import.specs.declared.fault.TraceFault.{TraceFault}
@@ -32,7 +32,8 @@ use Rattle.cyclic_plan.specs.declared.fault.CycleFault.{CycleFault}
 use Rattle.planning.specs.Planning.{Plans}
 use Rattle.explaining.specs.Explaining.{ExplainsOrFits}
 use Rattle.deciding.specs.Deciding.{Finds, Solves}
-use Rattle.dsaplan_core.specs.Courses.{classes_of, core_of, import_of, course, course_with, least_of, solve_of, trial_of, unroll_of}
+use Rattle.packing.specs.Packing.{Packs}
+use Rattle.dsaplan_core.specs.Courses.{classes_of, core_of, import_of, course, course_with, least_of, pack_of, solve_of, trial_of, unroll_of}
 use Rattle.dsaplan_core.specs.Choice.{MayStayOpen}
 use Rattle.dsaplan_core.specs.Complete.{IsConcluded, IsReady, IsUndisturbed}
 use Rattle.dsaplan_core.specs.Lost.{IsOwnWrite, option_of_role}
@@ -47,11 +48,13 @@ use Rattle.dsaplan_core.proofs.Served.{served, checked_served, judged_served, op
 memory : (v : Verb) (pairs : List Pair) (I : Instance) → IsConcluded v pairs I status.NoMemory
 memory verb.Solve pairs I = tt
 memory verb.Least pairs I = tt
+memory verb.Pack pairs I = tt
 memory verb.Verify pairs I = tt
 memory verb.Refute pairs I = tt
 memory verb.Trim pairs I = tt
 memory verb.Upgrade pairs I = tt
 memory verb.Bounds pairs I = tt
+memory verb.Inspect pairs I = tt
 memory verb.Report pairs I = tt
 memory verb.Draw pairs I = tt
 memory verb.Trial pairs I = tt
@@ -77,6 +80,20 @@ found pairs table J o (inl finds) =
 found pairs table J o (inr left) =
     subst (λ (o : Outcome). IsConcluded verb.Least pairs J o.status) (sym left.written)
     (subst (λ k. MayStayOpen verb.Least pairs k J left.low left.high) (sym left.given) left.short)
+
+packed : (pairs : List Pair) (table : List Record) (J : Instance) (o : Outcome) → Packs (pack_of pairs) table J o →
+    IsConcluded verb.Pack pairs J o.status
+packed pairs table J o (inl least) =
+    subst (λ (o : Outcome). IsConcluded verb.Pack pairs J o.status) (sym least.written) (least.none_given, least.least)
+packed pairs table J o (inr (inl laid)) =
+    subst (λ (o : Outcome). IsConcluded verb.Pack pairs J o.status) (sym laid.written)
+    (laid.given, (laid.offsets, laid.layout))
+packed pairs table J o (inr (inr (inl none))) =
+    subst (λ (o : Outcome). IsConcluded verb.Pack pairs J o.status) (sym none.written)
+    (none.given, none.refuted.infeasible)
+packed pairs table J o (inr (inr (inr left))) =
+    subst (λ (o : Outcome). IsConcluded verb.Pack pairs J o.status) (sym left.written)
+    (record { from_bound = left.from_bound; to_best = left.to_best; between = left.between })
 
 planned : (pairs : List Pair) (table : List Record) (J : Instance) (o : Outcome) → Plans (classes_of pairs) table J o →
     IsConcluded verb.Classes pairs J o.status
@@ -140,6 +157,11 @@ module _ (old new : FilesSeen) (before after : SinkSeen) (I : Instance) where
       (IsDone verb.Least pairs)
       (λ table J. Concludes (Finds (least_of pairs) table J))
       (λ table o comes. found pairs table I o comes.1)
+  done verb.Pack pairs (ready, calm) =
+      opened_served old new before after I (record { verb = verb.Pack; pairs = pairs }) ready calm (inl refl, λ same. cc)
+      (IsDone verb.Pack pairs)
+      (λ table J. Concludes (Packs (pack_of pairs) table J))
+      (λ table o comes. packed pairs table I o comes.1)
   done verb.Verify pairs (ready, calm) =
       let r : Request = record { verb = verb.Verify; pairs = pairs } in
       let capacity = number_at pairs option.Capacity in
@@ -170,6 +192,10 @@ module _ (old new : FilesSeen) (before after : SinkSeen) (I : Instance) where
       opened_served old new before after I (record { verb = verb.Bounds; pairs = pairs }) ready calm (inl refl, λ same. cc)
       (IsDone verb.Bounds pairs) (λ table J. Concludes (ShowsFacts J))
       (λ table o comes. subst (IsDone verb.Bounds pairs) (sym comes.1.shown) tt)
+  done verb.Inspect pairs (ready, calm) =
+      opened_served old new before after I (record { verb = verb.Inspect; pairs = pairs }) ready calm (inl refl, λ same. cc)
+      (IsDone verb.Inspect pairs) (λ table J. Concludes (ShowsColumns table J))
+      (λ table o comes. subst (IsDone verb.Inspect pairs) (sym comes.1) tt)
   done verb.Report pairs (ready, calm) =
       let r : Request = record { verb = verb.Report; pairs = pairs } in
       opened_served old new before after I r ready calm (inl refl, λ same. cc) (IsDone verb.Report pairs)

@@ -6,6 +6,8 @@ use Rattle.csv_instance.specs.declared.fault.InstanceFault.TheVariants as instan
 use Rattle.cyclic_plan.specs.declared.fault.CycleFault.TheVariants as cycle
 use Rattle.csv_instance.proofs.FileFacts.{two}
 use Rattle.log_text.specs.declared.fault.TextFault.TheVariants as text
+use Rattle.planner.proofs.ExampleLeastFacts.{below_bound}
+use Rattle.planner.proofs.StepFacts.{best_at_5}
 use Rattle.planner.proofs.ShortageFacts.{four_of_four, short_of_four_steps}
 use Rattle.size_classes.specs.Plain.{first_rough}
 use Rattle.command_words.specs.Pairs.{Pair, pairs_of}
@@ -20,20 +22,22 @@ use Rattle.run_course.specs.Course.{Ends, says}
 use Rattle.judging.specs.Judging.{verify}
 use Rattle.judging.specs.Drawing.{draw}
 use Rattle.checking.specs.Checking.{upgrade}
+use Rattle.fact_reports.specs.Reporting.{inspect}
 use Rattle.importing.specs.Importing.{import_course}
 use Rattle.importing.specs.Unrolling.{unroll_course}
 use Rattle.planning.specs.Planning.{classes}
 use Rattle.explaining.specs.Explaining.{core}
+use Rattle.packing.specs.Packing.{pack}
 use Rattle.explaining.proofs.ExampleFacts.{laid_at_8, none_at_7}
 use Rattle.planning.proofs.ExampleFacts.{one, one_plain}
 use Rattle.dsaplan_core.specs.Courses.{course}
-use Rattle.dsaplan_core.specs.Choice.{MayStayOpen, steps_of}
+use Rattle.dsaplan_core.specs.Choice.{AreEnds, MayStayOpen, steps_of}
 use Rattle.dsaplan_core.specs.Complete.{IsAcceptedAt, IsConcluded, limit_of}
 use Rattle.dsaplan_core.specs.Causes.{IsChecking, IsJudgedAt}
-use Rattle.dsaplan_core.specs.Theorem.{ReadsInstance}
+use Rattle.dsaplan_core.specs.Theorem.{Decides, ReadsInstance, SeeksLeast}
 use Rattle.dsaplan_core.specs.Lost.{option_of_role}
 use Rattle.dsaplan_core.specs.Refused.{IsMisuse}
-use Rattle.dsaplan_core.proofs.WorldFacts.{classes_values, core_values, draw_values, import_values, trial_values, unroll_values, upgrade_values, verify_values}
+use Rattle.dsaplan_core.proofs.WorldFacts.{bounds_values, classes_values, core_values, draw_values, import_values, pack_values, pack_within, trial_values, unroll_values, upgrade_values, verify_values}
 
 -- ---- words
 classes_are_asked : request_of (codes "classes" ∷ classes_values)
@@ -48,6 +52,14 @@ core_goes : course (codes "core" ∷ core_values (codes "11"))
     ≡ core (record { capacity = 11; input = codes "i"; output = codes "o"; log = codes "l" })
 core_goes = refl
 
+pack_goes : course (codes "pack" ∷ pack_values)
+    ≡ pack (record { capacity = None; input = codes "i"; output = codes "o"; log = codes "l"; steps = 9 })
+pack_goes = refl
+
+pack_within_goes : course (codes "pack" ∷ pack_within (codes "12"))
+    ≡ pack (record { capacity = Some 12; input = codes "i"; output = codes "o"; log = codes "l"; steps = 9 })
+pack_within_goes = refl
+
 verify_goes : course (codes "verify" ∷ verify_values (codes "12"))
     ≡ verify (record { capacity = 12; input = codes "i"; layout = codes "a" })
 verify_goes = refl
@@ -55,6 +67,9 @@ verify_goes = refl
 import_goes : course (codes "import" ∷ import_values)
     ≡ import_course (record { trace = codes "t"; output = codes "o" })
 import_goes = refl
+
+inspect_goes : course (codes "inspect" ∷ bounds_values) ≡ inspect (record { input = codes "i" })
+inspect_goes = refl
 
 draw_goes : course (codes "draw" ∷ draw_values)
     ≡ draw (record { input = codes "i"; layout = codes "a"; output = codes "o" })
@@ -90,6 +105,40 @@ open_with_three = short_of_four_steps 3 (lit≤ tt)
 
 decided_with_four : (L H : ℕ) → MayStayOpen verb.Solve (pairs_of (core_values (codes "4"))) (Some 4) small_below L H → ⊥
 decided_with_four = four_of_four
+
+-- ---- which capacity a command decides
+solve_decides_its_own : Decides verb.Solve (pairs_of (core_values (codes "8"))) 8
+solve_decides_its_own = refl
+
+pack_decides_what_is_given : Decides verb.Pack (pairs_of (pack_within (codes "8"))) 8
+pack_decides_what_is_given = refl
+
+pack_decides_none : (C : ℕ) → Decides verb.Pack (pairs_of pack_values) C → ⊥
+pack_decides_none C e = absurd cc
+
+pack_seeks_the_least : SeeksLeast verb.Pack (pairs_of pack_values)
+pack_seeks_the_least = refl
+
+pack_seeks_none : SeeksLeast verb.Pack (pairs_of (pack_within (codes "8"))) → ⊥
+pack_seeks_none e = absurd cc
+
+-- ---- ends
+ends_round_4 : AreEnds small_below (pairs_of (pack_within (codes "4"))) 4 5
+ends_round_4 = record {
+  from_bound = (let e = below_bound in omega arith);
+  to_best = (let e = best_at_5 in omega arith);
+  between = (lit≤ tt, lit< tt);
+}
+
+ends_without_a_capacity : AreEnds small_below (pairs_of pack_values) 4 5
+ends_without_a_capacity = record {
+  from_bound = (let e = below_bound in omega arith);
+  to_best = (let e = best_at_5 in omega arith);
+  between = tt;
+}
+
+not_past_the_best : (pairs : List Pair) → AreEnds small_below pairs 4 6 → ⊥
+not_past_the_best pairs h = let e = best_at_5 in let le = h.to_best in omega (arith, e, le)
 
 -- ---- files
 most_of_a_log : limit_of option.Log ≡ 1099511627776
@@ -161,6 +210,12 @@ concluded_by_the_picture pairs = tt
 not_concluded_by_a_report : (pairs : List Pair) → IsConcluded verb.Draw pairs two status.Shown → ⊥
 not_concluded_by_a_report pairs h = h
 
+concluded_by_the_columns : (pairs : List Pair) → IsConcluded verb.Inspect pairs two status.Shown
+concluded_by_the_columns pairs = tt
+
+inspect_judges_nothing : (pairs : List Pair) → IsConcluded verb.Inspect pairs two status.Right → ⊥
+inspect_judges_nothing pairs h = h
+
 -- whatever the instance, a file without a header is refused as no circle, and never as malformed
 concluded_by_a_fault : (pairs : List Pair) →
     IsConcluded verb.Unroll pairs two (status.CycleRefused (cycle.Instance instance.NoHeader))
@@ -178,6 +233,15 @@ concluded_by_refutation = (refl, none_at_7)
 
 not_at_another_capacity : IsConcluded verb.Solve (pairs_of (core_values (codes "8"))) two (status.Feasible 9) → ⊥
 not_at_another_capacity h = let e : 9 ≡ 8 = h.0 in omega (arith, e)
+
+packed_within_8 : IsConcluded verb.Pack (pairs_of (pack_within (codes "8"))) two (status.Feasible 8)
+packed_within_8 = (refl, (0 ∷ 4 ∷ [], laid_at_8))
+
+packed_by_refutation : IsConcluded verb.Pack (pairs_of (pack_within (codes "7"))) two (status.Infeasible 7)
+packed_by_refutation = (refl, none_at_7)
+
+packed_within_no_other : IsConcluded verb.Pack (pairs_of pack_values) two (status.Feasible 8) → ⊥
+packed_within_no_other h = absurd (let e = h.0 in cc)
 
 concluded_by_the_core : IsConcluded verb.Core (pairs_of (core_values (codes "7"))) two (status.Core 2)
 concluded_by_the_core = none_at_7

@@ -56,21 +56,23 @@ module _ (words : List Word) (old new : FilesSeen) (pairs : List Pair)
             let held = last_held old.held new.held output (layout_text table offsets) files in (
               (
                 this,
-                refl,
+                tt,
                 least,
                 record { offsets = offsets; layout = layout; held = held },
                 λ positive. absurd (omega (arith, zero, positive)),
               ),
               (
                 this,
-                zero_for_none,
-                record {
-                  offsets = offsets;
-                  planned = planned;
-                  searched = layout_took I (steps_of pairs) C C offsets None within layout;
-                  held = held;
-                },
-                λ positive. absurd (omega (arith, zero, positive)),
+                (
+                  zero_for_none,
+                  record {
+                    offsets = offsets;
+                    planned = planned;
+                    searched = layout_took I (steps_of pairs) C C offsets None within layout;
+                    held = held;
+                  },
+                  λ positive. absurd (omega (arith, zero, positive)),
+                ),
               ),
               tt,
               tt,
@@ -84,7 +86,7 @@ module _ (words : List Word) (old new : FilesSeen) (pairs : List Pair)
             let second = second_held old.held new.held output log (layout_text table offsets) (log_text g) files in (
               (
                 this,
-                refl,
+                tt,
                 least,
                 record { offsets = offsets; layout = layout; held = first },
                 λ positive. record {
@@ -98,20 +100,22 @@ module _ (words : List Word) (old new : FilesSeen) (pairs : List Pair)
               ),
               (
                 this,
-                zero_for_none,
-                record {
-                  offsets = offsets;
-                  planned = planned;
-                  searched = layout_took I (steps_of pairs) C C offsets (Some g) within layout;
-                  held = first;
-                },
-                λ positive. record {
-                  refutation = g;
-                  its_capacity = below.1.its_capacity;
-                  lean = below.1.lean;
-                  searched = log_took I (steps_of pairs) C offsets g within positive below.1.its_capacity;
-                  held = second;
-                },
+                (
+                  zero_for_none,
+                  record {
+                    offsets = offsets;
+                    planned = planned;
+                    searched = layout_took I (steps_of pairs) C C offsets (Some g) within layout;
+                    held = first;
+                  },
+                  λ positive. record {
+                    refutation = g;
+                    its_capacity = below.1.its_capacity;
+                    lean = below.1.lean;
+                    searched = log_took I (steps_of pairs) C offsets g within positive below.1.its_capacity;
+                    held = second;
+                  },
+                ),
               ),
               tt,
               tt,
@@ -143,22 +147,24 @@ module _ (words : List Word) (old new : FilesSeen) (pairs : List Pair)
             ),
             (
               this,
-              subst (λ k. MayStayOpen verb.Least pairs k I left.low left.high) (sym left.given) left.short,
-              record {
-                offsets = left.offsets;
-                planned = left.opened.chosen;
-                searched = layout_took I (steps_of pairs) left.low left.high left.offsets (Some left.refutation)
-                    left.within_steps left.opened.layout;
-                held = first;
-              },
-              record {
-                refutation = left.refutation;
-                its_capacity = refuted.its_capacity;
-                lean = refuted.lean;
-                searched = log_took I (steps_of pairs) left.low left.offsets left.refutation left.within_steps
-                    left.opened.positive refuted.its_capacity;
-                held = second;
-              },
+              (
+                subst (λ k. MayStayOpen verb.Least pairs k I left.low left.high) (sym left.given) left.short,
+                record {
+                  offsets = left.offsets;
+                  planned = left.opened.chosen;
+                  searched = layout_took I (steps_of pairs) left.low left.high left.offsets (Some left.refutation)
+                      left.within_steps left.opened.layout;
+                  held = first;
+                },
+                record {
+                  refutation = left.refutation;
+                  its_capacity = refuted.its_capacity;
+                  lean = refuted.lean;
+                  searched = log_took I (steps_of pairs) left.low left.offsets left.refutation left.within_steps
+                      left.opened.positive refuted.its_capacity;
+                  held = second;
+                },
+              ),
             ),
             tt,
             tt,

@@ -23,11 +23,12 @@ use Rattle.dsaplan_core.proofs.Answered.{answered, words_give}
 use Rattle.dsaplan_core.proofs.Promises.{AreOwn, Promises}
 use Rattle.dsaplan_core.proofs.Solving.{solve_promises}
 use Rattle.dsaplan_core.proofs.Finding.{least_promises}
+use Rattle.dsaplan_core.proofs.Packed.{pack_promises}
 use Rattle.dsaplan_core.proofs.Read.{draw_promises, refute_promises, report_promises, trim_promises, upgrade_promises, verify_promises}
 use Rattle.dsaplan_core.proofs.Importing.{import_promises}
 use Rattle.dsaplan_core.proofs.Unrolling.{unroll_promises}
 use Rattle.dsaplan_core.proofs.Explained.{classes_promises, core_promises}
-use Rattle.dsaplan_core.proofs.Reported.{bounds_promises, trial_promises}
+use Rattle.dsaplan_core.proofs.Reported.{bounds_promises, inspect_promises, trial_promises}
 
 -- of writes that are all own, one after the first ones is too
 pub one_own : (r : Request) (made : List Write) (lost : Write) (rest : List Write) → AreOwn r (made ++ (lost ∷ rest)) →
@@ -52,11 +53,13 @@ module _ (words : List Word) (old new : FilesSeen) where
       Promises words old new (record { verb = v; pairs = pairs }) o
   promised verb.Solve pairs is o comes = solve_promises words old new pairs is o comes
   promised verb.Least pairs is o comes = least_promises words old new pairs is o comes
+  promised verb.Pack pairs is o comes = pack_promises words old new pairs is o comes
   promised verb.Verify pairs is o comes = verify_promises words old new pairs is o comes
   promised verb.Refute pairs is o comes = refute_promises words old new pairs is o comes
   promised verb.Trim pairs is o comes = trim_promises words old new pairs is o comes
   promised verb.Upgrade pairs is o comes = upgrade_promises words old new pairs is o comes
   promised verb.Bounds pairs is o comes = bounds_promises words old new pairs is o comes
+  promised verb.Inspect pairs is o comes = inspect_promises words old new pairs is o comes
   promised verb.Report pairs is o comes = report_promises words old new pairs is o comes
   promised verb.Draw pairs is o comes = draw_promises words old new pairs is o comes
   promised verb.Trial pairs is o comes = trial_promises words old new pairs is o comes

@@ -1,8 +1,11 @@
 -- What statuses promise of files, on an input of two buffers that are both live at 4.
-use Rattle.std.proofs.Common.{◌≡◌, ◌∙◌, List, [], ◌∷◌, Some, codes, refl, sym, subst, inl, inr, lit<, lit≤, arith}
+use Rattle.std.proofs.Common.{◌≡◌, ◌∙◌, ◌++◌, List, [], ◌∷◌, Some, codes, refl, sym, subst, inl, inr, lit<, lit≤, arith}
 use Rattle.std.specs.FinMap.{empty, insert}
 use Rattle.dsa_terms.specs.Claims.{IsIn}
+use Rattle.column_report.proofs.ExampleFacts.{two_told}
+use Rattle.dsa_terms.specs.Logs.{Log, Over}
 use Rattle.csv_instance.specs.Layout.{layout_text}
+use Rattle.log_text.specs.Text.{log_text}
 use Rattle.csv_instance.specs.declared.fault.InstanceFault.TheVariants as instance
 use Rattle.csv_instance.proofs.FileFacts.{no_bytes, two, two_file, two_rows}
 use Rattle.dsa_outside.specs.Seen.{FilesSeen, SinkSeen}
@@ -20,10 +23,12 @@ use Rattle.run_status.specs.declared.status.Role.{Role}
 use Rattle.run_status.specs.declared.status.Role.TheVariants as role
 use Rattle.explaining.proofs.ExampleFacts.{laid_at_8, none_at_7}
 use Rattle.dsaplan_core.specs.Causes.{AreNoCommand, AskTooMany, RefusesInput}
+use Rattle.dsaplan_core.specs.Choice.{ChosenBy, HoldsBrief}
 use Rattle.dsaplan_core.specs.Complete.{IsReady, IsUndisturbed, limit_of}
 use Rattle.dsaplan_core.specs.Lost.{LosesFile, MissesFile}
+use Rattle.dsaplan_core.specs.Shown.{Tells}
 use Rattle.dsaplan_core.specs.Theorem.{Asked, Headline, HoldsLayout, HoldsRefutation}
-use Rattle.dsaplan_core.proofs.WorldFacts.{asking, bounds_values, core_values, in_parse, input_alone, reads_input, reads_no_output, reads_none, told, trial_values}
+use Rattle.dsaplan_core.proofs.WorldFacts.{asking, bounds_values, core_values, in_parse, input_alone, pack_within, reads_input, reads_no_output, reads_none, told, trial_values}
 
 -- ---- a layout
 abbrev solve_8 : Asked (codes "solve" ∷ core_values (codes "8")) (told input_alone)
@@ -48,15 +53,58 @@ not_laid_at_7 : (new : FilesSeen) → HoldsLayout solve_8 new 7 → ⊥
 not_laid_at_7 new h = none_at_7 h.offsets h.layout
 
 feasible_at_8 : Headline (codes "solve" ∷ core_values (codes "8")) (told input_alone) laid_files (status.Feasible 8)
-feasible_at_8 = (solve_8, refl, refl, output_is_laid)
+feasible_at_8 = (solve_8, refl, output_is_laid)
 
--- where a layout fits, no log's file refutes
+-- which is what `pack` promises of a capacity that is given, whatever the layout
+abbrev pack_8 : Asked (codes "pack" ∷ pack_within (codes "8")) (told input_alone)
+pack_8 = asking (codes "pack" ∷ pack_within (codes "8")) verb.Pack (pairs_of (pack_within (codes "8"))) refl refl
+
+packed_is_laid : HoldsLayout pack_8 laid_files 8
+packed_is_laid = record {
+  offsets = 0 ∷ 4 ∷ [];
+  layout = laid_at_8;
+  held = λ there. file_at-with_file (Some input_alone) (codes "o") (layout_text two_rows (0 ∷ 4 ∷ [])) refl;
+}
+
+packed_at_8 : Headline (codes "pack" ∷ pack_within (codes "8")) (told input_alone) laid_files (status.Feasible 8)
+packed_at_8 = (pack_8, refl, packed_is_laid)
+
+any_layout_at_8 : ChosenBy verb.Pack pack_8 laid_files (status.Feasible 8)
+any_layout_at_8 = tt
+
+-- ---- a log of one line, for which nine steps are enough
+abbrev pack_7 : Asked (codes "pack" ∷ pack_within (codes "7")) (told input_alone)
+pack_7 = asking (codes "pack" ∷ pack_within (codes "7")) verb.Pack (pairs_of (pack_within (codes "7"))) refl refl
+
+abbrev seven_log : Log
+seven_log = record { count = 2; capacity = 7; lines = Over ((0, 0) ∷ (1, 0) ∷ []) 4 0 1 ∷ []; final = 0 }
+
+log_is_brief : HoldsBrief pack_7 (told (insert input_alone (codes "l") (log_text seven_log))) 7
+log_is_brief = record {
+  refutation = seven_log;
+  its_capacity = refl;
+  trimmed = record { last = refl; cited = λ k lt. absurd (omega arith) };
+  few = inr (lit≤ tt);
+  held = λ there. file_at-with_file (Some input_alone) (codes "l") (log_text seven_log) refl;
+}
+
+-- ---- where a layout fits, no log's file refutes
 not_refuted_at_8 : (new : FilesSeen) → HoldsRefutation solve_8 new 8 → ⊥
 not_refuted_at_8 new h = h.infeasible (0 ∷ 4 ∷ []) laid_at_8
 
 -- where nothing failed, no write is lost
 not_lost : (words : List Word) (r : Role) → LosesFile words (told input_alone) laid_files r → ⊥
 not_lost words r h = let rose = h.rose in omega (arith, rose)
+
+-- ---- a report
+abbrev inspected : Asked (codes "inspect" ∷ bounds_values) (told input_alone)
+inspected = asking (codes "inspect" ∷ bounds_values) verb.Inspect (pairs_of bounds_values) refl refl
+
+-- the columns of the input are told
+tells_columns : Tells (codes "inspect" ∷ bounds_values) (told input_alone) (told input_alone) status.Shown
+    (codes "buffers 2 of 512 aligned 0 gaps 0 lowest 0\ncolumn,meaning\nid,id\nlower,lower\nupper,upper\n"
+    ++ codes "size,size\nalignment,alignment\n")
+tells_columns = (refl, inr (inr (inl (inspected, record { command = refl; its_text = sym two_told }))))
 
 -- ---- files that are missed, and inputs that are refused
 missed_input : MissesFile (codes "bounds" ∷ bounds_values) (told empty) (told empty) role.Input

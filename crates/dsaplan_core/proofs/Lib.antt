@@ -8,6 +8,7 @@ mod Promises
 mod Refusals
 mod Solving
 mod Finding
+mod Packed
 mod Read
 mod Reported
 mod Headline

@@ -1,6 +1,6 @@
 -- What the commands promise that print the facts of an instance.
 use Rattle.std.proofs.Common.{◌≡◌, List, Ok, refl, sym, subst, inl, inr}
-use Rattle.fact_reports.specs.Reporting.{ShowsFacts}
+use Rattle.fact_reports.specs.Reporting.{ShowsColumns, ShowsFacts}
 use Rattle.dsa_outside.specs.Seen.{FilesSeen}
 use Rattle.command_words.specs.Options.{Word}
 use Rattle.command_words.specs.Pairs.{Pair}
@@ -44,6 +44,17 @@ module _ (words : List Word) (old new : FilesSeen) (pairs : List Pair) where
         tt,
       ))
 
+  pub inspect_promises : request_of words ≡ Ok (r verb.Inspect) → (o : Outcome) →
+      Comes old new (course_with verb.Inspect pairs) o → Promises words old new (r verb.Inspect) o
+  inspect_promises is = opened_promises words old new (r verb.Inspect) is (inl refl, λ same. cc)
+      (λ table I. Concludes (ShowsColumns table I))
+      (λ table I input o comes. subst (Promises words old new (r verb.Inspect)) (sym comes.1) (
+        λ files.
+            let a = asked words old (r verb.Inspect) is table I input in
+            (tt, tt, (files, inr (inr (inl (a, record { command = refl; its_text = refl })))), tt),
+        tt,
+      ))
+
   pub trial_promises : request_of words ≡ Ok (r verb.Trial) → (o : Outcome) →
       Comes old new (course_with verb.Trial pairs) o → Promises words old new (r verb.Trial) o
   trial_promises is = trial_gives old new (Promises words old new (r verb.Trial)) (trial_of pairs)
@@ -58,7 +69,7 @@ module _ (words : List Word) (old new : FilesSeen) (pairs : List Pair) where
           tt,
           (
             files,
-            inr (inr (record {
+            inr (inr (inr (record {
               pairs = pairs;
               instance = shows.instance;
               facts = shows.facts;
@@ -69,7 +80,7 @@ module _ (words : List Word) (old new : FilesSeen) (pairs : List Pair) where
               true_facts = shows.true_facts;
               true_verdict = shows.true_verdict;
               its_text = refl;
-            })),
+            }))),
           ),
           tt,
         ),

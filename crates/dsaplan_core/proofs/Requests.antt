@@ -64,6 +64,12 @@ pub least_apart : (words : List Word) (pairs : List Pair) →
 least_apart words pairs is = last_two (word_at pairs option.Input) (word_at pairs option.Output) (word_at pairs option.Log)
     (names_differ words (record { verb = verb.Least; pairs = pairs }) is)
 
+pub pack_apart : (words : List Word) (pairs : List Pair) →
+    request_of words ≡ Ok (record { verb = verb.Pack; pairs = pairs }) →
+    word_at pairs option.Output ≢ word_at pairs option.Log
+pack_apart words pairs is = last_two (word_at pairs option.Input) (word_at pairs option.Output) (word_at pairs option.Log)
+    (names_differ words (record { verb = verb.Pack; pairs = pairs }) is)
+
 -- ---- names of files
 in_front : {X : Type 0} (x : X) (xs ys : List X) → IsIn x xs → IsIn x (xs ++ ys)
 in_front x [] ys is = absurd is

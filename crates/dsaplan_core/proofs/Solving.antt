@@ -62,7 +62,7 @@ module _ (words : List Word) (old new : FilesSeen) (pairs : List Pair)
     lays_out o lays = subst (Promises words old new request) (sym lays.written) (
       λ files.
           let held = last_held old.held new.held (word_at pairs option.Output) (layout_text table lays.offsets) files in (
-            (this, refl, refl, record { offsets = lays.offsets; layout = lays.layout; held = held }),
+            (this, refl, record { offsets = lays.offsets; layout = lays.layout; held = held }),
             (
               this,
               record {
@@ -84,7 +84,6 @@ module _ (words : List Word) (old new : FilesSeen) (pairs : List Pair)
           let held = last_held old.held new.held (word_at pairs option.Log) (log_text none.refutation) files in (
             (
               this,
-              refl,
               refl,
               record {
                 refutation = none.refutation;
@@ -139,22 +138,24 @@ module _ (words : List Word) (old new : FilesSeen) (pairs : List Pair)
             ),
             (
               this,
-              subst (λ k. MayStayOpen verb.Solve pairs k I left.low left.high) (sym left.given) left.short,
-              record {
-                offsets = best_start I;
-                planned = left.opened.chosen;
-                searched = layout_took I (steps_of pairs) left.low left.high (best_start I) (Some left.refutation)
-                    within left.opened.layout;
-                held = first;
-              },
-              record {
-                refutation = left.refutation;
-                its_capacity = refuted.its_capacity;
-                lean = refuted.lean;
-                searched = log_took I (steps_of pairs) left.low (best_start I) left.refutation within
-                    left.opened.positive refuted.its_capacity;
-                held = second;
-              },
+              (
+                subst (λ k. MayStayOpen verb.Solve pairs k I left.low left.high) (sym left.given) left.short,
+                record {
+                  offsets = best_start I;
+                  planned = left.opened.chosen;
+                  searched = layout_took I (steps_of pairs) left.low left.high (best_start I) (Some left.refutation)
+                      within left.opened.layout;
+                  held = first;
+                },
+                record {
+                  refutation = left.refutation;
+                  its_capacity = refuted.its_capacity;
+                  lean = refuted.lean;
+                  searched = log_took I (steps_of pairs) left.low (best_start I) left.refutation within
+                      left.opened.positive refuted.its_capacity;
+                  held = second;
+                },
+              ),
             ),
             tt,
             tt,

@@ -27,6 +27,15 @@ core_values capacity =
     codes "--capacity" ∷ capacity ∷ codes "--input" ∷ codes "i" ∷ codes "--output" ∷ codes "o" ∷ codes "--log"
     ∷ codes "l" ∷ []
 
+abbrev pub pack_values : List Word
+pack_values =
+    codes "--input" ∷ codes "i" ∷ codes "--output" ∷ codes "o" ∷ codes "--log" ∷ codes "l" ∷ codes "--steps" ∷ codes "9"
+    ∷ []
+
+-- the same with a capacity
+abbrev pub pack_within : Word → List Word
+pack_within capacity = codes "--capacity" ∷ capacity ∷ pack_values
+
 abbrev pub verify_values : Word → List Word
 verify_values capacity =
     codes "--capacity" ∷ capacity ∷ codes "--input" ∷ codes "i" ∷ codes "--layout" ∷ codes "a" ∷ []

@@ -1,17 +1,21 @@
--- Which of several right answers a run gives, and what its steps have to do with it: the layout that is written is the
--- plan; a log is without waste; where a number of steps is given, a layout that no start gives comes only where it is
--- 1 or more, and a log at a capacity that the lower bound leaves open has no more lines; 'open' comes only where the
--- steps may be too few.
-use Rattle.std.specs.Prelude.{◌≡◌, ◌-◌, ◌≤◌, ◌↔◌, ℕ, List, [], length, IsSome, Option, Some, None}
+-- Which of several right answers a run gives, and what its steps have to do with it. With `solve` and `least` the layout
+-- that is written is the plan; a log is without waste; where a number of steps is given, a layout that no start gives
+-- comes only where it is 1 or more, and a log at a capacity that the lower bound leaves open has no more lines; 'open'
+-- comes only where the steps may be too few. With `pack` a log is without needless lines, and is the bound's or has no
+-- more lines than steps; the ends of 'open' are no worse than the lower bound and the best start.
+use Rattle.std.specs.Prelude.{◌≡◌, ◌-◌, ◌<◌, ◌≤◌, ◌↔◌, ◌⊎◌, ℕ, List, [], length, IsSome, IfSome, Option, Some, None}
 use Rattle.dsa_terms.specs.Bounds.{lower_bound}
 use Rattle.dsa_terms.specs.Buffers.{Instance}
 use Rattle.dsa_terms.specs.Lean.{IsLean}
 use Rattle.dsa_terms.specs.Logs.{Log}
-use Rattle.dsa_terms.specs.Starts.{planned}
+use Rattle.dsa_terms.specs.Plans.{layout_height}
+use Rattle.dsa_terms.specs.Starts.{best_start, planned}
 use Rattle.dsa_outside.specs.Held.{file_at}
 use Rattle.dsa_outside.specs.Seen.{FilesSeen}
 use Rattle.csv_instance.specs.Layout.{layout_text}
 use Rattle.log_text.specs.Text.{log_text}
+use Rattle.packer.specs.Packs.{IsTrimmed}
+use Rattle.planner.specs.Decides.{IsBoundLog}
 use Rattle.planner.specs.FirstStart.{start_within}
 use Rattle.planner.specs.Openings.{AreGiven}
 use Rattle.planner.specs.Shortage.{IsShortOfHunt, IsShortOfWork}
@@ -50,12 +54,46 @@ MayStayOpen verb.Solve pairs (Some k) I L H = IsShortOfWork I (number_at pairs o
 MayStayOpen verb.Least pairs (Some k) I L H = IsShortOfHunt I k L H
 MayStayOpen verb pairs steps I L H = ⊥
 
+-- the log's file holds a log at the capacity, each line of which but the last is cited by a later one; it is the bound's,
+-- or a step is given for each of its lines
+pub record HoldsBrief {words : List Word} {old : FilesSeen} (a : Asked words old) (new : FilesSeen) (C : ℕ) : Type 0 where
+  pub refutation : Log
+  pub its_capacity : refutation.capacity ≡ C
+  pub trimmed : IsTrimmed refutation
+  pub few : IsBoundLog a.instance C refutation ⊎ (length refutation.lines ≤ number_at a.pairs option.Steps)
+  pub held : IsSome old.held → file_at new.held (word_at a.pairs option.Log) ≡ Some (log_text refutation)
+
+-- the ends are no worse than the lower bound and the best start, and a capacity that the words give lies between them
+pub record AreEnds (I : Instance) (pairs : List Pair) (L H : ℕ) : Type 0 where
+  pub from_bound : lower_bound I ≤ L
+  pub to_best : H ≤ layout_height I (best_start I)
+  pub between : IfSome (number_given pairs option.Capacity) (λ C. (L ≤ C) × (C < H))
+
+-- which answer the status is, where the plan is written
+abbrev pub ChoosesPlan : {words : List Word} {old : FilesSeen} → Asked words old → FilesSeen → Status → Type 0
+ChoosesPlan a new (status.Feasible C) = HoldsPlan a new C
+ChoosesPlan a new (status.Infeasible C) = HoldsLean a new C
+ChoosesPlan a new (status.Least C) = ((a.instance ≡ []) ↔ (C ≡ 0)) × HoldsPlan a new C × (1 ≤ C → HoldsLean a new (C - 1))
+ChoosesPlan a new (status.Open L H) = MayStayOpen a.verb a.pairs (steps_of a.pairs) a.instance L H × HoldsPlan a new H
+    × HoldsLean a new (L - 1)
+ChoosesPlan a new status = Unit {0}
+
+-- which answer the status is, where any layout is
+abbrev pub ChoosesAny : {words : List Word} {old : FilesSeen} → Asked words old → FilesSeen → Status → Type 0
+ChoosesAny a new (status.Infeasible C) = HoldsBrief a new C
+ChoosesAny a new (status.Least C) = ((a.instance ≡ []) ↔ (C ≡ 0)) × (1 ≤ C → HoldsBrief a new (C - 1))
+ChoosesAny a new (status.Open L H) = AreEnds a.instance a.pairs L H × HoldsBrief a new (L - 1)
+ChoosesAny a new status = Unit {0}
+
+-- which answer the status of a command is
+abbrev pub ChosenBy : {words : List Word} {old : FilesSeen} → Verb → Asked words old → FilesSeen → Status → Type 0
+ChosenBy verb.Pack a new s = ChoosesAny a new s
+ChosenBy verb a new s = ChoosesPlan a new s
+
 -- which answer the status is
 abbrev pub Choice : List Word → FilesSeen → FilesSeen → Status → Type 0
-Choice words old new (status.Feasible C) = (a : Asked words old) × HoldsPlan a new C
-Choice words old new (status.Infeasible C) = (a : Asked words old) × HoldsLean a new C
-Choice words old new (status.Least C) = (a : Asked words old) × ((a.instance ≡ []) ↔ (C ≡ 0)) × HoldsPlan a new C
-    × (1 ≤ C → HoldsLean a new (C - 1))
-Choice words old new (status.Open L H) = (a : Asked words old)
-    × MayStayOpen a.verb a.pairs (steps_of a.pairs) a.instance L H × HoldsPlan a new H × HoldsLean a new (L - 1)
+Choice words old new (status.Feasible C) = (a : Asked words old) × ChosenBy a.verb a new (status.Feasible C)
+Choice words old new (status.Infeasible C) = (a : Asked words old) × ChosenBy a.verb a new (status.Infeasible C)
+Choice words old new (status.Least C) = (a : Asked words old) × ChosenBy a.verb a new (status.Least C)
+Choice words old new (status.Open L H) = (a : Asked words old) × ChosenBy a.verb a new (status.Open L H)
 Choice words old new status = Unit {0}

@@ -12,12 +12,13 @@ use Rattle.run_course.specs.Course.{Course, Ends, says}
 use Rattle.judging.specs.Judging.{Report, Verify, report, verify}
 use Rattle.judging.specs.Drawing.{Draw, draw}
 use Rattle.checking.specs.Checking.{Refute, Trim, Upgrade, refute, trim, upgrade}
-use Rattle.fact_reports.specs.Reporting.{Bounds, Trial, bounds, trial}
+use Rattle.fact_reports.specs.Reporting.{Bounds, Inspect, Trial, bounds, inspect, trial}
 use Rattle.importing.specs.Importing.{Import, import_course}
 use Rattle.importing.specs.Unrolling.{Unroll, unroll_course}
 use Rattle.planning.specs.Planning.{Classes, classes}
 use Rattle.explaining.specs.Explaining.{Core, core}
 use Rattle.deciding.specs.Deciding.{LeastOf, Solve, least, solve}
+use Rattle.packing.specs.Packing.{Pack, pack}
 
 -- what the pairs ask of `solve`
 abbrev pub solve_of : List Pair → Solve
@@ -36,6 +37,16 @@ least_of pairs = record {
   output = word_at pairs option.Output;
   log = word_at pairs option.Log;
   steps = number_given pairs option.Steps;
+}
+
+-- what they ask of `pack`
+abbrev pub pack_of : List Pair → Pack
+pack_of pairs = record {
+  capacity = number_given pairs option.Capacity;
+  input = word_at pairs option.Input;
+  output = word_at pairs option.Output;
+  log = word_at pairs option.Log;
+  steps = number_at pairs option.Steps;
 }
 
 -- what they ask of `verify`
@@ -69,6 +80,10 @@ upgrade_of pairs = record {
 -- what they ask of `bounds`
 abbrev pub bounds_of : List Pair → Bounds
 bounds_of pairs = record { input = word_at pairs option.Input }
+
+-- what they ask of `inspect`
+abbrev pub inspect_of : List Pair → Inspect
+inspect_of pairs = record { input = word_at pairs option.Input }
 
 -- what they ask of `report`
 abbrev pub report_of : List Pair → Report
@@ -119,11 +134,13 @@ core_of pairs = record {
 abbrev pub course_with : Verb → List Pair → Course
 course_with verb.Solve pairs = solve (solve_of pairs)
 course_with verb.Least pairs = least (least_of pairs)
+course_with verb.Pack pairs = pack (pack_of pairs)
 course_with verb.Verify pairs = verify (verify_of pairs)
 course_with verb.Refute pairs = refute (refute_of pairs)
 course_with verb.Trim pairs = trim (trim_of pairs)
 course_with verb.Upgrade pairs = upgrade (upgrade_of pairs)
 course_with verb.Bounds pairs = bounds (bounds_of pairs)
+course_with verb.Inspect pairs = inspect (inspect_of pairs)
 course_with verb.Report pairs = report (report_of pairs)
 course_with verb.Draw pairs = draw (draw_of pairs)
 course_with verb.Trial pairs = trial (trial_of pairs)

@@ -5,6 +5,7 @@ use Rattle.dsa_outside.specs.Held.{with_text}
 use Rattle.dsa_outside.specs.Seen.{FilesSeen, SinkSeen}
 use Rattle.csv_instance.specs.Records.{table_of}
 use Rattle.csv_instance.specs.Parse.{parse, buffer_limit}
+use Rattle.column_report.specs.Report.{inspect_text}
 use Rattle.layout_report.specs.Facts.{bounds_text}
 use Rattle.layout_report.specs.Report.{IsReportOf}
 use Rattle.layout_report.specs.declared.facts.Facts.{Facts}
@@ -34,6 +35,11 @@ pub record TellsLayout {words : List Word} {old : FilesSeen} (a : Asked words ol
   pub given : GivesLayoutAt a (2 ^ 60)
   pub its_text : IsReportOf a.table a.instance given.offsets text
 
+-- how many buffers of the input's instance ask for something more, and what each column of its header means
+pub record TellsColumns {words : List Word} {old : FilesSeen} (a : Asked words old) (text : List ℕ) : Type 0 where
+  pub command : a.verb ≡ verb.Inspect
+  pub its_text : text ≡ inspect_text a.table a.instance
+
 -- the facts of the made instance, and the verdict on it
 pub record TellsTrial (words : List Word) (text : List ℕ) : Type 0 where
   pub pairs : List Pair
@@ -50,7 +56,8 @@ pub record TellsTrial (words : List Word) (text : List ℕ) : Type 0 where
 -- what the text of the status says and what files then hold, where it is a report
 abbrev pub Tells : List Word → FilesSeen → FilesSeen → Status → List ℕ → Type 0
 Tells words old new status.Shown text = (new.held ≡ old.held)
-    × (((a : Asked words old) × TellsFacts a text) ⊎ ((a : Asked words old) × TellsLayout a text) ⊎ TellsTrial words text)
+    × (((a : Asked words old) × TellsFacts a text) ⊎ ((a : Asked words old) × TellsLayout a text)
+    ⊎ ((a : Asked words old) × TellsColumns a text) ⊎ TellsTrial words text)
 Tells words old new status text = Unit {0}
 
 -- a true report has been printed, and the files are as before

@@ -1,10 +1,10 @@
 -- The promise of a run in few words. The layout that is written with 'feasible', 'least C' or 'open L H' is aligned,
 -- within its capacity and free of overlap at every moment; with 'infeasible', 'least C' or 'open L H' the written log,
--- at C - 1 or L - 1 unless C or L is zero, is accepted, and an accepted log means that no layout fits. With 'right' the
+-- at C - 1 unless C is zero, or at L - 1, is accepted, and an accepted log means that no layout fits. With 'right' the
 -- layout file gives a layout, and with 'accepted', 'trimmed' and 'upgraded' the log's file is an accepted log. 'drawn'
 -- writes a picture of the layout, 'classes' a plan by size class, 'core' an irreducible set of buffers that do not fit,
 -- 'imported' the instance of the trace, and 'unrolled' that of one period.
-use Rattle.std.specs.Prelude.{◌≡◌, ◌≢◌, ◌-◌, ◌≤◌, ◌<◌, ◌^◌, ℕ, List, length, IsSome, Some, Ok, Err}
+use Rattle.std.specs.Prelude.{◌≡◌, ◌≢◌, ◌-◌, ◌≤◌, ◌<◌, ◌^◌, ℕ, List, length, IsSome, None, Some, Ok, Err}
 use Rattle.dsa_terms.specs.Buffers.{Instance}
 use Rattle.dsa_terms.specs.Claims.{IsIn}
 use Rattle.dsa_terms.specs.Layouts.{IsFeasible, IsLayout, IsInfeasible, IsLeast}
@@ -35,7 +35,7 @@ use Rattle.trace_import.specs.Traces.{IsTraced, Trace, imported}
 use Rattle.trace_import.specs.declared.fault.TraceFault.{TraceFault}
 use Rattle.command_words.specs.Options.{Word}
 use Rattle.command_words.specs.Forms.{form_of}
-use Rattle.command_words.specs.Pairs.{Pair, number_at, word_at}
+use Rattle.command_words.specs.Pairs.{Pair, number_at, number_given, word_at}
 use Rattle.command_words.specs.Requests.{request_of}
 use Rattle.command_words.specs.declared.option.OptionName.TheVariants as option
 use Rattle.command_words.specs.declared.verb.Verb.{Verb}
@@ -58,6 +58,18 @@ pub record Asked (words : List Word) (old : FilesSeen) : Type 0 where
   pub instance : Instance
   pub words_ask : request_of words ≡ Ok (record { verb = verb; pairs = pairs })
   pub input : IsInput old (word_at pairs option.Input) table instance
+
+-- the command decides the capacity: `solve`, and `pack` where it is given
+abbrev pub Decides : Verb → List Pair → ℕ → Type 0
+Decides verb.Solve pairs C = number_at pairs option.Capacity ≡ C
+Decides verb.Pack pairs C = number_given pairs option.Capacity ≡ Some C
+Decides verb pairs C = ⊥
+
+-- the command looks for the least capacity: `least`, and `pack` where no capacity is given
+abbrev pub SeeksLeast : Verb → List Pair → Type 0
+SeeksLeast verb.Least pairs = Unit {0}
+SeeksLeast verb.Pack pairs = number_given pairs option.Capacity ≡ None
+SeeksLeast verb pairs = ⊥
 
 -- the output holds the text of offsets that are a layout at the capacity: each is aligned, at or above its buffer's
 -- lowest and within the capacity, and no two buffers overlap at a moment at which both are live
@@ -188,11 +200,10 @@ pub record RefusesCycle (words : List Word) (old new : FilesSeen) (fault : Cycle
 
 -- what the status promises of the files
 abbrev pub Headline : List Word → FilesSeen → FilesSeen → Status → Type 0
-Headline words old new (status.Feasible C) = (a : Asked words old) × (a.verb ≡ verb.Solve)
-    × (number_at a.pairs option.Capacity ≡ C) × HoldsLayout a new C
-Headline words old new (status.Infeasible C) = (a : Asked words old) × (a.verb ≡ verb.Solve)
-    × (number_at a.pairs option.Capacity ≡ C) × HoldsRefutation a new C
-Headline words old new (status.Least C) = (a : Asked words old) × (a.verb ≡ verb.Least)
+Headline words old new (status.Feasible C) = (a : Asked words old) × Decides a.verb a.pairs C × HoldsLayout a new C
+Headline words old new (status.Infeasible C) = (a : Asked words old) × Decides a.verb a.pairs C
+    × HoldsRefutation a new C
+Headline words old new (status.Least C) = (a : Asked words old) × SeeksLeast a.verb a.pairs
     × IsLeast a.instance C × HoldsLayout a new C × (1 ≤ C → HoldsRefutation a new (C - 1))
 Headline words old new (status.Open L H) = (a : Asked words old) × (1 ≤ L) × (L < H)
     × HoldsLayout a new H × HoldsRefutation a new (L - 1)

@@ -15,9 +15,10 @@ use command_words::{OptionName, Request, Verb, read_words};
 use deciding::{Least, Solve};
 use dsa_outside::{Files, Sink};
 use explaining::Core;
-use fact_reports::{Bounds, Trial};
+use fact_reports::{Bounds, Inspect, Trial};
 use importing::{Import, Unroll};
 use judging::{Draw, Report, Verify};
+use packing::Pack;
 use planning::Classes;
 use run_course::perform;
 use run_status::Status;
@@ -59,6 +60,16 @@ fn answer<F: Files, S: Sink>(
             };
             perform(alloc, &least, files, out)
         }
+        Verb::Pack => {
+            let pack = Pack {
+                capacity: request.number_given(OptionName::Capacity),
+                input,
+                output,
+                log,
+                steps: request.number(OptionName::Steps),
+            };
+            perform(alloc, &pack, files, out)
+        }
         Verb::Verify => {
             let verify = Verify {
                 capacity,
@@ -77,6 +88,7 @@ fn answer<F: Files, S: Sink>(
             perform(alloc, &upgrade, files, out)
         }
         Verb::Bounds => perform(alloc, &Bounds { input }, files, out),
+        Verb::Inspect => perform(alloc, &Inspect { input }, files, out),
         Verb::Report => perform(alloc, &Report { input, layout }, files, out),
         Verb::Draw => {
             let draw = Draw {
@@ -145,7 +157,7 @@ pub fn run<F: Files, S: Sink>(alloc: Global, words: &[String], files: &mut F, ou
 
     // The layout that is written with 'feasible', 'least C' or 'open L H' is aligned, within its
     // capacity and free of overlap at every moment; with 'infeasible', 'least C' or 'open L H' the
-    // written log, at C - 1 or L - 1 unless C or L is zero, is accepted, and an accepted log means
+    // written log, at C - 1 unless C is zero, or at L - 1, is accepted, and an accepted log means
     // that no layout fits. 'right', 'accepted' and 'trimmed' say the same of what was read.
     // 'upgraded' writes the accepted log in the second version of its text, 'drawn' a picture of
     // the layout, 'classes' a plan by size class, 'core' an irreducible set of buffers that do not
@@ -153,8 +165,10 @@ pub fn run<F: Files, S: Sink>(alloc: Global, words: &[String], files: &mut F, ou
     ensures headline { Headline (map string_bytes words.now)
         (F.seen files.old) (F.seen files.new) result }
 
-    // The layout is the plan, the log is without waste, and steps bound both; 'open' comes only
-    // where the steps may be too few.
+    // With `solve` and `least` the layout is the plan, the log is without waste, and steps bound
+    // both; 'open' comes only where the steps may be too few. With `pack` no line of the log is
+    // needless, and a step is given for each, or it is the lower bound's; the ends of 'open' are no
+    // worse than that bound and the best start.
     ensures choice { Choice (map string_bytes words.now)
         (F.seen files.old) (F.seen files.new) result }
 

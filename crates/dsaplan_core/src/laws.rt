@@ -28,7 +28,8 @@ ghost use Rattle.dsaplan_core.specs.Lost.{HasLongFile, LosesFile, MissesFile};
 ghost use Rattle.dsaplan_core.specs.Refused.{IsMisuse};
 ghost use Rattle.dsaplan_core.specs.Shown.{Shows};
 
-/// A report that is shown is true of the input's instance, of its layout, or of the made instance.
+/// A report that is shown is true of the input's instance, of its layout, of how the input is read,
+/// or of the made instance.
 pub fn shown()
     ensures { (words : List Word) (old new : FilesSeen) (before after : SinkSeen) →
         Answers (course words) old new before after status.Shown →

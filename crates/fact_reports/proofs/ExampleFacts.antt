@@ -13,7 +13,9 @@ use Rattle.dsa_terms.proofs.ExamplePlanFacts.{small_below_plan_at_4}
 use Rattle.dsa_terms.proofs.Examples.{plain, small_below}
 use Rattle.dsa_model.proofs.Live.{not_live_after}
 use Rattle.dsa_outside.specs.Seen.{FilesSeen}
+use Rattle.column_report.proofs.ExampleFacts.{two_told}
 use Rattle.csv_instance.specs.Parse.{parse}
+use Rattle.csv_instance.proofs.FileFacts.{two, two_rows}
 use Rattle.layout_report.specs.Facts.{bounds_text}
 use Rattle.layout_report.specs.declared.facts.Facts.{Facts}
 use Rattle.load_profile.specs.LoadProfile.{IsPeakOf}
@@ -26,7 +28,7 @@ use Rattle.planner.proofs.ShortageFacts.{not_above_the_best, short_of_the_hunt}
 use Rattle.planner.proofs.StepFacts.{best_at_5, four_high, four_is_least, laid_at_4, refuted_at_3}
 use Rattle.run_status.specs.declared.status.Status.TheVariants as status
 use Rattle.run_course.specs.Course.{Comes, Outcome, says, shows}
-use Rattle.fact_reports.specs.Reporting.{IsFoundWithin, IsLeftOpen, IsVerdict, ShowsFacts, ShowsTrial, Trial, trial}
+use Rattle.fact_reports.specs.Reporting.{IsFoundWithin, IsLeftOpen, IsVerdict, ShowsColumns, ShowsFacts, ShowsTrial, Trial, trial}
 
 -- ---- the peak
 below_load : load small_below 0 ≡ 4
@@ -83,6 +85,16 @@ shows_none = record { facts = no_facts; true_facts = facts_of_none; shown = ap s
 -- a report is shown, and the status is not another
 not_as_right : ShowsFacts [] (says status.Right) → ⊥
 not_as_right h = let e = ap (λ (o : Outcome). o.status) h.shown in absurd cc
+
+-- ---- columns
+shows_columns : ShowsColumns two_rows two
+    (shows (codes "buffers 2 of 512 aligned 0 gaps 0 lowest 0\ncolumn,meaning\nid,id\nlower,lower\nupper,upper\n"
+    ++ codes "size,size\nalignment,alignment\n"))
+shows_columns = ap shows (sym two_told)
+
+-- the columns are shown, and the status is not another
+not_silently : ShowsColumns two_rows two (says status.Right) → ⊥
+not_silently h = let e = ap (λ (o : Outcome). o.status) h in absurd cc
 
 -- ---- the verdict of a trial
 found_with_four_steps : IsFoundWithin small_below 4 4

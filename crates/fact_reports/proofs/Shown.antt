@@ -1,5 +1,5 @@
 -- Reports that are shown, as what the courses come to.
-use Rattle.std.proofs.Common.{◌≡◌, ◌<◌, ◌≤◌, ℕ, Ok, Err, Result, IfOk, Bool, true, false, nat_lt, sym, subst, arith}
+use Rattle.std.proofs.Common.{◌≡◌, ◌<◌, ◌≤◌, ℕ, List, Ok, Err, Result, IfOk, Bool, true, false, nat_lt, sym, subst, arith}
 use Rattle.std.proofs.lemmas.Bool.Decides.{nat_tests}
 use Rattle.dsa_terms.specs.Buffers.{Instance}
 use Rattle.dsa_model.specs.Fails.{IfFault, UnlessNoMemory}
@@ -7,13 +7,14 @@ use Rattle.dsa_model.specs.declared.fail.Fail.{Fail}
 use Rattle.dsa_model.specs.declared.fail.Fail.TheVariants.{Fault}
 use Rattle.dsa_model.specs.declared.fail.NoMemory.{NoMemory}
 use Rattle.csv_instance.specs.Parse.{buffer_limit}
+use Rattle.csv_instance.specs.Records.{Record}
 use Rattle.dsa_outside.specs.Seen.{FilesSeen}
 use Rattle.run_status.specs.Spoken.{IsSpoken}
 use Rattle.run_status.specs.declared.status.Status.TheVariants.{TooMany}
 use Rattle.run_course.specs.Course.{Comes, Concludes, Outcome, says}
 use Rattle.run_course.specs.Prepares.{outcome_of}
 use Rattle.run_course.specs.declared.prepared.Prepared.{Prepared}
-use Rattle.fact_reports.specs.Reporting.{ShowsFacts, ShowsTrial, Trial, trial, unless_many}
+use Rattle.fact_reports.specs.Reporting.{ShowsColumns, ShowsFacts, ShowsTrial, Trial, trial, unless_many}
 
 -- what a clause says of the fault that came
 pub fault_gives : {T E : Type 0} (P : T → Type 0) (Q : E → Type 0) (r : Result T (Fail E)) (f : Fail E) (e : E) →
@@ -24,6 +25,9 @@ fault_gives P Q r f e is f_is said =
 -- each report is spoken
 pub facts_spoken : (I : Instance) (o : Outcome) → ShowsFacts I o → IsSpoken o.status
 facts_spoken I o h = subst (λ (o : Outcome). IsSpoken o.status) (sym h.shown) tt
+
+pub columns_spoken : (table : List Record) (I : Instance) (o : Outcome) → ShowsColumns table I o → IsSpoken o.status
+columns_spoken table I o h = subst (λ (o : Outcome). IsSpoken o.status) (sym h) tt
 
 trial_spoken : (t : Trial) (o : Outcome) → ShowsTrial t o → IsSpoken o.status
 trial_spoken t o h = subst (λ (o : Outcome). IsSpoken o.status) (sym h.shown) tt

@@ -5,8 +5,9 @@ use Rattle.dsa_terms.specs.Layouts.{IsLayout, IsLeast}
 use Rattle.dsa_terms.specs.Logs.{Log}
 use Rattle.dsa_terms.specs.Plans.{layout_height}
 use Rattle.dsa_terms.specs.Starts.{planned}
-use Rattle.csv_instance.specs.Records.{table_of}
+use Rattle.csv_instance.specs.Records.{Record, table_of}
 use Rattle.csv_instance.specs.Parse.{parse, buffer_limit}
+use Rattle.column_report.specs.Report.{inspect_text}
 use Rattle.layout_report.specs.Facts.{bounds_text}
 use Rattle.layout_report.specs.declared.facts.Facts.{Facts}
 use Rattle.make_instance.specs.Made.{made_text}
@@ -34,6 +35,18 @@ pub record ShowsFacts (I : Instance) (o : Outcome) : Type 0 where
 -- how `bounds` goes
 abbrev pub bounds : Bounds → Course
 bounds b = opened b.input (λ table I. Concludes (ShowsFacts I))
+
+-- the words of `inspect`
+pub record Inspect : Type 0 where
+  pub input : Word
+
+-- how many buffers of the instance ask for something more is shown, and what each column of the table's header means
+abbrev pub ShowsColumns : List Record → Instance → Outcome → Type 0
+ShowsColumns table I o = o ≡ shows (inspect_text table I)
+
+-- how `inspect` goes
+abbrev pub inspect : Inspect → Course
+inspect i = opened i.input (λ table I. Concludes (ShowsColumns table I))
 
 -- the words of `trial`: a seed, how many buffers are made from it, and a number of units
 pub record Trial : Type 0 where

@@ -11,6 +11,26 @@ use std::test::Fail;
 
 const THREE_REPORT: &str = "moment 0 load 4 height 5\nplace,size,id\n0,2,C\n2,1,A\n3,1,\n4,1,B\n";
 
+const THREE_COLUMNS: &str = "buffers 3 of 512 aligned 2 gaps 0 lowest 0
+column,meaning
+id,id
+lower,lower
+upper,upper
+size,size
+alignment,alignment
+";
+
+const MISSPELT_COLUMNS: &str = "buffers 1 of 512 aligned 0 gaps 1 lowest 1
+column,meaning
+id,id
+lower,lower
+upper,upper
+size,size
+Alignment,carried
+gaps,gaps
+lowest,lowest
+";
+
 const MADE_IN_1000: &str = "buffers 2\npeak 2 65\nparts 1\nbound 65 1\nbest 66\nleast 66\n";
 
 const MADE_IN_0: &str = "buffers 2\npeak 2 65\nparts 1\nbound 65 1\nbest 66\nopen 65 66\n";
@@ -38,6 +58,21 @@ fn what_is_read_is_judged(rt: HostRuntime) -> Result<(), Fail> {
             "bounds --input none",
             Status::ReadFault(Role::Input),
             "unread --input\n",
+        ),
+        (
+            "inspect --input three",
+            Status::Shown,
+            THREE_COLUMNS,
+        ),
+        (
+            "inspect --input misspelt",
+            Status::Shown,
+            MISSPELT_COLUMNS,
+        ),
+        (
+            "inspect --input right",
+            Status::Malformed(InstanceFault::OffsetColumn),
+            "malformed offset column\n",
         ),
         (
             "verify --capacity 12 --input five --layout log",
@@ -117,6 +152,10 @@ fn what_is_read_is_judged(rt: HostRuntime) -> Result<(), Fail> {
         files.insert("wrong", b"id,offset\nb1,0\nb2,0\nb3,4\nb4,0\nb5,3\n")?;
         files.insert("log", FIVE_OVER_11.as_bytes())?;
         files.insert("three", THREE.as_bytes())?;
+        files.insert(
+            "misspelt",
+            b"id,lower,upper,size,Alignment,gaps,lowest\nA,0,4,1,2,1-2,8\n",
+        )?;
         files.insert("placed", THREE_AT_5.as_bytes())?;
         let mut out = SoundSink::new(alloc);
         let words = words_of(alloc, line)?;

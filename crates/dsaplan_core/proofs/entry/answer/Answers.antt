@@ -17,6 +17,18 @@ returns-in-Least g c = command_goes (g.F.Files.seen c.args.files.now) (g.F.Files
     (rw (c.word-input.ensures.value, c.word-output.ensures.value, c.word-log.ensures.value, c.number_given-steps.ensures.value)
     at c.perform-in-Least.ensures)
 
+pub returns-in-Pack : goal.returns-in-Pack
+returns-in-Pack g c = command_goes (g.F.Files.seen c.args.files.now) (g.F.Files.seen c.perform-in-Pack.new.files)
+    (g.S.Sink.seen c.args.out.now) (g.S.Sink.seen c.perform-in-Pack.new.out) c.perform-in-Pack.result c.args.request.now
+    verb.Pack (sym c.in-Pack.is ∙ c.verb.ensures.value)
+    (rw (
+      c.number_given.ensures.value,
+      c.word-input.ensures.value,
+      c.word-output.ensures.value,
+      c.word-log.ensures.value,
+      c.number.ensures.value,
+    ) at c.perform-in-Pack.ensures)
+
 pub returns-in-Verify : goal.returns-in-Verify
 returns-in-Verify g c = command_goes (g.F.Files.seen c.args.files.now) (g.F.Files.seen c.perform-in-Verify.new.files)
     (g.S.Sink.seen c.args.out.now) (g.S.Sink.seen c.perform-in-Verify.new.out) c.perform-in-Verify.result c.args.request.now
@@ -51,6 +63,12 @@ returns-in-Bounds g c = command_goes (g.F.Files.seen c.args.files.now) (g.F.File
     (rw (c.word-input.ensures.value)
     at c.perform-in-Bounds.ensures)
 
+pub returns-in-Inspect : goal.returns-in-Inspect
+returns-in-Inspect g c = command_goes (g.F.Files.seen c.args.files.now) (g.F.Files.seen c.perform-in-Inspect.new.files)
+    (g.S.Sink.seen c.args.out.now) (g.S.Sink.seen c.perform-in-Inspect.new.out) c.perform-in-Inspect.result
+    c.args.request.now verb.Inspect (sym c.in-Inspect.is ∙ c.verb.ensures.value)
+    (rw (c.word-input.ensures.value) at c.perform-in-Inspect.ensures)
+
 pub returns-in-Report : goal.returns-in-Report
 returns-in-Report g c = command_goes (g.F.Files.seen c.args.files.now) (g.F.Files.seen c.perform-in-Report.new.files)
     (g.S.Sink.seen c.args.out.now) (g.S.Sink.seen c.perform-in-Report.new.out) c.perform-in-Report.result c.args.request.now
@@ -81,7 +99,7 @@ pub returns-in-Unroll : goal.returns-in-Unroll
 returns-in-Unroll g c = command_goes (g.F.Files.seen c.args.files.now) (g.F.Files.seen c.perform-in-Unroll.new.files)
     (g.S.Sink.seen c.args.out.now) (g.S.Sink.seen c.perform-in-Unroll.new.out) c.perform-in-Unroll.result c.args.request.now
     verb.Unroll (sym c.in-Unroll.is ∙ c.verb.ensures.value)
-    (rw (c.number.ensures.value, c.word-input.ensures.value, c.word-output.ensures.value) at c.perform-in-Unroll.ensures)
+    (rw (c.number-in-Unroll.ensures.value, c.word-input.ensures.value, c.word-output.ensures.value) at c.perform-in-Unroll.ensures)
 
 pub returns-in-Classes : goal.returns-in-Classes
 returns-in-Classes g c = command_goes (g.F.Files.seen c.args.files.now) (g.F.Files.seen c.perform-in-Classes.new.files)

@@ -1,0 +1,4 @@
+pub mod Counting
+pub mod Writing
+pub mod Meanings
+pub mod ExampleFacts

@@ -1,0 +1,3 @@
+pub mod Packed
+mod FiveFacts
+mod BelowFacts

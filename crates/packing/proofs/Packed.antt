@@ -1,0 +1,68 @@
+-- What packing comes to, as it is written.
+use Rattle.std.proofs.Common.{◌≡◌, ℕ, ◌<◌, ◌≤◌, List, ◌∷◌, Option, None, Some, refl, subst, inl, inr, sym, arith}
+use Rattle.std.specs.Prelude.{IfSome}
+use Rattle.dsa_terms.specs.Buffers.{Instance}
+use Rattle.dsa_terms.specs.Logs.{Log}
+use Rattle.csv_instance.specs.Records.{Record}
+use Rattle.min_capacity.specs.declared.brackets.Bracket.{Bracket}
+use Rattle.packer.specs.Packs.{IsPackedOpen, IsPackedTight, RefutesOneLess}
+use Rattle.run_status.specs.Spoken.{IsSpoken}
+use Rattle.run_status.specs.declared.status.Status.TheVariants.{Least, Open}
+use Rattle.run_course.specs.Course.{Outcome, writes}
+use Rattle.writings.specs.Writings.{layout_file}
+use Rattle.deciding.specs.Deciding.{AllReadBack, log_files}
+use Rattle.packing.specs.Packing.{LeavesPackedOpen, Pack, Packs, PacksLeast}
+
+-- the least capacity is found
+pub packs_least : (p : Pack) (table : List Record) (I : Instance) (b : Bracket) → p.capacity ≡ None →
+    IsPackedTight I p.steps b → AllReadBack b.log →
+    PacksLeast p table I (writes (layout_file p.output table b.layout.items ∷ log_files p.log b.log) (Least b.high))
+packs_least p table I b none h readable = record {
+  capacity = b.high;
+  offsets = b.layout.items;
+  refutation = b.log;
+  none_given = none;
+  least = h.least;
+  zero_for_none = h.zero_for_none;
+  layout = h.between.layout;
+  its_height = h.between.its_height;
+  refuted = subst (λ (C : ℕ). RefutesOneLess I C p.steps b.log) h.ends_met h.between.refuted_below;
+  readable = readable;
+  written = refl;
+}
+
+-- it is left open
+pub leaves_open : (p : Pack) (table : List Record) (I : Instance) (b : Bracket) → IsPackedOpen I p.steps b →
+    IfSome p.capacity (λ C. (b.low ≤ C) × (C < b.high)) → AllReadBack b.log →
+    LeavesPackedOpen p table I
+    (writes (layout_file p.output table b.layout.items ∷ log_files p.log b.log) (Open b.low b.high))
+leaves_open p table I b h between = go b.log h.between.refuted_below
+  where
+    go : (o : Option Log) → RefutesOneLess I b.low p.steps o → AllReadBack o →
+        LeavesPackedOpen p table I
+        (writes (layout_file p.output table b.layout.items ∷ log_files p.log o) (Open b.low b.high))
+    go None zero readable = absurd (let some = h.positive in omega arith)
+    go (Some log) refuted readable = record {
+      low = b.low;
+      high = b.high;
+      offsets = b.layout.items;
+      refutation = log;
+      ends_apart = h.ends_apart;
+      positive = h.positive;
+      from_bound = h.from_bound;
+      to_best = h.to_best;
+      between = between;
+      layout = h.between.layout;
+      its_height = h.between.its_height;
+      refuted = refuted.1;
+      readable = readable;
+      written = refl;
+    }
+
+-- each end is spoken
+pub packed_spoken : (p : Pack) (table : List Record) (I : Instance) (o : Outcome) → Packs p table I o →
+    IsSpoken o.status
+packed_spoken p table I o (inl h) = subst (λ (o : Outcome). IsSpoken o.status) (sym h.written) tt
+packed_spoken p table I o (inr (inl h)) = subst (λ (o : Outcome). IsSpoken o.status) (sym h.written) tt
+packed_spoken p table I o (inr (inr (inl h))) = subst (λ (o : Outcome). IsSpoken o.status) (sym h.written) tt
+packed_spoken p table I o (inr (inr (inr h))) = subst (λ (o : Outcome). IsSpoken o.status) (sym h.written) tt

@@ -1,0 +1,35 @@
+use Rattle.std.proofs.Common.{◌∷◌, inl, inr}
+use Rattle.run_status.specs.declared.status.Status.TheVariants.{Least, Open}
+use Rattle.run_course.specs.Course.{writes}
+use Rattle.writings.specs.Writings.{layout_file}
+use Rattle.deciding.specs.Deciding.{AllReadBack, log_files}
+use Rattle.deciding.proofs.Concluding.{told_by}
+use Rattle.packing.specs.Packing.{Packs}
+use Rattle.packing.specs.Words.{pack_of}
+use Rattle.packing.proofs.Packed.{leaves_open, packs_least}
+use Rattle.packing.proofs.pack.packed_least.Goals as goal
+
+pub returns-in-Exact : goal.returns-in-Exact
+returns-in-Exact c =
+    let words = pack_of c.args.words.now in
+    let table = c.args.table.now in
+    let I = c.args.instance.now in
+    let b = c.in-Exact.bracket in
+    told_by (Packs words table I)
+    (writes (layout_file words.output table b.layout.items ∷ log_files words.log b.log) (Least b.high))
+    (AllReadBack b.log) c.both_files.result c.both_files.ensures.files c.both_files.ensures.readable
+    (λ readable. inl (packs_least words table I b c.requires.none
+    (rw c.in-Exact.is at c.in_ok-bracket.ensures.value) readable))
+
+pub returns-in-Open : goal.returns-in-Open
+returns-in-Open c =
+    let words = pack_of c.args.words.now in
+    let table = c.args.table.now in
+    let I = c.args.instance.now in
+    let b = c.in-Open.bracket in
+    told_by (Packs words table I)
+    (writes (layout_file words.output table b.layout.items ∷ log_files words.log b.log) (Open b.low b.high))
+    (AllReadBack b.log) c.both_files-in-Open.result c.both_files-in-Open.ensures.files
+    c.both_files-in-Open.ensures.readable
+    (λ readable. inr (inr (inr (leaves_open words table I b (rw c.in-Open.is at c.in_ok-bracket.ensures.value)
+    (rw c.requires.none tt) readable))))

@@ -1,0 +1,62 @@
+use Rattle.std.proofs.Common.{◌≡◌, ℕ, List, [], ◌∷◌, inl, inr, refl, subst}
+use Rattle.run_status.specs.declared.status.Status.TheVariants.{Feasible, Infeasible, Open}
+use Rattle.run_course.specs.Course.{writes}
+use Rattle.run_course.specs.Prepares.{write_of}
+use Rattle.writings.specs.Writings.{layout_file, log_file}
+use Rattle.deciding.specs.Deciding.{AllReadBack, log_files}
+use Rattle.deciding.proofs.Concluding.{told, told_by, with_files}
+use Rattle.packing.specs.Packing.{Packs}
+use Rattle.packing.specs.Words.{pack_of}
+use Rattle.packing.proofs.Packed.{leaves_open}
+use Rattle.packing.proofs.pack.packed_within.Goals as goal
+
+pub returns-in_ok-file-in-Layout : goal.returns-in_ok-file-in-Layout
+returns-in_ok-file-in-Layout c =
+    let words = pack_of c.args.words.now in
+    let table = c.args.table.now in
+    let I = c.args.instance.now in
+    let offsets = c.in-Layout.offsets.items in
+    let file = subst
+    (λ (o : List ℕ). write_of c.in_ok-file-in-Layout.file ≡ layout_file words.output table o)
+    c.as_slice.ensures.value c.in_ok-file-in-Layout.ensures.file in
+    told (Packs words table I) (writes (layout_file words.output table offsets ∷ []) (Feasible c.args.capacity))
+    c.one_write.result
+    (with_files (write_of c.in_ok-file-in-Layout.file) (layout_file words.output table offsets) [] []
+    (Feasible c.args.capacity) c.one_write.result file refl c.one_write.ensures)
+    (inr (inl (record {
+      capacity = c.args.capacity;
+      offsets = offsets;
+      given = c.requires.given;
+      layout = rw c.in-Layout.is at c.in_ok-offsets.ensures.value;
+      written = refl;
+    })))
+
+pub returns-in_ok-file-in-Refuted : goal.returns-in_ok-file-in-Refuted
+returns-in_ok-file-in-Refuted c =
+    let words = pack_of c.args.words.now in
+    let I = c.args.instance.now in
+    let log = c.in-Refuted.refutation in
+    told (Packs words c.args.table.now I) (writes (log_file words.log log ∷ []) (Infeasible c.args.capacity))
+    c.one_write-in-Refuted.result
+    (with_files (write_of c.in_ok-file-in-Refuted.file) (log_file words.log log) [] [] (Infeasible c.args.capacity)
+    c.one_write-in-Refuted.result c.in_ok-file-in-Refuted.ensures.file refl c.one_write-in-Refuted.ensures)
+    (inr (inr (inl (record {
+      capacity = c.args.capacity;
+      refutation = log;
+      given = c.requires.given;
+      refuted = rw c.in-Refuted.is at c.in_ok-offsets.ensures.value;
+      readable = c.in_ok-file-in-Refuted.ensures.readable;
+      written = refl;
+    }))))
+
+pub returns-in-Open : goal.returns-in-Open
+returns-in-Open c =
+    let words = pack_of c.args.words.now in
+    let table = c.args.table.now in
+    let I = c.args.instance.now in
+    let b = c.in-Open.bracket in
+    let left = rw c.in-Open.is at c.in_ok-offsets.ensures.value in
+    told_by (Packs words table I)
+    (writes (layout_file words.output table b.layout.items ∷ log_files words.log b.log) (Open b.low b.high))
+    (AllReadBack b.log) c.both_files.result c.both_files.ensures.files c.both_files.ensures.readable
+    (λ readable. inr (inr (inr (leaves_open words table I b left.0 (rw c.requires.given (left.1, left.2)) readable))))

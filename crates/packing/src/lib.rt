@@ -1,0 +1,6 @@
+//! The command `pack`: the best layout that a number of steps can find.
+#![tactic(auto)]
+
+mod pack;
+
+pub use pack::Pack;

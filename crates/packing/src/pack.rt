@@ -1,0 +1,127 @@
+//! `pack`: the best layout that a number of steps can find, with a log of what is too little.
+
+ghost use Rattle.std.specs.Prelude.{◌≡◌, ◌+◌, ◌≤◌, None, Some, IfOk, IfSome, length};
+ghost use Rattle.command_words.specs.Options.{number_limit};
+ghost use Rattle.run_course.specs.Prepares.{outcome_of};
+ghost use Rattle.packing.specs.Packing.{Packs, pack};
+ghost use Rattle.packing.specs.Words.{pack_of};
+
+use csv_instance::Table;
+use deciding::both_files;
+use dsa_model::{Instance, NoMemory};
+use dsa_outside::Files;
+use min_capacity::Least;
+use packer::{pack_least, pack_within};
+use planner::Decision;
+use readings::{Input, open_input};
+use run_course::{Command, Prepared, one_write, silent};
+use run_status::Status;
+use std::alloc::Global;
+use writings::{layout_file, log_file};
+
+/// Packs the instance of the input as low as so many steps can, and writes the layout with a log by
+/// which less is too little; where a capacity (in bytes) is given, a layout within it, or a log by
+/// which there is none. The capacity and the steps are at most 2^60.
+#[derive(Clone, Copy)]
+pub struct Pack<'a> {
+    pub capacity: Option<u64>,
+    pub input: &'a str,
+    pub output: &'a str,
+    pub log: &'a str,
+    pub steps: u64,
+}
+
+/// What is written and told where no capacity is given.
+fn packed_least<'a>(
+    alloc: Global,
+    words: &Pack<'a>,
+    table: &Table,
+    instance: &Instance,
+) -> Result<Prepared<'a>, NoMemory>
+    requires none { words.now.capacity ≡ None }
+    requires steps { words.now.steps ≤ number_limit }
+    requires count { length table.now ≡ length instance.now + 1 }
+    ensures { IfOk result (λ p. Packs (pack_of words.now) table.now instance.now (outcome_of p)) }
+{
+    match pack_least(alloc, instance, words.steps)? {
+        Least::Exact(bracket) => {
+            let status = Status::Least {
+                capacity: bracket.high,
+            };
+            both_files(alloc, table, &bracket, words.output, words.log, status)
+        }
+        Least::Open(bracket) => {
+            let status = Status::Open {
+                low: bracket.low,
+                high: bracket.high,
+            };
+            both_files(alloc, table, &bracket, words.output, words.log, status)
+        }
+    }
+}
+
+/// What is written and told where this capacity is given.
+fn packed_within<'a>(
+    alloc: Global,
+    words: &Pack<'a>,
+    capacity: u64,
+    table: &Table,
+    instance: &Instance,
+) -> Result<Prepared<'a>, NoMemory>
+    requires given { words.now.capacity ≡ Some capacity }
+    requires capacity { capacity ≤ number_limit }
+    requires steps { words.now.steps ≤ number_limit }
+    requires count { length table.now ≡ length instance.now + 1 }
+    ensures { IfOk result (λ p. Packs (pack_of words.now) table.now instance.now (outcome_of p)) }
+{
+    match pack_within(alloc, instance, capacity, words.steps)? {
+        Decision::Layout(offsets) => {
+            let file = layout_file(alloc, table, offsets.as_slice(), words.output)?;
+            one_write(alloc, file, Status::Feasible { capacity })
+        }
+        Decision::Refuted(refutation) => {
+            let file = log_file(alloc, &refutation, words.log)?;
+            one_write(alloc, file, Status::Infeasible { capacity })
+        }
+        Decision::Open(bracket) => {
+            let status = Status::Open {
+                low: bracket.low,
+                high: bracket.high,
+            };
+            both_files(alloc, table, &bracket, words.output, words.log, status)
+        }
+    }
+}
+
+/// What is written and told of the table's instance.
+fn packed<'a>(
+    alloc: Global,
+    words: &Pack<'a>,
+    table: &Table,
+    instance: &Instance,
+) -> Result<Prepared<'a>, NoMemory>
+    requires capacity { IfSome words.now.capacity (λ C. C ≤ number_limit) }
+    requires steps { words.now.steps ≤ number_limit }
+    requires count { length table.now ≡ length instance.now + 1 }
+    ensures { IfOk result (λ p. Packs (pack_of words.now) table.now instance.now (outcome_of p)) }
+{
+    match words.capacity {
+        Some(capacity) => packed_within(alloc, words, capacity, table, instance),
+        None => packed_least(alloc, words, table, instance),
+    }
+}
+
+impl<'a> Command<'a> for Pack<'a> {
+    ghost course = { λ p. pack (pack_of p) };
+
+    ghost is_asked = { λ p.
+        IfSome p.capacity (λ C. C ≤ number_limit) × (p.steps ≤ number_limit) };
+
+    fn conclude<F: Files>(&self, alloc: Global, files: &mut F) -> Result<Prepared<'a>, NoMemory> {
+        let table = match open_input(alloc, files, self.input)? {
+            Input::Table(table) => table,
+            Input::Missing(status) => return silent(alloc, status),
+        };
+        packed(alloc, self, &table, table.instance())
+    }
+}
