@@ -62,8 +62,8 @@ typedef struct dsaplan_gap {
 
 /* What is told beside the status; what is not told is 0. */
 typedef struct dsaplan_detail {
-    uint64_t low;    /* from dsaplan_least: no layout fits within less */
-    uint64_t high;   /* from dsaplan_least: the height of the layout that is written; equal to low with DSAPLAN_FITS */
+    uint64_t low;    /* from dsaplan_least and dsaplan_pack: no layout fits within less */
+    uint64_t high;   /* from these: the height of the layout that is written; equal to low with DSAPLAN_FITS */
     uint32_t buffer; /* with DSAPLAN_BAD_BUFFERS: the first bad buffer, from 0 */
     uint32_t fault;  /* with DSAPLAN_BAD_BUFFERS: its first fault, of dsaplan_fault */
     uint32_t gap;    /* with DSAPLAN_GAP_EMPTY and DSAPLAN_GAP_OUTSIDE: which of its gaps, from 0 */
@@ -97,7 +97,17 @@ uint32_t dsaplan_least(
     bool is_limited, uint64_t steps,
     uint64_t *offsets, size_t offset_count, dsaplan_detail *detail);
 
-/* Buffers whose arrays are of one length, `count`, for the two calls below. Without gaps, `gaps` and `gap_counts` are
+/* The lowest layout that `steps` steps find: a step is a claim that a search opens, or the placing of all buffers in one
+ * order. With DSAPLAN_FITS detail->high is the least capacity, with DSAPLAN_OPEN it may be lower; a layout of that height
+ * is written with both. All else is as with dsaplan_least. */
+uint32_t dsaplan_pack(
+    const uint64_t *lower, size_t lower_count, const uint64_t *upper, size_t upper_count,
+    const uint64_t *size, size_t size_count, const uint64_t *alignment, size_t alignment_count,
+    const uint64_t *lowest, size_t lowest_count, const dsaplan_gap *gaps, size_t gap_count,
+    const uint32_t *gap_counts, size_t gap_counts_count,
+    uint64_t steps, uint64_t *offsets, size_t offset_count, dsaplan_detail *detail);
+
+/* Buffers whose arrays are of one length, `count`, for the three calls below. Without gaps, `gaps` and `gap_counts` are
  * null and `gap_count` is 0; with some, there are `count` gap_counts. */
 typedef struct dsaplan_buffers {
     size_t count;
@@ -132,6 +142,18 @@ static inline uint32_t dsaplan_fit_least(const dsaplan_buffers *b, uint64_t *off
         b->lower, b->count, b->upper, b->count, b->size, b->count, b->alignment, b->count, b->lowest, b->count,
         b->gaps ? b->gaps : &no_gap, b->gap_count, b->gap_counts ? b->gap_counts : &no_count,
         b->gap_counts ? b->count : 0, false, 0, offsets, b->count, detail);
+}
+
+/* dsaplan_pack for arrays of one length; `offsets` has room for `count`. */
+static inline uint32_t dsaplan_fit_low(
+    const dsaplan_buffers *b, uint64_t steps, uint64_t *offsets, dsaplan_detail *detail)
+{
+    static const dsaplan_gap no_gap = {0, 0};
+    static const uint32_t no_count = 0;
+    return dsaplan_pack(
+        b->lower, b->count, b->upper, b->count, b->size, b->count, b->alignment, b->count, b->lowest, b->count,
+        b->gaps ? b->gaps : &no_gap, b->gap_count, b->gap_counts ? b->gap_counts : &no_count,
+        b->gap_counts ? b->count : 0, steps, offsets, b->count, detail);
 }
 
 #ifdef __cplusplus

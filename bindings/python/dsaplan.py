@@ -1,12 +1,13 @@
 """dsaplan for Python: offsets for buffers of known lifetime, size and alignment, so that no two that are live at the same
 moment overlap, or the proved answer that they do not fit.
 
-    from dsaplan import Buffer, least, solve
+    from dsaplan import Buffer, least, pack, solve
 
     buffers = [Buffer(0, 3, 4), Buffer(3, 9, 4), Buffer(0, 9, 4), Buffer(9, 21, 4), Buffer(0, 21, 4)]
     solve(buffers, 12)   # [0, 0, 4, 0, 8]
     solve(buffers, 11)   # None: no layout fits
     least(buffers)       # Layout(offsets=[0, 0, 4, 0, 8], height=12, low=12)
+    pack(buffers, 1000)  # the lowest layout that 1,000 steps find
 
 It loads libdsaplan.so, which bindings/build makes, from the folder that DSAPLAN_LIBRARY names or from bindings/out.
 Moments, bytes and limits are as the program's README has them.
@@ -16,7 +17,7 @@ import ctypes
 import os
 from typing import Iterable, List, NamedTuple, Optional, Tuple
 
-__all__ = ["BadBuffer", "Buffer", "DsaplanError", "Layout", "StepsUsedUp", "TooManyBuffers", "least", "solve"]
+__all__ = ["BadBuffer", "Buffer", "DsaplanError", "Layout", "StepsUsedUp", "TooManyBuffers", "least", "pack", "solve"]
 
 
 class Buffer(NamedTuple):
@@ -112,6 +113,8 @@ def _load():
     library.dsaplan_plan_at.restype = ctypes.c_uint32
     library.dsaplan_least.argtypes = arrays + limit + result
     library.dsaplan_least.restype = ctypes.c_uint32
+    library.dsaplan_pack.argtypes = arrays + [ctypes.c_uint64] + result
+    library.dsaplan_pack.restype = ctypes.c_uint32
     return library
 
 
@@ -185,4 +188,14 @@ def least(buffers: Iterable[Buffer], steps: Optional[int] = None) -> Layout:
     A bad buffer raises BadBuffer.
     """
     _, offsets, detail = _call(_library.dsaplan_least, buffers, *_limit(steps))
+    return Layout(offsets, detail.high, detail.low)
+
+
+def pack(buffers: Iterable[Buffer], steps: int) -> Layout:
+    """The lowest layout that `steps` steps find.
+
+    A step is a claim that a search opens, or the placing of all buffers in one order. The height is the least capacity
+    where it is `low`. A bad buffer raises BadBuffer.
+    """
+    _, offsets, detail = _call(_library.dsaplan_pack, buffers, _word(steps, "steps"))
     return Layout(offsets, detail.high, detail.low)

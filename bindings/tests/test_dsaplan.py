@@ -9,7 +9,7 @@ import unittest
 sys.path.insert(0, os.path.join(os.path.dirname(os.path.abspath(__file__)), "..", "python"))
 
 import dsaplan  # noqa: E402
-from dsaplan import BadBuffer, Buffer, DsaplanError, StepsUsedUp, TooManyBuffers, least, solve  # noqa: E402
+from dsaplan import BadBuffer, Buffer, DsaplanError, StepsUsedUp, TooManyBuffers, least, pack, solve  # noqa: E402
 
 FIVE = [Buffer(0, 3, 4), Buffer(3, 9, 4), Buffer(0, 9, 4), Buffer(9, 21, 4), Buffer(0, 21, 4)]
 BUFFER_LIMIT = 512
@@ -86,6 +86,9 @@ class RandomInstances(unittest.TestCase):
                 self.assertEqual(best.low, best.height)
                 self.assertTrue(is_layout(buffers, best.height, best.offsets))
                 self.assertFalse(best.height > 0 and is_feasible(buffers, best.height - 1))
+                packed = pack(buffers, rng.randrange(40))
+                self.assertTrue(is_layout(buffers, packed.height, packed.offsets))
+                self.assertTrue(packed.low <= best.height <= packed.height)
         self.assertGreater(min(answers.values()), 200)
 
 
@@ -119,6 +122,12 @@ class Answers(unittest.TestCase):
             solve(below, 4, steps=0)
         self.assertEqual(solve(below, 4, steps=4), [1, 0])
         self.assertEqual(least(below, steps=0), ([0, 4], 5, 4))
+        self.assertEqual(pack(below, 0), ([0, 4], 5, 4))
+
+    def test_packed_with_steps_enough(self):
+        self.assertEqual(pack([Buffer(0, 1, 3), Buffer(0, 1, 1, 4)], 2**64 - 1), ([1, 0], 4, 4))
+        self.assertEqual(pack(FIVE, 0), ([0, 0, 4, 0, 8], 12, 12))
+        self.assertEqual(pack([], 0), ([], 0, 0))
 
     def test_any_capacity_may_be_given(self):
         self.assertEqual(solve(FIVE, 2**64 - 1), solve(FIVE, 2**60))
@@ -129,7 +138,7 @@ class Answers(unittest.TestCase):
 
 class Faults(unittest.TestCase):
     def assert_bad(self, fault, buffer, gap=0):
-        for call in (lambda b: solve(b, 100), least):
+        for call in (lambda b: solve(b, 100), least, lambda b: pack(b, 100)):
             with self.assertRaises(BadBuffer) as raised:
                 call([Buffer(0, 3, 4), buffer, Buffer(0, 0, 0)])
             told = raised.exception

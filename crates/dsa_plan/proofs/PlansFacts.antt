@@ -7,6 +7,7 @@ use Rattle.planner.specs.Openings.{AreGiven}
 use Rattle.planner.proofs.ExampleLeastFacts.{below_bound, below_sound, four_is_open, four_steps}
 use Rattle.planner.proofs.ShortageFacts.{short_of_the_hunt}
 use Rattle.planner.proofs.StepFacts.{best_at_5, four_high, four_is_least, laid_at_4, none_within_4}
+use Rattle.dsa_plan.specs.Packed.{IsPackAnswer}
 use Rattle.dsa_plan.specs.Plans.{IsAnswer, IsFoundLeast, IsLeastAnswer}
 use Rattle.dsa_plan.specs.declared.answers.Answer.TheVariants.{Fits, DoesNotFit, Open}
 use Rattle.dsa_plan.specs.declared.answers.LeastAnswer.TheVariants.{Least, Open as LeftOpen}
@@ -76,3 +77,24 @@ between_4_and_5 =
       too_few = record { number = 3; given = refl; below_work = short.few };
       halved = short.one_more;
     }
+
+-- ---- packing
+packed_at_4 : IsPackAnswer small_below (1 ∷ 0 ∷ []) (Least 4)
+packed_at_4 = record { least = four_is_least; layout = laid_at_4; its_height = four_high }
+
+packed_between_4_and_5 : IsPackAnswer small_below (0 ∷ 4 ∷ []) (LeftOpen 4 5)
+packed_between_4_and_5 =
+    let short = short_of_the_hunt 3 (lit≤ tt) in record {
+      ends_apart = lit< tt;
+      from_bound = short.from_bound;
+      none_below = four_is_open.refuted_below.infeasible;
+      to_best = short.to_best;
+      layout = four_is_open.layout;
+      its_height = four_is_open.its_height;
+    }
+
+not_packed_at_5 : (offsets : List ℕ) → IsPackAnswer small_below offsets (Least 5) → ⊥
+not_packed_at_5 offsets h = elim h.least.1 [
+  | inl e ↦ absurd (omega arith)
+  | inr f ↦ f (1 ∷ 0 ∷ []) laid_at_4
+]

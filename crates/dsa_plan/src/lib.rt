@@ -1,5 +1,5 @@
-//! The planner for a program that has its buffers in arrays: a layout within a capacity, or of the
-//! least capacity.
+//! The planner for a program that has its buffers in arrays: a layout within a capacity, of the
+//! least capacity, or as low as a number of steps can find.
 #![tactic(auto)]
 
 mod answers;
@@ -8,10 +8,12 @@ mod building;
 mod fault;
 mod leasts;
 mod lengths;
+mod packing;
 mod planning;
 
 pub use answers::{Answer, LeastAnswer};
 pub use arrays::Arrays;
 pub use fault::{ArraysFault, NumbersFault, TIME_LIMIT};
 pub use leasts::plan_least;
+pub use packing::pack;
 pub use planning::plan_at;

@@ -4,6 +4,7 @@ use Rattle.dsa_model.specs.Fails.{UnlessNoMemory}
 use Rattle.dsa_model.specs.declared.fail.Fail.{Fail}
 use Rattle.dsa_plan.specs.Arrays.{Arrays, instance_of}
 use Rattle.dsa_plan.specs.Faults.{arrays_fault}
+use Rattle.dsa_plan.specs.Packed.{IsPackAnswer}
 use Rattle.dsa_plan.specs.Plans.{IsAnswer, IsLeastAnswer}
 use Rattle.dsa_plan.specs.declared.answers.Answer.{Answer}
 use Rattle.dsa_plan.specs.declared.answers.Answer.TheVariants.{Fits}
@@ -30,5 +31,15 @@ pub record SaysLeast (a : Arrays) (steps : Option ℕ) (old new : List ℕ) (sta
   pub detail_is : detail ≡ least_detail answer
   pub value : UnlessNoMemory answer
       (λ given. (arrays_fault a (length old) ≡ None) × IsLeastAnswer (instance_of a) steps new given)
+      (λ fault. arrays_fault a (length old) ≡ Some fault)
+  pub unchanged : OnErr answer (new ≡ old)
+
+-- they tell what packing answers, which is right
+pub record SaysPacked (a : Arrays) (old new : List ℕ) (status : ℕ) (detail : Detail) : Type 0 where
+  pub answer : Result LeastAnswer (Fail ArraysFault)
+  pub status_is : status ≡ least_status answer
+  pub detail_is : detail ≡ least_detail answer
+  pub value : UnlessNoMemory answer
+      (λ given. (arrays_fault a (length old) ≡ None) × IsPackAnswer (instance_of a) new given)
       (λ fault. arrays_fault a (length old) ≡ Some fault)
   pub unchanged : OnErr answer (new ≡ old)

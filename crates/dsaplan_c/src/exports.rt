@@ -4,13 +4,13 @@ ghost use Rattle.std.specs.Prelude.{◌≡◌, ◌<◌, ◌≤◌, length};
 ghost use Rattle.dsa_terms.specs.Layouts.{IsInfeasible, IsLayout, IsLeast};
 ghost use Rattle.dsa_plan.specs.Arrays.{instance_of};
 ghost use Rattle.dsaplan_c.specs.Given.{given, steps_of};
-ghost use Rattle.dsaplan_c.specs.Says.{SaysLeast, SaysPlan};
+ghost use Rattle.dsaplan_c.specs.Says.{SaysLeast, SaysPacked, SaysPlan};
 
 use crate::arrays::{Gap, pairs, steps_of};
 use crate::detail::Detail;
 use crate::told::{least_detail, least_status, plan_detail, plan_status};
 use dsa_model::Fail;
-use dsa_plan::{Arrays, plan_at, plan_least};
+use dsa_plan::{Arrays, pack, plan_at, plan_least};
 use std::alloc::Global;
 
 /// `dsa_plan::plan_at`: a layout of the buffers within the capacity. The status is 0 where one is
@@ -110,6 +110,54 @@ pub extern "C" fn dsaplan_least(
                 gap_counts,
             };
             plan_least(alloc, &arrays, steps_of(is_limited, steps), offsets)
+        }
+        Err(_) => Err(Fail::NoMemory),
+    };
+    *detail = least_detail(answer);
+    least_status(answer)
+}
+
+/// `dsa_plan::pack`: the lowest layout of the buffers that so many steps find; its height is the
+/// upper end of the detail. The status is 0 where that is the least capacity, 2 where it may not be,
+/// 3 where lengths differ, 4 for too many buffers and for a bad one, and 6 without memory. Nothing is
+/// written but with 0 and 2.
+#[unsafe(no_mangle)]
+pub extern "C" fn dsaplan_pack(
+    alloc: Global,
+    lower: &[u64],
+    upper: &[u64],
+    size: &[u64],
+    alignment: &[u64],
+    lowest: &[u64],
+    gaps: &[Gap],
+    gap_counts: &[u32],
+    steps: u64,
+    offsets: &mut [u64],
+    detail: &mut Detail,
+) -> u32
+    ensures says { SaysPacked
+        (given lower.now upper.now size.now alignment.now lowest.now gaps.now gap_counts.now)
+        offsets.old offsets.new result detail.new }
+    ensures least { result ≡ 0 → IsLeast (instance_of
+        (given lower.now upper.now size.now alignment.now lowest.now gaps.now gap_counts.now))
+        detail.new.high }
+    ensures layout { result ≤ 2 → IsLayout (instance_of
+        (given lower.now upper.now size.now alignment.now lowest.now gaps.now gap_counts.now))
+        detail.new.high offsets.new }
+    ensures unchanged { 2 < result → offsets.new ≡ offsets.old }
+{
+    let answer = match pairs(alloc, gaps) {
+        Ok(gaps) => {
+            let arrays = Arrays {
+                lower,
+                upper,
+                size,
+                alignment,
+                lowest,
+                gaps: gaps.as_slice(),
+                gap_counts,
+            };
+            pack(alloc, &arrays, steps, offsets)
         }
         Err(_) => Err(Fail::NoMemory),
     };

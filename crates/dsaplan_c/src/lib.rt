@@ -8,4 +8,4 @@ mod told;
 
 pub use arrays::Gap;
 pub use detail::Detail;
-pub use exports::{dsaplan_least, dsaplan_plan_at};
+pub use exports::{dsaplan_least, dsaplan_pack, dsaplan_plan_at};
