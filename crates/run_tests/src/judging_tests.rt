@@ -59,16 +59,8 @@ fn what_is_read_is_judged(rt: HostRuntime) -> Result<(), Fail> {
             Status::ReadFault(Role::Input),
             "unread --input\n",
         ),
-        (
-            "inspect --input three",
-            Status::Shown,
-            THREE_COLUMNS,
-        ),
-        (
-            "inspect --input misspelt",
-            Status::Shown,
-            MISSPELT_COLUMNS,
-        ),
+        ("inspect --input three", Status::Shown, THREE_COLUMNS),
+        ("inspect --input misspelt", Status::Shown, MISSPELT_COLUMNS),
         (
             "inspect --input right",
             Status::Malformed(InstanceFault::OffsetColumn),
