@@ -194,8 +194,8 @@ def least(buffers: Iterable[Buffer], steps: Optional[int] = None) -> Layout:
 def pack(buffers: Iterable[Buffer], steps: int) -> Layout:
     """The lowest layout that `steps` steps find.
 
-    A step is a claim that a search opens, or the placing of all buffers in one order. The height is the least capacity
-    where it is `low`. A bad buffer raises BadBuffer.
+    A step is a claim that a search opens; placing all n buffers anew counts as 1 + n/64 of them. The height is the least
+    capacity where it is `low`. A bad buffer raises BadBuffer.
     """
     _, offsets, detail = _call(_library.dsaplan_pack, buffers, _word(steps, "steps"))
     return Layout(offsets, detail.high, detail.low)

@@ -47,8 +47,8 @@ fn decide(
 }
 
 /// The lowest layout of the buffers that `steps` steps find, which need not be the plan, or the
-/// first fault of the arrays. A step is a claim that a search opens, or the placing of all buffers
-/// in one order. Where there is an answer the offsets are written, in bytes, one for each buffer;
+/// first fault of the arrays. A step is a claim that a search opens; placing all n buffers anew counts
+/// as 1 + n/64 of them. Where there is an answer the offsets are written, in bytes, one for each buffer;
 /// with a fault and without memory they are as before.
 ///
 /// Faults come in this order: `LengthsDiffer`, `TooMany`, `BadBuffer`.

@@ -10,7 +10,7 @@ use placing_search::improve;
 use std::alloc::Global;
 
 /// The bracket with a layout that a sixth of the steps finds by placing orders, if it is lower,
-/// and how many steps are left. It stops early at `floor`, in bytes.
+/// and the other steps. It stops early at `floor`, in bytes.
 pub(crate) fn improved(
     alloc: Global,
     instance: &Instance,
@@ -35,8 +35,9 @@ pub(crate) fn improved(
         height: high,
         offsets: layout,
     };
-    let found = improve(alloc, instance, start, floor, steps / 6)?;
-    let left = steps - found.passes;
+    let share = steps / 6;
+    let passes = share / (1 + instance.len() as u64 / 64);
+    let found = improve(alloc, instance, start, floor, passes)?;
     let start = found.start;
     let lowered = Bracket {
         low,
@@ -44,5 +45,5 @@ pub(crate) fn improved(
         high: start.height,
         layout: start.offsets,
     };
-    Ok((lowered, left))
+    Ok((lowered, steps - share))
 }

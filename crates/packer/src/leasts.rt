@@ -15,8 +15,8 @@ use std::alloc::Global;
 /// The lowest layout of the instance that so many steps can find, with a log by which none fits
 /// below the lower end: the least capacity where the ends meet, and else they stay open, the lower
 /// end at least the lower bound and the upper one at most the best start's height. A step is a claim
-/// that a search opens, or the placing of all buffers in one order; all together are no more than
-/// `steps`.
+/// that a search opens; placing all n buffers anew counts as 1 + n/64 of them. All together are no
+/// more than `steps`.
 pub fn pack_least(alloc: Global, instance: &Instance, steps: u64) -> Result<Least, NoMemory>
     requires { steps ≤ 2 ^ 60 }
     ensures value { IfOk result (Packs instance.now steps) }

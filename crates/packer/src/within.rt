@@ -42,8 +42,8 @@ fn concluded(
 
 /// A layout of the instance within the capacity, in bytes, or a log by which there is none; where
 /// neither is found in so many steps, the ends that are reached, between which the capacity lies. A
-/// step is a claim that a search opens, or the placing of all buffers in one order; all together are
-/// no more than `steps`.
+/// step is a claim that a search opens; placing all n buffers anew counts as 1 + n/64 of them. All
+/// together are no more than `steps`.
 ///
 /// The caller owes a capacity and a number of steps of at most 2^60.
 pub fn pack_within(
