@@ -122,6 +122,22 @@ fn what_is_decided_is_written(rt: HostRuntime) -> Result<(), Fail> {
             Some(THREE_OVER_3),
         ),
         (
+            "pack --input i --output o --log l --steps 0",
+            FIVE,
+            Status::Least { capacity: 12 },
+            "least 12\n",
+            Some(FIVE_AT_12),
+            Some(FIVE_OVER_11),
+        ),
+        (
+            "pack --capacity 4 --input i --output o --log l --steps 0",
+            THREE,
+            Status::Open { low: 4, high: 5 },
+            "open 4 5\n",
+            Some(THREE_AT_5),
+            Some(THREE_OVER_3),
+        ),
+        (
             "solve --capacity 4 --input i --output o --log l --steps 0",
             THREE,
             Status::Open { low: 4, high: 5 },
