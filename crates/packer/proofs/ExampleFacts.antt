@@ -18,7 +18,7 @@ use Rattle.planner.specs.Decides.{IsBoundLog}
 use Rattle.planner.specs.declared.decision.Decision.TheVariants as decision
 use Rattle.planner.proofs.ExampleLeastFacts.{below_bound, below_log, four_is_open, line_refutes}
 use Rattle.planner.proofs.StepFacts.{best_at_5}
-use Rattle.packer.specs.Packs.{IsPackedOpen, IsTrimmed, Packs, PacksWithin, RefutesOneLess, RefutesWithin}
+use Rattle.packer.specs.Packs.{AreUsedUp, IfLeftOpen, IsPackedOpen, IsTrimmed, Packs, PacksWithin, RefutesOneLess, RefutesWithin}
 use Rattle.packer.specs.Reached.{IsLogWithin, IsReached}
 use Rattle.packer.specs.Starts.{IsOpenFrom}
 use Rattle.packer.proofs.Brief.{bound_line, one_line}
@@ -225,3 +225,13 @@ left_open b low high layout log =
 -- a layout that is higher than the best start is not kept
 not_above_the_best : (b : Bracket) → b.high ≡ 6 → IsPackedOpen small_below 0 b → ⊥
 not_above_the_best b high h = let e = best_at_5 in let le = h.to_best in omega (arith, e, le, high)
+
+-- ---- of twelve steps, ten are for searches
+ten_of_twelve : AreUsedUp 12 3 13
+ten_of_twelve = refl
+
+not_nine_of_twelve : AreUsedUp 12 3 12 → ⊥
+not_nine_of_twelve e = omega (arith, e)
+
+where_open : (b : Bracket) → IfLeftOpen (decision.Open b) (AreUsedUp 6 0 5)
+where_open b = refl

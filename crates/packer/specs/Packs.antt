@@ -1,5 +1,5 @@
 -- What packing comes to within a number of steps: a layout that need not be the plan, and a log without needless lines.
-use Rattle.std.specs.Prelude.{◌≡◌, ℕ, ◌+◌, ◌-◌, ◌<◌, ◌≤◌, ◌↔◌, ◌⊎◌, [], length, Option}
+use Rattle.std.specs.Prelude.{◌≡◌, ℕ, ◌+◌, ◌-◌, ◌/◌, ◌<◌, ◌≤◌, ◌↔◌, ◌⊎◌, [], length, Option}
 use Rattle.std.specs.declared.option.Option.TheVariants.{Some, None}
 use Rattle.dsa_terms.specs.Bounds.{lower_bound}
 use Rattle.dsa_terms.specs.Buffers.{Instance}
@@ -55,6 +55,10 @@ pub record IsPackedOpen (I : Instance) (steps : ℕ) (b : Bracket) : Type 0 wher
   pub from_bound : lower_bound I ≤ b.low
   pub to_best : b.high ≤ layout_height I (best_start I)
 
+-- the searches have used all steps but the sixth that is for placings
+abbrev pub AreUsedUp : (steps before after : ℕ) → Type 0
+AreUsedUp steps before after = after ≡ before + (steps - steps / 6)
+
 -- the least capacity is found, or stays open
 abbrev pub Packs : Instance → ℕ → Least → Type 0
 Packs I steps (Exact b) = IsPackedTight I steps b
@@ -65,3 +69,9 @@ abbrev pub PacksWithin : Instance → ℕ → ℕ → Decision → Type 0
 PacksWithin I C steps (decision.Layout offsets) = IsLayout I C offsets.items
 PacksWithin I C steps (decision.Refuted log) = RefutesWithin I C steps log
 PacksWithin I C steps (decision.Open b) = IsPackedOpen I steps b × (b.low ≤ C) × (C < b.high)
+
+-- the fact holds where the capacity stays open
+abbrev pub IfLeftOpen : Decision → Type 0 → Type 0
+IfLeftOpen (decision.Layout offsets) P = Unit {0}
+IfLeftOpen (decision.Refuted log) P = Unit {0}
+IfLeftOpen (decision.Open b) P = P

@@ -1,6 +1,6 @@
 //! The bracket in which to pack.
 
-ghost use Rattle.std.specs.Prelude.{◌≡◌, ◌≤◌, IfOk};
+ghost use Rattle.std.specs.Prelude.{◌≡◌, ◌-◌, ◌/◌, ◌≤◌, IfOk};
 ghost use Rattle.packer.specs.Starts.{IsOpenFrom};
 
 use dsa_model::{Instance, NoMemory};
@@ -22,7 +22,7 @@ pub(crate) fn improved(
     ensures bracket { IfOk result (λ found. IsOpenFrom instance.now found.0) }
     ensures low { IfOk result (λ found. found.0.low ≡ bracket.low) }
     ensures log { IfOk result (λ found. found.0.log ≡ bracket.log) }
-    ensures steps { IfOk result (λ found. found.1 ≤ steps) }
+    ensures steps { IfOk result (λ found. found.1 ≡ steps - steps / 6) }
 {
     let _count = instance.len();
     let Bracket {

@@ -1,25 +1,40 @@
 //! The lowest layout that a number of steps can find.
 
-ghost use Rattle.std.specs.Prelude.{◌≤◌, ◌^◌, IfOk};
-ghost use Rattle.packer.specs.Packs.{Packs};
+ghost use Rattle.std.specs.Prelude.{◌≡◌, ◌+◌, ◌<◌, ◌≤◌, ◌^◌, ℕ, IfOk};
+ghost use Rattle.min_capacity.specs.Brackets.{IfOpen};
+ghost use Rattle.packer.specs.Packs.{AreUsedUp, Packs};
 
 use crate::bracketing::improved;
 use crate::brief_log::brief_bracket;
 use dsa_model::{Instance, NoMemory};
 use min_capacity::Least;
-use narrowing::narrow;
+use narrowing::{Tries, narrow};
 use planner::least_capacity;
 use portfolio::Portfolio;
 use std::alloc::Global;
 
 /// The lowest layout of the instance that so many steps can find, with a log by which none fits
 /// below the lower end: the least capacity where the ends meet, and else they stay open, the lower
-/// end at least the lower bound and the upper one at most the best start's height. A step is a claim
-/// that a search opens; placing all n buffers anew counts as 1 + n/64 of them. All together are no
-/// more than `steps`.
-pub fn pack_least(alloc: Global, instance: &Instance, steps: u64) -> Result<Least, NoMemory>
-    requires { steps ≤ 2 ^ 60 }
+/// end at least the lower bound and the upper one at most the best start's height. A step is a unit of
+/// `tries`, a claim that a search opens; placing all n buffers anew counts as 1 + n/64 of them. All
+/// together are no more than `steps`, a sixth of which is for placings, and it stays open only where
+/// the others are used up.
+///
+/// The caller owes tries of the instance, which may be asked any capacity of at most 2^60, and that
+/// the units do not pass 64 bits.
+pub fn pack_least_with<T: Tries>(
+    alloc: Global,
+    instance: &Instance,
+    steps: u64,
+    tries: &mut T,
+) -> Result<Least, NoMemory>
+    requires subject { T.subject tries.old ≡ instance.now }
+    requires within { (C : ℕ) → C ≤ 2 ^ 60 → T.within tries.old C }
+    requires steps { T.units tries.old + steps < 2 ^ 64 }
     ensures value { IfOk result (Packs instance.now steps) }
+    ensures used { T.units tries.new ≤ T.units tries.old + steps }
+    ensures exhausted { IfOk result (λ found.
+        IfOpen found (AreUsedUp steps (T.units tries.old) (T.units tries.new))) }
 {
     let _count = instance.len();
     let start = match least_capacity(alloc, instance, Some(0))? {
@@ -28,9 +43,17 @@ pub fn pack_least(alloc: Global, instance: &Instance, steps: u64) -> Result<Leas
     };
     let floor = start.low;
     let (start, left) = improved(alloc, instance, start, floor, steps)?;
-    let mut portfolio = Portfolio::new(alloc, instance)?;
-    match narrow(alloc, instance, start, left, &mut portfolio)? {
+    match narrow(alloc, instance, start, left, tries)? {
         Least::Exact(bracket) => Ok(Least::Exact(brief_bracket(alloc, instance, bracket)?)),
         Least::Open(bracket) => Ok(Least::Open(brief_bracket(alloc, instance, bracket)?)),
     }
+}
+
+/// The same with searches in several orders of the buffers, one after another.
+pub fn pack_least(alloc: Global, instance: &Instance, steps: u64) -> Result<Least, NoMemory>
+    requires { steps ≤ 2 ^ 60 }
+    ensures value { IfOk result (Packs instance.now steps) }
+{
+    let mut portfolio = Portfolio::new(alloc, instance)?;
+    pack_least_with(alloc, instance, steps, &mut portfolio)
 }

@@ -8,5 +8,5 @@ mod brief_log;
 mod leasts;
 mod within;
 
-pub use leasts::pack_least;
-pub use within::pack_within;
+pub use leasts::{pack_least, pack_least_with};
+pub use within::{pack_within, pack_within_with};

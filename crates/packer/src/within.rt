@@ -1,15 +1,15 @@
 //! A layout within a capacity, or a log by which there is none, in a number of steps.
 
-ghost use Rattle.std.specs.Prelude.{◌≡◌, ℕ, ◌+◌, ◌≤◌, ◌^◌, ◌⊎◌, IfOk};
+ghost use Rattle.std.specs.Prelude.{◌≡◌, ℕ, ◌+◌, ◌<◌, ◌≤◌, ◌^◌, ◌⊎◌, IfOk};
 ghost use Rattle.min_capacity.specs.Brackets.{IsBracket};
-ghost use Rattle.packer.specs.Packs.{PacksWithin};
+ghost use Rattle.packer.specs.Packs.{AreUsedUp, IfLeftOpen, PacksWithin};
 ghost use Rattle.packer.specs.Reached.{IsReached};
 
 use crate::bracketing::improved;
 use crate::brief_log::brief_bracket;
 use dsa_model::{Instance, NoMemory};
 use min_capacity::Bracket;
-use narrowing::settle;
+use narrowing::{Tries, settle};
 use planner::{Decision, plan};
 use portfolio::Portfolio;
 use std::alloc::Global;
@@ -23,8 +23,10 @@ fn concluded(
 ) -> Result<Decision, NoMemory>
     requires bracket { IsBracket instance.now bracket }
     requires decided { bracket.low ≤ capacity + 1 }
-    ensures { (steps : ℕ) → IsReached instance.now steps bracket →
+    ensures value { (steps : ℕ) → IsReached instance.now steps bracket →
         IfOk result (PacksWithin instance.now capacity steps) }
+    ensures open { IfOk result (λ decision.
+        IfLeftOpen decision ((bracket.low ≤ capacity) × (capacity < bracket.high))) }
 {
     if bracket.high <= capacity {
         return Ok(Decision::Layout(bracket.layout));
@@ -42,8 +44,42 @@ fn concluded(
 
 /// A layout of the instance within the capacity, in bytes, or a log by which there is none; where
 /// neither is found in so many steps, the ends that are reached, between which the capacity lies. A
-/// step is a claim that a search opens; placing all n buffers anew counts as 1 + n/64 of them. All
-/// together are no more than `steps`.
+/// step is a unit of `tries`, a claim that a search opens; placing all n buffers anew counts as
+/// 1 + n/64 of them. All together are no more than `steps`, a sixth of which is for placings, and it
+/// stays open only where the others are used up.
+///
+/// The caller owes a capacity of at most 2^60, tries of the instance, which may be asked any such
+/// capacity, and that the units do not pass 64 bits.
+pub fn pack_within_with<T: Tries>(
+    alloc: Global,
+    instance: &Instance,
+    capacity: u64,
+    steps: u64,
+    tries: &mut T,
+) -> Result<Decision, NoMemory>
+    requires capacity { capacity ≤ 2 ^ 60 }
+    requires subject { T.subject tries.old ≡ instance.now }
+    requires within { (C : ℕ) → C ≤ 2 ^ 60 → T.within tries.old C }
+    requires steps { T.units tries.old + steps < 2 ^ 64 }
+    ensures value { IfOk result (PacksWithin instance.now capacity steps) }
+    ensures used { T.units tries.new ≤ T.units tries.old + steps }
+    ensures exhausted { IfOk result (λ decision.
+        IfLeftOpen decision (AreUsedUp steps (T.units tries.old) (T.units tries.new))) }
+{
+    let _count = instance.len();
+    let start = match plan(alloc, instance, capacity, Some(0))? {
+        Decision::Open(bracket) => bracket,
+        decided => return Ok(decided),
+    };
+    let (start, left) = improved(alloc, instance, start, capacity, steps)?;
+    if start.high <= capacity {
+        return Ok(Decision::Layout(start.layout));
+    }
+    let bracket = settle(alloc, instance, start, capacity, left, tries)?;
+    concluded(alloc, instance, bracket, capacity)
+}
+
+/// The same with searches in several orders of the buffers, one after another.
 ///
 /// The caller owes a capacity and a number of steps of at most 2^60.
 pub fn pack_within(
@@ -56,16 +92,6 @@ pub fn pack_within(
     requires steps { steps ≤ 2 ^ 60 }
     ensures value { IfOk result (PacksWithin instance.now capacity steps) }
 {
-    let _count = instance.len();
-    let start = match plan(alloc, instance, capacity, Some(0))? {
-        Decision::Open(bracket) => bracket,
-        decided => return Ok(decided),
-    };
-    let (start, left) = improved(alloc, instance, start, capacity, steps)?;
-    if start.high <= capacity {
-        return Ok(Decision::Layout(start.layout));
-    }
     let mut portfolio = Portfolio::new(alloc, instance)?;
-    let bracket = settle(alloc, instance, start, capacity, left, &mut portfolio)?;
-    concluded(alloc, instance, bracket, capacity)
+    pack_within_with(alloc, instance, capacity, steps, &mut portfolio)
 }
