@@ -97,9 +97,9 @@ uint32_t dsaplan_least(
     bool is_limited, uint64_t steps,
     uint64_t *offsets, size_t offset_count, dsaplan_detail *detail);
 
-/* The lowest layout that `steps` steps find: a step is a claim that a search opens, and placing all n buffers anew counts
- * as 1 + n/64 of them. With DSAPLAN_FITS detail->high is the least capacity, with DSAPLAN_OPEN it may be lower; a layout of that height
- * is written with both. All else is as with dsaplan_least. */
+/* The lowest layout that is found in `steps` steps: a step is a claim that a search opens, and placing all n buffers
+ * anew counts as 1 + n/64 of them, rounded down. With DSAPLAN_FITS detail->high is the least capacity, with
+ * DSAPLAN_OPEN the least capacity may be lower; a layout of that height is written with both. All else is as with dsaplan_least. */
 uint32_t dsaplan_pack(
     const uint64_t *lower, size_t lower_count, const uint64_t *upper, size_t upper_count,
     const uint64_t *size, size_t size_count, const uint64_t *alignment, size_t alignment_count,

@@ -192,10 +192,10 @@ def least(buffers: Iterable[Buffer], steps: Optional[int] = None) -> Layout:
 
 
 def pack(buffers: Iterable[Buffer], steps: int) -> Layout:
-    """The lowest layout that `steps` steps find.
+    """The lowest layout that is found in `steps` steps.
 
-    A step is a claim that a search opens; placing all n buffers anew counts as 1 + n/64 of them. The height is the least
-    capacity where it is `low`. A bad buffer raises BadBuffer.
+    A step is a claim that a search opens; placing all n buffers anew counts as 1 + n/64 of them, rounded down.
+    The height is the least capacity where it is `low`. A bad buffer raises BadBuffer.
     """
     _, offsets, detail = _call(_library.dsaplan_pack, buffers, _word(steps, "steps"))
     return Layout(offsets, detail.high, detail.low)

@@ -46,10 +46,11 @@ fn decide(
     }
 }
 
-/// The lowest layout of the buffers that `steps` steps find, which need not be the plan, or the
-/// first fault of the arrays. A step is a claim that a search opens; placing all n buffers anew counts
-/// as 1 + n/64 of them. Where there is an answer the offsets are written, in bytes, one for each buffer;
-/// with a fault and without memory they are as before.
+/// The lowest layout of the buffers that it finds in `steps` steps, which need not be the plan, or
+/// the first fault of the arrays. A step is a claim that a search opens; placing all n buffers
+/// anew counts as 1 + n/64 of them, rounded down. More than 2^60 steps are taken as 2^60. Where there is
+/// an answer the offsets are written, in bytes, one for each buffer; with a fault and without memory
+/// they are as before.
 ///
 /// Faults come in this order: `LengthsDiffer`, `TooMany`, `BadBuffer`.
 pub fn pack(

@@ -117,10 +117,10 @@ pub extern "C" fn dsaplan_least(
     least_status(answer)
 }
 
-/// `dsa_plan::pack`: the lowest layout of the buffers that so many steps find; its height is the
-/// upper end of the detail. The status is 0 where that is the least capacity, 2 where it may not be,
-/// 3 where lengths differ, 4 for too many buffers and for a bad one, and 6 without memory. Nothing is
-/// written but with 0 and 2.
+/// `dsa_plan::pack`: the lowest layout of the buffers that it finds in so many steps; its height is
+/// the upper end of the detail. The status is 0 where that is the least capacity, 2 where it may
+/// not be, 3 where lengths differ, 4 for too many buffers and for a bad one, and 6 without memory.
+/// Nothing is written but with 0 and 2.
 #[unsafe(no_mangle)]
 pub extern "C" fn dsaplan_pack(
     alloc: Global,

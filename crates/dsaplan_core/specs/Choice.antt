@@ -69,7 +69,7 @@ pub record AreEnds (I : Instance) (pairs : List Pair) (L H : ℕ) : Type 0 where
   pub to_best : H ≤ layout_height I (best_start I)
   pub between : IfSome (number_given pairs option.Capacity) (λ C. (L ≤ C) × (C < H))
 
--- which answer the status is, where the plan is written
+-- which answer the status is, where the layout is the plan
 abbrev pub ChoosesPlan : {words : List Word} {old : FilesSeen} → Asked words old → FilesSeen → Status → Type 0
 ChoosesPlan a new (status.Feasible C) = HoldsPlan a new C
 ChoosesPlan a new (status.Infeasible C) = HoldsLean a new C
@@ -78,7 +78,7 @@ ChoosesPlan a new (status.Open L H) = MayStayOpen a.verb a.pairs (steps_of a.pai
     × HoldsLean a new (L - 1)
 ChoosesPlan a new status = Unit {0}
 
--- which answer the status is, where any layout is
+-- which answer the status is, where the layout need not be the plan
 abbrev pub ChoosesAny : {words : List Word} {old : FilesSeen} → Asked words old → FilesSeen → Status → Type 0
 ChoosesAny a new (status.Infeasible C) = HoldsBrief a new C
 ChoosesAny a new (status.Least C) = ((a.instance ≡ []) ↔ (C ≡ 0)) × (1 ≤ C → HoldsBrief a new (C - 1))

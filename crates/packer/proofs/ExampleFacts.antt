@@ -18,7 +18,7 @@ use Rattle.planner.specs.Decides.{IsBoundLog}
 use Rattle.planner.specs.declared.decision.Decision.TheVariants as decision
 use Rattle.planner.proofs.ExampleLeastFacts.{below_bound, below_log, four_is_open, line_refutes}
 use Rattle.planner.proofs.StepFacts.{best_at_5}
-use Rattle.packer.specs.Packs.{AreUsedUp, IfLeftOpen, IsPackedOpen, IsTrimmed, Packs, PacksWithin, RefutesOneLess, RefutesWithin}
+use Rattle.packer.specs.Packs.{AreUsedUp, IfLeftOpen, IsPackedOpen, IsTrimmed, Packs, PacksWithin, placing_cost, placing_steps, RefutesOneLess, RefutesWithin}
 use Rattle.packer.specs.Reached.{IsLogWithin, IsReached}
 use Rattle.packer.specs.Starts.{IsOpenFrom}
 use Rattle.packer.proofs.Brief.{bound_line, one_line}
@@ -227,6 +227,15 @@ not_above_the_best : (b : Bracket) → b.high ≡ 6 → IsPackedOpen small_below
 not_above_the_best b high h = let e = best_at_5 in let le = h.to_best in omega (arith, e, le, high)
 
 -- ---- of twelve steps, ten are for searches
+two_of_twelve : placing_steps 12 ≡ 2
+two_of_twelve = refl
+
+few_of_many : placing_steps 1000000 ≡ 65536
+few_of_many = refl
+
+nine_for_512 : placing_cost 512 ≡ 9
+nine_for_512 = refl
+
 ten_of_twelve : AreUsedUp 12 3 13
 ten_of_twelve = refl
 

@@ -1,5 +1,5 @@
 -- What packing comes to within a number of steps: a layout that need not be the plan, and a log without needless lines.
-use Rattle.std.specs.Prelude.{◌≡◌, ℕ, ◌+◌, ◌-◌, ◌/◌, ◌<◌, ◌≤◌, ◌↔◌, ◌⊎◌, [], length, Option}
+use Rattle.std.specs.Prelude.{◌≡◌, ℕ, ◌+◌, ◌-◌, ◌/◌, ◌^◌, ◌<◌, ◌≤◌, ◌↔◌, ◌⊎◌, [], length, min, Option}
 use Rattle.std.specs.declared.option.Option.TheVariants.{Some, None}
 use Rattle.dsa_terms.specs.Bounds.{lower_bound}
 use Rattle.dsa_terms.specs.Buffers.{Instance}
@@ -55,9 +55,17 @@ pub record IsPackedOpen (I : Instance) (steps : ℕ) (b : Bracket) : Type 0 wher
   pub from_bound : lower_bound I ≤ b.low
   pub to_best : b.high ≤ layout_height I (best_start I)
 
--- the searches have used all steps but the sixth that is for placings
+-- the steps that are for placing buffers anew: a sixth of all, but at most 2^16
+abbrev pub placing_steps : ℕ → ℕ
+placing_steps steps = min (steps / 6) (2 ^ 16)
+
+-- how many steps it counts to place n buffers anew once
+abbrev pub placing_cost : ℕ → ℕ
+placing_cost n = 1 + n / 64
+
+-- the searches have used all the other steps
 abbrev pub AreUsedUp : (steps before after : ℕ) → Type 0
-AreUsedUp steps before after = after ≡ before + (steps - steps / 6)
+AreUsedUp steps before after = after ≡ before + (steps - placing_steps steps)
 
 -- the least capacity is found, or stays open
 abbrev pub Packs : Instance → ℕ → Least → Type 0

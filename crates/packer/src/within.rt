@@ -1,8 +1,8 @@
 //! A layout within a capacity, or a log by which there is none, in a number of steps.
 
-ghost use Rattle.std.specs.Prelude.{◌≡◌, ℕ, ◌+◌, ◌<◌, ◌≤◌, ◌^◌, ◌⊎◌, IfOk};
+ghost use Rattle.std.specs.Prelude.{◌≡◌, ℕ, ◌+◌, ◌-◌, ◌<◌, ◌≤◌, ◌^◌, ◌⊎◌, IfOk};
 ghost use Rattle.min_capacity.specs.Brackets.{IsBracket};
-ghost use Rattle.packer.specs.Packs.{AreUsedUp, IfLeftOpen, PacksWithin};
+ghost use Rattle.packer.specs.Packs.{AreUsedUp, IfLeftOpen, PacksWithin, placing_steps};
 ghost use Rattle.packer.specs.Reached.{IsReached};
 
 use crate::bracketing::improved;
@@ -45,8 +45,8 @@ fn concluded(
 /// A layout of the instance within the capacity, in bytes, or a log by which there is none; where
 /// neither is found in so many steps, the ends that are reached, between which the capacity lies. A
 /// step is a unit of `tries`, a claim that a search opens; placing all n buffers anew counts as
-/// 1 + n/64 of them. All together are no more than `steps`, a sixth of which is for placings, and it
-/// stays open only where the others are used up.
+/// 1 + n/64, rounded down. A sixth of `steps` is for placings, but at most 2^16; the tries use no
+/// more than the others, and it stays open only where these are used up.
 ///
 /// The caller owes a capacity of at most 2^60, tries of the instance, which may be asked any such
 /// capacity, and that the units do not pass 64 bits.
@@ -62,7 +62,7 @@ pub fn pack_within_with<T: Tries>(
     requires within { (C : ℕ) → C ≤ 2 ^ 60 → T.within tries.old C }
     requires steps { T.units tries.old + steps < 2 ^ 64 }
     ensures value { IfOk result (PacksWithin instance.now capacity steps) }
-    ensures used { T.units tries.new ≤ T.units tries.old + steps }
+    ensures used { T.units tries.new ≤ T.units tries.old + (steps - placing_steps steps) }
     ensures exhausted { IfOk result (λ decision.
         IfLeftOpen decision (AreUsedUp steps (T.units tries.old) (T.units tries.new))) }
 {
@@ -71,7 +71,7 @@ pub fn pack_within_with<T: Tries>(
         Decision::Open(bracket) => bracket,
         decided => return Ok(decided),
     };
-    let (start, left) = improved(alloc, instance, start, capacity, steps)?;
+    let (start, left, _passes) = improved(alloc, instance, start, capacity, steps)?;
     if start.high <= capacity {
         return Ok(Decision::Layout(start.layout));
     }
