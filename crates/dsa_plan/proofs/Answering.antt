@@ -4,14 +4,15 @@ use Rattle.std.specs.List.{All}
 use Rattle.dsa_terms.specs.Bounds.{lower_bound}
 use Rattle.dsa_terms.specs.Buffers.{Instance}
 use Rattle.dsa_terms.specs.Layouts.{IsFeasible, IsInfeasible}
+use Rattle.dsa_terms.specs.Logs.{Log}
 use Rattle.dsa_terms.specs.Starts.{planned}
 use Rattle.dsa_start_laws.proofs.Planned.{planned_exactly, planned_is_layout}
 use Rattle.dsa_model.specs.Buffer.{IsBuffer}
 use Rattle.dsa_model.proofs.Instances.{sound_instance}
 use Rattle.min_capacity.specs.declared.brackets.Bracket.{Bracket}
-use Rattle.planner.specs.Decides.{IsAnswered}
+use Rattle.planner.specs.Decides.{IsAnswered, LeavesNoLayout}
 use Rattle.planner.specs.FirstStart.{start_within}
-use Rattle.planner.specs.LeastCapacity.{HasHalved, IsExactly, IsOpenAfter}
+use Rattle.planner.specs.LeastCapacity.{AreWithinSteps, HasHalved, IsExactly, IsOpenAfter, IsWithinSteps}
 use Rattle.min_capacity.specs.declared.brackets.Least.TheVariants as found
 use Rattle.planner.specs.Openings.{AreGiven, IsSpentAt}
 use Rattle.planner.proofs.BestStart.{below_starts}
@@ -56,12 +57,27 @@ fits I C c steps offsets all few e h not_below given = at_capacity I C c steps o
   searched = λ none. given none (elim (le_or_lt (lower_bound I) c) [ inl le ↦ le | inr lt ↦ absurd (not_below lt) ]);
 })
 
-pub does_not_fit : (I : Instance) (C c : ℕ) (steps : Option ℕ) (offsets : List ℕ) → All IsBuffer I →
-    length I ≤ 512 → c ≡ min C (2 ^ 60) → IsInfeasible I c → IsAnswer I C steps offsets DoesNotFit
-does_not_fit I C c steps offsets all few e h = at_capacity I C c steps offsets DoesNotFit all few e (record {
-  no_plan = (planned_exactly I c (sound_instance I all)).1 h;
-  infeasible = h;
-})
+-- without a plan no start is within the capacity
+no_start : (I : Instance) (c : ℕ) → planned I c ≡ None → start_within I c ≡ None
+no_start I c none = go (start_within I c) refl
+  where
+    go : (o : Option (List ℕ)) → start_within I c ≡ o → o ≡ None
+    go None e = refl
+    go (Some offsets) e = let p = planned_start I c offsets e in absurd cc
+
+pub does_not_fit : (I : Instance) (C c : ℕ) (steps : Option ℕ) (offsets : List ℕ) (log : Log) → All IsBuffer I →
+    length I ≤ 512 → c ≡ min C (2 ^ 60) → LeavesNoLayout I c log →
+    (start_within I c ≡ None → lower_bound I ≤ c → AreGiven steps (length log.lines)) →
+    IsAnswer I C steps offsets DoesNotFit
+does_not_fit I C c steps offsets log all few e h given =
+    let none = (planned_exactly I c (sound_instance I all)).1 h.infeasible in
+    at_capacity I C c steps offsets DoesNotFit all few e (record {
+      no_plan = none;
+      infeasible = h.infeasible;
+      refutation = log;
+      refuted = h;
+      searched = given (no_start I c none);
+    })
 
 pub stays_open : (I : Instance) (C c : ℕ) (steps : Option ℕ) (offsets : List ℕ) (b : Bracket) → All IsBuffer I →
     length I ≤ 512 → c ≡ min C (2 ^ 60) → IsSpentAt I c steps b → IsAnswer I C steps offsets Open
@@ -90,16 +106,27 @@ found_least I steps offsets (Least C) none h = tt
 found_least I steps offsets (LeftOpen low high) none h = let given = h.too_few.given in absurd cc
 
 -- ---- from a bracket to an answer
-pub is_least : (I : Instance) (b : Bracket) → IsExactly I b → IsLeastPlan I b.high b.layout.items
-is_least I b h = record {
+pub is_least : (I : Instance) (steps : Option ℕ) (b : Bracket) → IsExactly I b → IsWithinSteps I steps b →
+    IsLeastPlan I b.high steps b.layout.items
+is_least I steps b h within = record {
+  log = record {
+    refutation = b.log;
+    refuted = h.refuted_below;
+    within_steps = subst (λ (k : ℕ). AreWithinSteps I steps k b.layout.items b.log) h.ends_met within;
+  };
   least = h.least;
   plan = record { chosen = h.chosen; layout = h.layout };
   its_height = h.its_height;
 }
 
 pub is_between : (I : Instance) (steps : Option ℕ) (b : Bracket) → IsOpenAfter I steps b →
-    HasHalved I steps (found.Open b) → IsBetween I steps b.low b.high b.layout.items
-is_between I steps b h halved = record {
+    HasHalved I steps (found.Open b) → IsWithinSteps I steps b → IsBetween I steps b.low b.high b.layout.items
+is_between I steps b h halved within = record {
+  log = record {
+    refutation = Some h.below_log;
+    refuted = (h.stays_open.positive, h.stays_open.refuted_below);
+    within_steps = subst (λ (o : Option Log). AreWithinSteps I steps b.low b.layout.items o) h.its_log within;
+  };
   ends_apart = h.stays_open.ends_apart;
   from_bound = h.from_bound;
   none_below = h.stays_open.refuted_below.infeasible;

@@ -6,3 +6,4 @@ pub mod Capacities
 pub mod Answering
 mod ArraysFacts
 mod PlansFacts
+pub mod WithinMore

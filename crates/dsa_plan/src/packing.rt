@@ -26,7 +26,7 @@ fn decide(
     offsets: &mut [u64],
 ) -> Result<LeastAnswer, NoMemory>
     requires { length offsets.old ≡ length instance.now }
-    ensures value { IfOk result (IsPackAnswer instance.now offsets.new) }
+    ensures value { IfOk result (IsPackAnswer instance.now steps offsets.new) }
     ensures unchanged { OnErr result (offsets.new ≡ offsets.old) }
 {
     match pack_least(alloc, instance, steps.min(STEP_LIMIT))? {
@@ -61,7 +61,7 @@ pub fn pack(
 ) -> Result<LeastAnswer, Fail<ArraysFault>>
     ensures value { let a = arrays_of arrays.now in UnlessNoMemory result
         (λ answer. (arrays_fault a (length offsets.old) ≡ None)
-        × IsPackAnswer (instance_of a) offsets.new answer)
+        × IsPackAnswer (instance_of a) steps offsets.new answer)
         (λ fault. arrays_fault a (length offsets.old) ≡ Some fault) }
     ensures unchanged { OnErr result (offsets.new ≡ offsets.old) }
 {

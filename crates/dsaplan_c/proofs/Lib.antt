@@ -1,1 +1,2 @@
 mod ToldFacts
+pub mod Laid

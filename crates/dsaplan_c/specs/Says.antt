@@ -34,12 +34,12 @@ pub record SaysLeast (a : Arrays) (steps : Option ℕ) (old new : List ℕ) (sta
       (λ fault. arrays_fault a (length old) ≡ Some fault)
   pub unchanged : OnErr answer (new ≡ old)
 
--- they tell what packing answers, which is right
-pub record SaysPacked (a : Arrays) (old new : List ℕ) (status : ℕ) (detail : Detail) : Type 0 where
+-- they tell what packing answers within so many steps, which is right
+pub record SaysPacked (a : Arrays) (steps : ℕ) (old new : List ℕ) (status : ℕ) (detail : Detail) : Type 0 where
   pub answer : Result LeastAnswer (Fail ArraysFault)
   pub status_is : status ≡ least_status answer
   pub detail_is : detail ≡ least_detail answer
   pub value : UnlessNoMemory answer
-      (λ given. (arrays_fault a (length old) ≡ None) × IsPackAnswer (instance_of a) new given)
+      (λ given. (arrays_fault a (length old) ≡ None) × IsPackAnswer (instance_of a) steps new given)
       (λ fault. arrays_fault a (length old) ≡ Some fault)
   pub unchanged : OnErr answer (new ≡ old)

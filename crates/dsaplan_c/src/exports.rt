@@ -73,6 +73,7 @@ pub extern "C" fn dsaplan_plan_at(
 /// height of the upper end is written, 3 where lengths differ, 4 for too many buffers and for a bad
 /// one, and 6 without memory. Nothing is written but with 0 and 2.
 #[unsafe(no_mangle)]
+#[tactic(auto, using(crate::proofs::Laid::laid))]
 pub extern "C" fn dsaplan_least(
     alloc: Global,
     lower: &[u64],
@@ -137,7 +138,7 @@ pub extern "C" fn dsaplan_pack(
 ) -> u32
     ensures says { SaysPacked
         (given lower.now upper.now size.now alignment.now lowest.now gaps.now gap_counts.now)
-        offsets.old offsets.new result detail.new }
+        steps offsets.old offsets.new result detail.new }
     ensures least { result ≡ 0 → IsLeast (instance_of
         (given lower.now upper.now size.now alignment.now lowest.now gaps.now gap_counts.now))
         detail.new.high }

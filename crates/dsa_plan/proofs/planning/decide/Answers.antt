@@ -10,8 +10,9 @@ returns-in-Layout-clause-value c = rw c.copy_from_slice.ensures.after (rw c.dere
 
 pub returns-in-Refuted-clause-value : goal.returns-in-Refuted-clause-value
 returns-in-Refuted-clause-value c = does_not_fit c.args.instance.now c.args.capacity c.limited.result c.args.steps
-    c.args.offsets.now c.len-count.ensures.buffers c.len-count.ensures.limit c.limited.ensures.value
-    (rw c.in-Refuted.is at c.in_ok-plan.ensures.value).infeasible
+    c.args.offsets.now c.in-Refuted.field-0 c.len-count.ensures.buffers c.len-count.ensures.limit
+    c.limited.ensures.value (rw c.in-Refuted.is at c.in_ok-plan.ensures.value)
+    (rw c.in-Refuted.is at c.in_ok-plan.ensures.steps)
 
 pub returns-clause-value : goal.returns-clause-value
 returns-clause-value c = stays_open c.args.instance.now c.args.capacity c.limited.result c.args.steps

@@ -1,0 +1,57 @@
+-- What packing within fewer steps says of more.
+use Rattle.std.proofs.Common.{ℕ, ◌-◌, ◌≤◌, ◌⊎◌, length, inl, inr, Option, Some, None, subst, arith}
+use Rattle.dsa_terms.specs.Buffers.{Instance}
+use Rattle.dsa_terms.specs.Layouts.{IsInfeasible}
+use Rattle.dsa_terms.specs.Logs.{Log}
+use Rattle.min_capacity.specs.declared.brackets.Bracket.{Bracket}
+use Rattle.planner.specs.Decides.{IsBoundLog}
+use Rattle.packer.specs.Packs.{IsPackedOpen, IsPackedTight, RefutesOneLess, RefutesWithin}
+use Rattle.dsa_plan.specs.Packed.{IsPackedBetween, IsPackedLeast}
+
+pub within_more : (I : Instance) (C few many : ℕ) (log : Option Log) → few ≤ many → RefutesOneLess I C few log →
+    RefutesOneLess I C many log
+within_more I C few many None le h = h
+within_more I C few many (Some log) le h = (h.0, one log h.1)
+  where
+    one : (log : Log) → RefutesWithin I (C - 1) few log → RefutesWithin I (C - 1) many log
+    one log h = record {
+      accepted = h.accepted;
+      its_capacity = h.its_capacity;
+      infeasible = h.infeasible;
+      trimmed = h.trimmed;
+      few = go h.few;
+    }
+      where
+        go : (IsBoundLog I (C - 1) log ⊎ (length log.lines ≤ few)) → (IsBoundLog I (C - 1) log ⊎ (length log.lines ≤ many))
+        go (inl bound) = inl bound
+        go (inr lines) = inr (omega (arith, lines))
+
+-- ---- from a bracket to an answer
+pub packed_least : (I : Instance) (few many : ℕ) (b : Bracket) → few ≤ many → IsPackedTight I few b →
+    IsPackedLeast I b.high many b.layout.items
+packed_least I few many b le h = record {
+  refutation = b.log;
+  refuted = within_more I b.high few many b.log le
+      (subst (λ (k : ℕ). RefutesOneLess I k few b.log) h.ends_met h.between.refuted_below);
+  least = h.least;
+  layout = h.between.layout;
+  its_height = h.between.its_height;
+}
+
+pub none_below_one : (I : Instance) (C steps : ℕ) (log : Option Log) → 1 ≤ C → RefutesOneLess I C steps log →
+    IsInfeasible I (C - 1)
+none_below_one I C steps None some h = absurd (omega (arith, h))
+none_below_one I C steps (Some log) some h = h.1.infeasible
+
+pub packed_between : (I : Instance) (few many : ℕ) (b : Bracket) → few ≤ many → IsPackedOpen I few b →
+    IsPackedBetween I b.low b.high many b.layout.items
+packed_between I few many b le h = record {
+  refutation = b.log;
+  refuted = within_more I b.low few many b.log le h.between.refuted_below;
+  ends_apart = h.ends_apart;
+  from_bound = h.from_bound;
+  none_below = none_below_one I b.low few b.log h.positive h.between.refuted_below;
+  to_best = h.to_best;
+  layout = h.between.layout;
+  its_height = h.between.its_height;
+}
