@@ -215,6 +215,14 @@ class Written(unittest.TestCase):
     def test_nothing_with_an_empty_lifetime(self):
         self.assert_unwritten(dsaplan.BAD_BUFFERS, 3, self.call([Buffer(3, 3, 4)]))
 
+    def test_pack_writes_a_layout_or_nothing(self):
+        for buffers, wanted in ((FIVE, (dsaplan.FITS, [0, 0, 4, 0, 8])), ([Buffer(0, 3, 0)], (dsaplan.BAD_BUFFERS, [self.OLD]))):
+            offsets, detail = (ctypes.c_uint64 * len(buffers))(*[self.OLD] * len(buffers)), dsaplan._Detail()
+            status = dsaplan._library.dsaplan_pack(
+                *dsaplan._arrays(buffers), 0, offsets, len(buffers), ctypes.byref(detail)
+            )
+            self.assertEqual((status, offsets[:]), wanted)
+
     def test_nothing_with_one_buffer_too_many(self):
         self.assert_unwritten(dsaplan.BAD_BUFFERS, 1, self.call([Buffer(0, 1, 1)] * (BUFFER_LIMIT + 1)))
 
