@@ -1,14 +1,14 @@
 -- The limits of a buffer, and the tests on its numbers and gaps one by one.
 use Rattle.std.proofs.Common.{◌≡◌, ℕ, true, false, [], ◌∷◌, map, Some, None, Ok, Err, replicate, refl, arith}
 use Rattle.dsa_terms.specs.Buffers.{is_live, some_before}
-use Rattle.dsa_model.specs.Buffer.{size_limit, alignment_limit, lowest_limit, gap_limit, buffer_of, lasting, is_empty_gap, is_outside, is_ever_live, number_fault, gap_fault, IsInside, IsBuffer}
+use Rattle.dsa_model.specs.Buffer.{size_limit, alignment_limit, lowest_limit, gap_limit, buffer_limit, buffer_of, lasting, is_empty_gap, is_outside, is_ever_live, number_fault, gap_fault, IsInside, IsBuffer}
 use Rattle.dsa_model.proofs.Faults.{is_buffer}
 use Rattle.dsa_model.specs.Fails.{IfFault, UnlessNoMemory}
 use Rattle.dsa_model.specs.declared.buffer_fault.BufferFault.{BufferFault}
 use Rattle.dsa_model.specs.declared.buffer_fault.BufferFault.TheVariants as fault
 use Rattle.dsa_model.specs.declared.fail.Fail.TheVariants.{Fault, NoMemory}
 
--- ---- limits: 2 to the 40th, 2 to the 32nd, 2 to the 40th, and 8
+-- ---- limits: 2 to the 40th, 2 to the 32nd, 2 to the 40th, and 64 gaps; 4,096 buffers
 greatest_size : size_limit ≡ 1099511627776
 greatest_size = refl
 
@@ -18,8 +18,11 @@ greatest_alignment = refl
 greatest_lowest : lowest_limit ≡ 1099511627776
 greatest_lowest = refl
 
-most_gaps : gap_limit ≡ 8
+most_gaps : gap_limit ≡ 64
 most_gaps = refl
+
+most_buffers : buffer_limit ≡ 4096
+most_buffers = refl
 
 of_size_one : lasting 2 9 ((3, 4) ∷ []) ≡ record { lower = 2; upper = 9; size = 1; alignment = 1; gaps = (3, 4) ∷ []; lowest = 0 }
 of_size_one = refl
@@ -55,12 +58,12 @@ numbers_are_not_asked : gap_fault (buffer_of 0 10 0 0 ((4, 6) ∷ []) 0) ≡ Non
 unfolding is_ever_live some_before is_live
 numbers_are_not_asked = refl
 
-eight_gaps : gap_fault (lasting 0 2 (replicate 8 (0, 1))) ≡ None
+as_many_gaps_as_may_be : gap_fault (lasting 0 2 (replicate 64 (0, 1))) ≡ None
 unfolding is_ever_live some_before is_live
-eight_gaps = refl
+as_many_gaps_as_may_be = refl
 
-nine_gaps : gap_fault (lasting 0 2 (replicate 9 (0, 1))) ≡ Some fault.TooManyGaps
-nine_gaps = refl
+one_gap_too_many : gap_fault (lasting 0 2 (replicate 65 (0, 1))) ≡ Some fault.TooManyGaps
+one_gap_too_many = refl
 
 gap_of_all : gap_fault (lasting 2 9 ((2, 9) ∷ [])) ≡ Some fault.NeverLive
 unfolding is_ever_live some_before is_live

@@ -84,8 +84,8 @@ empty_gap_first = refl
 gap_outside : buffer_fault (buffer_of 2 9 4 1 ((3, 4) ∷ (8, 10) ∷ []) 0) ≡ Some (fault.GapOutside 1)
 gap_outside = refl
 
-nine_gaps : buffer_fault (buffer_of 0 1 4 1 (replicate 9 (0, 1)) 0) ≡ Some fault.TooManyGaps
-nine_gaps = refl
+one_gap_too_many : buffer_fault (buffer_of 0 1 4 1 (replicate 65 (0, 1)) 0) ≡ Some fault.TooManyGaps
+one_gap_too_many = refl
 
 -- gaps that overlap and cover the lifetime
 never_live : buffer_fault (buffer_of 0 10 4 1 ((0, 6) ∷ (4, 10) ∷ []) 0) ≡ Some fault.NeverLive

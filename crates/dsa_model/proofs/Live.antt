@@ -1,50 +1,11 @@
 -- The moments at which a lifetime with gaps is live.
-use Rattle.std.proofs.Common.{◌≡◌, ℕ, zero, suc, ◌<◌, ◌≤◌, ◌⊎◌, inl, inr, Bool, true, false, not, cond, ◌||◌, ◌&&◌, nat_le, nat_lt, List, [], ◌∷◌, Some, None, find, option_map, refl, ap, sym, arith}
+use Rattle.std.proofs.Common.{◌≡◌, ℕ, zero, suc, ◌<◌, ◌≤◌, ◌⊎◌, inl, inr, Bool, true, false, not, ◌||◌, ◌&&◌, nat_le, nat_lt, refl, ap, sym, arith}
 use Rattle.std.proofs.lemmas.Bool.Decides.{nat_tests}
 use Rattle.std.specs.List.{list_any}
 use Rattle.dsa_terms.specs.Buffers.{Buffer, is_live, is_within, some_before, do_share}
 use Rattle.dsa_model.specs.Buffer.{is_ever_live}
 use Rattle.dsa_model.specs.Moments.{IsLeastFrom}
 use Rattle.dsa_terms.proofs.Moments.{live_before, and_true}
-use Rattle.dsa_terms.proofs.NumberTests.{below_or_from}
-
--- no gap holds t where none is found
-pub none_found : (t : ℕ) (gaps : List (ℕ × ℕ)) → option_map (λ (gap : ℕ × ℕ). gap.1) (find (is_within t) gaps) ≡ None →
-    list_any (is_within t) gaps ≡ false
-none_found t [] h = refl
-none_found t (g ∷ gs) h = go (is_within t g) (none_found t gs) h
-  where
-    go : (b : Bool) →
-        (option_map (λ (gap : ℕ × ℕ). gap.1) (find (is_within t) gs) ≡ None → list_any (is_within t) gs ≡ false) →
-        option_map (λ (gap : ℕ × ℕ). gap.1) (cond b (Some g) (find (is_within t) gs)) ≡ None →
-        (b || list_any (is_within t) gs) ≡ false
-    go true ih h = absurd cc
-    go false ih h = ih h
-
--- from t up to the end of a gap that holds it, all is in a gap
-pub found : (t end : ℕ) (gaps : List (ℕ × ℕ)) →
-    option_map (λ (gap : ℕ × ℕ). gap.1) (find (is_within t) gaps) ≡ Some end →
-    (t < end) × ((s : ℕ) → t ≤ s → s < end → list_any (is_within s) gaps ≡ true)
-found t end [] h = absurd cc
-found t end (g ∷ gs) h = go (is_within t g) refl (found t end gs) h
-  where
-    within : (t end a b : ℕ) → (nat_le a t && nat_lt t b) ≡ true → b ≡ end →
-        (t < end) × ((s : ℕ) → t ≤ s → s < end → (nat_le a s && nat_lt s b) ≡ true)
-    within t end a b q e = (grind (arith, nat_tests), λ s l m. grind (arith, nat_tests))
-
-    or_true : (b c : Bool) → (b ≡ true) ⊎ (c ≡ true) → (b || c) ≡ true
-    or_true true c h = refl
-    or_true false c (inl h) = absurd cc
-    or_true false c (inr h) = h
-
-    go : (b : Bool) → is_within t g ≡ b →
-        (option_map (λ (gap : ℕ × ℕ). gap.1) (find (is_within t) gs) ≡ Some end → (t < end) ×
-        ((s : ℕ) → t ≤ s → s < end → list_any (is_within s) gs ≡ true)) →
-        option_map (λ (gap : ℕ × ℕ). gap.1) (cond b (Some g) (find (is_within t) gs)) ≡ Some end →
-        (t < end) × ((s : ℕ) → t ≤ s → s < end → (is_within s g || list_any (is_within s) gs) ≡ true)
-    go true e ih h =
-        let q : g.1 ≡ end = cc in let r = within t end g.0 g.1 e q in (r.0, λ s l m. or_true _ _ (inl (r.1 s l m)))
-    go false e ih h = let r = ih h in (r.0, λ s l m. or_true _ _ (inr (r.1 s l m)))
 
 -- live from the three tests, and not live from one that fails
 pub live_from : (b : Buffer) (t : ℕ) → b.lower ≤ t → t < b.upper → list_any (is_within t) b.gaps ≡ false →
@@ -70,16 +31,6 @@ not_live_after b t le = go (not (list_any (is_within t) b.gaps))
     go : (c : Bool) → (nat_le b.lower t && nat_lt t b.upper && c) ≡ false
     go c = grind (arith, nat_tests)
 
-pub not_live_in_gap : (b : Buffer) (t : ℕ) → list_any (is_within t) b.gaps ≡ true → is_live b t ≡ false
-unfolding is_live
-not_live_in_gap b t h = go (nat_le b.lower t) (nat_lt t b.upper) (list_any (is_within t) b.gaps) h
-  where
-    go : (c d e : Bool) → e ≡ true → (c && d && not e) ≡ false
-    go true true true h = refl
-    go true false e h = refl
-    go false d e h = refl
-    go true true false h = absurd cc
-
 -- ---- two buffers
 pub not_both : (p q : Bool) → p ≡ false → (p && q) ≡ false
 not_both true q h = absurd cc
@@ -92,15 +43,6 @@ nor_both false q h = refl
 pub both_live : (p q : Bool) → p ≡ true → q ≡ true → (p && q) ≡ true
 both_live true q h k = k
 both_live false q h k = absurd cc
-
--- no common moment at s: below t, from t on below the first one's least, or from there on below the other's
-pub none_both : (b c : Buffer) (t mine : ℕ) → ((s : ℕ) → s < t → (is_live b s && is_live c s) ≡ false) →
-    ((s : ℕ) → t ≤ s → s < mine → is_live b s ≡ false) → (s : ℕ) → (mine ≤ s → is_live c s ≡ false) →
-    (is_live b s && is_live c s) ≡ false
-none_both b c t mine h k s m = elim (below_or_from s t) [
-  | inl q ↦ h s q
-  | inr q ↦ elim (below_or_from s mine) [ inl r ↦ not_both _ _ (k s q r) | inr r ↦ nor_both _ _ (m r) ]
-]
 
 -- ---- live at some moment
 pub some_from : (n t : ℕ) (test : ℕ → Bool) → t < n → test t ≡ true → some_before n test ≡ true

@@ -4,7 +4,7 @@ use Rattle.dsa_terms.specs.Buffers.{Buffer, Instance, is_live, buffer, some_befo
 use Rattle.dsa_terms.proofs.Moments.{do_share-false, and_true}
 use Rattle.dsa_terms.proofs.Lists.{true_or_false}
 use Rattle.dsa_model.specs.Buffer.{buffer_of, lasting}
-use Rattle.dsa_model.specs.Moments.{IsLeastFrom, IsLeastMoment, are_live, agree_at, agree_at_gaps, agree_at_edges}
+use Rattle.dsa_model.specs.Moments.{IsLeastFrom, IsLeastMoment, are_live}
 use Rattle.dsa_model.specs.LayoutFaults.{is_unaligned, is_above, are_apart, IsOverlap}
 
 -- a lifetime 0..10 with the gap 4..6
@@ -65,52 +65,6 @@ none_in_gap t from = close (true_or_false (are_live gapped (lasting 4 6 []) t))
         let q = and_true (is_live gapped t) (is_live (lasting 4 6 []) t) h in
         absurd (do_share-false gapped (lasting 4 6 []) t refl q.0 q.1)
     close (inr h) = h
-
--- ---- agreeing: both live or neither, so not in the gap
-agreeing : map (agree_at gapped (lasting 0 10 [])) (3 ∷ 4 ∷ 5 ∷ 6 ∷ 10 ∷ []) ≡ true ∷ false ∷ false ∷ true ∷ true ∷ []
-unfolding agree_at is_live
-agreeing = refl
-
--- the gaps 4..6 and 4..7: at 4 neither is live, at 6 one is, at 7 both are
-ends_of_first : agree_at_gaps gapped (lasting 0 10 ((4, 7) ∷ [])) gapped ≡ false
-unfolding agree_at is_live
-ends_of_first = refl
-
-ends_of_second : agree_at_gaps gapped (lasting 0 10 ((4, 7) ∷ [])) (lasting 0 10 ((4, 7) ∷ [])) ≡ true
-unfolding agree_at is_live
-ends_of_second = refl
-
--- gaps begin at 3 and 4
-begins_of_first : agree_at_gaps gapped (lasting 0 10 ((3, 6) ∷ [])) gapped ≡ true
-unfolding agree_at is_live
-begins_of_first = refl
-
-begins_of_second : agree_at_gaps gapped (lasting 0 10 ((3, 6) ∷ [])) (lasting 0 10 ((3, 6) ∷ [])) ≡ false
-unfolding agree_at is_live
-begins_of_second = refl
-
--- 0..5 and 0..8: at 5 the second alone is live, at 8 neither is
-upper_of_first : agree_at_edges (lasting 0 5 []) (lasting 0 8 []) (lasting 0 5 []) ≡ false
-unfolding agree_at is_live
-upper_of_first = refl
-
-upper_of_second : agree_at_edges (lasting 0 5 []) (lasting 0 8 []) (lasting 0 8 []) ≡ true
-unfolding agree_at is_live
-upper_of_second = refl
-
--- 2..8 and 0..8: at 2 both are live, at 0 the second alone
-lower_of_first : agree_at_edges (lasting 2 8 []) (lasting 0 8 []) (lasting 2 8 []) ≡ true
-unfolding agree_at is_live
-lower_of_first = refl
-
-lower_of_second : agree_at_edges (lasting 2 8 []) (lasting 0 8 []) (lasting 0 8 []) ≡ false
-unfolding agree_at is_live
-lower_of_second = refl
-
--- one lifetime, and a gap in the first alone
-gap_of_first : agree_at_edges gapped (lasting 0 10 []) gapped ≡ false
-unfolding agree_at is_live
-gap_of_first = refl
 
 -- ---- offsets: 6 is no multiple of 4, and 8 is
 not_aligned : map (is_unaligned (buffer_of 0 1 3 4 [] 0)) (0 ∷ 6 ∷ 8 ∷ []) ≡ false ∷ true ∷ false ∷ []

@@ -1,129 +1,116 @@
 -- Worked facts of the rows of an instance.
-use Rattle.std.proofs.Common.{◌≡◌, ℕ, zero, suc, ◌<◌, Bool, true, false, List, [], ◌∷◌, length, replicate, slice_index_or, All, refl, ap, arith}
-use Rattle.std.proofs.lemmas.List.{length-replicate}
-use Rattle.std.proofs.lemmas.List.Elements.{All-cons, All-nil}
-use Rattle.dsa_terms.specs.Buffers.{Buffer, Instance, buffer, do_share, is_live, some_before}
+use Rattle.std.proofs.Common.{◌≡◌, ℕ, zero, suc, ◌≤◌, true, false, List, [], ◌∷◌, length, map, refl, ap, subst, arith}
+use Rattle.dsa_terms.specs.Buffers.{Instance, buffer, do_share, is_live, some_before}
+use Rattle.dsa_model.specs.Bits.{Reaches, is_set}
 use Rattle.dsa_model.specs.Buffer.{lasting}
-use Rattle.dsa_model.specs.Rows.{AreChosen, ArePicked, AreRows, IsNoted, IsTable, IsWide, entries_of, entry, instance_of}
+use Rattle.dsa_model.specs.Rows.{AllTell, AreChosen, AreRows, IsNoted, Tells, instance_of, words_of}
 use Rattle.dsa_model.specs.declared.instance.Row.{Row}
 
+-- ---- bits: 5 has those of the places 0 and 2, and 1 in the second word that of place 64
+of_one_word : map (is_set (5 ∷ [])) (0 ∷ 1 ∷ 2 ∷ 3 ∷ []) ≡ true ∷ false ∷ true ∷ false ∷ []
+unfolding is_set
+of_one_word = refl
+
+of_two_words : map (is_set (0 ∷ 1 ∷ [])) (0 ∷ 63 ∷ 64 ∷ 65 ∷ []) ≡ false ∷ false ∷ true ∷ false ∷ []
+unfolding is_set
+of_two_words = refl
+
+-- a word reaches as far as place 63
+to_63 : Reaches (0 ∷ []) 63
+to_63 = omega arith
+
+not_to_64 : Reaches (0 ∷ []) 64 → ⊥
+not_to_64 h = omega arith
+
+-- ---- rows
 its_buffers : (first second : Row) → instance_of (first ∷ second ∷ []) ≡ first.buffer ∷ second.buffer ∷ []
 its_buffers first second = refl
 
-its_table : (first second : Row) → entries_of (first ∷ second ∷ []) ≡ first.shares.items ∷ second.shares.items ∷ []
-its_table first second = refl
+its_words : (first second : Row) →
+    words_of (first ∷ second ∷ []) ≡ first.shares.words.items ∷ second.shares.words.items ∷ []
+its_words first second = refl
 
--- two buffers that share moment 2
-two : Instance
-two = lasting 0 3 [] ∷ lasting 2 4 [] ∷ []
+-- two buffers that share moment 2, and one that shares no moment with the first
+three : Instance
+three = lasting 0 3 [] ∷ lasting 2 4 [] ∷ lasting 3 5 [] ∷ []
 
--- what a row tells of the first two places, and of all the others
-row : Bool → Bool → Bool → List Bool
-row first second others = first ∷ second ∷ replicate 510 others
-
-is_wide : (first second others : Bool) → IsWide (row first second others)
-unfolding row
-is_wide first second others = ap (λ n. suc (suc n)) (length-replicate 510 others)
-
-both_wide : (s t u v others : Bool) → All IsWide (row s t others ∷ row u v others ∷ [])
-both_wide s t u v others zero d lt = is_wide s t others
-both_wide s t u v others (suc zero) d lt = is_wide u v others
-both_wide s t u v others (suc (suc k)) d lt = absurd (omega arith)
-
--- whatever stands at the other places, the rows tell of each other and of themselves
-each_other : (others : Bool) → IsTable two (row true true others ∷ row true true others ∷ [])
-unfolding two row buffer do_share some_before is_live
-each_other others = record { wide = both_wide true true true true others; told = told }
+-- the first tells of itself
+first_tells : Tells three 0 (1 ∷ [])
+unfolding three buffer do_share some_before is_live is_set
+first_tells = record { reaches = omega arith; told = told }
   where
-    told : (b c : ℕ) → b < 2 → c < 2 →
-        entry (row true true others ∷ row true true others ∷ []) b c ≡ do_share (buffer two b) (buffer two c)
-    told zero zero lb lc = refl
-    told zero (suc zero) lb lc = refl
-    told (suc zero) zero lb lc = refl
-    told (suc zero) (suc zero) lb lc = refl
-    told b (suc (suc c)) lb lc = absurd (omega arith)
-    told (suc (suc b)) c lb lc = absurd (omega arith)
+    told : (c : ℕ) → c ≤ 0 → is_set (1 ∷ []) c ≡ do_share (buffer three 0) (buffer three c)
+    told zero le = refl
+    told (suc c) le = absurd (omega arith)
 
-denied : (others : Bool) → IsTable two (row true true others ∷ row false true others ∷ []) → ⊥
-unfolding two row buffer do_share some_before is_live
-denied others h = let told = h.told 1 0 (omega arith) (omega arith) in absurd cc
-
--- of any rows with these buffers and entries
-are_rows : (rows : List Row) (others : Bool) → instance_of rows ≡ two →
-    entries_of rows ≡ row true true others ∷ row true true others ∷ [] → AreRows rows
-are_rows rows others buffers entries = rw (buffers, entries) (each_other others)
-
-no_rows : (rows : List Row) (others : Bool) → instance_of rows ≡ two →
-    entries_of rows ≡ row true true others ∷ row false true others ∷ [] → AreRows rows → ⊥
-no_rows rows others buffers entries told = denied others (rw (← buffers, ← entries) told)
-
--- ---- what is noted where a buffer is put behind others
-nothing_to_note : (next : Buffer) → IsNoted [] [] [] (row false false false) 0 next
-nothing_to_note next = record {
-  wide = λ k d lt. absurd (omega arith);
-  kept = λ b c lt. absurd (omega arith);
-  theirs = λ b lt. absurd (omega arith);
-  own_wide = is_wide false false false;
-  owns = λ b lt. absurd (omega arith);
-}
-
--- the buffer before it shares moment 2
-noted_one : (others : Bool) →
-    IsNoted (lasting 0 3 [] ∷ []) (row true false others ∷ []) (row true true others ∷ []) (row true false others) 1
-    (lasting 2 4 [])
-unfolding row buffer do_share some_before is_live
-noted_one others = record {
-  wide = All-cons IsWide (row true true others) [] (is_wide true true others) (All-nil IsWide);
-  kept = kept;
-  theirs = theirs;
-  own_wide = is_wide true false others;
-  owns = owns;
-}
+second_tells : Tells three 1 (3 ∷ [])
+unfolding three buffer do_share some_before is_live is_set
+second_tells = record { reaches = omega arith; told = told }
   where
-    kept : (b c : ℕ) → c < 1 → entry (row true true others ∷ []) b c ≡ entry (row true false others ∷ []) b c
-    kept zero zero lt = refl
-    kept (suc b) zero lt = refl
-    kept b (suc c) lt = absurd (omega arith)
+    told : (c : ℕ) → c ≤ 1 → is_set (3 ∷ []) c ≡ do_share (buffer three 1) (buffer three c)
+    told zero le = refl
+    told (suc zero) le = refl
+    told (suc (suc c)) le = absurd (omega arith)
 
-    theirs : (b : ℕ) → b < 1 →
-        entry (row true true others ∷ []) b 1 ≡ do_share (buffer (lasting 0 3 [] ∷ []) b) (lasting 2 4 [])
-    theirs zero lt = refl
-    theirs (suc b) lt = absurd (omega arith)
+third_tells : Tells three 2 (6 ∷ [])
+unfolding three buffer do_share some_before is_live is_set
+third_tells = record { reaches = omega arith; told = told }
+  where
+    told : (c : ℕ) → c ≤ 2 → is_set (6 ∷ []) c ≡ do_share (buffer three 2) (buffer three c)
+    told zero le = refl
+    told (suc zero) le = refl
+    told (suc (suc zero)) le = refl
+    told (suc (suc (suc c))) le = absurd (omega arith)
 
-    owns : (b : ℕ) → b < 1 →
-        slice_index_or (row true false others) b false ≡ do_share (buffer (lasting 0 3 [] ∷ []) b) (lasting 2 4 [])
-    owns zero lt = refl
-    owns (suc b) lt = absurd (omega arith)
+-- the third does not share a moment with the first, and does with itself
+not_all_bits : Tells three 2 (7 ∷ []) → ⊥
+unfolding three buffer do_share some_before is_live is_set
+not_all_bits h = let told = h.told 0 (omega arith) in absurd cc
 
--- only the row before the new one tells
-not_its_own : (others : Bool) →
-    IsNoted (lasting 0 3 [] ∷ []) (row true false others ∷ []) (row true true others ∷ []) (row false true others) 1
-    (lasting 2 4 []) → ⊥
-unfolding row buffer do_share some_before is_live
-not_its_own others h = let told = h.owns 0 (omega arith) in absurd cc
+not_without_itself : Tells three 2 (2 ∷ []) → ⊥
+unfolding three buffer do_share some_before is_live is_set
+not_without_itself h = let told = h.told 2 (omega arith) in absurd cc
+
+-- of any rows with these buffers and words
+all_tell : AllTell three ((1 ∷ []) ∷ (3 ∷ []) ∷ (6 ∷ []) ∷ []) 3
+all_tell zero lt = first_tells
+all_tell (suc zero) lt = second_tells
+all_tell (suc (suc zero)) lt = third_tells
+all_tell (suc (suc (suc b))) lt = absurd (omega arith)
+
+are_rows : (rows : List Row) → instance_of rows ≡ three → words_of rows ≡ (1 ∷ []) ∷ (3 ∷ []) ∷ (6 ∷ []) ∷ [] →
+    AreRows rows
+unfolding three
+are_rows rows buffers words = rw (buffers, words) all_tell
+
+no_rows : (rows : List Row) → instance_of rows ≡ three → words_of rows ≡ (1 ∷ []) ∷ (3 ∷ []) ∷ (7 ∷ []) ∷ [] →
+    AreRows rows → ⊥
+unfolding three
+no_rows rows buffers words told = not_all_bits (tells 2 (omega arith))
+  where
+    all : AllTell (instance_of rows) (words_of rows) 3
+    all = subst (AllTell (instance_of rows) (words_of rows)) (ap length buffers) told
+
+    tells : AllTell three ((1 ∷ []) ∷ (3 ∷ []) ∷ (7 ∷ []) ∷ []) 3
+    tells = rw (← buffers, ← words) all
+
+-- ---- what is noted of the third, after the first two: nothing of itself
+two_noted : (I : Instance) → IsNoted I 2 (0 ∷ []) 0 → is_set (0 ∷ []) 2 ≡ false
+two_noted I h = h.noted 2
+
+not_itself_yet : IsNoted three 2 (6 ∷ []) 2 → ⊥
+unfolding three buffer do_share some_before is_live is_set
+not_itself_yet h = let noted = h.noted 2 in absurd cc
 
 -- ---- rows of some of the buffers
--- the first entry of the new row is the second of the old one
-picked_one : (others : Bool) → ArePicked (row true false others) (1 ∷ 0 ∷ []) (row false true others) 2
-unfolding row
-picked_one others zero lt = refl
-picked_one others (suc zero) lt = refl
-picked_one others (suc (suc k)) lt = absurd (omega arith)
-
--- the row is the old one as it was
-not_as_it_was : (others : Bool) → ArePicked (row true false others) (1 ∷ 0 ∷ []) (row true false others) 1 → ⊥
-unfolding row
-not_as_it_was others h = let told = h 0 (omega arith) in absurd cc
-
 -- no rows are the first 0 of any
-none_chosen : (members : List ℕ) → AreChosen two members [] 0
+none_chosen : (members : List ℕ) → AreChosen three members [] 0
 none_chosen members = record {
   buffers = refl;
   sound = λ k d lt. absurd (omega arith);
-  wide = λ k d lt. absurd (omega arith);
-  told = λ b c lb lc. absurd (omega arith);
+  told = λ b lt. absurd (omega arith);
 }
 
 -- the rows of the first alone are not those of the first two
-not_both : (members : List ℕ) (first : Row) → AreChosen two (0 ∷ 1 ∷ members) (first ∷ []) 2 → ⊥
+not_both : (members : List ℕ) (first : Row) → AreChosen three (0 ∷ 1 ∷ members) (first ∷ []) 2 → ⊥
 not_both members first h = let e = ap length h.buffers in absurd (omega (arith, e))

@@ -1,14 +1,14 @@
 //! A buffer.
 
-ghost use Rattle.std.specs.Prelude.{◌≡◌, ◌^◌, ◌<◌, ◌≤◌, Some, IfSome, IfOk, length};
+ghost use Rattle.std.specs.Prelude.{◌≡◌, ◌^◌, ◌<◌, ◌≤◌, Some, IfOk, length};
 ghost use Rattle.std.specs.Int.{next_multiple_of};
 ghost use Rattle.dsa_terms.specs.Buffers.{floor, is_live};
 ghost use Rattle.dsa_model.specs.Buffer.{IsBuffer, buffer_fault, buffer_of};
-ghost use Rattle.dsa_model.specs.Moments.{IsLeastMoment};
+ghost use Rattle.dsa_model.specs.LiveRanges.{AreLiveRanges};
 ghost use Rattle.dsa_model.specs.Fails.{UnlessNoMemory};
 
-use crate::buffer_fault::{gap_fault, lowest_fault, number_fault};
-use crate::moments::{is_in_gap, next_live};
+use crate::buffer_fault::{lowest_fault, number_fault};
+use crate::live_ranges::{is_in, live_ranges};
 use crate::{BufferFault, Fail, NoMemory};
 use std::alloc::Global;
 use std::marker::Model;
@@ -20,6 +20,8 @@ use std::marker::Model;
 /// moments from `a` up to and not including `b`; the buffer holds no storage there, and keeps its
 /// offset after it. No buffer has any fault of `BufferFault`, and all its times are at most
 /// 2^62 - 1.
+///
+/// It keeps the ranges of moments at which it is live beside the gaps as they were given.
 #[derive(Drop)]
 pub struct Buffer {
     lower: u64,
@@ -28,17 +30,20 @@ pub struct Buffer {
     alignment: u64,
     gaps: Vec<(u64, u64)>,
     lowest: u64,
+    live: Vec<(u64, u64)>,
 }
 
 impl Model for Buffer {
     ghost use Rattle.dsa_terms.specs.Buffers.{Buffer as BufferTerm};
     ghost use Rattle.dsa_model.specs.Buffer.{IsBuffer, buffer_of};
+    ghost use Rattle.dsa_model.specs.LiveRanges.{AreLiveRanges};
 
     ghost Value = { BufferTerm };
 
     ghost view = { λ b. buffer_of b.lower b.upper b.size b.alignment b.gaps.items b.lowest };
 
-    ghost invariant = { λ b. IsBuffer (buffer_of b.lower b.upper b.size b.alignment b.gaps.items b.lowest) };
+    ghost invariant = { λ b. let value = buffer_of b.lower b.upper b.size b.alignment b.gaps.items b.lowest in
+        IsBuffer value × AreLiveRanges value b.live.items };
 }
 
 impl Buffer {
@@ -67,9 +72,7 @@ impl Buffer {
         if let Some(fault) = number_fault(lower, upper, size, alignment) {
             return Err(Fail::Fault(fault));
         }
-        if let Some(fault) = gap_fault(lower, upper, gaps) {
-            return Err(Fail::Fault(fault));
-        }
+        let live = live_ranges(alloc, lower, upper, gaps)?;
         if let Some(fault) = lowest_fault(lowest) {
             return Err(Fail::Fault(fault));
         }
@@ -81,6 +84,7 @@ impl Buffer {
             alignment,
             gaps,
             lowest,
+            live,
         })
     }
 
@@ -96,6 +100,7 @@ impl Buffer {
             alignment: self.alignment,
             gaps: self.gaps.to_vec(alloc)?,
             lowest: self.lowest,
+            live: self.live.to_vec(alloc)?,
         })
     }
 
@@ -158,20 +163,17 @@ impl Buffer {
     }
 
     /// Whether the buffer holds storage at the moment `t`.
-    #[tactic(auto, unfolding(dsa_terms::specs::Buffers::is_live))]
     pub fn live_at(&self, t: u64) -> bool
         ensures { result ≡ is_live self.now t }
     {
-        self.lower <= t && t < self.upper && !is_in_gap(&self.gaps, t)
+        is_in(&self.live, t)
     }
 
-    /// The least moment from `from` on at which the buffer is live.
-    #[tactic(auto, unfolding(dsa_terms::specs::Buffers::is_live))]
-    pub(crate) fn next_live(&self, from: u64) -> Option<u64>
-        ensures moment { IsLeastMoment (is_live self.now) from result }
-        ensures within { IfSome result (λ t. t < self.now.upper) }
+    /// The greatest ranges of moments at which the buffer is live, in rising order.
+    pub(crate) fn live(&self) -> &[(u64, u64)]
+        ensures { AreLiveRanges self.now result.now }
     {
-        next_live(self.lower, self.upper, &self.gaps, from)
+        self.live.as_slice()
     }
 
     /// The least multiple of the alignment at or above `from`, in bytes.

@@ -1,9 +1,8 @@
 //! What is wrong with numbers that make no buffer.
 
 ghost use Rattle.std.specs.Prelude.{◌≡◌, ◌^◌, ◌<◌, [], length, nat_lt, position, IfSome};
-ghost use Rattle.dsa_model.specs.Buffer.{buffer_of, gap_fault, gap_limit, is_empty_gap, is_ever_live, is_outside, lasting, lowest_fault, number_fault};
+ghost use Rattle.dsa_model.specs.Buffer.{buffer_of, gap_limit, gap_list_fault, is_empty_gap, is_outside, lasting, lowest_fault, number_fault};
 
-use crate::moments::next_live;
 use thiserror::Error;
 
 /// What is wrong with a buffer, in order of precedence. Gaps are numbered from 0, as given.
@@ -31,7 +30,7 @@ pub enum BufferFault {
     #[error("gap {gap} leaves the lifetime")]
     GapOutside { gap: u32 },
     /// There are more than `GAP_LIMIT` gaps.
-    #[error("there are more than 8 gaps")]
+    #[error("there are more than 64 gaps")]
     TooManyGaps,
     /// The gaps cover the whole lifetime.
     #[error("the gaps cover the lifetime")]
@@ -51,7 +50,7 @@ pub const ALIGNMENT_LIMIT: u64 = 4294967296;
 pub const LOWEST_LIMIT: u64 = 1099511627776;
 
 /// The greatest number of gaps of a buffer.
-pub const GAP_LIMIT: usize = 8;
+pub const GAP_LIMIT: usize = 64;
 
 /// What is wrong with the lifetime, the size and the alignment.
 pub(crate) fn number_fault(lower: u64, upper: u64, size: u64, alignment: u64) -> Option<BufferFault>
@@ -88,17 +87,6 @@ fn first_outside_gap(lower: u64, upper: u64, gaps: &[(u64, u64)]) -> Option<usiz
     gaps.iter().position(|gap| gap.0 < lower || upper < gap.1)
 }
 
-/// Whether the lifetime has a moment outside the gaps.
-#[tactic(auto, using(crate::proofs::Live::is_ever, crate::proofs::Live::is_never))]
-fn is_ever_live(lower: u64, upper: u64, gaps: &[(u64, u64)]) -> bool
-    ensures { result ≡ is_ever_live (lasting lower upper gaps.now) }
-{
-    match next_live(lower, upper, gaps, 0) {
-        Some(_) => true,
-        None => false,
-    }
-}
-
 /// Whether so many gaps are more than a buffer may have.
 fn are_too_many(gaps: usize) -> bool
     ensures { result ≡ nat_lt gap_limit gaps }
@@ -106,10 +94,10 @@ fn are_too_many(gaps: usize) -> bool
     gaps > GAP_LIMIT
 }
 
-/// What is wrong with the gaps.
-pub(crate) fn gap_fault(lower: u64, upper: u64, gaps: &[(u64, u64)]) -> Option<BufferFault>
+/// What is wrong with the gaps, whatever they leave of the lifetime.
+pub(crate) fn gap_list_fault(lower: u64, upper: u64, gaps: &[(u64, u64)]) -> Option<BufferFault>
     requires { length gaps.now < 2 ^ 32 }
-    ensures { result ≡ gap_fault (lasting lower upper gaps.now) }
+    ensures { result ≡ gap_list_fault (lasting lower upper gaps.now) }
 {
     if let Some(gap) = first_empty_gap(gaps) {
         Some(BufferFault::GapEmpty { gap: gap as u32 })
@@ -117,8 +105,6 @@ pub(crate) fn gap_fault(lower: u64, upper: u64, gaps: &[(u64, u64)]) -> Option<B
         Some(BufferFault::GapOutside { gap: gap as u32 })
     } else if are_too_many(gaps.len()) {
         Some(BufferFault::TooManyGaps)
-    } else if !is_ever_live(lower, upper, gaps) {
-        Some(BufferFault::NeverLive)
     } else {
         None
     }

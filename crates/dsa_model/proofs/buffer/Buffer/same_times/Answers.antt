@@ -1,9 +1,7 @@
-use Rattle.std.proofs.Common.{◌∙◌, sym}
-use Rattle.dsa_terms.proofs.Moments.{same_moments}
-use Rattle.dsa_model.proofs.Edges.{by_edges, have_from_same}
+use Rattle.dsa_model.proofs.SameMoments.{by_ranges}
 use Rattle.dsa_model.proofs.buffer.Buffer.same_times.Goals as goal
 
 pub returns : goal.returns
 returns c =
-    let e = c.agree_at_all_edges.ensures ∙ by_edges c.args.self.now c.args.other.now in
-    record { same = (λ h. same_moments _ _ (sym e ∙ h), λ s. e ∙ have_from_same _ _ s); test = e }
+    by_ranges c.args.self.now c.args.other.now c.live.result.now c.live-2.result.now c.eq.result c.live.ensures
+    c.live-2.ensures c.eq.ensures
