@@ -15,9 +15,9 @@ use Rattle.dsa_model.specs.Buffer.{IsBuffer}
 use Rattle.dsa_model.specs.Lists.{items_of}
 use Rattle.lifetime.specs.Edges.{has_member, places_of}
 use Rattle.lifetime.specs.Places.{AreMembersBelow, HasMembersBelow}
-use Rattle.lifetime.specs.Runs.{ArePlainRuns, AreRuns, BeginsRun, starts_of}
+use Rattle.lifetime.specs.Runs.{AreRuns, BeginsRun, starts_of}
 use Rattle.lifetime.specs.SectionList.{AreSectionsOf, HasAllAt, AreKeptSections, Section, SectionList, ShareSection, count_of, live_at, members_of, no_section, sections_of, start_of}
-use Rattle.lifetime.specs.Thin.{AreAmong, IsThinnedTo, StandForAll, StandsFor}
+use Rattle.lifetime.specs.Thin.{AreAmong, AreThinRuns, StandForAll, StandsFor}
 use Rattle.lifetime.specs.Views.{list_of, section_of}
 use Rattle.lifetime.specs.declared.section_list.Section.{Section as Declared}
 use Rattle.lifetime.proofs.Lists.{filter_same, rises-numbers, rises_at}
@@ -127,27 +127,28 @@ module _ (I : Instance) (S : SectionList) (m : IsMade I S) where
   }
 
 -- what the code makes of what is kept of the runs
-pub made : (I : Instance) (runs sections : List Section) (of_buffers : List (List ℕ)) (n : ℕ) →
-    All IsBuffer I → n ≡ length I → ArePlainRuns I runs → IsThinnedTo runs sections →
-    of_buffers ≡ map (places_of sections) (numbers n) →
+made : (I : Instance) (sections : List Section) (of_buffers : List (List ℕ)) (n : ℕ) → All IsBuffer I →
+    n ≡ length I → AreThinRuns I sections → of_buffers ≡ map (places_of sections) (numbers n) →
     IsMade I (record { sections = sections; of_buffers = of_buffers })
-made I runs sections of_buffers n sound e r k p = record {
+made I sections of_buffers n sound e t p = record {
   sound = sound;
-  each = λ x i. r.each x (k.chosen x i);
-  rise = k.rise;
-  begin = λ x i. begin_at I runs (record { sections = sections; of_buffers = of_buffers }) r k x (k.chosen x i);
-  stand = stand_for_all I runs (record { sections = sections; of_buffers = of_buffers }) r k;
+  each = λ x i. t.plain.each x (t.thinned.chosen x i);
+  rise = t.thinned.rise;
+  begin = λ x i. begin_at I t.runs S t.plain t.thinned x (t.thinned.chosen x i);
+  stand = stand_for_all I t.runs S t.plain t.thinned;
   places = rw e at p;
 }
+  where
+    S : SectionList
+    S = record { sections = sections; of_buffers = of_buffers }
 
 -- the same of the vectors of the code, of which one was lent
-pub made_of : (I : Instance) (runs : List Section) (sections lent : List Declared) (of_buffers : List (Vec ℕ)) (n : ℕ) →
-    All IsBuffer I → n ≡ length I → ArePlainRuns I runs → IsThinnedTo runs (map section_of sections) →
+pub made_of : (I : Instance) (sections lent : List Declared) (of_buffers : List (Vec ℕ)) (n : ℕ) →
+    All IsBuffer I → n ≡ length I → AreThinRuns I (map section_of sections) →
     map items_of of_buffers ≡ map (places_of (map section_of lent)) (numbers n) → lent ≡ sections →
     IsMade I (list_of sections of_buffers)
-made_of I runs sections lent of_buffers n sound e r k p same = made I runs (map section_of sections)
-    (map items_of of_buffers) n sound e r k
-    (p ∙ ap (λ xs. map (places_of (map section_of xs)) (numbers n)) same)
+made_of I sections lent of_buffers n sound e t p same = made I (map section_of sections) (map items_of of_buffers) n
+    sound e t (p ∙ ap (λ xs. map (places_of (map section_of xs)) (numbers n)) same)
 
 -- what belongs is kept, if it is not too long
 pub kept_of : (I : Instance) (S : SectionList) → AreSectionsOf I S → count_of S < 2 ^ 32 → AreKeptSections S
@@ -174,9 +175,3 @@ kept_of I S a few = record {
   where
     within : (b : ℕ) → b < length S.of_buffers → b < length I
     within b lt = let k = a.buffers in omega arith
-
--- the members of the runs rise
-pub runs_rise : (I : Instance) (runs : List Section) → ArePlainRuns I runs →
-    All (λ (x : Section). Rises x.members) runs
-runs_rise I runs r = all_from_in (λ (x : Section). Rises x.members) runs
-    (λ x i. rw (r.each x i) (rises_live I x.start))

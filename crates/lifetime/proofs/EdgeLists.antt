@@ -8,26 +8,27 @@ use Rattle.dsa_terms.specs.Claims.{IsIn}
 use Rattle.dsa_terms.proofs.Lists.{from_append, from_map, into_map, left_append, right_append}
 use Rattle.dsa_terms.proofs.Places.{all_from_in, from_contains, to_contains}
 use Rattle.dsa_terms.proofs.NumberTests.{below_or_last}
+use Rattle.dsa_model.specs.Buffer.{gap_limit}
 use Rattle.lifetime.specs.Edges.{AreEdges, edge_moments, edges_of, gap_ends}
 
 -- the edges of the buffers below n
 pub record AreEdgesBelow (I : Instance) (n : ℕ) (edges : List (ℕ × ℕ)) : Type 0 where
   pub in_range : (e : ℕ × ℕ) → IsIn e edges → e.1 < n
   pub complete : (b t : ℕ) → b < n → IsIn t (edge_moments (buffer I b)) → IsIn (t, b) edges
-  pub limit : length edges ≤ 18 * n
+  pub limit : length edges ≤ (2 + 2 * gap_limit) * n
 
 length-gap_ends : (gaps : List (ℕ × ℕ)) → length (gap_ends gaps) ≡ 2 * length gaps
 length-gap_ends [] = refl
 length-gap_ends (g ∷ gs) = let k = length-gap_ends gs in omega arith
 
-few_edges : (x : Buffer) (b : ℕ) → length x.gaps ≤ 8 → length (edges_of x b) ≤ 18
+few_edges : (x : Buffer) (b : ℕ) → length x.gaps ≤ gap_limit → length (edges_of x b) ≤ 2 + 2 * gap_limit
 few_edges x b le =
     let k = length-gap_ends x.gaps in
     let m : length (edges_of x b) ≡ length (edge_moments x) = length-map (edge_moments x) (λ t. (t, b)) in
     rw m (omega arith)
 
 pub more_below : (I : Instance) (n : ℕ) (x : Buffer) (edges more : List (ℕ × ℕ)) → AreEdgesBelow I n edges →
-    x ≡ buffer I n → length x.gaps ≤ 8 → more ≡ edges ++ edges_of x n →
+    x ≡ buffer I n → length x.gaps ≤ gap_limit → more ≡ edges ++ edges_of x n →
     AreEdgesBelow I (n + 1) more
 more_below I n x edges more h e few m = rw m (record {
   in_range = in_range;

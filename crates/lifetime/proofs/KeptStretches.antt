@@ -8,7 +8,7 @@ use Rattle.dsa_terms.proofs.Ranges.{rises-push}
 use Rattle.lifetime.specs.Runs.{starts_of}
 use Rattle.lifetime.specs.SectionList.{Section, no_section}
 use Rattle.lifetime.specs.Thin.{AreAmong, IsThinnedTo, AreThin, IsBetween, StandsIn}
-use Rattle.lifetime.proofs.Stretches.{AreApart, AreStretches, IsAbove, IsNotOver}
+use Rattle.lifetime.specs.Stretches.{AreApart, AreStretches, IsAbove, IsNotOver}
 
 rises_left : (xs ys : List ℕ) → Rises (xs ++ ys) → Rises xs
 rises_left [] ys r = tt

@@ -10,6 +10,7 @@ pub mod Among
 pub mod Stretches
 pub mod KeptStretches
 pub mod Thinning
+pub mod RunThinning
 pub mod Live
 pub mod Standing
 pub mod Belonging

@@ -1,11 +1,17 @@
 -- Lists of numbers: filtered, rising, and told apart.
-use Rattle.std.proofs.Common.{◌≡◌, ◌≢◌, ℕ, zero, suc, ◌+◌, ◌<◌, ◌⊎◌, inl, inr, Bool, true, false, cond, List, [], ◌∷◌, ◌++◌, length, filter, slice_index_or, refl, sym, ap, ◌∙◌, arith, append-nil}
+use Rattle.std.proofs.Common.{◌≡◌, ◌≢◌, ℕ, zero, suc, ◌+◌, ◌<◌, ◌⊎◌, inl, inr, Bool, true, false, cond, ◌==◌, List, [], ◌∷◌, ◌++◌, length, filter, slice_index_or, refl, sym, ap, ◌∙◌, arith, append-nil}
 use Rattle.std.specs.List.{range_with_len}
 use Rattle.dsa_terms.specs.Claims.{IsIn, Rises}
 use Rattle.dsa_terms.specs.Parts.{numbers}
 use Rattle.dsa_terms.proofs.Lists.{from_filter, into_filter}
+use Rattle.dsa_terms.proofs.NumberTests.{equal}
 use Rattle.dsa_terms.proofs.Places.{in_at}
 use Rattle.dsa_terms.proofs.Ranges.{rises-range, rises-filter_numbers}
+
+-- a list without a number
+pub is_nil : (xs : List ℕ) (n : ℕ) (none : Bool) → none ≡ (n == 0) → none ≡ true → n ≡ length xs → xs ≡ []
+is_nil [] n none e t l = refl
+is_nil (x ∷ xs) n none e t l = absurd (let k = equal n 0 (sym e ∙ t) in omega arith)
 
 -- ---- numbers
 pub rises-numbers : (p : ℕ → Bool) (n : ℕ) → Rises (filter p (numbers n))

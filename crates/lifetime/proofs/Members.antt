@@ -6,6 +6,7 @@ use Rattle.dsa_terms.specs.Buffers.{Instance, buffer, is_live}
 use Rattle.dsa_terms.specs.Parts.{numbers}
 use Rattle.dsa_terms.proofs.Lists.{length-filter_le}
 use Rattle.dsa_terms.proofs.Places.{all_from_in}
+use Rattle.dsa_model.specs.Buffer.{buffer_limit}
 use Rattle.lifetime.specs.SectionList.{AreSectionsOf, SectionList, count_of, live_at, members_of, start_of}
 use Rattle.lifetime.proofs.Belonging.{from_live}
 
@@ -22,5 +23,5 @@ live_few I t =
     omega arith
 
 pub few_members : (I : Instance) (S : SectionList) (s : ℕ) (members : List ℕ) → AreSectionsOf I S → s < count_of S →
-    members ≡ members_of S s → length I ≤ 512 → length members ≤ 512
+    members ≡ members_of S s → length I ≤ buffer_limit → length members ≤ buffer_limit
 few_members I S s members a lt e few = rw (e, a.live s lt) (let k = live_few I (start_of S s) in omega arith)

@@ -6,10 +6,12 @@ use Rattle.dsa_terms.specs.Buffers.{Buffer, Instance, buffer, is_live}
 use Rattle.dsa_terms.specs.Claims.{IsIn}
 use Rattle.dsa_terms.specs.Parts.{has}
 use Rattle.dsa_model.specs.Lists.{pair_at}
-use Rattle.lifetime.specs.Edges.{AreEdges, AreRunsBefore, IsAfter, IsPassed, edge_moments}
-use Rattle.lifetime.specs.Runs.{ArePlainRuns, BeginsRun, live_before, was_live}
+use Rattle.lifetime.specs.Edges.{AreEdges, AreRunsBefore, AreThinnedBefore, IsAfter, IsPassed, edge_moments}
+use Rattle.lifetime.specs.Runs.{ArePlainRuns, BeginsRun, live_before, starts_of, was_live}
 use Rattle.lifetime.specs.SectionList.{Section, live_at, section_with}
+use Rattle.lifetime.specs.Stretches.{IsStretch}
 use Rattle.lifetime.specs.Switching.{IsSwitched}
+use Rattle.lifetime.specs.Thin.{AreAmong, AreThinRuns, IsThinnedTo, StandsIn}
 
 -- one buffer, live at the moments 0 and 1
 abbrev pub only : Buffer
@@ -144,6 +146,53 @@ run_before_second = record {
 -- no run begins before the first edge
 none_before_first : AreRunsBefore one edges 0 (run ∷ []) → ⊥
 none_before_first h = let k = ((h.runs 0).0 (inl refl)).1 0 (lit≤ tt) (lit< tt) in omega arith
+
+-- ---- what thinning leaves of the run
+its_own : IsThinnedTo (run ∷ []) (run ∷ [])
+its_own = record {
+  chosen = λ x i. i;
+  rise = ((λ y i. absurd i), tt);
+  thin = record { before = λ s lt. absurd (omega arith); after = λ s lt. absurd (omega arith) };
+  stand = stand;
+}
+  where
+    has_all : (y : Section) → IsIn y (run ∷ []) → AreAmong y.members (0 ∷ [])
+    has_all y (inl e) = subst (λ (y : Section). AreAmong y.members (0 ∷ [])) (sym e) (λ b i. i)
+    has_all y (inr i) = absurd i
+
+    stand : (x : Section) → IsIn x (run ∷ []) → (k : Section) × IsIn k (run ∷ []) × StandsIn (run ∷ []) x k
+    stand x (inl e) = (
+      run,
+      inl refl,
+      subst (λ (x : Section). StandsIn (run ∷ []) x run) (sym e) (record {
+        has_all = λ y i between. has_all y i;
+        more = λ lt. absurd (omega arith);
+      }),
+    )
+    stand x (inr i) = absurd i
+
+it_is_left : AreThinRuns one (run ∷ [])
+it_is_left = record { runs = run ∷ []; plain = one_run; thinned = its_own }
+
+-- what is left of it is not nothing
+not_nothing : AreThinRuns one [] → ⊥
+not_nothing h = let r = h.thinned.stand (there h.runs ((h.plain.runs 0).1 run_at_0)).0 (there h.runs
+    ((h.plain.runs 0).1 run_at_0)).1 in absurd r.1
+  where
+    there : (sections : List Section) → IsIn 0 (starts_of sections) → (x : Section) × IsIn x sections
+    there [] i = absurd i
+    there (x ∷ xs) (inl e) = (x, inl refl)
+    there (x ∷ xs) (inr i) = let r = there xs i in (r.0, inr r.1)
+
+kept_before_second : AreThinnedBefore one edges 1 (run ∷ [])
+kept_before_second = record {
+  sections = run ∷ [];
+  runs = run_before_second;
+  thinned = record { stretches = ([], [], [], stretch, refl); apart = (tt, tt, tt) };
+}
+  where
+    stretch : IsStretch (run ∷ []) [] run [] []
+    stretch = record { is = refl; lesser = λ x i. absurd i; within = λ x i. absurd i }
 
 -- ---- switches
 put_in : IsSwitched [] 3 true (3 ∷ [])

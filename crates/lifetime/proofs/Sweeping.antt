@@ -4,7 +4,7 @@ use Rattle.dsa_terms.specs.Buffers.{Instance, buffer, is_live}
 use Rattle.dsa_terms.specs.Claims.{IsIn}
 use Rattle.dsa_terms.specs.Parts.{numbers}
 use Rattle.dsa_model.specs.Lists.{pair_at}
-use Rattle.dsa_terms.proofs.Lists.{from_append, nil_or_not, left_append, right_append}
+use Rattle.dsa_terms.proofs.Lists.{from_append, left_append, right_append}
 use Rattle.dsa_terms.proofs.Places.{place_of}
 use Rattle.dsa_terms.proofs.NumberTests.{below_or_from}
 use Rattle.dsa_terms.proofs.Ranges.{below, rises-push}
@@ -12,7 +12,7 @@ use Rattle.dsa_model.proofs.Live.{not_live_before}
 use Rattle.std.proofs.lemmas.List.{map-append}
 use Rattle.lifetime.specs.Edges.{AreEdges, AreRunsBefore, IsPassed, edge_moments}
 use Rattle.lifetime.specs.Runs.{BeginsRun, live_before, starts_of, was_live}
-use Rattle.lifetime.specs.SectionList.{Section, live_at}
+use Rattle.lifetime.specs.SectionList.{Section, live_at, section_with}
 use Rattle.lifetime.proofs.Lists.{filter_same}
 use Rattle.lifetime.proofs.Stays.{not_live_before_lower, quiet, was_live_after}
 
@@ -106,14 +106,14 @@ stays_until I t next lt h = filter_same (λ b. is_live (buffer I b) t) (λ b. wa
 
 -- ---- one moment on
 pub record MovesOn (I : Instance) (edges : List (ℕ × ℕ)) (first next : ℕ) (live now : List ℕ)
-    (sections more : List Section) (changed : Bool) : Type 0 where
+    (sections : List Section) (changed : Bool) : Type 0 where
   pub edges_of_it : AreEdges I edges
   pub before : IsSweeping I edges first live sections
   pub in_edges : first < length edges
   pub passed : IsPassed I edges first next changed now
 
-module _ (I : Instance) (edges : List (ℕ × ℕ)) (first next : ℕ) (live now : List ℕ) (sections more : List Section)
-    (changed : Bool) (m : MovesOn I edges first next live now sections more changed) where
+module _ (I : Instance) (edges : List (ℕ × ℕ)) (first next : ℕ) (live now : List ℕ) (sections : List Section)
+    (changed : Bool) (m : MovesOn I edges first next live now sections changed) where
   moment : ℕ
   moment = (pair_at edges first).0
 
@@ -136,7 +136,7 @@ module _ (I : Instance) (edges : List (ℕ × ℕ)) (first next : ℕ) (live now
       t < (pair_at edges first).0
   first_before t h = h first (omega arith) m.in_edges
 
-  pub runs_same : (live_at I (pair_at edges first).0 ≡ live_before I (pair_at edges first).0) ⊎
+  runs_same : (live_at I (pair_at edges first).0 ≡ live_before I (pair_at edges first).0) ⊎
       (live_at I (pair_at edges first).0 ≡ []) → AreRunsBefore I edges next sections
   runs_same quiet = record {
     each = m.before.runs.each;
@@ -161,20 +161,20 @@ module _ (I : Instance) (edges : List (ℕ × ℕ)) (first next : ℕ) (live now
         ]
       ]
 
-  pub runs_more : live_at I (pair_at edges first).0 ≢ live_before I (pair_at edges first).0 →
+  runs_more : live_at I (pair_at edges first).0 ≢ live_before I (pair_at edges first).0 →
       live_at I (pair_at edges first).0 ≢ [] →
-      more ≡ sections ++ (record { start = (pair_at edges first).0; members = live_at I (pair_at edges first).0 }) ∷ []
-      → AreRunsBefore I edges next more
-  runs_more changes something e = rw e (record {
+      AreRunsBefore I edges next
+      (sections ++ section_with (pair_at edges first).0 (live_at I (pair_at edges first).0) ∷ [])
+  runs_more changes something = record {
     each = each;
     rise = rw (map-append (λ (x : Section). x.start) sections (added ∷ []))
         (rises-push (starts_of sections) (pair_at edges first).0 m.before.runs.rise
         (λ t i. first_before t ((m.before.runs.runs t).0 i).1));
     runs = λ t. (forth t, back t);
-  })
+  }
     where
       added : Section
-      added = record { start = (pair_at edges first).0; members = live_at I (pair_at edges first).0 }
+      added = section_with (pair_at edges first).0 (live_at I (pair_at edges first).0)
 
       each : (x : Section) → IsIn x (sections ++ added ∷ []) → x.members ≡ live_at I x.start
       each x i = elim (from_append sections (added ∷ []) x i) [
@@ -209,7 +209,7 @@ module _ (I : Instance) (edges : List (ℕ × ℕ)) (first next : ℕ) (live now
       ]
 
   -- what is live now was live before the next edges
-  pub were_next : next < length edges → now ≡ live_before I (pair_at edges next).0
+  were_next : next < length edges → now ≡ live_before I (pair_at edges next).0
   were_next lt = m.passed.are ∙ stays_until I (pair_at edges first).0 (pair_at edges next).0
       (m.passed.after.later next (omega arith) lt) between
     where
@@ -222,9 +222,9 @@ module _ (I : Instance) (edges : List (ℕ × ℕ)) (first next : ℕ) (live now
             | inr q ↦ (let z = m.edges_of_it.sorted next r.0 (0, 0) q r.1 in let e = r.2 in absurd (omega arith))
           ]
 
-  pub moved_on : AreRunsBefore I edges next more → length more ≤ suc (length sections) →
+  moved_on : (more : List Section) → AreRunsBefore I edges next more → length more ≤ suc (length sections) →
       IsSweeping I edges next now more
-  moved_on runs few = record {
+  moved_on more runs few = record {
     within = m.passed.after.within;
     fresh = λ k lt nl. let a = m.passed.after.passed k lt in let b = m.passed.after.later next (omega arith) nl in
         omega arith;
@@ -233,58 +233,16 @@ module _ (I : Instance) (edges : List (ℕ × ℕ)) (first next : ℕ) (live now
     limit = let a = m.before.limit in let b = m.passed.later in omega arith;
   }
 
-  -- nothing changed
-  pub moved_same : changed ≡ false → IsSweeping I edges next now sections
-  moved_same e = record {
-    within = m.passed.after.within;
-    fresh = λ k lt nl. let a = m.passed.after.passed k lt in let b = m.passed.after.later next (omega arith) nl in
-        omega arith;
-    were = were_next;
-    runs = runs_same (inl (m.passed.same e));
-    limit = let a = m.before.limit in let b = m.passed.later in omega arith;
-  }
+  -- no run begins: nothing changed, or nothing is live
+  pub moved_same : (changed ≡ false) ⊎ (now ≡ []) → IsSweeping I edges next now sections
+  moved_same none = moved_on sections (runs_same (elim none [
+    | inl e ↦ inl (m.passed.same e)
+    | inr e ↦ inr (sym m.passed.are ∙ e)
+  ])) (omega arith)
 
-  -- what is live changed: a section more, unless nothing is
-  pub moved_changed : (given : List ℕ) → given ≡ now → (given ≡ [] → more ≡ sections) →
-      (given ≢ [] → more ≡ sections ++ (record { start = (pair_at edges first).0; members = given }) ∷ []) →
-      changed ≡ true → IsSweeping I edges next now more
-  moved_changed given same none some e = go (nil_or_not given)
-    where
-      is_live_now : given ≡ live_at I (pair_at edges first).0
-      is_live_now = same ∙ m.passed.are
-
-      not_nil : (xs : List ℕ) (x : ℕ) → IsIn x xs → xs ≢ []
-      not_nil [] x i f = i
-      not_nil (y ∷ ys) x i f = absurd cc
-
-      go : (given ≡ []) ⊎ ((x : ℕ) × IsIn x given) → IsSweeping I edges next now more
-      go (inl f) = rw (none f) (moved_on_same (inr (sym is_live_now ∙ f)))
-        where
-          moved_on_same : (live_at I (pair_at edges first).0 ≡ live_before I (pair_at edges first).0) ⊎
-              (live_at I (pair_at edges first).0 ≡ []) → IsSweeping I edges next now sections
-          moved_on_same q = record {
-            within = m.passed.after.within;
-            fresh = λ k lt nl. let a = m.passed.after.passed k lt in let b = m.passed.after.later next (omega arith) nl
-                in omega arith;
-            were = were_next;
-            runs = runs_same q;
-            limit = let a = m.before.limit in let b = m.passed.later in omega arith;
-          }
-      go (inr r) =
-          let nonempty : given ≢ [] = not_nil given r.0 r.1 in
-          let added : more ≡ sections ++ (record {
-            start = (pair_at edges first).0;
-            members = live_at I
-                (pair_at edges first).0;
-          }) ∷ [] =
-          some nonempty
-          ∙ ap (λ ms. sections ++ (record { start = (pair_at edges first).0; members = ms }) ∷ []) is_live_now in
-          moved_on (runs_more (m.passed.differs e) (rw (← is_live_now) nonempty) added)
-          (rw (
-            added,
-            length-append sections ((record {
-              start = (pair_at edges first).0;
-              members = live_at I
-                  (pair_at edges first).0;
-            }) ∷ []),
-          ) (omega arith))
+  -- a run begins
+  pub moved_changed : changed ≡ true → now ≢ [] →
+      IsSweeping I edges next now (sections ++ section_with (pair_at edges first).0 now ∷ [])
+  moved_changed e some = moved_on (sections ++ section_with (pair_at edges first).0 now ∷ [])
+      (rw m.passed.are (runs_more (m.passed.differs e) (rw (← m.passed.are) some)))
+      (let k = length-append sections (section_with (pair_at edges first).0 now ∷ []) in omega arith)

@@ -11,6 +11,7 @@ use Rattle.lifetime.specs.Determined.{AreSections}
 use Rattle.lifetime.specs.Places.{AreMembersBelow, HasMembersBelow}
 use Rattle.lifetime.specs.Runs.{AreRuns, live_before, was_live}
 use Rattle.lifetime.specs.SectionList.{AreSectionsOf, HasAllAt, Section, SectionList, ShareSection, live_at, members_of, no_section, section_with, sections_of, start_of}
+use Rattle.lifetime.specs.Stretches.{AreThinned, IsLesser, IsStretch}
 use Rattle.lifetime.specs.Thin.{AreAmong, AreThin, IsThinnedTo, StandForAll, StandsIn}
 use Rattle.lifetime.specs.Views.{list_of, section_of}
 use Rattle.lifetime.proofs.ExampleFacts.{among_both, first, not_among, second}
@@ -90,6 +91,24 @@ not_the_first h = let r = h.stand second (inr (inl refl)) in elim r.1 [
   | inl e ↦ not_first_for_second (subst (λ k. StandsIn both second k) e r.2)
   | inr i ↦ i
 ]
+
+-- one after another, the first gives way to the second
+second_is_kept : AreThinned both (second ∷ [])
+second_is_kept = record { stretches = ([], first ∷ [], [], stretch, refl); apart = (tt, tt, tt) }
+  where
+    lesser : (x : Section) → IsIn x (first ∷ []) → IsLesser x second
+    lesser x (inl e) = subst (λ x. IsLesser x second) (sym e) (among_both, not_among)
+    lesser x (inr i) = absurd i
+
+    stretch : IsStretch both [] second (first ∷ []) []
+    stretch = record { is = refl; lesser = lesser; within = λ x i. absurd i }
+
+-- they are not both kept
+not_both_kept : AreThinned both both → ⊥
+not_both_kept t = t.apart.1 among_both
+
+not_none_kept : AreThinned both [] → ⊥
+not_none_kept t = let e : both ≡ [] = t.stretches in absurd cc
 
 -- ---- members below a count
 below_two : HasMembersBelow 2 second

@@ -1,17 +1,15 @@
 -- Thinning, one section after another.
-use Rattle.std.proofs.Common.{◌≡◌, ◌↔◌, ℕ, zero, suc, ◌+◌, ◌-◌, ◌<◌, ◌≤◌, ◌⊎◌, inl, inr, Bool, true, false, IsTrue, Some, List, [], ◌∷◌, ◌++◌, length, map, reverse, take, drop, slice_index_or, refl, sym, ap, ◌∙◌, subst, arith, append_assoc, append-nil, length-append}
-use Rattle.std.proofs.lemmas.List.{drop_all, length-map, length-take-le, reverse-append, take-append-drop, take-map}
+use Rattle.std.proofs.Common.{◌≡◌, ◌↔◌, ℕ, zero, suc, ◌+◌, ◌-◌, ◌<◌, ◌≤◌, ◌⊎◌, inl, inr, Bool, true, false, IsTrue, Some, List, [], ◌∷◌, ◌++◌, length, map, reverse, take, drop, slice_index_or, refl, sym, ap, ◌∙◌, subst, arith, length-append}
+use Rattle.std.proofs.lemmas.List.{drop_all, length-map, length-reverse, map-append, reverse-append, take-append-drop, take-map}
+use Rattle.std.proofs.lemmas.List.Elements.{All-push, All-take}
 use Rattle.std.specs.List.{All, slice_get}
 use Rattle.dsa_terms.specs.Claims.{Rises}
-use Rattle.dsa_terms.proofs.Lists.{left_append, right_append}
-use Rattle.dsa_terms.proofs.Places.{all_from_in, in_from_all}
-use Rattle.lifetime.specs.Runs.{starts_of}
-use Rattle.lifetime.specs.SectionList.{Section, no_section}
-use Rattle.lifetime.specs.Thin.{AreAmong, IsThinnedTo, last_of}
+use Rattle.lifetime.specs.SectionList.{Section, no_section, section_with}
+use Rattle.lifetime.specs.Stretches.{AreStretches, AreThinned, IsAbove, IsNotOver}
+use Rattle.lifetime.specs.Thin.{AreAmong, last_of}
 use Rattle.lifetime.specs.Views.{section_of}
 use Rattle.lifetime.specs.declared.section_list.Section.{Section as Declared}
-use Rattle.lifetime.proofs.Stretches.{AreApart, AreStretches, IsAbove, IsNotOver, IsPopping, left_out, none_popped, popped, pushed}
-use Rattle.lifetime.proofs.KeptStretches.{chosen, into_reverse, kept_of_all}
+use Rattle.lifetime.proofs.Stretches.{IsPopping, left_out, none_popped, popped, pushed}
 
 -- ---- the last section of a slice
 got : (xs : List Declared) (k : ℕ) (x : Declared) → Some x ≡ slice_get xs k →
@@ -48,22 +46,11 @@ tested xs x given P b e g h =
     (λ t. (r.0, subst P f (h.0 t)), λ q. h.1 (subst P (sym f) q.1))
 
 -- ---- the sections one after another
--- what is known while some sections are left: those done fall into stretches, one for each that is kept
-pub record IsThinning (sections left kept : List Section) : Type 0 where
-  pub done : List Section
-  pub whole : sections ≡ done ++ left
-  pub stretches : AreStretches done (reverse kept)
-  pub apart : AreApart (reverse kept)
-  pub limit : length kept ≤ length done
-
 -- what is known while those at the end give way to the next one
-pub record IsGivingWay (sections left : List Section) (next : Section) (kept : List Section) : Type 0 where
-  pub done : List Section
+pub record IsGivingWay (done : List Section) (next : Section) (kept : List Section) : Type 0 where
   pub rest : List Section
   pub pending : List Section
-  pub whole : sections ≡ done ++ next ∷ left
   pub popping : IsPopping done next (reverse kept) rest pending
-  pub limit : length kept ≤ length done
 
 -- the last one of the list is the first of the stack
 top : (kept : List Section) → 0 < length kept → reverse kept ≡ last_of kept ∷ reverse (take (length kept - 1) kept)
@@ -100,99 +87,99 @@ not_over_from next kept n = elim (empty_or_not kept) [
   | inr lt ↦ rw (top kept lt) (λ h. n (lt, h))
 ]
 
-pub thinning_none : (sections left kept : List Section) → left ≡ sections → kept ≡ [] → IsThinning sections left kept
-thinning_none sections left kept e f = rw f (record {
-  done = [];
-  whole = sym e;
-  stretches = refl;
-  apart = tt;
-  limit = omega arith;
-})
+pub thinned_none : AreThinned [] []
+thinned_none = record { stretches = refl; apart = tt }
 
-pub giving_none : (sections all left : List Section) (next : Section) (kept : List Section) →
-    IsThinning sections all kept → all ≡ next ∷ left →
-    ((0 < length kept) × AreAmong next.members (last_of kept).members → ⊥) → IsGivingWay sections left next kept
-giving_none sections all left next kept t e n = record {
-  done = t.done;
-  rest = t.done;
+pub giving_none : (done : List Section) (next : Section) (kept : List Section) → AreThinned done kept →
+    ((0 < length kept) × AreAmong next.members (last_of kept).members → ⊥) → IsGivingWay done next kept
+giving_none done next kept t n = record {
+  rest = done;
   pending = [];
-  whole = rw e at t.whole;
-  popping = none_popped t.done next (reverse kept) t.stretches t.apart (above_from next kept n);
-  limit = t.limit;
+  popping = none_popped done next (reverse kept) t.stretches t.apart (above_from next kept n);
 }
 
-pub giving_more : (sections left : List Section) (next : Section) (kept fewer : List Section) →
-    IsGivingWay sections left next kept → (0 < length kept) × AreAmong (last_of kept).members next.members →
-    fewer ≡ take (length kept - 1) kept → IsGivingWay sections left next fewer
-giving_more sections left next kept fewer g h e =
-    let p : IsPopping g.done next (last_of kept ∷ reverse (take (length kept - 1) kept)) g.rest g.pending =
-    subst (λ (stack : List Section). IsPopping g.done next stack g.rest g.pending) (top kept h.0) g.popping in
-    let q = popped g.done next (last_of kept) (reverse (take (length kept - 1) kept)) g.rest g.pending p h.1 in
-    rw e (record {
-      done = g.done;
-      rest = q.0;
-      pending = q.1;
-      whole = g.whole;
-      popping = q.2;
-      limit = let k = g.limit in let m = length-take-le (length kept - 1) kept (omega arith) in omega arith;
-    })
+pub giving_more : (done : List Section) (next : Section) (kept fewer : List Section) → IsGivingWay done next kept →
+    (0 < length kept) × AreAmong (last_of kept).members next.members → fewer ≡ take (length kept - 1) kept →
+    IsGivingWay done next fewer
+giving_more done next kept fewer g h e =
+    let p : IsPopping done next (last_of kept ∷ reverse (take (length kept - 1) kept)) g.rest g.pending =
+    subst (λ (stack : List Section). IsPopping done next stack g.rest g.pending) (top kept h.0) g.popping in
+    let q = popped done next (last_of kept) (reverse (take (length kept - 1) kept)) g.rest g.pending p h.1 in
+    rw e (record { rest = q.0; pending = q.1; popping = q.2 })
 
-pub thinning_pushed : (sections left : List Section) (next : Section) (kept more : List Section) →
-    IsGivingWay sections left next kept →
+pub thinned_pushed : (done : List Section) (next : Section) (kept more : List Section) → IsGivingWay done next kept →
     ((0 < length kept) × AreAmong (last_of kept).members next.members → ⊥) → more ≡ kept ++ next ∷ [] →
-    IsThinning sections left more
-thinning_pushed sections left next kept more g n e =
-    let q = pushed g.done next (reverse kept) g.rest g.pending g.popping (not_over_from next kept n) in
+    AreThinned (done ++ next ∷ []) more
+thinned_pushed done next kept more g n e =
+    let q = pushed done next (reverse kept) g.rest g.pending g.popping (not_over_from next kept n) in
     rw e (record {
-      done = g.done ++ next ∷ [];
-      whole = g.whole ∙ sym (append_assoc g.done (next ∷ []) left);
       stretches = rw (reverse-append kept (next ∷ [])) q.0;
       apart = rw (reverse-append kept (next ∷ [])) q.1;
-      limit = let k = g.limit in let a = length-append g.done (next ∷ []) in let b = length-append kept (next ∷ []) in
-          omega arith;
     })
 
-pub thinning_left : (sections all left : List Section) (next : Section) (kept : List Section) →
-    IsThinning sections all kept → all ≡ next ∷ left →
-    (0 < length kept) × AreAmong next.members (last_of kept).members → IsThinning sections left kept
-thinning_left sections all left next kept t e h = record {
-  done = t.done ++ next ∷ [];
-  whole = (rw e at t.whole) ∙ sym (append_assoc t.done (next ∷ []) left);
-  stretches = rw (top kept h.0) (left_out t.done next (last_of kept) (reverse (take (length kept - 1) kept))
+pub thinned_left : (done : List Section) (next : Section) (kept : List Section) → AreThinned done kept →
+    (0 < length kept) × AreAmong next.members (last_of kept).members → AreThinned (done ++ next ∷ []) kept
+thinned_left done next kept t h = record {
+  stretches = rw (top kept h.0) (left_out done next (last_of kept) (reverse (take (length kept - 1) kept))
       (rw (top kept h.0) at t.stretches) h.1);
   apart = t.apart;
-  limit = let k = t.limit in let a = length-append t.done (next ∷ []) in omega arith;
 }
 
-pub thinned_all : (sections left kept : List Section) → IsThinning sections left kept → left ≡ [] →
-    Rises (starts_of sections) → IsThinnedTo sections kept × (length kept ≤ length sections)
-thinned_all sections left kept t e r =
-    let whole : sections ≡ t.done = t.whole ∙ (ap (λ xs. t.done ++ xs) e ∙ append-nil t.done) in (
-      kept_of_all sections kept (rw whole t.stretches) t.apart r,
-      (let k = t.limit in let m = ap (λ (xs : List Section). length xs) whole in omega arith),
-    )
+-- no more are kept than there are
+pub few_kept : (sections kept : List Section) → AreThinned sections kept → length kept ≤ length sections
+few_kept sections kept t = rw (← length-reverse kept) (few (reverse kept) sections t.stretches)
+  where
+    few : (stack sections : List Section) → AreStretches sections stack → length stack ≤ length sections
+    few [] sections s = omega arith
+    few (k ∷ ks) sections s =
+        let ih = few ks s.0 s.4 in
+        let e = ap (λ (xs : List Section). length xs) s.3.is in
+        let a = length-append s.0 (s.1 ++ k ∷ s.2) in
+        let b = length-append s.1 (k ∷ s.2) in
+        omega arith
 
--- the members of what is kept, and of the next one, rise
-pub kept_rises : (sections left kept : List Section) → All (λ (x : Section). Rises x.members) sections →
-    IsThinning sections left kept → All (λ (x : Section). Rises x.members) kept
-kept_rises sections left kept h t = all_from_in (λ (x : Section). Rises x.members) kept
-    (λ x i. in_from_all (λ (x : Section). Rises x.members) sections h x
-    (rw t.whole (left_append t.done left x (chosen (reverse kept) t.done x t.stretches (into_reverse kept x i)))))
+-- ---- the next one is put behind what was kept of any sections
+pub record IsPutting (old : List Section) (next : Section) (kept : List Section) : Type 0 where
+  pub gives_way : (done : List Section) → AreThinned done old → IsGivingWay done next kept
+  pub rise : All (λ (x : Section). Rises x.members) kept
 
-pub next_rises : (sections all left : List Section) (next : Section) (kept : List Section) (given : List ℕ) →
-    All (λ (x : Section). Rises x.members) sections → IsThinning sections all kept → all ≡ next ∷ left →
-    given ≡ next.members → Rises given
-next_rises sections all left next kept given h t e g = rw g
-    (in_from_all (λ (x : Section). Rises x.members) sections h next
-    (rw (t.whole, e) (right_append t.done (next ∷ left) next (inl refl))))
+-- or it is left out
+pub put_left : (old kept : List Section) (next : Section) → old ≡ kept →
+    (0 < length kept) × AreAmong next.members (last_of kept).members → (done : List Section) → AreThinned done old →
+    AreThinned (done ++ next ∷ []) old
+put_left old kept next e h done t = thinned_left done next old t (rw e h)
 
-pub giving_kept_rises : (sections left : List Section) (next : Section) (kept : List Section) →
-    All (λ (x : Section). Rises x.members) sections → IsGivingWay sections left next kept →
-    All (λ (x : Section). Rises x.members) kept
-giving_kept_rises sections left next kept h g = all_from_in (λ (x : Section). Rises x.members) kept
-    (λ x i. in_from_all (λ (x : Section). Rises x.members) sections h x
-    (rw g.whole (left_append g.done (next ∷ left) x (rw g.popping.is (left_append g.rest g.pending x
-    (chosen (reverse kept) g.rest x g.popping.stretches (into_reverse kept x i)))))))
+pub putting_none : (old kept : List Section) (next : Section) → old ≡ kept →
+    All (λ (x : Section). Rises x.members) kept →
+    ((0 < length kept) × AreAmong next.members (last_of kept).members → ⊥) → IsPutting old next kept
+putting_none old kept next e r n = record {
+  gives_way = λ done t. giving_none done next kept (rw e at t) n;
+  rise = r;
+}
+
+pub putting_more : (old : List Section) (next : Section) (kept fewer : List Section) → IsPutting old next kept →
+    (0 < length kept) × AreAmong (last_of kept).members next.members → fewer ≡ take (length kept - 1) kept →
+    IsPutting old next fewer
+putting_more old next kept fewer p h e = record {
+  gives_way = λ done t. giving_more done next kept fewer (p.gives_way done t) h e;
+  rise = rw e (All-take (λ (x : Section). Rises x.members) (length kept - 1) kept p.rise);
+}
+
+pub put_last : (old : List Section) (next : Section) (kept more : List Section) → IsPutting old next kept →
+    ((0 < length kept) × AreAmong (last_of kept).members next.members → ⊥) → more ≡ kept ++ next ∷ [] →
+    (done : List Section) → AreThinned done old → AreThinned (done ++ next ∷ []) more
+put_last old next kept more p n e done t = thinned_pushed done next kept more (p.gives_way done t) n e
+
+pub put_rise : (old : List Section) (next : Section) (kept more : List Section) → IsPutting old next kept →
+    Rises next.members → more ≡ kept ++ next ∷ [] → All (λ (x : Section). Rises x.members) more
+put_rise old next kept more p r e = rw e (All-push (λ (x : Section). Rises x.members) kept next p.rise r)
+
+-- the list with one more
+pub more_is : (old new : List Declared) (x : Declared) (given : List ℕ) → new ≡ old ++ x ∷ [] →
+    x.members.items ≡ given → map section_of new ≡ map section_of old ++ section_with x.start given ∷ []
+more_is old new x given e g =
+    ap (map section_of) e ∙ (map-append section_of old (x ∷ [])
+    ∙ ap (λ ms. map section_of old ++ section_with x.start ms ∷ []) g)
 
 -- what a test of the last one tells, of the list that was lent
 pub told : (xs lent : List Declared) (given members : List ℕ) (P : List ℕ → List ℕ → Type 0) (b : Bool) →
@@ -216,13 +203,3 @@ pub fewer_is : (old new : List Declared) (n : ℕ) → new ≡ take (n - 1) old 
 fewer_is old new n e f =
     let k : n - 1 ≡ length (map section_of old) - 1 = (let m = length-map old section_of in omega arith) in
     ap (map section_of) e ∙ (sym (take-map section_of (n - 1) old) ∙ ap (λ k. take k (map section_of old)) k)
-
--- no items are left
-pub none_left : (items : List Declared) (n : ℕ) → n ≡ length items → n ≡ 0 → map section_of items ≡ []
-none_left [] n e z = refl
-none_left (x ∷ xs) n e z = absurd (omega arith)
-
--- one item fewer is left
-pub one_left : (items left : List Declared) (x : Declared) (m n : ℕ) → m ≡ length items → items ≡ x ∷ left →
-    n + 1 ≡ m → n ≡ length left
-one_left items left x m n e f g = let k = ap (λ (xs : List Declared). length xs) f in omega arith

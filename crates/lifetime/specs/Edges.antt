@@ -1,13 +1,15 @@
 -- Edges: moments at which a lifetime or a gap begins or ends.
-use Rattle.std.specs.Prelude.{◌≡◌, ◌≢◌, ℕ, ◌*◌, ◌<◌, ◌≤◌, ◌↔◌, Bool, true, false, List, [], ◌∷◌, length, map, slice_index_or}
+use Rattle.std.specs.Prelude.{◌≡◌, ◌≢◌, ℕ, ◌+◌, ◌*◌, ◌<◌, ◌≤◌, ◌↔◌, Bool, true, false, List, [], ◌∷◌, length, map, slice_index_or}
 use Rattle.std.specs.List.{All, filter, flat_map}
 use Rattle.std.specs.List.Sorted.{IsNonDecreasingBy}
 use Rattle.dsa_terms.specs.Buffers.{Buffer, Instance, buffer}
 use Rattle.dsa_terms.specs.Claims.{IsIn, Rises}
 use Rattle.dsa_terms.specs.Parts.{has, numbers}
+use Rattle.dsa_model.specs.Buffer.{gap_limit}
 use Rattle.dsa_model.specs.Lists.{pair_at}
 use Rattle.lifetime.specs.SectionList.{Section, live_at, no_section}
 use Rattle.lifetime.specs.Runs.{BeginsRun, live_before, starts_of}
+use Rattle.lifetime.specs.Stretches.{AreThinned}
 
 -- the ends of the gaps
 abbrev pub gap_ends : List (ℕ × ℕ) → List ℕ
@@ -22,12 +24,12 @@ abbrev pub edges_of : Buffer → ℕ → List (ℕ × ℕ)
 edges_of x b = map (λ t. (t, b)) (edge_moments x)
 
 -- all edges of the instance stand there, and their moments never fall; each is of a buffer of the instance, and there
--- are at most 18 for each buffer
+-- are at most two for each buffer and two for each gap that it may have
 pub record AreEdges (I : Instance) (edges : List (ℕ × ℕ)) : Type 0 where
   pub sorted : IsNonDecreasingBy (λ (e : ℕ × ℕ). e.0) edges
   pub in_range : All (λ (e : ℕ × ℕ). e.1 < length I) edges
   pub complete : (b t : ℕ) → b < length I → IsIn t (edge_moments (buffer I b)) → IsIn (t, b) edges
-  pub limit : length edges ≤ 18 * length I
+  pub limit : length edges ≤ (2 + 2 * gap_limit) * length I
 
 -- from this place on all edges are later than t, and before it none is
 pub record IsAfter (edges : List (ℕ × ℕ)) (next t : ℕ) : Type 0 where
@@ -51,6 +53,12 @@ pub record AreRunsBefore (I : Instance) (edges : List (ℕ × ℕ)) (next : ℕ)
   pub rise : Rises (starts_of sections)
   pub runs : (t : ℕ) → IsIn t (starts_of sections) ↔
       (BeginsRun I t × ((k : ℕ) → next ≤ k → k < length edges → t < (pair_at edges k).0))
+
+-- the kept sections are what thinning leaves of the runs that begin before the given edge
+pub record AreThinnedBefore (I : Instance) (edges : List (ℕ × ℕ)) (next : ℕ) (kept : List Section) : Type 0 where
+  pub sections : List Section
+  pub runs : AreRunsBefore I edges next sections
+  pub thinned : AreThinned sections kept
 
 -- the section has the buffer
 abbrev pub has_member : Section → ℕ → Bool

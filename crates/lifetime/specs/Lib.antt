@@ -1,6 +1,7 @@
 pub mod SectionList
 pub mod Runs
 pub mod Thin
+pub mod Stretches
 pub mod Edges
 pub mod Switching
 pub mod Places

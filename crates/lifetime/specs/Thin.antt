@@ -2,7 +2,7 @@
 use Rattle.std.specs.Prelude.{◌≢◌, ℕ, ◌+◌, ◌-◌, ◌<◌, ◌≤◌, ◌⊎◌, List, length, slice_index_or}
 use Rattle.dsa_terms.specs.Buffers.{Instance, buffer, IsLive}
 use Rattle.dsa_terms.specs.Claims.{IsIn, Rises}
-use Rattle.lifetime.specs.Runs.{starts_of}
+use Rattle.lifetime.specs.Runs.{ArePlainRuns, starts_of}
 use Rattle.lifetime.specs.SectionList.{Section, SectionList, count_of, live_at, members_of, no_section, start_of}
 
 -- each number of the one list is in the other
@@ -46,6 +46,12 @@ pub record IsThinnedTo (sections kept : List Section) : Type 0 where
   pub rise : Rises (starts_of kept)
   pub thin : AreThin kept
   pub stand : (x : Section) → IsIn x sections → (k : Section) × IsIn k kept × StandsIn sections x k
+
+-- the sections are what thinning leaves of the plain runs
+pub record AreThinRuns (I : Instance) (sections : List Section) : Type 0 where
+  pub runs : List Section
+  pub plain : ArePlainRuns I runs
+  pub thinned : IsThinnedTo runs sections
 
 -- the last section
 abbrev pub last_of : List Section → Section

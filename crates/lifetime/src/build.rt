@@ -1,28 +1,28 @@
 //! Making the sections of an instance.
 
-ghost use Rattle.std.specs.Prelude.{◌≡◌, ◌*◌, ◌≤◌, IfOk, length, map};
+ghost use Rattle.std.specs.Prelude.{◌+◌, ◌*◌, ◌≤◌, IfOk, length, map};
+ghost use Rattle.dsa_model.specs.Buffer.{gap_limit};
 ghost use Rattle.lifetime.specs.SectionList.{AreSectionsOf};
-ghost use Rattle.lifetime.specs.Runs.{ArePlainRuns, AreRuns};
-ghost use Rattle.lifetime.specs.Thin.{IsThin, StandForAll};
+ghost use Rattle.lifetime.specs.Runs.{AreRuns};
+ghost use Rattle.lifetime.specs.Thin.{AreThinRuns, IsThin, StandForAll};
 ghost use Rattle.lifetime.specs.Views.{section_of};
 
 use crate::Sections;
 use crate::edges::edges;
 use crate::places::places;
 use crate::section_list::Section;
-use crate::sweep::runs;
-use crate::thin::thinned;
+use crate::sweep::thinned_runs;
 use dsa_model::{Instance, NoMemory};
 use std::alloc::{AllocError, Global};
 
-/// One section for each greatest run of moments in which the same buffers, at least one, are live.
-pub(crate) fn plain_runs(alloc: Global, instance: &Instance) -> Result<Vec<Section>, AllocError>
-    ensures runs { IfOk result (λ sections.
-        ArePlainRuns instance.now (map section_of sections.items)) }
-    ensures limit { IfOk result (λ sections. length sections.items ≤ 18 * length instance.now) }
+/// The runs of moments in which the same buffers, at least one, are live, without those that say
+/// less than a neighbour.
+fn thin_runs(alloc: Global, instance: &Instance) -> Result<Vec<Section>, AllocError>
+    ensures runs { IfOk result (λ sections. AreThinRuns instance.now (map section_of sections.items)) }
+    ensures limit { IfOk result (λ sections. length sections.items ≤ (2 + 2 * gap_limit) * length instance.now) }
 {
     let edges = edges(alloc, instance)?;
-    runs(alloc, instance, &edges)
+    Ok(thinned_runs(alloc, instance, &edges)?.into_sections())
 }
 
 impl Sections {
@@ -36,7 +36,7 @@ impl Sections {
         ensures thin { IfOk result (λ made. IsThin made) }
         ensures stand { IfOk result (λ made. StandForAll instance.now made) }
     {
-        let sections = thinned(alloc, plain_runs(alloc, instance)?)?;
+        let sections = thin_runs(alloc, instance)?;
         let of_buffers = places(alloc, &sections, instance.len() as usize)?;
         Ok(Sections::of_lists(sections, of_buffers))
     }

@@ -1,16 +1,14 @@
 //! Going over the edges in order of time.
 
-ghost use Rattle.std.specs.Prelude.{◌≡◌, ◌≢◌, ◌<◌, ◌≤◌, ◌++◌, ◌∷◌, ◌↔◌, ℕ, [], length, map, IfOk, IsTrue, OnOk};
+ghost use Rattle.std.specs.Prelude.{◌≡◌, ◌≢◌, ◌<◌, ◌≤◌, ◌↔◌, ℕ, length, IfOk, IsTrue, OnOk};
 ghost use Rattle.dsa_terms.specs.Claims.{Rises};
 ghost use Rattle.dsa_terms.specs.Parts.{has};
 ghost use Rattle.dsa_model.specs.Lists.{pair_at};
-ghost use Rattle.lifetime.specs.Edges.{AreEdges, AreRunsBefore, IsPassed};
+ghost use Rattle.lifetime.specs.Edges.{AreEdges, AreThinnedBefore, IsPassed};
 ghost use Rattle.lifetime.specs.Runs.{live_before};
-ghost use Rattle.lifetime.specs.SectionList.{section_with};
 ghost use Rattle.lifetime.specs.Switching.{IsSwitched};
-ghost use Rattle.lifetime.specs.Views.{section_of};
 
-use crate::section_list::Section;
+use crate::thin::Thinned;
 use dsa_model::Instance;
 use std::alloc::{AllocError, Global};
 
@@ -72,45 +70,26 @@ fn pass(
     Ok(Passed { next, changed })
 }
 
-/// Appends the section of a moment, where something is live.
-fn push_section(
-    alloc: Global,
-    sections: &mut Vec<Section>,
-    start: u64,
-    live: &[u32],
-) -> Result<(), AllocError>
-    ensures none { OnOk result (live.now ≡ [] → sections.new.items ≡ sections.old.items) }
-    ensures some { let added = section_with start live.now in OnOk result (live.now ≢ [] →
-        map section_of sections.new.items ≡ map section_of sections.old.items ++ added ∷ []) }
-{
-    if !live.is_empty() {
-        let members = Vec::from_slice(alloc, live)?;
-        sections.push(Section { start, members })?;
-    }
-    Ok(())
-}
-
-/// One section for each run of moments in which the same buffers, at least one, are live.
-pub(crate) fn runs(
+/// The runs of moments in which the same buffers, at least one, are live, thinned as they are met.
+pub(crate) fn thinned_runs(
     alloc: Global,
     instance: &Instance,
     edges: &[(u64, u32)],
-) -> Result<Vec<Section>, AllocError>
+) -> Result<Thinned, AllocError>
     requires { AreEdges instance.now edges.now }
-    ensures runs { IfOk result (λ sections.
-        AreRunsBefore instance.now edges.now (length edges.now) (map section_of sections.items)) }
-    ensures limit { IfOk result (λ sections. length sections.items ≤ length edges.now) }
+    ensures runs { IfOk result (AreThinnedBefore instance.now edges.now (length edges.now)) }
+    ensures limit { IfOk result (λ thinned. length thinned ≤ length edges.now) }
 {
     let mut live = Vec::with_capacity(alloc, instance.len() as usize)?;
-    let mut sections = Vec::new(alloc);
+    let mut thinned = Thinned::new(alloc);
     let mut next = 0;
     while next < edges.len() {
         let moment = edges[next].0;
         let passed = pass(instance, edges, next, &mut live)?;
-        if passed.changed {
-            push_section(alloc, &mut sections, moment, &live)?;
+        if passed.changed && !live.is_empty() {
+            thinned.put(alloc, moment, &live)?;
         }
         next = passed.next;
     }
-    Ok(sections)
+    Ok(thinned)
 }

@@ -3,9 +3,8 @@
 ghost use Rattle.std.specs.Prelude.{◌<◌, ◌^◌, length};
 
 use crate::Sections;
-use crate::build::plain_runs;
 use crate::section_list::Section;
-use dsa_model::{Buffer, BufferFault, Fail, Instance};
+use dsa_model::{BUFFER_LIMIT, Buffer, BufferFault, Fail, Instance};
 use std::alloc::{AllocError, Global};
 use std::test;
 
@@ -23,7 +22,7 @@ fn instance_of(
         let own = if instance.len() == 0 { gaps } else { &[] };
         let (lower, upper) = (*lower as u64, *upper as u64);
         let buffer = Buffer::new(alloc, lower, upper, *size as u64, *alignment as u64, own, 0)?;
-        if instance.len() < 512 {
+        if instance.len() < BUFFER_LIMIT {
             instance.push(buffer)?;
         }
     }
@@ -66,27 +65,6 @@ fn listed_plainly(alloc: Global, sections: &[Section]) -> Result<Vec<u64>, Alloc
 }
 
 #[test]
-fn a_run_begins_where_what_is_live_changes(rt: HostRuntime) -> Result<(), test::Fail> {
-    let alloc = rt.alloc();
-    let longer: [(u32, u32, u32, u32); 2] = [(0, 10, 4, 1), (4, 7, 4, 1)];
-    let rows: [(&[(u32, u32, u32, u32)], &[(u64, u64)], &[u64]); 4] = [
-        (&[], &[], &[]),
-        (&FIVE, &[], &[0, 0, 2, 4, 99, 3, 1, 2, 4, 99, 9, 3, 4, 99]),
-        (
-            &longer,
-            &[(4, 6)],
-            &[0, 0, 99, 4, 1, 99, 6, 0, 1, 99, 7, 0, 99],
-        ),
-        (&[(1, 9, 1, 1)], &[(2, 5), (3, 6)], &[1, 0, 99, 6, 0, 99]),
-    ];
-    for (buffers, gaps, want) in rows {
-        let runs = plain_runs(alloc, &instance_of(alloc, buffers, gaps)?)?;
-        assert_eq!(rt; listed_plainly(alloc, &runs)?.as_slice(), want);
-    }
-    Ok(())
-}
-
-#[test]
 fn a_section_within_a_neighbour_is_left_out(rt: HostRuntime) -> Result<(), test::Fail> {
     let alloc = rt.alloc();
     let two: [(u32, u32, u32, u32); 2] = [(0, 10, 4, 1), (4, 6, 4, 1)];
@@ -120,11 +98,35 @@ fn made_instance(alloc: Global, start: u64) -> Result<Instance, Fail<BufferFault
         let to = from + 1 + (seed >> 42) % 4;
         let upper = to + 1 + (seed >> 48) % 6;
         let buffer = Buffer::new(alloc, lower, upper, 1, 1, &[(from, to)], 0)?;
-        if instance.len() < 512 {
+        if instance.len() < BUFFER_LIMIT {
             instance.push(buffer)?;
         }
     }
     Ok(instance)
+}
+
+/// The runs of the instance up to a moment, found moment by moment.
+fn runs_by_moment(
+    alloc: Global,
+    instance: &Instance,
+    end: u64,
+) -> Result<Vec<Section>, AllocError> {
+    let mut runs = Vec::new(alloc);
+    let mut before: Vec<u32> = Vec::new(alloc);
+    for start in 0..end {
+        let mut members = Vec::new(alloc);
+        for b in 0..instance.len() {
+            if instance.buffer(b).live_at(start) {
+                members.push(b)?;
+            }
+        }
+        if !members.is_empty() && members.as_slice() != before.as_slice() {
+            let members = Vec::from_slice(alloc, &members)?;
+            runs.push(Section { start, members })?;
+        }
+        before = members;
+    }
+    Ok(runs)
 }
 
 /// Whether each number of the first list is in the second.
@@ -165,7 +167,7 @@ fn the_order_of_leaving_out_makes_no_difference(rt: HostRuntime) -> Result<(), t
     for start in 0..20 {
         let instance = made_instance(alloc, start)?;
         let sections = Sections::build(alloc, &instance)?;
-        let plain = plain_runs(alloc, &instance)?;
+        let plain = runs_by_moment(alloc, &instance, 32)?;
         assert!(rt; (sections.count() as usize) < plain.len());
         let want = listed_plainly(alloc, &thinned_one_by_one(plain))?;
         assert_eq!(rt; listed(alloc, &sections)?.as_slice(), want.as_slice());

@@ -1,15 +1,16 @@
 //! Leaving out sections that say less than a neighbour.
 
-ghost use Rattle.std.specs.Prelude.{◌<◌, ◌≤◌, ◌↔◌, IfOk, IsTrue, length, map};
+ghost use Rattle.std.specs.Prelude.{◌≡◌, ◌<◌, ◌↔◌, ◌++◌, ◌∷◌, [], IsTrue, List, OnOk, length, map};
 ghost use Rattle.std.specs.List.{All};
 ghost use Rattle.dsa_terms.specs.Claims.{Rises};
-ghost use Rattle.lifetime.specs.Runs.{starts_of};
-ghost use Rattle.lifetime.specs.SectionList.{Section as SectionTerm};
-ghost use Rattle.lifetime.specs.Thin.{AreAmong, IsThinnedTo, last_of};
+ghost use Rattle.lifetime.specs.SectionList.{Section as SectionTerm, section_with};
+ghost use Rattle.lifetime.specs.Stretches.{AreThinned};
+ghost use Rattle.lifetime.specs.Thin.{AreAmong, last_of};
 ghost use Rattle.lifetime.specs.Views.{section_of};
 
 use crate::section_list::Section;
 use std::alloc::{AllocError, Global};
+use std::marker::Model;
 
 /// Whether each number of the first list is in the second. Both rise.
 fn is_within(part: &[u32], whole: &[u32]) -> bool
@@ -61,24 +62,65 @@ fn last_is_within(sections: &[Section], members: &[u32]) -> bool
     }
 }
 
-/// The sections without those whose members are all among those of a neighbour: of two equal
-/// neighbours the earlier stays, and what is left out makes further sections neighbours.
-pub(crate) fn thinned(alloc: Global, sections: Vec<Section>) -> Result<Vec<Section>, AllocError>
-    requires rise { Rises (starts_of (map section_of sections.items)) }
-    requires members { All (λ (x : SectionTerm). Rises x.members) (map section_of sections.items) }
-    ensures kept { IfOk result (λ kept.
-        IsThinnedTo (map section_of sections.items) (map section_of kept.items)) }
-    ensures limit { IfOk result (λ kept. length kept.items ≤ length sections.items) }
-{
-    let mut kept = Vec::with_capacity(alloc, sections.len())?;
-    for next in sections {
-        if last_has(&kept, &next.members) {
-            continue;
+/// Sections in order without those whose members are all among those of a neighbour: of two equal
+/// neighbours the earlier stays, and what is left out makes further sections neighbours. Contracts
+/// see the list of those that are kept.
+#[derive(Drop)]
+pub(crate) struct Thinned {
+    kept: Vec<Section>,
+}
+
+impl Model for Thinned {
+    ghost use Rattle.std.specs.Prelude.{List, map};
+    ghost use Rattle.std.specs.List.{All};
+    ghost use Rattle.dsa_terms.specs.Claims.{Rises};
+    ghost use Rattle.lifetime.specs.SectionList.{Section as SectionTerm};
+    ghost use Rattle.lifetime.specs.Views.{section_of};
+
+    ghost Value = { List SectionTerm };
+
+    ghost view = { λ t. map section_of t.kept.items };
+
+    ghost invariant = { λ t. All (λ (x : SectionTerm). Rises x.members) (map section_of t.kept.items) };
+}
+
+impl Thinned {
+    /// No sections yet. It takes no memory.
+    pub(crate) fn new(alloc: Global) -> Thinned
+        ensures { result ≡ [] }
+    {
+        Thinned {
+            kept: Vec::new(alloc),
         }
-        while last_is_within(&kept, &next.members) {
-            kept.pop();
-        }
-        kept.push(next)?;
     }
-    Ok(kept)
+
+    /// Puts a section behind the others, with a copy of the members where it is kept.
+    pub(crate) fn put(
+        &mut self,
+        alloc: Global,
+        start: u64,
+        members: &[u32],
+    ) -> Result<(), AllocError>
+        requires { Rises members.now }
+        ensures { let added = section_with start members.now in OnOk result (
+            (sections : List SectionTerm) → AreThinned sections self.old →
+            AreThinned (sections ++ added ∷ []) self.new) }
+    {
+        if last_has(&self.kept, members) {
+            return Ok(());
+        }
+        while last_is_within(&self.kept, members) {
+            self.kept.pop();
+        }
+        let members = Vec::from_slice(alloc, members)?;
+        self.kept.push(Section { start, members })?;
+        Ok(())
+    }
+
+    /// Those that are kept.
+    pub(crate) fn into_sections(self) -> Vec<Section>
+        ensures { map section_of result.items ≡ self }
+    {
+        self.kept
+    }
 }
