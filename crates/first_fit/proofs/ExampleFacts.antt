@@ -1,8 +1,7 @@
 -- What the definitions come to on small instances.
-use Rattle.std.proofs.Common.{◌≡◌, ◌^◌, ◌-◌, ◌<◌, ◌⊎◌, inl, inr, true, false, ℕ, zero, suc, List, [], ◌∷◌, length, None, Some, refl, sym, ap, subst, lit≤, arith}
-use Rattle.std.specs.List.Sorted.{IsNonDecreasingBy}
+use Rattle.std.proofs.Common.{◌≡◌, ◌^◌, ◌-◌, ◌<◌, ◌⊎◌, inl, inr, true, false, ℕ, [], ◌∷◌, length, None, Some, refl, arith}
 use Rattle.dsa_terms.specs.Buffers.{buffer, do_share, floor, is_live, some_before}
-use Rattle.dsa_terms.specs.Claims.{Entry, IsIn}
+use Rattle.dsa_terms.specs.Claims.{IsIn}
 use Rattle.dsa_terms.specs.Fits.{best_place, first_passing, first_place, free_ranges, highest, holds, is_free, is_tighter, least_from, neighbours, stretches, top}
 use Rattle.dsa_terms.specs.Orders.{falls_by, rises_by}
 use Rattle.dsa_terms.proofs.Examples.{evens, five, high_fours, lifted, low, two_of_four, unlike}
@@ -11,10 +10,8 @@ use Rattle.first_fit.specs.Free.{narrowed, narrower, range_of}
 use Rattle.first_fit.specs.Orders.{before_by, numbers_in_order, order_key, keyed}
 use Rattle.first_fit.specs.Rules.{IsOrderOf, rule_of}
 use Rattle.first_fit.specs.Starts.{offsets_by}
-use Rattle.first_fit.specs.Taken.{AreTaken, IsSpanOf}
 use Rattle.first_fit.specs.declared.fits.Fit.TheVariants.{Best, First}
 use Rattle.first_fit.specs.declared.orders.Order.TheVariants.{AreaFalling, LowerRising, SizeFalling}
-use Rattle.first_fit.specs.declared.spans.Span.{Span}
 use Rattle.first_fit.proofs.Gaps.{between}
 
 -- the first range, the shorter one, and of two that are as long the lower one
@@ -116,7 +113,7 @@ unfolding rises_by neighbours best_place free_ranges stretches holds least_from 
     some_before is_live buffer
 best_of_high_fours = refl
 
--- ---- a rule, an order that has each buffer once, and addresses by rising start
+-- ---- a rule, and an order that has each buffer once
 first_rule : rule_of First ≡ first_place
 first_rule = refl
 
@@ -147,49 +144,3 @@ not_one_twice o = elim (o.each 1 (omega arith)) [
   | inl q ↦ omega arith
   | inr i ↦ elim i [ inl q ↦ omega arith | inr j ↦ absurd j ]
 ]
-
-abbrev span : ℕ → ℕ → Span
-span start stop = record { start = start; stop = stop }
-
-not_falling : (placed : List Entry) → AreTaken two_of_four placed (span 4 7 ∷ span 0 3 ∷ []) → ⊥
-not_falling placed t = let k = t.sorted 0 1 (span 0 0) (omega arith) (omega arith) in omega arith
-
--- the second buffer's addresses are left out
-not_all : AreTaken two_of_four ((1, 4) ∷ (0, 0) ∷ []) (span 0 3 ∷ []) → ⊥
-not_all t = let q = t.all (1, 4) (inl refl) in elim q.1 [
-  | inl e ↦ (let z = q.2.start in let w : q.0.start ≡ 0 = ap (λ (s : Span). s.start) e in omega arith)
-  | inr i ↦ absurd i
-]
-
-low_span : IsSpanOf two_of_four (0, 0) (span 0 3)
-unfolding top buffer
-low_span = record { start = refl; stop = refl }
-
-high_span : IsSpanOf two_of_four (1, 4) (span 4 7)
-unfolding top buffer
-high_span = record { start = refl; stop = refl }
-
--- the addresses of both, whichever was placed first
-both_taken : AreTaken two_of_four ((1, 4) ∷ (0, 0) ∷ []) (span 0 3 ∷ span 4 7 ∷ [])
-both_taken = record { sorted = sorted; each = each; all = all }
-  where
-    sorted : IsNonDecreasingBy (λ (s : Span). s.start) (span 0 3 ∷ span 4 7 ∷ [])
-    sorted zero zero d le lt = lit≤ tt
-    sorted zero (suc zero) d le lt = lit≤ tt
-    sorted (suc zero) (suc zero) d le lt = lit≤ tt
-    sorted (suc i) zero d le lt = absurd (omega arith)
-    sorted (suc (suc i)) (suc zero) d le lt = absurd (omega arith)
-    sorted i (suc (suc j)) d le lt = absurd (omega arith)
-
-    each : (s : Span) → IsIn s (span 0 3 ∷ span 4 7 ∷ []) →
-        (e : Entry) × IsIn e ((1, 4) ∷ (0, 0) ∷ []) × IsSpanOf two_of_four e s
-    each s (inl q) = ((0, 0), inr (inl refl), subst (IsSpanOf two_of_four (0, 0)) (sym q) low_span)
-    each s (inr (inl q)) = ((1, 4), inl refl, subst (IsSpanOf two_of_four (1, 4)) (sym q) high_span)
-    each s (inr (inr i)) = absurd i
-
-    all : (e : Entry) → IsIn e ((1, 4) ∷ (0, 0) ∷ []) →
-        (s : Span) × IsIn s (span 0 3 ∷ span 4 7 ∷ []) × IsSpanOf two_of_four e s
-    all e (inl q) =
-        (span 4 7, inr (inl refl), subst (λ (f : Entry). IsSpanOf two_of_four f (span 4 7)) (sym q) high_span)
-    all e (inr (inl q)) = (span 0 3, inl refl, subst (λ (f : Entry). IsSpanOf two_of_four f (span 0 3)) (sym q) low_span)
-    all e (inr (inr i)) = absurd i

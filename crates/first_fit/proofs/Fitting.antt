@@ -1,8 +1,9 @@
 -- Buffers placed one after another: how high they reach, and the offsets that are kept of them.
-use Rattle.std.proofs.Common.{◌≡◌, ◌^◌, ℕ, ◌+◌, ◌*◌, ◌<◌, ◌≤◌, ◌⊎◌, inl, inr, Bool, true, false, cond, ◌==◌, max, List, [], ◌∷◌, ◌++◌, length, map, filter, drop, reverse, slice_index, slice_index_or, slice_set, replicate, Option, Some, None, refl, sym, ap, ◌∙◌, arith, add-one, drop-cons}
+use Rattle.std.proofs.Common.{◌≡◌, ◌^◌, ℕ, ◌+◌, ◌*◌, ◌<◌, ◌≤◌, inl, inr, Bool, true, false, cond, ◌==◌, max, List, [], ◌∷◌, length, map, filter, drop, slice_index, slice_index_or, slice_set, replicate, Option, Some, None, refl, sym, ap, ◌∙◌, subst, arith, add-one, drop-cons}
 use Rattle.std.specs.List.{All}
-use Rattle.std.proofs.lemmas.List.{drop_all, get_or-replicate, get_or-set_same, get_or-set_other, length-replicate, length-set, reverse-append}
-use Rattle.std.proofs.lemmas.List.Sorted.{IsPermutation-reverse, IsPermutation-sym}
+use Rattle.std.specs.List.Sorted.{IsPermutation}
+use Rattle.std.proofs.lemmas.List.{drop_all, get_or-replicate, get_or-set_same, get_or-set_other, length-replicate, length-set}
+use Rattle.std.proofs.lemmas.List.Sorted.{IsPermutation-cons, IsPermutation-refl, IsPermutation-sym, IsPermutation-trans}
 use Rattle.std.proofs.lemmas.List.FromFn.{fill_by_all, length-map-range_with_len}
 use Rattle.dsa_terms.specs.Buffers.{Instance, IsInstance, buffer, do_share}
 use Rattle.dsa_terms.specs.Claims.{Entry, IsIn, number_of}
@@ -10,7 +11,7 @@ use Rattle.dsa_terms.specs.Fits.{FitRule, HasEach, IsFreeRange, Range, best_plac
 use Rattle.dsa_terms.specs.Layouts.{IsLayout}
 use Rattle.dsa_terms.specs.Parts.{numbers, offsets_of}
 use Rattle.dsa_terms.specs.Plans.{layout_height}
-use Rattle.dsa_terms.proofs.Lists.{from_append, from_filter, from_map, greatest_under}
+use Rattle.dsa_terms.proofs.Lists.{from_filter, from_map, greatest_under}
 use Rattle.dsa_terms.proofs.Moments.{sound}
 use Rattle.dsa_terms.proofs.Numbers.{next_is_below}
 use Rattle.dsa_terms.proofs.NumberTests.{differ, equal}
@@ -21,10 +22,11 @@ use Rattle.dsa_search_laws.proofs.Parts.{offset_at}
 use Rattle.dsa_start_laws.proofs.Fits.{fitted_has, fitted_is_stacked, stacked_is_layout}
 use Rattle.dsa_start_laws.proofs.Places.{IsClearRule, best_is_clear, first_is_clear, first_is_least, from_is_above, from_is_multiple, holds_is, tightest_is_in, under_highest}
 use Rattle.dsa_start_laws.proofs.Ranges.{free_ranges_exactly}
-use Rattle.dsa_model.specs.Buffer.{IsBuffer}
+use Rattle.dsa_model.specs.Buffer.{IsBuffer, buffer_limit}
 use Rattle.dsa_model.proofs.Instances.{sound_buffer}
 use Rattle.first_fit.specs.Rules.{IsOrderOf, rule_of}
-use Rattle.first_fit.specs.Taken.{IsSeat}
+use Rattle.first_fit.specs.Seats.{AreInOrder, AreSeats, IsSeat, seat_of}
+use Rattle.first_fit.specs.declared.seats.Seat.{Seat}
 use Rattle.first_fit.specs.declared.fits.Fit.{Fit}
 use Rattle.first_fit.specs.declared.fits.Fit.TheVariants.{Best, First}
 
@@ -147,29 +149,42 @@ fitted_is_layout I rule order clear each =
     (λ b lt. fitted_has I rule order [] b (each b lt))
 
 -- ---- going along the order
-pub record IsFitting (I : Instance) (rule : FitRule) (order : List ℕ) (k : ℕ) (placed : List Entry)
+-- what is known once the first k of the order have their seats
+pub record IsFitting (I : Instance) (rule : FitRule) (order : List ℕ) (k : ℕ) (seats : List Seat)
     (offsets : List ℕ) : Type 0 where
-  pub left : fitted rule I order [] ≡ fitted rule I (drop k order) (reverse placed)
-  pub kept : offsets ≡ offsets_of I (reverse placed)
-  pub in_range : All (λ (e : Entry). e.0 < length I) placed
-  pub tops : All (λ (e : Entry). top I e ≤ most_high k) placed
+  pub placed : List Entry
+  pub left : fitted rule I order [] ≡ fitted rule I (drop k order) placed
+  pub kept : offsets ≡ offsets_of I placed
+  pub seated : IsPermutation (map (seat_of I) placed) seats
+  pub in_order : AreInOrder seats
+  pub in_range : (e : Entry) → IsIn e placed → e.0 < length I
+  pub tops : (e : Entry) → IsIn e placed → top I e ≤ most_high k
 
-pub fitting_none : (I : Instance) (rule : FitRule) (order : List ℕ) (n : ℕ) (offsets : List ℕ) → n ≡ length I →
-    offsets ≡ replicate n 0 → IsFitting I rule order 0 [] offsets
-fitting_none I rule order n offsets e m = record {
+pub fitting_none : (I : Instance) (rule : FitRule) (order : List ℕ) (n : ℕ) (seats : List Seat) (offsets : List ℕ) →
+    n ≡ length I → offsets ≡ replicate n 0 → seats ≡ [] → IsFitting I rule order 0 seats offsets
+fitting_none I rule order n seats offsets e m none = rw none (record {
+  placed = [];
   left = refl;
   kept = rw (m, e) (fill_by_all (number_of []) (replicate (length I) 0) (length I) 0 (length-replicate (length I) 0)
       (λ k lt. get_or-replicate (length I) k 0 0 lt));
-  in_range = λ k d lt. absurd (omega arith);
-  tops = λ k d lt. absurd (omega arith);
-}
+  seated = IsPermutation-refl [];
+  in_order = λ i j d le lt. absurd (omega arith);
+  in_range = λ e i. absurd i;
+  tops = λ e i. absurd i;
+})
 
-pub seats_from : (I : Instance) (rule : FitRule) (order : List ℕ) (k : ℕ) (placed : List Entry) (offsets : List ℕ) →
-    IsFitting I rule order k placed offsets → k ≤ 512 → All (IsSeat I) placed
-seats_from I rule order k placed offsets h le = λ i d lt. record {
-  in_range = h.in_range i d lt;
-  limit = (let z = h.tops i d lt in omega arith);
-}
+pub are_seats : (I : Instance) (rule : FitRule) (order : List ℕ) (k : ℕ) (seats : List Seat) (offsets : List ℕ) →
+    IsFitting I rule order k seats offsets → k ≤ buffer_limit → AreSeats I seats
+are_seats I rule order k seats offsets h le = record { each = all_from_in (IsSeat I) seats each; in_order = h.in_order }
+  where
+    each : (s : Seat) → IsIn s seats → IsSeat I s
+    each s i =
+        let r = from_map (seat_of I) h.placed s (in_permutation seats (map (seat_of I) h.placed) s
+        (IsPermutation-sym (map (seat_of I) h.placed) seats h.seated) i) in
+        rw r.2 (record {
+          in_range = h.in_range r.0 r.1;
+          limit = (let z = h.tops r.0 r.1 in omega arith);
+        })
 
 -- the last one is found first
 set_is : (I : Instance) (placed : List Entry) (b x : ℕ) → b < length I →
@@ -187,44 +202,60 @@ set_is I placed b x lt = fill_by_all (number_of ((b, x) ∷ placed)) (slice_set 
     at k kn false e = get_or-set_other (offsets_of I placed) b k x 0 (λ q. differ b k e (sym q))
         ∙ offset_at I placed k kn
 
-in_more : (placed : List Entry) (e f : Entry) → IsIn f (placed ++ e ∷ []) → IsIn f placed ⊎ (f ≡ e)
-in_more placed e f i = elim (from_append placed (e ∷ []) f i) [
-  | inl j ↦ inl j
-  | inr (inl q) ↦ inr q
-  | inr (inr j) ↦ absurd j
-]
+-- there is an offset for each buffer
+pub within_offsets : (I : Instance) (rule : FitRule) (order : List ℕ) (k : ℕ) (seats : List Seat) (offsets : List ℕ)
+    (b n : ℕ) → IsFitting I rule order k seats offsets → b < length I → n ≡ length offsets → b < n
+within_offsets I rule order k seats offsets b n h lt e =
+    let z = length-map-range_with_len (number_of h.placed) 0 (length I) in
+    let w = ap (λ (xs : List ℕ). length xs) h.kept in omega arith
 
-pub fitting_more : (I : Instance) (rule : FitRule) (order : List ℕ) (k : ℕ) (placed more : List Entry)
-    (offsets now : List ℕ)
-    (b d x : ℕ) → IsLowRule I rule → All IsBuffer I → IsOrderOf I order → k < length order →
-    b ≡ slice_index_or order k d →
-    x ≡ rule I b (neighbours I b (reverse placed)) → more ≡ placed ++ (b, x) ∷ [] → now ≡ slice_set offsets b x →
-    IsFitting I rule order k placed offsets → IsFitting I rule order (k + 1) more now
-fitting_more I rule order k placed more offsets now b d x low all o lt is at grown set h = rw grown (record {
-  left = h.left ∙ (ap (λ (bs : List ℕ). fitted rule I bs (reverse placed)) (drop-cons order k d lt)
-      ∙ rw (← is, add-one k, reverse-append placed ((b, x) ∷ []), at) refl);
-  kept = set ∙ rw (h.kept, reverse-append placed ((b, x) ∷ [])) (set_is I (reverse placed) b x bn);
-  in_range = all_from_in (λ (e : Entry). e.0 < length I) (placed ++ (b, x) ∷ [])
-      (λ e i. elim (in_more placed (b, x) e i) [
-        | inl j ↦ in_from_all (λ (e : Entry). e.0 < length I) placed h.in_range e j
-        | inr q ↦ rw q bn
-      ]);
-  tops = all_from_in (λ (e : Entry). top I e ≤ most_high (k + 1)) (placed ++ (b, x) ∷ [])
-      (λ e i. elim (in_more placed (b, x) e i) [
-        | inl j ↦ (let z = in_from_all (λ (e : Entry). top I e ≤ most_high k) placed h.tops e j in omega arith)
-        | inr q ↦ rw (q, at) (placed_top I rule b k (reverse placed) low (sound_buffer I b all bn) (λ f j.
-            in_from_all (λ (e : Entry). top I e ≤ most_high k) placed h.tops f
-            (in_permutation (reverse placed) placed f (IsPermutation-sym placed (reverse placed)
-            (IsPermutation-reverse placed)) j)))
-      ]);
-})
+pub seat_is : (I : Instance) (b x size : ℕ) → size ≡ (buffer I b).size →
+    (let s : Seat = record { buffer = b; span = record { start = x; stop = x + size } } in s) ≡ seat_of I (b, x)
+unfolding top
+seat_is I b x size e = rw e refl
+
+-- where the next one ends
+pub next_top : (I : Instance) (rule : FitRule) (order : List ℕ) (k : ℕ) (seats : List Seat) (offsets : List ℕ)
+    (b x : ℕ) → IsLowRule I rule → All IsBuffer I → b < length I →
+    ((placed : List Entry) → IsPermutation (map (seat_of I) placed) seats → x ≡ rule I b (neighbours I b placed)) →
+    IsFitting I rule order k seats offsets → x + (buffer I b).size ≤ most_high (k + 1)
+unfolding top
+next_top I rule order k seats offsets b x low all bn at h = rw (at h.placed h.seated)
+    (placed_top I rule b k h.placed low (sound_buffer I b all bn) h.tops)
+
+pub fitting_more : (I : Instance) (rule : FitRule) (order : List ℕ) (k : ℕ) (seats more : List Seat)
+    (offsets now : List ℕ) (b d x : ℕ) (seat : Seat) → IsLowRule I rule → All IsBuffer I → IsOrderOf I order →
+    k < length order → b ≡ slice_index_or order k d →
+    ((placed : List Entry) → IsPermutation (map (seat_of I) placed) seats → x ≡ rule I b (neighbours I b placed)) →
+    seat ≡ seat_of I (b, x) → IsPermutation (seat ∷ seats) more → AreInOrder more → now ≡ slice_set offsets b x →
+    IsFitting I rule order k seats offsets → IsFitting I rule order (k + 1) more now
+fitting_more I rule order k seats more offsets now b d x seat low all o lt is at its moved up set h = record {
+  placed = (b, x) ∷ h.placed;
+  left = h.left ∙ (ap (λ (bs : List ℕ). fitted rule I bs h.placed) (drop-cons order k d lt)
+      ∙ rw (← is, add-one k, at h.placed h.seated) refl);
+  kept = set ∙ rw h.kept (set_is I h.placed b x bn);
+  seated = IsPermutation-trans (seat_of I (b, x) ∷ map (seat_of I) h.placed) (seat_of I (b, x) ∷ seats) more
+      (IsPermutation-cons (seat_of I (b, x)) (map (seat_of I) h.placed) seats h.seated)
+      (subst (λ (s : Seat). IsPermutation (s ∷ seats) more) its moved);
+  in_order = up;
+  in_range = in_range;
+  tops = tops;
+}
   where
     bn : b < length I
     bn = let z = o.in_range k d lt in omega arith
 
-pub fitting_done : (I : Instance) (rule : FitRule) (order : List ℕ) (k : ℕ) (placed : List Entry) (offsets : List ℕ) →
-    length order ≤ k → IsFitting I rule order k placed offsets → offsets ≡ offsets_of I (fitted rule I order [])
-fitting_done I rule order k placed offsets le h =
+    in_range : (e : Entry) → IsIn e ((b, x) ∷ h.placed) → e.0 < length I
+    in_range e (inl q) = rw q bn
+    in_range e (inr i) = h.in_range e i
+
+    tops : (e : Entry) → IsIn e ((b, x) ∷ h.placed) → top I e ≤ most_high (k + 1)
+    tops e (inl q) = rw (q, at h.placed h.seated) (placed_top I rule b k h.placed low (sound_buffer I b all bn) h.tops)
+    tops e (inr i) = let z = h.tops e i in omega arith
+
+pub fitting_done : (I : Instance) (rule : FitRule) (order : List ℕ) (k : ℕ) (seats : List Seat) (offsets : List ℕ) →
+    length order ≤ k → IsFitting I rule order k seats offsets → offsets ≡ offsets_of I (fitted rule I order [])
+fitting_done I rule order k seats offsets le h =
     h.kept ∙ ap (offsets_of I) (sym (h.left ∙ rw (drop_all k order le) refl))
 
 pub fitting_layout : (I : Instance) (rule : FitRule) (order offsets : List ℕ) → IsClearRule I rule → IsOrderOf I order →
@@ -233,6 +264,6 @@ fitting_layout I rule order offsets clear o e = rw e (fitted_is_layout I rule or
 
 pub fitting_limit : (I : Instance) (rule : FitRule) (order offsets : List ℕ) → IsLowRule I rule → All IsBuffer I →
     IsOrderOf I order →
-    length I ≤ 512 → offsets ≡ offsets_of I (fitted rule I order []) → layout_height I offsets < 2 ^ 54
+    length I ≤ buffer_limit → offsets ≡ offsets_of I (fitted rule I order []) → layout_height I offsets < 2 ^ 54
 fitting_limit I rule order offsets low all o le e = rw e (let z = fitted_height I rule order low all o in
     let c = o.count in omega arith)

@@ -11,8 +11,8 @@ use Rattle.dsa_start_laws.proofs.Stacks.{greatest_is}
 use Rattle.dsa_terms.proofs.Lists.{from_map}
 use Rattle.dsa_terms.proofs.Places.{place_of}
 use Rattle.dsa_terms.proofs.NumberTests.{less, not_less}
-use Rattle.first_fit.specs.Taken.{AreTaken}
 use Rattle.first_fit.specs.declared.spans.Span.{Span}
+use Rattle.first_fit.proofs.Spanning.{AreTaken}
 
 -- the addresses between two
 abbrev pub between : ℕ → ℕ → Range

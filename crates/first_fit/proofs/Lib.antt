@@ -1,3 +1,4 @@
+pub mod Seating
 pub mod Climbing
 pub mod Spanning
 pub mod Gaps

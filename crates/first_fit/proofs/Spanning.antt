@@ -1,115 +1,128 @@
--- The addresses of placed buffers, one after another and then put into order.
-use Rattle.std.proofs.Common.{◌≡◌, ◌^◌, ℕ, ◌+◌, ◌<◌, ◌≤◌, Bool, true, false, cond, List, [], ◌∷◌, ◌++◌, length, map, filter, take, reverse, slice_index_or, refl, sym, ap, ◌∙◌, arith, append-nil}
-use Rattle.std.specs.List.{All}
+-- The seats that share a moment with a buffer, as the addresses that they take.
+use Rattle.std.proofs.Common.{◌≡◌, ℕ, ◌+◌, ◌<◌, Bool, true, false, cond, List, ◌∷◌, length, map, filter, drop, slice_index_or, refl, ap, ◌∙◌, subst, arith, add-one, drop-cons}
 use Rattle.std.specs.List.Sorted.{IsNonDecreasingBy, IsPermutation}
-use Rattle.std.proofs.lemmas.List.{take_more, map-append}
-use Rattle.std.proofs.lemmas.List.Elements.{filter-append}
-use Rattle.std.proofs.lemmas.List.Sorted.{IsPermutation-reverse, IsPermutation-sym}
-use Rattle.dsa_terms.specs.Buffers.{Buffer, Instance, buffer, do_share}
-use Rattle.dsa_terms.specs.Claims.{Entry}
+use Rattle.std.proofs.Math.ListN.{get_or-map}
+use Rattle.std.proofs.lemmas.List.{length-map}
+use Rattle.std.proofs.lemmas.List.Kept.{IsNonDecreasingBy-filter}
+use Rattle.std.proofs.lemmas.List.Sorted.{IsPermutation-sym}
+use Rattle.dsa_terms.specs.Buffers.{Instance, buffer, do_share}
+use Rattle.dsa_terms.specs.Claims.{Entry, IsIn}
 use Rattle.dsa_terms.specs.Fits.{neighbours, top}
 use Rattle.dsa_terms.proofs.Lists.{from_filter, from_map, into_filter, into_map}
-use Rattle.dsa_terms.proofs.Places.{all_from_in, in_from_all, in_permutation}
-use Rattle.first_fit.specs.Taken.{AreTaken, IsLow, IsSeat}
+use Rattle.dsa_terms.proofs.Places.{any_default, in_permutation}
+use Rattle.first_fit.specs.Seats.{AreInOrder, seat_of}
+use Rattle.first_fit.specs.declared.seats.Seat.{Seat}
 use Rattle.first_fit.specs.declared.spans.Span.{Span}
 
--- its addresses
-abbrev pub span_of : Instance → Entry → Span
-span_of I e = record { start = e.1; stop = top I e }
+-- the addresses of a placed buffer
+pub record IsSpanOf (I : Instance) (e : Entry) (s : Span) : Type 0 where
+  pub start : s.start ≡ e.1
+  pub stop : s.stop ≡ top I e
 
--- those of the first k that share a moment with b
-abbrev pub spans_before : Instance → ℕ → List Entry → ℕ → List Span
-spans_before I b placed k =
-    map (span_of I) (filter (λ (e : Entry). do_share (buffer I b) (buffer I e.0)) (take k placed))
+-- the addresses of each of the placed buffers and of no other, by rising start
+pub record AreTaken (I : Instance) (placed : List Entry) (spans : List Span) : Type 0 where
+  pub sorted : IsNonDecreasingBy (λ (s : Span). s.start) spans
+  pub each : (s : Span) → IsIn s spans → (e : Entry) × IsIn e placed × IsSpanOf I e s
+  pub all : (e : Entry) → IsIn e placed → (s : Span) × IsIn s spans × IsSpanOf I e s
 
-more : (I : Instance) (b : ℕ) (placed : List Entry) (k : ℕ) (e : Entry) →
-    take (k + 1) placed ≡ take k placed ++ e ∷ [] →
-    spans_before I b placed (k + 1)
-    ≡ spans_before I b placed k ++ map (span_of I) (cond (do_share (buffer I b) (buffer I e.0)) (e ∷ []) [])
-more I b placed k e h = rw (
-  h,
-  filter-append (λ (e : Entry). do_share (buffer I b) (buffer I e.0)) (take k placed)
-      (e ∷ []),
-)
-    (map-append (span_of I) (filter (λ (e : Entry). do_share (buffer I b) (buffer I e.0)) (take k placed))
-    (cond (do_share (buffer I b) (buffer I e.0)) (e ∷ []) []))
+abbrev pub no_span : Span
+no_span = record { start = 0; stop = 0 }
 
-pub one_more : (I : Instance) (b : ℕ) (placed : List Entry) (k : ℕ) (e d : Entry) (s : Span)
-    (spans now : List Span) →
-    k < length placed → e ≡ slice_index_or placed k d → do_share (buffer I b) (buffer I e.0) ≡ true →
-    s ≡ span_of I e → spans ≡ spans_before I b placed k → now ≡ spans ++ s ∷ [] → now ≡ spans_before I b placed (k + 1)
-one_more I b placed k e d s spans now lt is shared made h grown =
-    let m = more I b placed k e (take_more placed k d lt ∙ ap (λ (e : Entry). take k placed ++ e ∷ []) (sym is)) in
-    grown ∙ rw (h, made) (sym (m ∙ ap (λ (c : Bool). spans_before I b placed k ++ map (span_of I) (cond c (e ∷ []) []))
-    shared))
+abbrev pub no_seat : Seat
+no_seat = record { buffer = 0; span = no_span }
 
-pub no_more : (I : Instance) (b : ℕ) (placed : List Entry) (k : ℕ) (e d : Entry) (spans : List Span) →
-    k < length placed → e ≡ slice_index_or placed k d → do_share (buffer I b) (buffer I e.0) ≡ false →
-    spans ≡ spans_before I b placed k → spans ≡ spans_before I b placed (k + 1)
-no_more I b placed k e d spans lt is shared h =
-    let m = more I b placed k e (take_more placed k d lt ∙ ap (λ (e : Entry). take k placed ++ e ∷ []) (sym is)) in
-    h ∙ sym (m ∙ (ap (λ (c : Bool). spans_before I b placed k ++ map (span_of I) (cond c (e ∷ []) [])) shared
-    ∙ append-nil (spans_before I b placed k)))
+-- it shares a moment with b
+abbrev pub shares : Instance → ℕ → Seat → Bool
+shares I b s = do_share (buffer I b) (buffer I s.buffer)
 
--- all of them in order
-pub are_taken : (I : Instance) (b : ℕ) (placed : List Entry) (k : ℕ) (spans now : List Span) →
-    take k placed ≡ placed → spans ≡ spans_before I b placed k → IsPermutation spans now →
-    IsNonDecreasingBy (λ (s : Span). s.start) now → AreTaken I (neighbours I b placed) now
+-- the addresses of those that do
+abbrev pub spans_of : Instance → ℕ → List Seat → List Span
+spans_of I b seats = map (λ (s : Seat). s.span) (filter (shares I b) seats)
+
+sorted_spans : (seats : List Seat) → AreInOrder seats →
+    IsNonDecreasingBy (λ (s : Span). s.start) (map (λ (s : Seat). s.span) seats)
+sorted_spans seats up i j d le lt =
+    let few : j < length seats = (let z = length-map seats (λ (s : Seat). s.span) in omega arith) in
+    let k = up i j no_seat le few in
+    let at = span_at d in
+    rw (at i (omega arith), at j few) k
+  where
+    span_at : (d : Span) (k : ℕ) → k < length seats →
+        slice_index_or (map (λ (s : Seat). s.span) seats) k d ≡ (slice_index_or seats k no_seat).span
+    span_at d k lt =
+        any_default (map (λ (s : Seat). s.span) seats) k d no_span
+        (let z = length-map seats (λ (s : Seat). s.span) in omega arith)
+        ∙ get_or-map (λ (s : Seat). s.span) seats k no_seat
+
+-- ---- seats and placed buffers
+pub entry_of : (I : Instance) (b : ℕ) (placed : List Entry) (seats : List Seat) →
+    IsPermutation (map (seat_of I) placed) seats → (s : Seat) → IsIn s seats → shares I b s ≡ true →
+    (e : Entry) × IsIn e (neighbours I b placed) × (s ≡ seat_of I e)
 unfolding neighbours
-are_taken I b placed k spans now whole h moved up = record {
-  sorted = up;
-  each = λ s i. let r = from_map (span_of I) others s (rw (h, whole) at
-      (in_permutation now spans s (IsPermutation-sym spans now moved) i)) in
-      (r.0, r.1, record { start = ap (λ (s : Span). s.start) r.2; stop = ap (λ (s : Span). s.stop) r.2 });
-  all = λ e i. (
-    span_of I e,
-    in_permutation spans now (span_of I e) moved
-        (rw (h, whole) (into_map (span_of I) others e i)),
+entry_of I b placed seats moved s i told =
+    let r = from_map (seat_of I) placed s
+    (in_permutation seats (map (seat_of I) placed) s (IsPermutation-sym (map (seat_of I) placed) seats moved) i) in (
+      r.0,
+      into_filter (λ (e : Entry). do_share (buffer I b) (buffer I e.0)) placed r.0 r.1
+          (subst (λ (s : Seat). shares I b s ≡ true) r.2 told),
+      r.2,
+    )
+
+pub seat_in : (I : Instance) (b : ℕ) (placed : List Entry) (seats : List Seat) →
+    IsPermutation (map (seat_of I) placed) seats → (e : Entry) → IsIn e (neighbours I b placed) →
+    IsIn (seat_of I e) seats × (shares I b (seat_of I e) ≡ true)
+unfolding neighbours
+seat_in I b placed seats moved e i =
+    let q = from_filter (λ (e : Entry). do_share (buffer I b) (buffer I e.0)) placed e i in (
+      in_permutation (map (seat_of I) placed) seats (seat_of I e) moved (into_map (seat_of I) placed e q.0),
+      q.1,
+    )
+
+-- the spans are what the placed ones take that share a moment with b
+pub are_taken : (I : Instance) (b : ℕ) (placed : List Entry) (seats : List Seat) → AreInOrder seats →
+    IsPermutation (map (seat_of I) placed) seats → AreTaken I (neighbours I b placed) (spans_of I b seats)
+are_taken I b placed seats up moved = record {
+  sorted = sorted_spans (filter (shares I b) seats)
+      (IsNonDecreasingBy-filter (λ (s : Seat). s.span.start) (shares I b) seats up);
+  each = λ s i. let r = from_map (λ (s : Seat). s.span) (filter (shares I b) seats) s i in
+      let q = from_filter (shares I b) seats r.0 r.1 in
+      let p = entry_of I b placed seats moved r.0 q.0 q.1 in (
+        p.0,
+        p.1,
+        record {
+          start = ap (λ (s : Span). s.start) r.2 ∙ ap (λ (s : Seat). s.span.start) p.2;
+          stop = ap (λ (s : Span). s.stop) r.2 ∙ ap (λ (s : Seat). s.span.stop) p.2;
+        },
+      );
+  all = λ e i. let q = seat_in I b placed seats moved e i in (
+    (seat_of I e).span,
+    into_map (λ (s : Seat). s.span) (filter (shares I b) seats) (seat_of I e)
+        (into_filter (shares I b) seats (seat_of I e) q.0 q.1),
     record { start = refl; stop = refl },
   );
 }
+
+-- ---- the next seat
+spans_next : (I : Instance) (b : ℕ) (seats : List Seat) (k : ℕ) (s : Seat) → k < length seats →
+    s ≡ slice_index_or seats k no_seat →
+    spans_of I b (drop k seats)
+    ≡ map (λ (s : Seat). s.span) (cond (shares I b s) (s ∷ filter (shares I b) (drop (k + 1) seats))
+    (filter (shares I b) (drop (k + 1) seats)))
+spans_next I b seats k s lt is = ap (spans_of I b) rest
   where
-    others : List Entry
-    others = filter (λ (e : Entry). do_share (buffer I b) (buffer I e.0)) placed
+    rest : drop k seats ≡ s ∷ drop (k + 1) seats
+    rest = rw (is, add-one k) (drop-cons seats k no_seat lt)
 
--- they are as low as the placed
-pub are_low : (I : Instance) (b : ℕ) (placed : List Entry) (spans : List Span) → All (IsSeat I) placed →
-    AreTaken I (neighbours I b placed) spans → All IsLow spans
-unfolding neighbours
-are_low I b placed spans seats t = all_from_in IsLow spans (λ s i. let r = t.each s i in
-    let q = from_filter (λ (e : Entry). do_share (buffer I b) (buffer I e.0)) placed r.0 r.1 in
-    let l = (in_from_all (IsSeat I) placed seats r.0 q.0).limit in
-    let z = r.2.stop in record { limit = omega arith })
+pub shares_next : (I : Instance) (b : ℕ) (seats : List Seat) (k : ℕ) (s : Seat) → k < length seats →
+    s ≡ slice_index_or seats k no_seat → shares I b s ≡ true →
+    spans_of I b (drop k seats) ≡ s.span ∷ spans_of I b (drop (k + 1) seats)
+shares_next I b seats k s lt is told = spans_next I b seats k s lt is
+    ∙ ap (λ (c : Bool). map (λ (s : Seat). s.span) (cond c (s ∷ filter (shares I b) (drop (k + 1) seats))
+    (filter (shares I b) (drop (k + 1) seats)))) told
 
--- the order in which they were placed does not matter
-pub taken_turned : (I : Instance) (b : ℕ) (placed : List Entry) (spans : List Span) →
-    AreTaken I (neighbours I b placed) spans → AreTaken I (neighbours I b (reverse placed)) spans
-unfolding neighbours
-taken_turned I b placed spans t = record {
-  sorted = t.sorted;
-  each = λ s i. let r = t.each s i in
-      let q = from_filter shares placed r.0 r.1 in (
-        r.0,
-        into_filter shares (reverse placed) r.0 (in_permutation placed (reverse placed) r.0
-            (IsPermutation-reverse placed) q.0) q.1,
-        r.2,
-      );
-  all = λ e i. let q = from_filter shares (reverse placed) e i in
-      t.all e (into_filter shares placed e (in_permutation (reverse placed) placed e
-      (IsPermutation-sym placed (reverse placed) (IsPermutation-reverse placed)) q.0) q.1);
-}
-  where
-    shares : Entry → Bool
-    shares e = do_share (buffer I b) (buffer I e.0)
-
-pub seat_fits : (I : Instance) (e : Entry) (y : Buffer) (size : ℕ) → IsSeat I e → y ≡ buffer I e.0 → size ≡ y.size →
-    e.1 + size ≤ 2 ^ 50
-unfolding top
-seat_fits I e y size seat by is = let l = seat.limit in
-    let z : size ≡ (buffer I e.0).size = is ∙ ap (λ (y : Buffer). y.size) by in omega arith
-
-pub span_is : (I : Instance) (e : Entry) (y : Buffer) (size : ℕ) → y ≡ buffer I e.0 → size ≡ y.size →
-    (let s : Span = record { start = e.1; stop = e.1 + size } in s) ≡ span_of I e
-unfolding top
-span_is I e y size by is = ap (λ (n : ℕ). let s : Span = record { start = e.1; stop = e.1 + n } in s)
-    (is ∙ ap (λ (y : Buffer). y.size) by)
+pub shares_not : (I : Instance) (b : ℕ) (seats : List Seat) (k : ℕ) (s : Seat) → k < length seats →
+    s ≡ slice_index_or seats k no_seat → shares I b s ≡ false →
+    spans_of I b (drop k seats) ≡ spans_of I b (drop (k + 1) seats)
+shares_not I b seats k s lt is not = spans_next I b seats k s lt is
+    ∙ ap (λ (c : Bool). map (λ (s : Seat). s.span) (cond c (s ∷ filter (shares I b) (drop (k + 1) seats))
+    (filter (shares I b) (drop (k + 1) seats)))) not

@@ -1,11 +1,11 @@
 -- Best-fit's way up past the addresses, with the best range so far.
-use Rattle.std.proofs.Common.{◌≡◌, ◌^◌, ℕ, ◌+◌, ◌-◌, ◌<◌, ◌≤◌, ◌⊎◌, ◌↔◌, inl, inr, Bool, true, false, cond, ◌==◌, ◌&&◌, ◌||◌, max, nat_lt, List, ◌∷◌, length, map, filter, drop, slice_index_or, Option, None, Some, IfSome, option_map, refl, sym, ap, ap₂, ◌∙◌, arith, add-one, drop-cons}
+use Rattle.std.proofs.Common.{◌≡◌, ◌^◌, ℕ, ◌+◌, ◌-◌, ◌<◌, ◌≤◌, ◌⊎◌, ◌↔◌, inl, inr, Bool, true, false, cond, ◌==◌, ◌&&◌, ◌||◌, max, nat_lt, List, [], ◌∷◌, length, map, filter, drop, slice_index_or, Option, None, Some, IfSome, option_map, refl, sym, ap, ap₂, ◌∙◌, subst, arith}
 use Rattle.std.proofs.lemmas.Bool.Decides.{nat_tests}
 use Rattle.std.proofs.lemmas.List.{drop_all}
-use Rattle.std.specs.List.{All}
+use Rattle.std.specs.List.Sorted.{IsPermutation}
 use Rattle.dsa_terms.specs.Buffers.{Instance, IsInstance}
 use Rattle.dsa_terms.specs.Claims.{Entry, IsIn}
-use Rattle.dsa_terms.specs.Fits.{Range, best_place, free_ranges, highest, holds, is_tighter, least_from, start_in, tighter_of, tightest, top}
+use Rattle.dsa_terms.specs.Fits.{Range, best_place, free_ranges, highest, holds, is_tighter, least_from, neighbours, start_in, tighter_of, tightest, top}
 use Rattle.dsa_terms.specs.Logs.{greatest}
 use Rattle.dsa_terms.proofs.Lists.{from_filter, into_filter, from_map, none_or_some, greatest_under}
 use Rattle.dsa_terms.proofs.NumberTests.{is_below, not_below}
@@ -14,10 +14,11 @@ use Rattle.dsa_start_laws.proofs.Places.{tightest_is_in}
 use Rattle.dsa_start_laws.proofs.Ranges.{free_ranges_exactly}
 use Rattle.dsa_start_laws.proofs.Tightest.{none_tighter, not_along, some_tightest}
 use Rattle.first_fit.specs.Free.{IsBelow, narrowed, narrower, range_of}
-use Rattle.first_fit.specs.Taken.{AreTaken, IsLow}
+use Rattle.first_fit.specs.Seats.{AreSeats, seat_of}
+use Rattle.first_fit.specs.declared.seats.Seat.{Seat}
 use Rattle.first_fit.specs.declared.spans.Span.{Span}
-use Rattle.first_fit.proofs.Climbing.{no_span}
 use Rattle.first_fit.proofs.Gaps.{gaps, gaps_exactly}
+use Rattle.first_fit.proofs.Spanning.{AreTaken, are_taken, no_seat, shares, shares_next, shares_not, spans_of}
 
 -- ---- the tighter of two ranges, by numbers
 -- the tighter of several, with the best so far
@@ -145,15 +146,15 @@ swept_is_free I b placed spans s t = tightest_same (filter (holds I b) (gaps 0 s
     ))
 
 -- ---- the loop
-pub record IsSweeping (I : Instance) (b : ℕ) (spans : List Span) (k reach : ℕ) (best : Option Span) : Type 0 where
-  pub limit : reach ≤ 2 ^ 50
+-- what is known while some of the spans are left: the best so far is the tightest below what is reached
+pub record IsSweeping (I : Instance) (b : ℕ) (spans left : List Span) (reach : ℕ) (best : Option Span) : Type 0 where
+  pub limit : reach ≤ 2 ^ 53
   pub below : IfSome best (IsBelow reach)
   pub tight : tightest (filter (holds I b) (gaps 0 spans))
-      ≡ joined (option_map range_of best) (tightest (filter (holds I b) (gaps reach (drop k spans))))
-  pub high : greatest (map (λ (s : Span). s.stop) spans) ≡ max reach
-      (greatest (map (λ (s : Span). s.stop) (drop k spans)))
+      ≡ joined (option_map range_of best) (tightest (filter (holds I b) (gaps reach left)))
+  pub high : greatest (map (λ (s : Span). s.stop) spans) ≡ max reach (greatest (map (λ (s : Span). s.stop) left))
 
-pub sweeping_none : (I : Instance) (b : ℕ) (spans : List Span) → IsSweeping I b spans 0 0 None
+pub sweeping_none : (I : Instance) (b : ℕ) (spans : List Span) → IsSweeping I b spans spans 0 None
 sweeping_none I b spans = record {
   limit = omega arith;
   below = tt;
@@ -175,44 +176,35 @@ greatest_first : (s : Span) (ss : List Span) (g reach : ℕ) →
 greatest_first s ss g reach h = omega arith
 
 -- past one more, which may have left a range
-module _ (I : Instance) (b : ℕ) (spans : List Span) (k reach next : ℕ) (s : Span) (best now : Option Span)
-    (lt : k < length spans) (is : s ≡ slice_index_or spans k no_span) (low : All IsLow spans)
-    (up : next ≡ max reach s.stop)
-    (h : IsSweeping I b spans k reach best) where
-  rest : drop k spans ≡ s ∷ drop (k + 1) spans
-  rest = rw (is, add-one k) (drop-cons spans k no_span lt)
-
-  pub stop_limit : s.stop ≤ 2 ^ 50
-  stop_limit = rw is (low k no_span lt).limit
-
-  moves : joined (option_map range_of best)
-      (tightest (filter (holds I b) (gaps reach (s ∷ drop (k + 1) spans))))
-      ≡ joined (option_map range_of now) (tightest (filter (holds I b) (gaps next (drop (k + 1) spans)))) →
-      IfSome now (IsBelow reach) → IsSweeping I b spans (k + 1) next now
+module _ (I : Instance) (b : ℕ) (spans left rest : List Span) (reach next : ℕ) (s : Span) (best now : Option Span)
+    (is : left ≡ s ∷ rest) (low : s.stop ≤ 2 ^ 53) (up : next ≡ max reach s.stop)
+    (h : IsSweeping I b spans left reach best) where
+  moves : joined (option_map range_of best) (tightest (filter (holds I b) (gaps reach (s ∷ rest))))
+      ≡ joined (option_map range_of now) (tightest (filter (holds I b) (gaps next rest))) →
+      IfSome now (IsBelow reach) → IsSweeping I b spans rest next now
   moves e below = record {
-    limit = (let z = stop_limit in let y = h.limit in omega arith);
+    limit = (let y = h.limit in omega arith);
     below = weaken now reach next (omega arith) below;
     tight = h.tight ∙ (ap (λ (ss : List Span). joined (option_map range_of best)
-        (tightest (filter (holds I b) (gaps reach ss)))) rest ∙ e);
-    high = rw up (greatest_first s (drop (k + 1) spans) (greatest (map (λ (s : Span). s.stop) spans)) reach
-        (rw rest at h.high));
+        (tightest (filter (holds I b) (gaps reach ss)))) is ∙ e);
+    high = rw up (greatest_first s rest (greatest (map (λ (s : Span). s.stop) spans)) reach (rw is at h.high));
   }
 
   -- no range
-  pub sweeping_on : s.start ≤ reach → now ≡ best → IsSweeping I b spans (k + 1) next now
+  pub sweeping_on : s.start ≤ reach → now ≡ best → IsSweeping I b spans rest next now
   sweeping_on le same = moves (rw (same, up, not_below reach s.start le) refl) (rw same h.below)
 
   -- a range
   pub sweeping_over : reach < s.start → IfSome now (IsBelow reach) →
       option_map range_of now ≡ narrowed I b (option_map range_of best) (record { start = reach; stop = s.start }) →
-      IsSweeping I b spans (k + 1) next now
+      IsSweeping I b spans rest next now
   sweeping_over less below e = moves (rw (is_below reach s.start less, up, e) (go (holds I b r))) below
     where
       r : Range
       r = record { start = reach; stop = s.start }
 
       T : List Range
-      T = filter (holds I b) (gaps (max reach s.stop) (drop (k + 1) spans))
+      T = filter (holds I b) (gaps (max reach s.stop) rest)
 
       go : (c : Bool) → joined (option_map range_of best) (tightest (cond c (r ∷ T) T))
           ≡ joined (cond c (narrower (option_map range_of best) r) (option_map range_of best)) (tightest T)
@@ -236,14 +228,13 @@ highest_is I placed spans t = both (greatest (map (λ (s : Span). s.stop) spans)
     both : (m n : ℕ) → m ≤ n → n ≤ m → m ≡ n
     both m n p q = omega arith
 
-pub swept : (I : Instance) (b : ℕ) (placed : List Entry) (spans : List Span) (k reach : ℕ) (best : Option Span) →
-    IsInstance I → AreTaken I placed spans → length spans ≤ k → IsSweeping I b spans k reach best →
+swept : (I : Instance) (b : ℕ) (placed : List Entry) (spans : List Span) (reach : ℕ) (best : Option Span) →
+    IsInstance I → AreTaken I placed spans → IsSweeping I b spans [] reach best →
     best_place I b placed ≡ start_in I b placed (option_map range_of best) × (reach ≡ highest I placed)
 unfolding best_place
-swept I b placed spans k reach best s t le h = (
-  ap (start_in I b placed) (sym (swept_is_free I b placed spans s t)
-      ∙ (h.tight ∙ (rw (drop_all k spans le) (alone (option_map range_of best))))),
-  reached (greatest (map (λ (s : Span). s.stop) spans)) (highest I placed) reach (rw (drop_all k spans le) at h.high)
+swept I b placed spans reach best s t h = (
+  ap (start_in I b placed) (sym (swept_is_free I b placed spans s t) ∙ (h.tight ∙ alone (option_map range_of best))),
+  reached (greatest (map (λ (s : Span). s.stop) spans)) (highest I placed) reach h.high
       (highest_is I placed spans t),
 )
   where
@@ -254,16 +245,50 @@ swept I b placed spans k reach best s t le h = (
     reached : (g m reach : ℕ) → g ≡ max reach 0 → g ≡ m → reach ≡ m
     reached g m reach p q = omega arith
 
-pub swept_to : (I : Instance) (b : ℕ) (placed : List Entry) (spans : List Span) (k reach : ℕ) (best : Option Span) →
-    IsInstance I → AreTaken I placed spans → length spans ≤ k → IsSweeping I b spans k reach best → (free : Span) →
-    best ≡ Some free →
-    least_from I b free.start ≡ best_place I b placed
-swept_to I b placed spans k reach best s t le h free e = sym
-    ((swept I b placed spans k reach best s t le h).0 ∙ rw e refl)
+-- ---- from seat to seat
+module _ (I : Instance) (b : ℕ) (seats : List Seat) (k reach : ℕ) (best : Option Span) (are : AreSeats I seats)
+    (h : IsSweeping I b (spans_of I b seats) (spans_of I b (drop k seats)) reach best) where
+  -- one that shares no moment
+  pub sweeping_by : k < length seats → shares I b (slice_index_or seats k no_seat) ≡ false →
+      IsSweeping I b (spans_of I b seats) (spans_of I b (drop (k + 1) seats)) reach best
+  sweeping_by lt not = subst (λ (left : List Span). IsSweeping I b (spans_of I b seats) left reach best)
+      (shares_not I b seats k (slice_index_or seats k no_seat) lt refl not) h
 
-pub swept_past : (I : Instance) (b : ℕ) (placed : List Entry) (spans : List Span) (k reach : ℕ) (best : Option Span) →
-    IsInstance I → AreTaken I placed spans → length spans ≤ k → IsSweeping I b spans k reach best → best ≡ None →
-    least_from I b reach ≡ best_place I b placed
-swept_past I b placed spans k reach best s t le h e =
-    let r = swept I b placed spans k reach best s t le h in
-    rw r.1 (sym (r.0 ∙ rw e refl))
+  -- one that does, above what is reached or not
+  pub seat_on : (next : ℕ) (now : Option Span) → k < length seats →
+      shares I b (slice_index_or seats k no_seat) ≡ true →
+      next ≡ max reach (slice_index_or seats k no_seat).span.stop →
+      (slice_index_or seats k no_seat).span.start ≤ reach → now ≡ best →
+      IsSweeping I b (spans_of I b seats) (spans_of I b (drop (k + 1) seats)) next now
+  seat_on next now lt told up le same = sweeping_on I b (spans_of I b seats) (spans_of I b (drop k seats))
+      (spans_of I b (drop (k + 1) seats)) reach next (slice_index_or seats k no_seat).span best now
+      (shares_next I b seats k (slice_index_or seats k no_seat) lt refl told) (are.each k no_seat lt).limit up h le same
+
+  pub seat_over : (next : ℕ) (now : Option Span) → k < length seats →
+      shares I b (slice_index_or seats k no_seat) ≡ true →
+      next ≡ max reach (slice_index_or seats k no_seat).span.stop →
+      reach < (slice_index_or seats k no_seat).span.start → IfSome now (IsBelow reach) →
+      option_map range_of now ≡ narrowed I b (option_map range_of best)
+      (record { start = reach; stop = (slice_index_or seats k no_seat).span.start }) →
+      IsSweeping I b (spans_of I b seats) (spans_of I b (drop (k + 1) seats)) next now
+  seat_over next now lt told up less below e = sweeping_over I b (spans_of I b seats) (spans_of I b (drop k seats))
+      (spans_of I b (drop (k + 1) seats)) reach next (slice_index_or seats k no_seat).span best now
+      (shares_next I b seats k (slice_index_or seats k no_seat) lt refl told) (are.each k no_seat lt).limit up h less
+      below e
+
+  swept_all : (placed : List Entry) → IsInstance I → length seats ≤ k → IsPermutation (map (seat_of I) placed) seats →
+      best_place I b (neighbours I b placed) ≡ start_in I b (neighbours I b placed) (option_map range_of best)
+      × (reach ≡ highest I (neighbours I b placed))
+  swept_all placed s le moved = swept I b (neighbours I b placed) (spans_of I b seats) reach best s
+      (are_taken I b placed seats are.in_order moved) (subst (λ (left : List Seat).
+      IsSweeping I b (spans_of I b seats) (spans_of I b left) reach best) (drop_all k seats le) h)
+
+  pub swept_to : (placed : List Entry) → IsInstance I → length seats ≤ k →
+      IsPermutation (map (seat_of I) placed) seats → (free : Span) → best ≡ Some free →
+      least_from I b free.start ≡ best_place I b (neighbours I b placed)
+  swept_to placed s le moved free e = sym ((swept_all placed s le moved).0 ∙ rw e refl)
+
+  pub swept_past : (placed : List Entry) → IsInstance I → length seats ≤ k →
+      IsPermutation (map (seat_of I) placed) seats → best ≡ None →
+      least_from I b reach ≡ best_place I b (neighbours I b placed)
+  swept_past placed s le moved e = let r = swept_all placed s le moved in rw r.1 (sym (r.0 ∙ rw e refl))

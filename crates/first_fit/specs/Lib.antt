@@ -1,4 +1,4 @@
-pub mod Taken
+pub mod Seats
 pub mod Free
 pub mod Rules
 pub mod Orders

@@ -1,17 +1,19 @@
 //! First-fit and best-fit over an order.
 
-ghost use Rattle.std.specs.Prelude.{◌≡◌, ◌^◌, ◌<◌, length, [], reverse, IfOk};
-ghost use Rattle.std.specs.List.{All};
+ghost use Rattle.std.specs.Prelude.{◌≡◌, ◌^◌, ◌<◌, List, length, [], map, IfOk};
+ghost use Rattle.std.specs.List.Sorted.{IsPermutation};
 ghost use Rattle.dsa_terms.specs.Buffers.{IsInstance};
+ghost use Rattle.dsa_terms.specs.Claims.{Entry};
 ghost use Rattle.dsa_terms.specs.Fits.{best_fit, first_fit, fitted, neighbours};
 ghost use Rattle.dsa_terms.specs.Layouts.{IsLayout};
 ghost use Rattle.dsa_terms.specs.Parts.{offsets_of};
 ghost use Rattle.dsa_terms.specs.Plans.{layout_height};
 ghost use Rattle.first_fit.specs.Rules.{IsOrderOf, rule_of};
-ghost use Rattle.first_fit.specs.Taken.{IsSeat};
+ghost use Rattle.first_fit.specs.Seats.{AreSeats, seat_of};
 
 use crate::places::{best_place, first_place};
-use crate::spans::taken;
+use crate::seats::{Seat, insert_seat};
+use crate::spans::Span;
 use dsa_model::{Instance, NoMemory};
 use std::alloc::{AllocError, Global};
 
@@ -26,24 +28,18 @@ pub(crate) enum Fit {
 
 /// Where the rule puts `b` beside the placed buffers, of which only those count that share a
 /// moment with it.
-fn place(
-    alloc: Global,
-    instance: &Instance,
-    rule: Fit,
-    b: u32,
-    placed: &[(u32, u64)],
-) -> Result<u64, AllocError>
+fn place(instance: &Instance, rule: Fit, b: u32, seats: &[Seat]) -> u64
     requires sound { IsInstance instance.now }
     requires in_range { b < length instance.now }
-    requires seats { All (IsSeat instance.now) placed.now }
-    ensures { IfOk result (λ offset. let others = neighbours instance.now b (reverse placed.now) in
-        offset ≡ rule_of rule instance.now b others) }
+    requires seats { AreSeats instance.now seats.now }
+    ensures { let I = instance.now in (placed : List Entry) →
+        IsPermutation (map (seat_of I) placed) seats.now →
+        result ≡ rule_of rule I b (neighbours I b placed) }
 {
-    let spans = taken(alloc, instance, b, placed)?;
-    Ok(match rule {
-        Fit::First => first_place(instance, b, &spans),
-        Fit::Best => best_place(instance, b, &spans),
-    })
+    match rule {
+        Fit::First => first_place(instance, b, seats),
+        Fit::Best => best_place(instance, b, seats),
+    }
 }
 
 /// The offsets that the buffers get by the rule, one after another in the order.
@@ -62,11 +58,13 @@ pub(crate) fn fitted(
     ensures limit { IfOk result (λ offsets. layout_height instance.now offsets.items < 2 ^ 54) }
 {
     let mut offsets = vec![in alloc; 0u64; instance.len() as usize]?;
-    let mut placed = Vec::with_capacity(alloc, order.len())?;
+    let mut seats = Vec::with_capacity(alloc, order.len())?;
     for b in order {
-        let offset = place(alloc, instance, rule, *b, &placed)?;
-        placed.push((*b, offset))?;
-        offsets[*b as usize] = offset;
+        let start = place(instance, rule, *b, &seats);
+        let stop = start + instance.buffer(*b).size();
+        let span = Span { start, stop };
+        insert_seat(&mut seats, Seat { buffer: *b, span })?;
+        offsets[*b as usize] = start;
     }
     Ok(offsets)
 }

@@ -5,6 +5,7 @@
 mod fits;
 mod orders;
 mod places;
+mod seats;
 mod spans;
 mod start_list;
 

@@ -1,43 +1,24 @@
 //! Where one buffer goes beside those that are placed.
 
-ghost use Rattle.std.specs.Prelude.{◌≡◌, ◌^◌, ◌<◌, ◌≤◌, length, List, option_map, IfSome};
-ghost use Rattle.std.specs.List.{All};
+ghost use Rattle.std.specs.Prelude.{◌≡◌, ◌^◌, ◌<◌, ◌≤◌, length, List, map, option_map, IfSome};
+ghost use Rattle.std.specs.List.Sorted.{IsPermutation};
 ghost use Rattle.dsa_terms.specs.Buffers.{IsInstance};
 ghost use Rattle.dsa_terms.specs.Claims.{Entry};
-ghost use Rattle.dsa_terms.specs.Fits.{best_place, first_place, holds, least_from};
+ghost use Rattle.dsa_terms.specs.Fits.{best_place, first_place, holds, least_from, neighbours};
 ghost use Rattle.first_fit.specs.Free.{IsBelow, narrowed, range_of};
-ghost use Rattle.first_fit.specs.Taken.{AreTaken, IsLow};
+ghost use Rattle.first_fit.specs.Seats.{AreSeats, seat_of};
 
+use crate::seats::Seat;
 use crate::spans::Span;
 use dsa_model::Instance;
-
-/// The least aligned offset, at or above its lowest, at which `b` meets none of the addresses, which
-/// are by rising start: from its floor on, up past each that it would meet.
-pub(crate) fn first_place(instance: &Instance, b: u32, taken: &[Span]) -> u64
-    requires sound { IsInstance instance.now }
-    requires in_range { b < length instance.now }
-    requires limit { All IsLow taken.now }
-    ensures { (placed : List Entry) → AreTaken instance.now placed taken.now →
-        result ≡ first_place instance.now b placed }
-{
-    let buffer = instance.buffer(b);
-    let size = buffer.size();
-    let mut offset = buffer.floor();
-    for span in taken {
-        if span.start < offset + size && offset < span.stop {
-            offset = buffer.least_offset(span.stop);
-        }
-    }
-    offset
-}
 
 /// The least aligned offset of `b` at or above both an address and its lowest.
 #[tactic(auto, unfolding(dsa_terms::specs::Fits::least_from))]
 fn least_from(instance: &Instance, b: u32, from: u64) -> u64
     requires in_range { b < length instance.now }
-    requires limit { from ≤ 2 ^ 50 }
+    requires limit { from ≤ 2 ^ 53 }
     ensures value { result ≡ least_from instance.now b from }
-    ensures limit { result ≤ 2 ^ 51 }
+    ensures limit { result ≤ 2 ^ 54 }
 {
     let buffer = instance.buffer(b);
     buffer.least_offset(from.max(buffer.lowest()))
@@ -47,17 +28,21 @@ fn least_from(instance: &Instance, b: u32, from: u64) -> u64
 #[tactic(auto, unfolding(dsa_terms::specs::Fits::holds))]
 fn has_room(instance: &Instance, b: u32, range: Span) -> bool
     requires in_range { b < length instance.now }
-    requires limit { range.start ≤ 2 ^ 50 }
+    requires limit { range.start ≤ 2 ^ 53 }
     ensures { result ≡ holds instance.now b (range_of range) }
 {
-    least_from(instance, b, range.start) + instance.buffer(b).size() <= range.stop
+    let size = instance.buffer(b).size();
+    if range.stop < range.start + size {
+        return false;
+    }
+    least_from(instance, b, range.start) + size <= range.stop
 }
 
 /// The range where it holds `b` and is shorter than the best range so far, which is lower; else
 /// the best so far.
 fn narrowed(instance: &Instance, b: u32, best: Option<Span>, range: Span) -> Option<Span>
     requires in_range { b < length instance.now }
-    requires limit { range.start ≤ 2 ^ 50 }
+    requires limit { range.start ≤ 2 ^ 53 }
     requires some { range.start < range.stop }
     requires below { IfSome best (IsBelow range.start) }
     ensures value { option_map range_of result
@@ -75,27 +60,58 @@ fn narrowed(instance: &Instance, b: u32, best: Option<Span>, range: Span) -> Opt
     Some(range)
 }
 
-/// The least offset that `b` may have in the shortest free range that holds it, the lowest of them;
-/// and past all the addresses where none holds it. The addresses are by rising start, so a free
-/// range is what lies between the greatest stop so far and the next start.
-pub(crate) fn best_place(instance: &Instance, b: u32, taken: &[Span]) -> u64
+/// The least aligned offset, at or above its lowest, at which `b` meets none of the seats that share
+/// a moment with it: the least in the first range below the start of a seat that has room, or past
+/// all of them where none has.
+pub(crate) fn first_place(instance: &Instance, b: u32, seats: &[Seat]) -> u64
     requires sound { IsInstance instance.now }
     requires in_range { b < length instance.now }
-    requires limit { All IsLow taken.now }
-    ensures { (placed : List Entry) → AreTaken instance.now placed taken.now →
-        result ≡ best_place instance.now b placed }
+    requires seats { AreSeats instance.now seats.now }
+    ensures { let I = instance.now in (placed : List Entry) →
+        IsPermutation (map (seat_of I) placed) seats.now →
+        result ≡ first_place I b (neighbours I b placed) }
+{
+    let mut reach = 0;
+    for seat in seats {
+        let below = Span {
+            start: reach,
+            stop: seat.span.start,
+        };
+        if has_room(instance, b, below) {
+            break;
+        }
+        if reach < seat.span.stop && instance.do_share(b, seat.buffer) {
+            reach = seat.span.stop;
+        }
+    }
+    least_from(instance, b, reach)
+}
+
+/// The least offset that `b` may have in the shortest free range that holds it, the lowest of them;
+/// and past all the seats where none holds it. Only those seats count that share a moment with `b`:
+/// a free range is what lies between the greatest stop so far and the next start.
+pub(crate) fn best_place(instance: &Instance, b: u32, seats: &[Seat]) -> u64
+    requires sound { IsInstance instance.now }
+    requires in_range { b < length instance.now }
+    requires seats { AreSeats instance.now seats.now }
+    ensures { let I = instance.now in (placed : List Entry) →
+        IsPermutation (map (seat_of I) placed) seats.now →
+        result ≡ best_place I b (neighbours I b placed) }
 {
     let mut best = None;
     let mut reach = 0;
-    for span in taken {
-        if reach < span.start {
+    for seat in seats {
+        if !instance.do_share(b, seat.buffer) {
+            continue;
+        }
+        if reach < seat.span.start {
             let free = Span {
                 start: reach,
-                stop: span.start,
+                stop: seat.span.start,
             };
             best = narrowed(instance, b, best, free);
         }
-        reach = span.stop.max(reach);
+        reach = seat.span.stop.max(reach);
     }
     let from = match best {
         Some(free) => free.start,
