@@ -1,9 +1,9 @@
 -- The levels of a child, from those of the claim above it.
-use Rattle.std.proofs.Common.{◌≡◌, ◌≢◌, ℕ, ◌+◌, ◌-◌, ◌<◌, ◌≤◌, ◌^◌, ◌⊎◌, inl, inr, List, ◌∷◌, slice_set, slice_get, subst, All, IfSome, Option, Some, max, length, slice_index, ap, sym, ◌∙◌, refl, arith}
+use Rattle.std.proofs.Common.{◌≡◌, ◌≢◌, ℕ, ◌+◌, ◌-◌, ◌<◌, ◌≤◌, ◌^◌, ◌⊎◌, inl, inr, List, ◌∷◌, slice_set, subst, All, max, length, slice_index, ap, sym, ◌∙◌, refl, arith}
 use Rattle.std.specs.Int.{next_multiple_of}
 use Rattle.std.proofs.lemmas.List.{get_or-set_other, get_or-set_same}
 use Rattle.dsa_terms.specs.Buffers.{Instance, IsInstance, buffer}
-use Rattle.dsa_model.specs.Buffer.{IsBuffer}
+use Rattle.dsa_model.specs.Buffer.{IsBuffer, buffer_limit}
 use Rattle.dsa_terms.specs.Claims.{Claim, Entry, IsClaim, IsIn, child, step, up}
 use Rattle.dsa_terms.proofs.NumberTests.{below_or_from}
 use Rattle.dsa_search_laws.proofs.Claims.{claim-child}
@@ -13,7 +13,7 @@ use Rattle.canonical_order.proofs.Entries.{up_limit}
 use Rattle.canonical_order.specs.Levels.{AreLevels, IsLevel}
 use Rattle.canonical_order.proofs.CoverLemmas.{entry_of_child, from_child, in_child_by}
 use Rattle.canonical_order.proofs.LevelLemmas.{has_level, level_inside}
-use Rattle.search_core.specs.Descents.{IsUnder, IsUnderLast}
+use Rattle.search_core.specs.Descents.{IsUnder}
 use Rattle.search_core.specs.Levels.{HasLowChild}
 use Rattle.search_core.specs.Tries.{Tried, chosen_of}
 use Rattle.search_core.proofs.Lifting.{up_of_lift}
@@ -82,7 +82,7 @@ module _ (I : Instance) (l : Claim) (levels : List ℕ) (b : ℕ) (h : AreLevels
   }
 
 -- ---- a low of a child whose bounds are low
-pub child_low : (I : Instance) (l : Claim) (c n : ℕ) → All IsBuffer I → length I ≤ 512 → IsClaim I l →
+pub child_low : (I : Instance) (l : Claim) (c n : ℕ) → All IsBuffer I → length I ≤ buffer_limit → IsClaim I l →
     IsBoundedBy (2 ^ 54) l → HasBuffer l c → n ≡ up I (entry_of l c) → n + 1 ≤ 2 ^ 55
 child_low I l c n buffers count claim low has q =
     let s : Stands I l = record {
@@ -148,12 +148,6 @@ module _ (I : Instance) (levels : List ℕ) (b : ℕ) (numbers : List ℕ) (x : 
     ]
 
 -- ---- the claim that the search is at, under the last frame
-pub under_of : (I : Instance) (frames items : List Tried) (f : Tried) (l : Claim) →
-    Some f ≡ slice_get items (length items - 1) → items ≡ frames → IsUnderLast I frames l → IsUnder I f l
-under_of I frames items f l e q u =
-    let v = subst (λ (xs : List Tried). IsUnderLast I xs l) (sym q) u in
-    subst (λ (o : Option Tried). IfSome o (λ (f : Tried). IsUnder I f l)) (sym e) v
-
 pub low_child : (I : Instance) (f : Tried) (levels : List ℕ) (b : ℕ) (l : Claim) → IsUnder I f l →
     levels ≡ f.levels → b ≡ chosen_of f → IsBoundedBy (2 ^ 54) l → HasLowChild I levels b
 low_child I f levels b l u q e low = record {

@@ -6,7 +6,7 @@ use Rattle.std.proofs.lemmas.Option.{slice_get-get_or}
 use Rattle.dsa_terms.specs.Buffers.{Instance, IsInstance}
 use Rattle.dsa_terms.specs.Claims.{Claim, Entry, child}
 use Rattle.dsa_terms.specs.Logs.{Line}
-use Rattle.dsa_terms.specs.Search.{first, seated, work}
+use Rattle.dsa_terms.specs.Search.{first, work}
 use Rattle.canonical_order.specs.Claims.{HasBuffer, entry_of}
 use Rattle.canonical_order.specs.Levels.{AreLevels}
 use Rattle.skyline.specs.Skies.{last_claim}
@@ -18,7 +18,7 @@ use Rattle.search_core.specs.Watches.{AreRaised, AreRaisedFrom}
 use Rattle.search_core.proofs.Descent.{child_within}
 use Rattle.search_core.proofs.Growing.{covered_still, get_new}
 use Rattle.search_core.proofs.Rising.{child_raised}
-use Rattle.search_core.proofs.Searching.{choice_refuted, chosen_in, layout_found, next_choice, rest_of_noted, trying_still}
+use Rattle.search_core.proofs.Searching.{choice_refuted, chosen_in, next_choice, rest_of_noted, trying_still}
 use Rattle.search_core.proofs.Stacks.{above_pushed, all_reversed, count_above, reverse_push}
 use Rattle.skyline.proofs.Carrying.{last_of_append}
 use Rattle.search_core.proofs.WatchLemmas.{raised_trans}
@@ -302,28 +302,3 @@ module _ (I : Instance) (C : ℕ) where
           ≡ debt_of I C there (noted_by f k)
       split None q = let z = later in omega arith
       split (Some seats) q = absurd cc
-
-  -- what the root is said to have
-  pub record IsSeated (top : Claim) (lines : List Line) (here : Place) (seats : List Entry) : Type 0 where
-    pub path : IsPath I C lines here
-    pub root : sky_root here.sky ≡ top
-    pub found : first I C (claim_at here) ≡ Some seats
-
-  pub seated_back : (root : Claim) (lines : List Line) (here there : Place) (f : Tried) (seats all : List Entry) →
-      IsSeated root lines here seats → IsBack lines here there f →
-      seated I (claim_at there) (entry_of (claim_at there) (chosen_of f)) (Some seats) ≡ Some all →
-      IsSeated root lines there all
-  seated_back root lines here there f seats all s b q = record {
-    path = b.path;
-    root = sym b.root ∙ s.root;
-    found = layout_found I C (claim_at there) lines f seats all b.trying b.standing.is_left
-        (subst (λ (l : Claim). first I C l ≡ Some seats) b.standing.is_child s.found) q;
-  }
-
-  pub seated_root : (root : Claim) (lines : List Line) (here : Place) (seats : List Entry) →
-      IsSeated root lines here seats → here.frames ≡ [] → first I C root ≡ Some seats
-  seated_root root lines here seats s e =
-      subst (λ (l : Claim). first I C l ≡ Some seats)
-      (sym (no_above lines (claim_at here) (above_of here.sky.claims)
-      (subst (λ (fs : List Tried). Descends I C lines (claim_at here) (above_of here.sky.claims) (reverse fs)) e
-      s.path.descends)) ∙ s.root) s.found

@@ -7,6 +7,7 @@ use Rattle.dsa_terms.specs.Claims.{Claim, Entry, IsIn, Rises, buffers_of, up}
 use Rattle.dsa_terms.proofs.Lists.{from_append, from_map, left_append, right_append}
 use Rattle.dsa_terms.proofs.Places.{in_at}
 use Rattle.dsa_terms.proofs.NumberTests.{below_or_from}
+use Rattle.dsa_model.specs.Buffer.{buffer_limit}
 use Rattle.dsa_search_laws.proofs.Placing.{in_buffers}
 use Rattle.split_sections.proofs.Lists.{rises_same}
 use Rattle.canonical_order.specs.Claims.{HasBuffer, IsBoundedBy, entry_of}
@@ -112,7 +113,7 @@ module _ (levels : List ℕ) (k : Claim) (each : (e : Entry) → IsIn e k → sl
       let m = low e.0 0 (entry_within levels e q) in
       omega arith
 
-  pub entries_few : length levels ≤ 512 → Rises (buffers_of k) → length k < 2 ^ 32
+  pub entries_few : length levels ≤ buffer_limit → Rises (buffers_of k) → length k < 2 ^ 32
   entries_few few r =
       let n = length_within k (length levels) r (λ e i. entry_within levels e (each e i)) in
       omega arith
@@ -202,7 +203,7 @@ module _ (levels : List ℕ) (x : Entry) (k after left rest : Claim) (s : left �
     ];
   })
 
-pub grounded_all : (levels : List ℕ) (k left : Claim) → left ≡ [] → IsGrounded levels k left → length levels ≤ 512 →
+pub grounded_all : (levels : List ℕ) (k left : Claim) → left ≡ [] → IsGrounded levels k left → length levels ≤ buffer_limit →
     All (λ level. level ≤ 2 ^ 55) levels → AreKept levels k
 grounded_all levels k left q g few low = record {
   few = few;

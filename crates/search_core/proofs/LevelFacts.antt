@@ -93,7 +93,7 @@ kept = record { few = omega arith; low = low; rises = ((λ y i. absurd i), tt); 
 not_above : (k : Claim) → AreKept (5 ∷ (2 ^ 55 + 1) ∷ []) k → ⊥
 not_above k h = let k : 2 ^ 55 + 1 ≤ 2 ^ 55 = h.low 1 0 (omega arith) in omega arith
 
-not_more : (levels : List ℕ) (k : Claim) → length levels ≡ 513 → AreKept levels k → ⊥
+not_more : (levels : List ℕ) (k : Claim) → length levels ≡ 4097 → AreKept levels k → ⊥
 not_more levels k q h = let k = h.few in omega arith
 
 -- the claim has the buffers that have a level, and no other bounds

@@ -4,6 +4,7 @@ pub mod Order
 pub mod Noted
 pub mod Taking
 pub mod Seating
+pub mod Gathering
 pub mod Finding
 pub mod TallLines
 pub mod FullSections
@@ -15,6 +16,9 @@ pub mod Searching
 pub mod Lifting
 pub mod Leveling
 pub mod LiftedChoices
+pub mod Keeping
+pub mod Going
+pub mod MadeAgain
 pub mod Stacks
 pub mod CasesLines
 pub mod Descending
@@ -54,5 +58,7 @@ mod DescentFacts
 mod OpenedFacts
 mod TurnFacts
 mod WalkFacts
+mod WayFacts
 mod NoTwinFacts
 mod LowFacts
+mod SeatFacts

@@ -70,7 +70,7 @@ choices_lifted I l s =
     ∙ order_lifted I (filter (not_excluded I l) l) s
 
 -- ---- buffers of entries
-buffers_of_entries : (l : Claim) (bs : List ℕ) → buffers_of (map (entry_of l) bs) ≡ bs
+pub buffers_of_entries : (l : Claim) (bs : List ℕ) → buffers_of (map (entry_of l) bs) ≡ bs
 buffers_of_entries l [] = refl
 buffers_of_entries l (b ∷ bs) = ap (λ bs. b ∷ bs) (buffers_of_entries l bs)
 

@@ -56,7 +56,7 @@ first_of_nothing I C [] h = first_empty I C
 first_of_nothing I C (x ∷ xs) h = absurd (omega arith)
 
 -- ---- the choices
-chosen_at : (I : Instance) (l : Claim) (order : List ℕ) (i : ℕ) →
+pub chosen_at : (I : Instance) (l : Claim) (order : List ℕ) (i : ℕ) →
     map (entry_of l) order ≡ choices I (not_excluded I) l → i < length order → HasBuffer l (slice_index_or order i 0)
 chosen_at I l order i q lt =
     let b = slice_index_or order i 0 in

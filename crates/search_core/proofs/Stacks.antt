@@ -1,5 +1,5 @@
 -- Lists that are read from their end.
-use Rattle.std.proofs.Common.{◌≡◌, suc, ◌+◌, ◌<◌, List, [], ◌∷◌, ◌++◌, length, drop, reverse, Result, Ok, Err, Some, IsOk, is_ok, if◌then◌else◌, refl, sym, ap, ◌∙◌, arith}
+use Rattle.std.proofs.Common.{◌≡◌, suc, ◌+◌, ◌<◌, List, [], ◌∷◌, ◌++◌, length, drop, reverse, Some, refl, sym, ap, ◌∙◌, arith}
 use Rattle.std.proofs.lemmas.List.{reverse-append, length-reverse}
 use Rattle.std.proofs.lemmas.List.Elements.{All-cons, All-nil, All-pop}
 use Rattle.std.specs.List.{All}
@@ -41,8 +41,3 @@ all_reversed P [] h = All-nil P
 all_reversed P (x ∷ xs) h =
     let r = All-pop P (reverse (x ∷ xs)) (reverse xs) (Some x) (reverse-append (x ∷ []) xs) h in
     All-cons P x xs r.1 (all_reversed P xs r.0)
-
--- what an answer that is there chooses
-pub when_ok : {T E X : Type 0} (r : Result T E) (a b x : X) → x ≡ (if is_ok r then a else b) → IsOk r → x ≡ a
-when_ok (Ok t) a b x e h = e
-when_ok (Err t) a b x e h = absurd cc

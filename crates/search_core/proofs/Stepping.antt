@@ -11,7 +11,9 @@ use Rattle.search_core.specs.Meters.{Units}
 use Rattle.search_core.specs.Opened.{AreChoices}
 use Rattle.search_core.specs.Tries.{Tried, noted_by}
 use Rattle.search_core.specs.Turns.{IsAhead, IsOn, debt_of}
-use Rattle.search_core.proofs.Descending.{IsBack, back_debt, no_above, place_with_line, root_has, with_line}
+use Rattle.search_core.specs.Walks.{place_on}
+use Rattle.search_core.specs.Ways.{IsBackFrom, Way}
+use Rattle.search_core.proofs.Descending.{IsBack, back_debt, is_back, no_above, place_with_line, root_has, with_line}
 use Rattle.search_core.proofs.Growing.{extends_along, extends_none}
 use Rattle.search_core.proofs.Working.{some_work}
 
@@ -119,3 +121,10 @@ module _ (I : Instance) (C : ℕ) (lines : List Line) (here : Place) (p : IsPlac
         subst (λ (l : Claim). first I C l ≡ None) (sym r) known.none,
         subst (λ (l : Claim). IsCoveredBy I lines l k) (sym r) known.covered,
       )
+
+-- what was popped
+pub is_back_from : (I : Instance) (C : ℕ) (lines : List Line) (before after : Way) (line : Option ℕ) (f : Tried) →
+    IsPath I C lines (place_on before line) → IsBackFrom before after f →
+    IsBack I C lines (place_on before line) (place_on after line) f
+is_back_from I C lines before after line f p b =
+    is_back I C lines (place_on before line) (place_on after line) f p b.frames b.instance b.claims

@@ -1,19 +1,18 @@
 -- A search that is at what is left of one buffer, below a root of two.
-use Rattle.std.proofs.Common.{◌≡◌, [], ◌∷◌, Some, None, length, refl, ap, arith, vec_capacity}
-use Rattle.skyline.specs.Skies.{last_claim}
-use Rattle.search_core.specs.declared.path.Path.{Path}
+use Rattle.std.proofs.Common.{◌≡◌, [], ◌∷◌, Some, None, length, refl, ap, arith}
 use Rattle.search_core.specs.declared.walk.Walk.{Walk}
 use Rattle.search_core.specs.Meters.{Units}
-use Rattle.search_core.specs.Walks.{HasRoom, HasWatches, due_lines, place_of, place_on, stage_of}
+use Rattle.search_core.specs.Walks.{HasWatches, due_lines, place_of, place_on, stage_of}
 use Rattle.search_core.specs.Watches.{AreWatchedAt}
+use Rattle.search_core.specs.Ways.{Way}
 use Rattle.search_core.proofs.LevelFacts.{rest, root}
 use Rattle.search_core.proofs.OverFacts.{over}
 use Rattle.search_core.proofs.TryFacts.{both_left}
 
 module _
-    (path : Path)
+    (path : Way)
     (claims : path.sky.claims ≡ root ∷ rest ∷ [])
-    (frames : path.frames.items ≡ both_left 0 ∷ [])
+    (frames : path.frames ≡ both_left 0 ∷ [])
   where
     -- ---- the place
     its_claims : (place_on path None).sky.claims ≡ root ∷ rest ∷ []
@@ -25,22 +24,9 @@ module _
     its_line : (place_on path (Some 3)).line ≡ Some 3
     its_line = refl
 
-    -- ---- room for one buffer, beside one frame
-    room_for_two : vec_capacity path.frames ≡ 2 → HasRoom path
-    room_for_two e =
-        let n : length (last_claim path.sky.claims) ≡ 1 = ap (λ ls. length (last_claim ls)) claims in
-        let m : length path.frames.items ≡ 1 = ap length frames in
-        omega arith
-
-    no_room_in_one : vec_capacity path.frames ≡ 1 → HasRoom path → ⊥
-    no_room_in_one e h =
-        let n : length (last_claim path.sky.claims) ≡ 1 = ap (λ ls. length (last_claim ls)) claims in
-        let m : length path.frames.items ≡ 1 = ap length frames in
-        omega arith
-
     -- ---- one line, and one to come
     two_due : due_lines (over ∷ []) path ≡ 2
-    two_due = let m : length path.frames.items ≡ 1 = ap length frames in omega arith
+    two_due = let m : length path.frames ≡ 1 = ap length frames in omega arith
 
 module _ (walk : Walk) (units : Units) where
   with_its_line : walk.line ≡ Some 3 → (place_of walk).line ≡ Some 3
@@ -52,11 +38,11 @@ module _ (walk : Walk) (units : Units) where
   at_its_place : (stage_of walk units).place ≡ place_of walk
   at_its_place = refl
 
-  its_watches : AreWatchedAt (over ∷ []) walk.watches walk.path.frames.items → HasWatches (over ∷ []) walk
+  its_watches : AreWatchedAt (over ∷ []) walk.watches walk.path.frames → HasWatches (over ∷ []) walk
   its_watches h = h
 
   -- ---- a line that was asked, and is not watched
-  not_watched : walk.path.frames.items ≡ both_left 1 ∷ [] → walk.watches ≡ [] → HasWatches (over ∷ []) walk → ⊥
+  not_watched : walk.path.frames ≡ both_left 1 ∷ [] → walk.watches ≡ [] → HasWatches (over ∷ []) walk → ⊥
   not_watched e w h =
       let k : AreWatchedAt (over ∷ []) [] (both_left 1 ∷ []) = rw (e, w) at h in
       let r = (k 0 (both_left 1) (omega arith)).each 0 over (omega arith) refl in

@@ -8,6 +8,7 @@ use Rattle.dsa_terms.specs.Logs.{Line, claim_of}
 use Rattle.dsa_terms.proofs.Lists.{from_append, left_append, right_append, same_some}
 use Rattle.dsa_terms.proofs.NumberTests.{below_or_from, same_or_not}
 use Rattle.dsa_terms.proofs.Places.{any_default, from_contains, place_of}
+use Rattle.dsa_model.specs.Buffer.{buffer_limit}
 use Rattle.search_core.specs.declared.watch_row.Mark.{Mark}
 use Rattle.search_core.specs.Looks.{IsLacked, IsUnmet}
 use Rattle.search_core.specs.Watches.{Fails}
@@ -63,7 +64,7 @@ take_swap_remove xs i d lt = take_take i (length xs - 1) (slice_set xs i (slice_
     take_take (suc m) (suc n) (x ∷ xs) le = ap (λ xs. x ∷ xs) (take_take m n xs (omega arith))
 
 -- ---- all rows
-pub filed_none : (rows : List (List Mark)) → length rows ≡ 512 → AreFiled [] rows
+pub filed_none : (rows : List (List Mark)) → length rows ≡ buffer_limit → AreFiled [] rows
 filed_none rows q = record { count = q; filed = λ k e at. absurd (none k e at) }
   where
     none : (k : ℕ) (e : Entry) → slice_get [] k ≡ Some e → ⊥

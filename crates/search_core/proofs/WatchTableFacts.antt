@@ -3,6 +3,7 @@ use Rattle.std.proofs.Common.{◌≡◌, ℕ, zero, suc, ◌<◌, List, [], ◌�
 use Rattle.dsa_terms.specs.Claims.{Entry, IsIn}
 use Rattle.dsa_terms.specs.Logs.{Line, Over, claim_of}
 use Rattle.dsa_terms.proofs.Lists.{same_some}
+use Rattle.dsa_model.specs.Buffer.{buffer_limit}
 use Rattle.search_core.specs.declared.watch_row.Mark.{Mark}
 use Rattle.search_core.specs.Looks.{IsUnmet}
 use Rattle.search_core.specs.Watches.{Fails, RulesOut}
@@ -42,10 +43,10 @@ line_of_mark = refl
 not_filed : AreFiled watches table.rows → ⊥
 not_filed h = absurd (let k = h.count in omega arith)
 
-filed : (rows : List (List Mark)) → length rows ≡ 510 → AreFiled watches ([] ∷ (mark_of 0 5 ∷ []) ∷ rows)
+filed : (rows : List (List Mark)) → length rows ≡ 4094 → AreFiled watches ([] ∷ (mark_of 0 5 ∷ []) ∷ rows)
 filed rows q = record { count = omega (arith, q); filed = in_row }
   where
-    in_row : (k : ℕ) (e : Entry) → slice_get watches k ≡ Some e → e.0 < 512 →
+    in_row : (k : ℕ) (e : Entry) → slice_get watches k ≡ Some e → e.0 < buffer_limit →
         IsIn (mark_of k e.1) (row_at ([] ∷ (mark_of 0 5 ∷ []) ∷ rows) e.0)
     in_row zero e at lt = subst (λ (e : Entry). IsIn (mark_of 0 e.1) (row_at ([] ∷ (mark_of 0 5 ∷ []) ∷ rows) e.0))
         (same_some at) (inl refl)
@@ -79,10 +80,10 @@ watched : IsUnwatched table 1 0 → ⊥
 watched h = h (mark_of 0 5) refl refl
 
 -- ---- watches
-extended : AreExtended watches ((1, 5) ∷ (512, 0) ∷ []) 2
+extended : AreExtended watches ((1, 5) ∷ (buffer_limit, 0) ∷ []) 2
 extended = record { same = same; count = omega arith }
   where
-    same : (k : ℕ) (e : Entry) → slice_get watches k ≡ Some e → slice_get ((1, 5) ∷ (512, 0) ∷ []) k ≡ Some e
+    same : (k : ℕ) (e : Entry) → slice_get watches k ≡ Some e → slice_get ((1, 5) ∷ (buffer_limit, 0) ∷ []) k ≡ Some e
     same zero e at = at
     same (suc k) e at = absurd cc
 

@@ -1,11 +1,15 @@
 -- What is watched at the claims of all frames.
-use Rattle.std.proofs.Common.{◌≡◌, ℕ, List, [], ◌∷◌, ◌++◌, length, Result, Ok, Err, IfOk, OnOk, subst, sym}
-use Rattle.std.proofs.lemmas.List.Elements.{All-push, All-weaker}
+use Rattle.std.proofs.Common.{◌≡◌, ℕ, ◌-◌, List, [], ◌∷◌, ◌++◌, length, slice_index_or, Option, Some, IfSome, Result, Ok, Err, IfOk, OnOk, subst, sym}
+use Rattle.std.proofs.lemmas.List.Elements.{All-pop, All-push, All-weaker}
+use Rattle.std.proofs.lemmas.Option.{get_or_from_slice_get, slice_get_within}
 use Rattle.dsa_terms.specs.Claims.{Claim, Entry}
 use Rattle.dsa_terms.specs.Logs.{Line}
+use Rattle.search_core.specs.declared.path.Above.{Above}
+use Rattle.search_core.specs.Descents.{HasAskedAll}
 use Rattle.search_core.specs.Logs.{Extends}
 use Rattle.search_core.specs.Tries.{Tried}
 use Rattle.search_core.specs.Watches.{AreRaised, AreRaisedFrom, AreWatched, AreWatchedAt}
+use Rattle.search_core.specs.Ways.{IsAbove}
 use Rattle.search_core.proofs.WatchLemmas.{watched_more}
 
 -- a log that grows keeps what is watched
@@ -43,7 +47,28 @@ all_watched_push lines watches frames after f e h w =
     subst (AreWatchedAt lines watches) (sym e)
     (All-push (λ (f : Tried). AreWatched lines watches f.levels f.asked) frames f h w)
 
+-- the last frame is taken off
+pub all_watched_pop : (lines : List Line) (watches : List Entry) (frames rest : List Tried) (f : Tried) →
+    frames ≡ rest ++ f ∷ [] → AreWatchedAt lines watches frames →
+    AreWatchedAt lines watches rest × AreWatched lines watches f.levels f.asked
+all_watched_pop lines watches frames rest f e h =
+    All-pop (λ (f : Tried). AreWatched lines watches f.levels f.asked) frames rest (Some f) e h
+
 -- the number of lines was read
 pub watched_to : (lines : List Line) (watches : List Entry) (levels : List ℕ) (n : ℕ) → n ≡ length lines →
     AreWatched lines watches levels (length lines) → AreWatched lines watches levels n
 watched_to lines watches levels n e w = subst (AreWatched lines watches levels) (sym e) w
+
+-- the claim above the last one asked all lines
+pub watched_above : (lines : List Line) (watches : List Entry) (levels : List ℕ) (frames : List Tried) (above : Above) →
+    IsAbove frames above → AreWatchedAt lines watches frames → AreRaisedFrom frames levels → HasAskedAll lines frames →
+    AreRaised above.levels.now levels × AreWatched lines watches above.levels.now (length lines)
+watched_above lines watches levels frames above a h raised latest =
+    let i = length frames - 1 in
+    let lt = slice_get_within frames i a.f a.last in
+    let got : slice_index_or frames i a.f ≡ a.f = get_or_from_slice_get frames i a.f a.f a.last in
+    let all : a.f.asked ≡ length lines = subst (λ (o : Option Tried). IfSome o (λ (f : Tried). f.asked ≡ length lines))
+    a.last latest in (
+      rw a.levels (subst (λ (f : Tried). AreRaised f.levels levels) got (raised i a.f lt)),
+      rw (a.levels, ← all) (subst (λ (f : Tried). AreWatched lines watches f.levels f.asked) got (h i a.f lt)),
+    )

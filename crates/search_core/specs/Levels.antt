@@ -3,13 +3,14 @@ use Rattle.std.specs.Prelude.{◌≡◌, ◌^◌, ℕ, ◌+◌, ◌<◌, ◌≤�
 use Rattle.std.specs.List.{All}
 use Rattle.dsa_terms.specs.Buffers.{Instance}
 use Rattle.dsa_terms.specs.Claims.{Claim, Entry, IsIn, Rises, buffers_of, child}
+use Rattle.dsa_model.specs.Buffer.{buffer_limit}
 use Rattle.canonical_order.specs.Claims.{HasBuffer, IsBoundedBy, entry_of}
 use Rattle.canonical_order.specs.Levels.{AreLevels}
 
 -- levels, beside the claim of the buffers that have one, with what is one less for their bounds
 pub record AreKept (levels : List ℕ) (ground : Claim) : Type 0 where
   -- there are no more than buffers may be
-  pub few : length levels ≤ 512
+  pub few : length levels ≤ buffer_limit
   -- none is above 2^55
   pub low : All (λ level. level ≤ 2 ^ 55) levels
   -- buffers rise

@@ -7,6 +7,7 @@ pub mod Overs
 pub mod Tries
 pub mod Descents
 pub mod Opened
+pub mod Ways
 pub mod Turns
 pub mod Walks
 pub mod Logs
@@ -20,3 +21,4 @@ pub mod Watches
 pub mod Watching
 pub mod Looks
 pub mod TwinMarks
+pub mod Seats

@@ -2,6 +2,7 @@
 use Rattle.std.specs.Prelude.{◌≡◌, ℕ, ◌<◌, ◌≤◌, ◌⊎◌, List, [], ◌++◌, length, slice_get, slice_index, slice_index_or, Some}
 use Rattle.dsa_terms.specs.Claims.{Entry, IsIn}
 use Rattle.dsa_terms.specs.Logs.{Line, claim_of}
+use Rattle.dsa_model.specs.Buffer.{buffer_limit}
 use Rattle.search_core.specs.declared.watch_row.Mark.{Mark}
 use Rattle.search_core.specs.Looks.{IsUnmet}
 use Rattle.search_core.specs.Watches.{Fails, RulesOut}
@@ -19,10 +20,10 @@ row_at rows b = slice_index_or rows b []
 abbrev pub mark_of : ℕ → ℕ → Mark
 mark_of k bound = record { bound = bound; line = k }
 
--- there are 512 rows, and each watch of a buffer below that is in its row
+-- there is a row for each number that a buffer may have, and each watch of such a number is in its row
 pub record AreFiled (watches : List Entry) (rows : List (List Mark)) : Type 0 where
-  pub count : length rows ≡ 512
-  pub filed : (k : ℕ) (e : Entry) → slice_get watches k ≡ Some e → e.0 < 512 → IsIn (mark_of k e.1) (row_at rows e.0)
+  pub count : length rows ≡ buffer_limit
+  pub filed : (k : ℕ) (e : Entry) → slice_get watches k ≡ Some e → e.0 < buffer_limit → IsIn (mark_of k e.1) (row_at rows e.0)
 
 -- each row is as it was, with some marks behind it
 abbrev pub AreAppended : List (List Mark) → List (List Mark) → Type 0

@@ -1,17 +1,32 @@
 //! The layout of the first claim, gathered on the way back from an empty one.
 
-ghost use Rattle.std.specs.Prelude.{◌≡◌, [], List, Some, None, IfOk, OnOk};
+ghost use Rattle.std.specs.Prelude.{◌≡◌, [], List, Some, None, IfOk, OnOk, length};
 ghost use Rattle.dsa_terms.specs.Logs.{Line};
 ghost use Rattle.dsa_terms.specs.Search.{first};
 ghost use Rattle.search_core.specs.Descents.{IsPath, sky_root};
+ghost use Rattle.search_core.specs.Seats.{seats_by};
 ghost use Rattle.search_core.specs.Walks.{place_on};
 ghost use Rattle.skyline.specs.Skies.{last_claim};
 
 use crate::path::Path;
-use crate::seats::seated;
 use crate::task::Task;
+use canonical_order::Lows;
 use dsa_model::NoMemory;
 use std::alloc::Global;
+
+/// The buffers of the claim in rising order, each with its offset.
+fn gathered<L: Lows>(alloc: Global, lows: &L, offsets: &[u64]) -> Result<Vec<(u32, u64)>, NoMemory>
+    requires { length offsets.now ≡ length (L.subject lows.now) }
+    ensures { IfOk result (λ v. v.items ≡ seats_by offsets.now (L.claim lows.now)) }
+{
+    let mut seats = Vec::new(alloc);
+    for b in 0..lows.instance().len() {
+        if lows.is_free(b) {
+            seats.push((b, offsets[b as usize]))?;
+        }
+    }
+    Ok(seats)
+}
 
 /// The first layout of the first claim, from the empty one of the last claim.
 pub(crate) fn seats(
@@ -25,12 +40,11 @@ pub(crate) fn seats(
         first I task.now.capacity (last_claim path.old.sky.claims) ≡ Some [] }
     ensures value { let I = task.now.instance.now in
         IfOk result (λ v. first I task.now.capacity (sky_root path.old.sky) ≡ Some v.items) }
-    ensures emptied { OnOk result (path.new.frames.items ≡ []) }
+    ensures emptied { OnOk result (path.new.frames ≡ []) }
 {
-    let mut seats = Vec::new(alloc);
-    while let Some(frame) = path.frames.pop() {
-        path.sky.pop();
-        seats = seated(alloc, &path.sky, frame.chosen(), &seats)?;
+    let mut offsets = vec![in alloc; 0u64; task.instance.len() as usize]?;
+    while let Some(b) = path.leave() {
+        offsets[b as usize] = path.sky().low(b);
     }
-    Ok(seats)
+    gathered(alloc, path.sky(), &offsets)
 }

@@ -3,6 +3,7 @@
 ghost use Rattle.std.specs.Prelude.{ℕ, ◌^◌, ◌<◌, ◌≤◌, IfOk, length, slice_index};
 ghost use Rattle.std.specs.List.{All};
 ghost use Rattle.dsa_terms.specs.Claims.{Entry, IsIn, Rises, buffers_of};
+ghost use Rattle.dsa_model.specs.Buffer.{buffer_limit};
 ghost use Rattle.canonical_order.specs.Claims.{HasBuffer};
 ghost use Rattle.search_core.specs.Levels.{AreKept};
 
@@ -12,7 +13,7 @@ use std::alloc::Global;
 
 /// The buffers that have a level, each with what is one less for its bound.
 pub(crate) fn ground_of(alloc: Global, levels: &[u64]) -> Result<Claim, NoMemory>
-    requires few { length levels.now ≤ 512 }
+    requires few { length levels.now ≤ buffer_limit }
     requires low { All (λ level. level ≤ 2 ^ 55) levels.now }
     ensures { IfOk result (AreKept levels.now) }
 {
@@ -32,7 +33,7 @@ pub(crate) fn ground_among(
     levels: &[u64],
     among: &[(u32, u64)],
 ) -> Result<Claim, NoMemory>
-    requires few { length levels.now ≤ 512 }
+    requires few { length levels.now ≤ buffer_limit }
     requires low { All (λ level. level ≤ 2 ^ 55) levels.now }
     requires rises { Rises (buffers_of among.now) }
     requires in_range { (e : Entry) → IsIn e among.now → e.0 < length levels.now }

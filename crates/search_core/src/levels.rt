@@ -4,6 +4,7 @@ ghost use Rattle.std.specs.Prelude.{◌≡◌, ℕ, ◌^◌, ◌<◌, ◌≤◌,
 ghost use Rattle.std.specs.List.{All};
 ghost use Rattle.dsa_terms.specs.Buffers.{Instance as InstanceTerm};
 ghost use Rattle.dsa_terms.specs.Claims.{Claim as ClaimTerm, child as child_of};
+ghost use Rattle.dsa_model.specs.Buffer.{buffer_limit};
 ghost use Rattle.canonical_order.specs.Claims.{HasBuffer, IsBoundedBy, entry_of};
 ghost use Rattle.canonical_order.specs.Levels.{AreLevels, IsLevel};
 ghost use Rattle.search_core.specs.Levels.{HasLowChild};
@@ -29,7 +30,7 @@ fn level(sky: &Skyline, b: u32) -> u64
 fn fill(levels: &mut [u64], sky: &Skyline)
     requires { length levels.old ≡ length sky.now.instance }
     ensures levels { AreLevels sky.now.instance (last_claim sky.now.claims) levels.new }
-    ensures few { length levels.new ≤ 512 }
+    ensures few { length levels.new ≤ buffer_limit }
     ensures low { All (λ level. level ≤ 2 ^ 55) levels.new }
 {
     for b in 0..sky.instance().len() {
@@ -126,7 +127,7 @@ impl Levels {
     /// How many there are: one for each buffer of the instance.
     pub(crate) fn len(&self) -> usize
         ensures value { result ≡ length self.now }
-        ensures few { result ≤ 512 }
+        ensures few { result ≤ buffer_limit }
     {
         self.numbers.len()
     }
@@ -156,7 +157,7 @@ impl Levels {
         ensures value { (I : InstanceTerm) (l : ClaimTerm) → AreLevels I l self.now →
             result.now ≡ lifted I l }
         ensures low { IsBoundedBy (2 ^ 60) result.now }
-        ensures few { (b : ℕ) → HasBuffer result.now b → b < 512 }
+        ensures few { (b : ℕ) → HasBuffer result.now b → b < buffer_limit }
         ensures all { (b : ℕ) → 0 < slice_index self.now b → HasBuffer result.now b }
     {
         let _pairs = self.ground.len();

@@ -2,6 +2,7 @@
 //! capacity.
 #![tactic(auto)]
 
+mod branches;
 mod budget;
 mod cases;
 mod child_cover;
@@ -14,19 +15,21 @@ mod found;
 mod frame;
 mod gather;
 mod grounds;
+mod kept;
 mod learned;
 mod leveled;
 mod levels;
 mod lines;
 mod look;
 mod meter;
+mod notes;
 mod opening;
 mod over;
 mod part;
 mod path;
 mod recent;
+mod remaking;
 mod search;
-mod seats;
 mod task;
 #[cfg(test)]
 mod tests;

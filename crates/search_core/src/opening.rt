@@ -1,10 +1,8 @@
 //! What the search does first at a claim.
 
-ghost use Rattle.std.specs.Prelude.{◌≡◌, ◌+◌, ◌≤◌, ℕ, [], List, length, IfNone, IfOk, IfSome, OnOk, map};
+ghost use Rattle.std.specs.Prelude.{◌≡◌, ◌+◌, ◌≤◌, ℕ, [], List, length, IfNone, IfOk, IfSome, OnOk};
 ghost use Rattle.dsa_terms.specs.Buffers.{Instance as InstanceTerm};
 ghost use Rattle.dsa_terms.specs.Claims.{Claim as ClaimTerm};
-ghost use Rattle.dsa_terms.specs.Search.{choices, not_excluded};
-ghost use Rattle.canonical_order.specs.Claims.{entry_of};
 ghost use Rattle.canonical_order.specs.Levels.{AreLevels};
 ghost use Rattle.search_core.specs.Cites.{IsCoveredBy};
 ghost use Rattle.search_core.specs.Descents.{HasAskedAll, IsUnderLast};
@@ -14,10 +12,9 @@ ghost use Rattle.search_core.specs.Opened.{AreAllAsked, IfChoices, IsOpened, Unl
 ghost use Rattle.search_core.specs.Watches.{AreRaisedFrom, AreWatched, AreWatchedAt};
 ghost use Rattle.skyline.specs.Skies.{last_claim};
 
-use crate::choice::choices;
+use crate::branches::Branches;
 use crate::frame::Frame;
 use crate::learned::Learned;
-use crate::leveled::Leveled;
 use crate::levels::Levels;
 use crate::lines::append;
 use crate::meter::Meter;
@@ -25,7 +22,7 @@ use crate::over::over_line;
 use crate::path::Path;
 use crate::task::Task;
 use crate::watches::Watches;
-use canonical_order::{Claim, Lows};
+use canonical_order::Lows;
 use dsa_model::{Instance, NoMemory};
 use refute_log::Log;
 use std::alloc::Global;
@@ -43,61 +40,42 @@ pub(crate) enum Opened {
     Spent,
 }
 
-/// A line that covers the claim of the levels, which is below those of the frames. All lines are
+/// A line that covers the claim of the levels, which is below those of the path. All lines are
 /// watched there, if there is none.
 fn covering(
     log: &Log,
     levels: &Levels,
     watches: &mut Watches,
-    frames: &[Frame],
+    path: &Path,
 ) -> Result<Option<u64>, NoMemory>
-    requires watched { AreWatchedAt log.now.lines watches.old frames.now }
-    requires raised { AreRaisedFrom frames.now levels.now }
-    requires latest { HasAskedAll log.now.lines frames.now }
+    requires watched { AreWatchedAt log.now.lines watches.old path.now.frames }
+    requires raised { AreRaisedFrom path.now.frames levels.now }
+    requires latest { HasAskedAll log.now.lines path.now.frames }
     ensures none { IfOk result (λ found. IfNone found
         (AreWatched log.now.lines watches.new levels.now (length log.now.lines))) }
     ensures some { (I : InstanceTerm) (l : ClaimTerm) → AreLevels I l levels.now →
         IfOk result (λ found. IfSome found (IsCoveredBy I log.now.lines l)) }
-    ensures watched { OnOk result (AreWatchedAt log.now.lines watches.new frames.now) }
+    ensures watched { OnOk result (AreWatchedAt log.now.lines watches.new path.now.frames) }
 {
-    match frames.last() {
-        Some(above) => watches.find(log, above.levels(), levels),
+    match path.above() {
+        Some(above) => watches.find(log, above.levels, levels),
         None => watches.ask(log, levels, 0),
     }
 }
 
-/// The levels of the last claim, from those of the claim above it, if there is one.
+/// The levels of the last claim, from those of the claim above it, if these are at hand.
 fn levels_of(alloc: Global, instance: &Instance, path: &Path) -> Result<Levels, NoMemory>
     requires subject { path.now.sky.instance ≡ instance.now }
     requires under { let l = last_claim path.now.sky.claims in
-        IsUnderLast instance.now path.now.frames.items l }
+        IsUnderLast instance.now path.now.frames l }
     ensures { IfOk result
         (AreLevels path.now.sky.instance (last_claim path.now.sky.claims)) }
 {
-    let _depth = path.sky.depth();
-    match path.frames.last() {
-        Some(above) => above.levels().child(alloc, instance, above.chosen()),
-        None => Levels::of(alloc, &path.sky),
+    let _depth = path.sky().depth();
+    match path.above() {
+        Some(above) => above.levels.child(alloc, instance, above.chosen),
+        None => Levels::of(alloc, path.sky()),
     }
-}
-
-/// The choices of the claim, which has the levels.
-fn order_of(
-    alloc: Global,
-    task: &Task,
-    claim: &Claim,
-    levels: &Levels,
-) -> Result<Vec<u32>, NoMemory>
-    requires { AreLevels task.now.instance.now claim.now levels.now }
-    ensures { let I = task.now.instance.now in let l = claim.now in
-        IfOk result (λ v. map (entry_of l) v.items ≡ choices I (not_excluded I) l) }
-{
-    let view = Leveled {
-        instance: task.instance,
-        claim,
-        levels,
-    };
-    choices(alloc, &view, task.twins)
 }
 
 /// Opens the claim that the search is at, unless a line covers it. Its lows are written down first,
@@ -112,13 +90,13 @@ pub(crate) fn open(
 ) -> Result<Opened, NoMemory>
     requires subject { path.now.sky.instance ≡ task.now.instance.now }
     requires log { IsSearchLog task.now.instance.now task.now.capacity log.old }
-    requires watched { AreWatchedAt log.old.lines watches.old path.now.frames.items }
+    requires watched { AreWatchedAt log.old.lines watches.old path.now.frames }
     requires raised { let I = task.now.instance.now in
         (levels : List ℕ) → AreLevels I (last_claim path.now.sky.claims) levels →
-        AreRaisedFrom path.now.frames.items levels }
-    requires latest { HasAskedAll log.old.lines path.now.frames.items }
+        AreRaisedFrom path.now.frames levels }
+    requires latest { HasAskedAll log.old.lines path.now.frames }
     requires under { let l = last_claim path.now.sky.claims in
-        IsUnderLast task.now.instance.now path.now.frames.items l }
+        IsUnderLast task.now.instance.now path.now.frames l }
     ensures log { OnOk result (IsSearchLog task.now.instance.now task.now.capacity log.new) }
     ensures grown { let l = last_claim path.now.sky.claims in
         OnOk result (Extends l log.old.lines log.new.lines) }
@@ -130,14 +108,14 @@ pub(crate) fn open(
     ensures opened { let I = task.now.instance.now in
         let l = last_claim path.now.sky.claims in
         IfOk result (IsOpened I task.now.capacity log.new.lines l meter.old meter.new) }
-    ensures watched { OnOk result (AreWatchedAt log.new.lines watches.new path.now.frames.items) }
+    ensures watched { OnOk result (AreWatchedAt log.new.lines watches.new path.now.frames) }
     ensures asked { IfOk result (IfChoices (AreAllAsked log.new.lines watches.new)) }
     ensures counted { IfOk result (λ o. AreCounted meter.old meter.new
         (length log.old.lines) (length log.new.lines + left_open o)) }
 {
-    let _count = path.sky.instance().len();
+    let _count = path.instance().len();
     let levels = levels_of(alloc, task.instance, path)?;
-    if let Some(line) = covering(log.log(), &levels, watches, path.frames.as_slice())? {
+    if let Some(line) = covering(log.log(), &levels, watches, path)? {
         return Ok(Opened::Line(line));
     }
     let taken = meter.take();
@@ -148,10 +126,10 @@ pub(crate) fn open(
     if claim.len() == 0 {
         return Ok(Opened::Empty);
     }
-    if let Some(line) = over_line(alloc, task, &path.sky, claim, &levels)? {
+    if let Some(line) = over_line(alloc, task, path.sky(), claim, &levels)? {
         return Ok(Opened::Line(append(alloc, task, log, line)?));
     }
-    let order = order_of(alloc, task, claim, &levels)?;
+    let branches = Branches::of(alloc, task, levels)?;
     let asked = log.log().len();
-    Ok(Opened::Choices(Frame::new(alloc, order, levels, asked)?))
+    Ok(Opened::Choices(Frame::new(alloc, branches, asked)))
 }

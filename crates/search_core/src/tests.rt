@@ -104,10 +104,13 @@ fn a_refutation_names_buffers_of_one_part(rt: HostRuntime) {
     }
 }
 
-/// As many buffers of size 1 as an instance may have, all live at one moment.
+/// How many buffers the tower has.
+const STOREYS: u32 = 512;
+
+/// Many buffers of size 1, all live at one moment.
 fn tower(alloc: Global) -> Result<Instance, Fail<BufferFault>> {
     let mut instance = Instance::new(alloc);
-    for _ in 0..BUFFER_LIMIT {
+    for _ in 0..STOREYS {
         let buffer = Buffer::new(alloc, 0, 1, 1, 1, &[], 0)?;
         if instance.len() < BUFFER_LIMIT {
             instance.push(buffer)?;
@@ -117,15 +120,15 @@ fn tower(alloc: Global) -> Result<Instance, Fail<BufferFault>> {
 }
 
 #[test]
-fn as_many_buffers_as_there_may_be_stand_one_on_another(rt: HostRuntime) {
+fn many_buffers_stand_one_on_another(rt: HostRuntime) {
     let alloc = rt.alloc();
     let instance = tower(alloc).expect(&rt, "memory");
     let sections = Sections::build(alloc, &instance).expect(&rt, "memory");
     let parts = parts(alloc, &instance).expect(&rt, "memory");
     let search = Search::new(alloc, &instance, &sections, &parts, Budget::unlimited());
-    let answer = search.expect(&rt, "memory").decide(BUFFER_LIMIT as u64);
+    let answer = search.expect(&rt, "memory").decide(STOREYS as u64);
     if let Decided::Layout(found) = answer.expect(&rt, "memory") {
-        assert_eq!(rt; found.len(), BUFFER_LIMIT as usize);
+        assert_eq!(rt; found.len(), STOREYS as usize);
         for b in 0..found.len() {
             assert_eq!(rt; found[b], b as u64);
         }

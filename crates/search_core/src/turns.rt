@@ -11,7 +11,7 @@ ghost use Rattle.search_core.specs.Found.{IfFoundSpent, IsFound, UnlessFoundSpen
 ghost use Rattle.search_core.specs.Logs.{Extends, IsSearchLog};
 ghost use Rattle.search_core.specs.Meters.{AreCounted, AreMore, AreSpent};
 ghost use Rattle.search_core.specs.Turns.{IfOn, IsTurned, UnlessTurnSpent};
-ghost use Rattle.search_core.specs.Walks.{HasRoom, HasWatches, due_lines, place_of, stage_of};
+ghost use Rattle.search_core.specs.Walks.{HasWatches, due_lines, place_of, stage_of};
 
 use crate::found::Found;
 use crate::gather::seats;
@@ -51,7 +51,6 @@ impl<'a> Walk<'a> {
         requires log { IsSearchLog task.now.instance.now task.now.capacity log.old }
         requires place { let I = task.now.instance.now in
             IsPlace I task.now.capacity log.old.lines (place_of self.old) }
-        requires room { HasRoom self.old.path }
         requires watched { HasWatches log.old.lines self.old }
         ensures log { OnOk result (IsSearchLog task.now.instance.now task.now.capacity log.new) }
         ensures grown { let root = sky_root self.old.path.sky in
@@ -63,7 +62,6 @@ impl<'a> Walk<'a> {
             meter.new.used ≤ meter.old.used + most }
         ensures taken { self.old.line ≡ None → log.old.lines ≡ [] →
             IfOk result (UnlessTurnSpent (AreMore meter.old meter.new)) }
-        ensures room { IfOk result (IfOn (HasRoom self.new.path)) }
         ensures turned { let I = task.now.instance.now in
             let before = stage_of self.old meter.old in let after = stage_of self.new meter.new in
             IfOk result (IsTurned I task.now.capacity log.new.lines before after) }
@@ -71,14 +69,13 @@ impl<'a> Walk<'a> {
         ensures counted { OnOk result (AreCounted meter.old meter.new
             (due_lines log.old.lines self.old.path) (due_lines log.new.lines self.new.path)) }
     {
-        let _count = self.path.sky.instance().len();
+        let _count = self.path.instance().len();
         match self.line {
-            Some(k) => match self.path.frames.pop() {
+            Some(k) => match self.path.go_back(alloc, task)? {
                 Some(mut frame) => {
-                    self.path.sky.pop();
-                    let _count = self.path.sky.instance().len();
+                    let _count = self.path.instance().len();
                     self.recent.note(frame.chosen(), k);
-                    frame.note(k);
+                    frame.note(k)?;
                     self.resume(alloc, task, log, frame)?;
                     Ok(Turn::On)
                 }
@@ -136,11 +133,10 @@ pub(crate) fn search(
         (length log.old.lines) (length log.new.lines)) }
 {
     let sky = Skyline::new(alloc, task.instance, sections, members)?;
-    let frames = Vec::with_capacity(alloc, members.len())?;
     let recent = Recent::new(alloc, task.instance.len())?;
     let watches = Watches::new(alloc)?;
     let mut walk = Walk {
-        path: Path { sky, frames },
+        path: Path::new(alloc, sky),
         line: None,
         recent,
         watches,

@@ -6,7 +6,7 @@ ghost use Rattle.search_core.specs.Descents.{IsTrying, claim_at, through};
 ghost use Rattle.search_core.specs.Logs.{Extends, IsSearchLog};
 ghost use Rattle.search_core.specs.Tries.{rest_of};
 ghost use Rattle.search_core.specs.Turns.{IsAhead, IsAtChoices, IsUncovered};
-ghost use Rattle.search_core.specs.Walks.{HasRoom, HasWatches, due_lines, place_of};
+ghost use Rattle.search_core.specs.Walks.{HasWatches, due_lines, place_of};
 ghost use Rattle.search_core.specs.Watches.{AreWatched};
 
 use crate::cases::refute;
@@ -43,11 +43,9 @@ impl<'a> Walk<'a> {
         requires log { IsSearchLog task.now.instance.now task.now.capacity log.old }
         requires ready { let I = task.now.instance.now in
             IsUncovered I task.now.capacity log.old.lines (place_of self.old) frame }
-        requires room { HasRoom self.old.path }
         ensures log { OnOk result (IsSearchLog task.now.instance.now task.now.capacity log.new) }
         ensures grown { let l = claim_at (place_of self.old) in
             OnOk result (Extends l log.old.lines log.new.lines) }
-        ensures room { OnOk result (HasRoom self.new.path) }
         ensures ahead { let I = task.now.instance.now in let C = task.now.capacity in
             let after = log.new.lines in
             OnOk result (IsAhead I C after (place_of self.old) frame (place_of self.new)) }
@@ -57,15 +55,14 @@ impl<'a> Walk<'a> {
         ensures counted { let due = due_lines log.old.lines self.old.path in
             OnOk result (due_lines log.new.lines self.new.path ≤ due + 1) }
     {
-        let _count = self.path.sky.instance().len();
+        let _count = self.path.instance().len();
         if frame.is_done() {
             let claim = frame.levels().lifted(alloc)?;
             let line = refute(alloc, task, log, claim, frame.levels(), frame.refuted())?;
             self.line = Some(line);
             return Ok(());
         }
-        self.path.sky.push(frame.chosen());
-        self.path.frames.push(frame).unwrap();
+        self.path.go_down(frame)?;
         self.line = None;
         Ok(())
     }
@@ -73,30 +70,31 @@ impl<'a> Walk<'a> {
     /// Notes lines for the next choices of the frame, as long as one is at hand that covers the
     /// child. So these children need not be made. The frame is that of the claim that the search is
     /// at.
-    fn pass_over(&self, task: &Task, log: &Learned, frame: &mut Frame)
+    fn pass_over(&self, task: &Task, log: &Learned, frame: &mut Frame) -> Result<(), NoMemory>
         requires subject { self.now.path.sky.instance ≡ task.now.instance.now }
         requires log { IsSearchLog task.now.instance.now task.now.capacity log.now }
         requires trying { let l = claim_at (place_of self.now) in
             IsTrying task.now.instance.now task.now.capacity log.now.lines l frame.old }
-        ensures trying { let l = claim_at (place_of self.now) in
-            IsTrying task.now.instance.now task.now.capacity log.now.lines l frame.new }
-        ensures levels { frame.new.levels ≡ frame.old.levels }
-        ensures asked { frame.new.asked ≡ frame.old.asked }
+        ensures trying { let I = task.now.instance.now in let l = claim_at (place_of self.now) in
+            OnOk result (IsTrying I task.now.capacity log.now.lines l frame.new) }
+        ensures levels { OnOk result (frame.new.levels ≡ frame.old.levels) }
+        ensures asked { OnOk result (frame.new.asked ≡ frame.old.asked) }
         ensures less { let I = task.now.instance.now in let C = task.now.capacity in
             let l = claim_at (place_of self.now) in
-            through I C l (map (entry_of l) (rest_of frame.new))
-            ≤ through I C l (map (entry_of l) (rest_of frame.old)) }
+            OnOk result (through I C l (map (entry_of l) (rest_of frame.new))
+            ≤ through I C l (map (entry_of l) (rest_of frame.old))) }
     {
-        let _count = self.path.sky.instance().len();
+        let _count = self.path.instance().len();
         'choices: while !frame.is_done() {
             match self
                 .recent
                 .find(log.log(), task.instance, frame.levels(), frame.chosen())
             {
-                Some(line) => frame.note(line),
-                None => return,
+                Some(line) => frame.note(line)?,
+                None => return Ok(()),
             }
         }
+        Ok(())
     }
 
     /// Takes the next choice of the claim for which no line is at hand, as `advance` does.
@@ -110,11 +108,9 @@ impl<'a> Walk<'a> {
         requires log { IsSearchLog task.now.instance.now task.now.capacity log.old }
         requires ready { let I = task.now.instance.now in
             IsUncovered I task.now.capacity log.old.lines (place_of self.old) frame }
-        requires room { HasRoom self.old.path }
         ensures log { OnOk result (IsSearchLog task.now.instance.now task.now.capacity log.new) }
         ensures grown { let l = claim_at (place_of self.old) in
             OnOk result (Extends l log.old.lines log.new.lines) }
-        ensures room { OnOk result (HasRoom self.new.path) }
         ensures ahead { let I = task.now.instance.now in let C = task.now.capacity in
             let after = log.new.lines in
             OnOk result (IsAhead I C after (place_of self.old) frame (place_of self.new)) }
@@ -124,7 +120,7 @@ impl<'a> Walk<'a> {
         ensures counted { let due = due_lines log.old.lines self.old.path in
             OnOk result (due_lines log.new.lines self.new.path ≤ due + 1) }
     {
-        self.pass_over(task, log, &mut frame);
+        self.pass_over(task, log, &mut frame)?;
         self.advance(alloc, task, log, frame)?;
         Ok(())
     }
@@ -141,13 +137,11 @@ impl<'a> Walk<'a> {
         requires log { IsSearchLog task.now.instance.now task.now.capacity log.old }
         requires opened { let I = task.now.instance.now in
             IsAtChoices I task.now.capacity log.old.lines (place_of self.old) frame }
-        requires room { HasRoom self.old.path }
         requires watched { HasWatches log.old.lines self.old }
         requires held { AreWatched log.old.lines self.old.watches frame.levels frame.asked }
         ensures log { OnOk result (IsSearchLog task.now.instance.now task.now.capacity log.new) }
         ensures grown { let l = claim_at (place_of self.old) in
             OnOk result (Extends l log.old.lines log.new.lines) }
-        ensures room { OnOk result (HasRoom self.new.path) }
         ensures ahead { let I = task.now.instance.now in let C = task.now.capacity in
             let after = log.new.lines in
             OnOk result (IsAhead I C after (place_of self.old) frame (place_of self.new)) }
@@ -155,7 +149,7 @@ impl<'a> Walk<'a> {
         ensures counted { let due = due_lines log.old.lines self.old.path in
             OnOk result (due_lines log.new.lines self.new.path ≤ due + 1) }
     {
-        let _count = self.path.sky.instance().len();
+        let _count = self.path.instance().len();
         if let Some(line) = self.watches.ask(log.log(), frame.levels(), frame.asked())? {
             self.line = Some(line);
             return Ok(());

@@ -2,15 +2,16 @@
 
 ghost use Rattle.std.specs.Prelude.{◌≡◌, ◌<◌, [], IfOk, OnOk, Some, length, slice_get, slice_set, take};
 ghost use Rattle.dsa_terms.specs.Claims.{IsIn};
+ghost use Rattle.dsa_model.specs.Buffer.{buffer_limit};
 ghost use Rattle.search_core.specs.Watching.{AreAppended, AreExtended, AreFiled, IsUnwatched, row_at};
 
 use crate::watch_row::{Mark, Row};
-use dsa_model::NoMemory;
+use dsa_model::{BUFFER_LIMIT, NoMemory};
 use std::alloc::Global;
 use std::marker::Model;
 
 /// How many rows there are: no instance has more buffers.
-const ROWS: usize = 512;
+const ROWS: usize = BUFFER_LIMIT as usize;
 
 /// What lines have for a watch until they are looked at: of no buffer.
 const NO_WATCH: (u32, u64) = (ROWS as u32, 0);
@@ -78,7 +79,7 @@ impl WatchTable {
     fn add(&mut self, b: u32, mark: Mark) -> Result<(), NoMemory>
         ensures watches { self.new.watches ≡ self.old.watches }
         ensures rows { AreAppended self.old.rows self.new.rows }
-        ensures added { b < 512 → OnOk result (IsIn mark (row_at self.new.rows b)) }
+        ensures added { b < buffer_limit → OnOk result (IsIn mark (row_at self.new.rows b)) }
     {
         if (b as usize) < ROWS {
             let row = &mut self.rows[b as usize];

@@ -3,6 +3,7 @@
 ghost use Rattle.std.specs.Prelude.{◌≡◌, ◌≤◌, ◌<◌, ◌↔◌, ℕ, [], List, Some, true, false, IfNone, IfOk, IfSome, IsTrue, OnOk, length, slice_get, slice_index, take};
 ghost use Rattle.dsa_terms.specs.Buffers.{Instance};
 ghost use Rattle.dsa_terms.specs.Claims.{Claim as ClaimTerm, Entry, IsIn};
+ghost use Rattle.dsa_model.specs.Buffer.{buffer_limit};
 ghost use Rattle.canonical_order.specs.Levels.{AreLevels};
 ghost use Rattle.search_core.specs.declared.watch_row.Mark.{Mark as MarkTerm};
 ghost use Rattle.search_core.specs.Cites.{IsCoveredBy};
@@ -125,7 +126,7 @@ fn find_in(
     low: u64,
     now: &Levels,
 ) -> Result<Option<u64>, NoMemory>
-    requires { b < 512 }
+    requires { b < buffer_limit }
     ensures some { (I : Instance) (l : ClaimTerm) → AreLevels I l now.now →
         IfOk result (λ found. IfSome found (IsCoveredBy I log.now.lines l)) }
     ensures none { IfOk result (λ found. IfNone found

@@ -9,7 +9,6 @@ ghost use Rattle.search_core.specs.Outcomes.{IsDecided, LinesAreCounted, UnlessS
 
 use crate::meter::Meter;
 use crate::part::{Piece, search_part};
-use crate::seats::offset_of;
 use crate::task::Task;
 use dsa_model::{Instance, NoMemory};
 use lifetime::Sections;
@@ -17,13 +16,18 @@ use refute_log::Decided;
 use split_sections::Parts;
 use std::alloc::Global;
 
-/// The offsets of all buffers in order.
+/// The offsets of all buffers in order; the first seat of a buffer counts, and where it has none
+/// its offset is 0.
 fn offsets(alloc: Global, instance: &Instance, seats: &[(u32, u64)]) -> Result<Vec<u64>, NoMemory>
     ensures { IfOk result (λ v. v.items ≡ offsets_of instance.now seats.now) }
 {
-    let offsets = (0..instance.len())
-        .map(|b| offset_of(seats, b))
-        .collect(alloc)?;
+    let mut offsets = vec![in alloc; 0u64; instance.len() as usize]?;
+    for i in (0..seats.len()).rev() {
+        let b = seats[i].0 as usize;
+        if b < offsets.len() {
+            offsets[b] = seats[i].1;
+        }
+    }
     Ok(offsets)
 }
 

@@ -1,74 +1,56 @@
-use Rattle.std.proofs.Common.{None, arith, refl}
+use Rattle.std.proofs.Common.{◌≡◌, ◌∙◌, Some, List, ap, sym, arith}
+use Rattle.std.proofs.lemmas.Result.{IfOk-weaker}
+use Rattle.dsa_terms.specs.Claims.{Entry}
+use Rattle.dsa_terms.specs.Search.{first}
 use Rattle.skyline.specs.Skies.{last_claim}
-use Rattle.search_core.specs.Descents.{Place}
-use Rattle.search_core.specs.Walks.{place_on}
-use Rattle.search_core.proofs.Descending.{is_back, may_pop, seated_back, seated_root}
-use Rattle.search_core.proofs.Searching.{chosen_in}
-use Rattle.search_core.proofs.Stepping.{nothing_in}
+use Rattle.search_core.specs.Descents.{sky_root}
+use Rattle.search_core.specs.Seats.{seats_by}
+use Rattle.search_core.proofs.Gathering.{all_gathered, gathering_has, gathering_next, gathering_start, gathering_within}
 use Rattle.search_core.proofs.gather.seats.Goals as goal
 
-pub loop-frame-init : goal.loop-frame-init
-loop-frame-init c = (
+pub loop-b-init : goal.loop-b-init
+loop-b-init c = (
   c.requires.path.0,
-  record {
-    path = c.requires.path.1;
-    root = refl;
-    found = rw c.new-seats.ensures.items c.requires.found;
-  },
+  gathering_start c.args.task.now.instance.now c.args.task.now.capacity c.requires.path.0 c.args.path.now
+      c.in_ok-offsets.offsets.items c.requires.path.1 c.requires.found
+      (let n = c.in_ok-offsets.ensures.len in let k = c.in_ok-offsets.offsets.ok.0 in let m = c.len.ensures.value in
+      omega arith),
 )
 
-pub pop-requires-in-Some : goal.pop-requires-in-Some
-pop-requires-in-Some c =
-    let i = c.loop-frame.invariant in
-    let here = place_on c.loop-frame.path None in
-    may_pop c.args.task.now.instance.now c.args.task.now.capacity i.0 here c.pop.new.self.items c.in-Some.frame
-    i.1.path c.in-Some.ensures.items
+pub low-requires : goal.low-requires
+low-requires c =
+    let i = c.loop-b.invariant in
+    rw c.sky.ensures (gathering_has c.args.task.now.instance.now c.args.task.now.capacity i.0
+    (sky_root c.args.path.now.sky) c.loop-b.path c.leave.new.self c.loop-b.offsets.items c.in-Some.b i.1
+    c.in-Some.ensures.some)
 
-pub chosen-requires : goal.chosen-requires
-chosen-requires c =
-    let I = c.args.task.now.instance.now in
-    let C = c.args.task.now.capacity in
-    let i = c.loop-frame.invariant in
-    let here = place_on c.loop-frame.path None in
-    let popped : Place = record { sky = c.pop-in-Some.new.self; frames = c.pop.new.self.items; line = None } in
-    let b = is_back I C i.0 here popped c.in-Some.frame i.1.path c.in-Some.ensures.items c.pop-in-Some.ensures.instance
-    c.pop-in-Some.ensures.claims in
-    b.standing.is_left
+pub index_mut-requires : goal.index_mut-requires
+index_mut-requires c =
+    let i = c.loop-b.invariant in
+    let lt = gathering_within c.args.task.now.instance.now c.args.task.now.capacity i.0 (sky_root c.args.path.now.sky)
+    c.loop-b.path c.leave.new.self c.loop-b.offsets.items c.in-Some.b i.1 c.in-Some.ensures.some
+    (rw c.sky.ensures at c.low.ensures.stands) in
+    let k = c.loop-b.offsets.ok.0 in
+    omega arith
 
-pub seated-requires : goal.seated-requires
-seated-requires c =
-    let I = c.args.task.now.instance.now in
-    let C = c.args.task.now.capacity in
-    let i = c.loop-frame.invariant in
-    let here = place_on c.loop-frame.path None in
-    let popped : Place = record { sky = c.pop-in-Some.new.self; frames = c.pop.new.self.items; line = None } in
-    let b = is_back I C i.0 here popped c.in-Some.frame i.1.path c.in-Some.ensures.items c.pop-in-Some.ensures.instance
-    c.pop-in-Some.ensures.claims in
-    rw c.chosen.ensures (chosen_in I C (last_claim c.pop-in-Some.new.self.claims) i.0 c.in-Some.frame b.trying
-    b.standing.is_left)
-
-pub loop-frame-preserved : goal.loop-frame-preserved
-loop-frame-preserved c =
-    let I = c.args.task.now.instance.now in
-    let C = c.args.task.now.capacity in
-    let i = c.loop-frame.invariant in
-    let here = place_on c.loop-frame.path None in
-    let popped : Place = record { sky = c.pop-in-Some.new.self; frames = c.pop.new.self.items; line = None } in
-    let b = is_back I C i.0 here popped c.in-Some.frame i.1.path c.in-Some.ensures.items c.pop-in-Some.ensures.instance
-    c.pop-in-Some.ensures.claims in (
+pub loop-b-preserved : goal.loop-b-preserved
+loop-b-preserved c =
+    let i = c.loop-b.invariant in (
       i.0,
-      seated_back I C _ i.0 here popped c.in-Some.frame c.loop-frame.seats.items c.in_ok-seats.seats.items i.1 b
-          (rw (b.path.subject, c.chosen.ensures, c.deref.ensures.value) at c.in_ok-seats.ensures),
+      gathering_next c.args.task.now.instance.now c.args.task.now.capacity i.0 (sky_root c.args.path.now.sky)
+          c.loop-b.path c.leave.new.self c.loop-b.offsets.items c.in-Some.b i.1 c.in-Some.ensures.some c.low.result
+          (rw c.sky.ensures at c.low.ensures.stands) (rw c.sky.ensures at c.low.ensures.value),
     )
 
-pub returns : goal.returns
-returns c =
-    let i = c.loop-frame.invariant in
-    let here = place_on c.loop-frame.path None in
-    record {
-      value = seated_root c.args.task.now.instance.now c.args.task.now.capacity _ i.0 here c.loop-frame.seats.items i.1
-          (nothing_in c.loop-frame.path.frames.items (let k = c.in_default.ensures.cases in
-          omega (arith, k.0, c.loop-frame.path.frames.ok.0)));
-      emptied = let k = c.in_default.ensures.cases in
-          nothing_in c.pop.new.self.items (omega (arith, k, c.pop.new.self.ok.0));
-    }
+pub returns-clause-value : goal.returns-clause-value
+returns-clause-value c =
+    let I = c.args.task.now.instance.now in
+    let C = c.args.task.now.capacity in
+    let i = c.loop-b.invariant in
+    let none = c.in_default.ensures.none in
+    let l = last_claim c.loop-b.path.sky.claims in
+    let all = all_gathered I C i.0 (sky_root c.args.path.now.sky) c.loop-b.path c.loop-b.offsets.items i.1 none.0 in
+    IfOk-weaker c.gathered.result (λ (v : _). v.items ≡ seats_by c.loop-b.offsets.items l)
+    (λ (v : _). first I C (sky_root c.args.path.now.sky) ≡ Some v.items)
+    (λ v q. all ∙ ap (λ (es : List Entry). Some es) (sym q))
+    (rw (c.deref.ensures.value, c.sky-2.ensures, none.1) at c.gathered.ensures)

@@ -1,14 +1,12 @@
-use Rattle.std.proofs.Common.{List, None, vec_len}
+use Rattle.std.proofs.Common.{List, length}
 use Rattle.dsa_terms.specs.Logs.{Line}
 use Rattle.search_core.specs.Descents.{sky_root}
-use Rattle.search_core.specs.Walks.{place_on}
-use Rattle.search_core.proofs.Descending.{IsSeated}
+use Rattle.search_core.proofs.Gathering.{IsGathering}
 use Rattle.search_core.proofs.gather.seats.Given as goal
 
-abbrev pub decreases-loop-frame : goal.decreases-loop-frame
-decreases-loop-frame l = vec_len l.path.frames
+abbrev pub decreases-loop-b : goal.decreases-loop-b
+decreases-loop-b l = length l.path.frames
 
-abbrev pub invariant-loop-frame : goal.invariant-loop-frame
-invariant-loop-frame l = (lines : List Line) ×
-    IsSeated l.task.instance.now l.task.capacity (sky_root l.fn.path.sky) lines
-    (place_on l.path None) l.seats.items
+abbrev pub invariant-loop-b : goal.invariant-loop-b
+invariant-loop-b l = (lines : List Line) ×
+    IsGathering l.task.instance.now l.task.capacity lines (sky_root l.fn.path.sky) l.path l.offsets.items

@@ -7,11 +7,11 @@ use Rattle.skyline.specs.Skies.{last_claim}
 use Rattle.search_core.proofs.Counting.{counted_one_more}
 use Rattle.search_core.proofs.Descent.{is_instance}
 use Rattle.search_core.proofs.Leveling.{lifted_levels}
-use Rattle.search_core.proofs.LiftedChoices.{lifted_nothing, lifted_order}
+use Rattle.search_core.proofs.LiftedChoices.{lifted_nothing}
 use Rattle.search_core.proofs.Searching.{are_choices, first_of_nothing}
 use Rattle.search_core.proofs.Taking.{none_covers}
 use Rattle.search_core.proofs.Uncovered.{covered_has_none, covers_less}
-use Rattle.search_core.proofs.Watched.{all_watched_more}
+use Rattle.search_core.proofs.Watched.{all_watched_more, watched_to}
 use Rattle.search_core.proofs.WatchLemmas.{watched_none}
 use Rattle.search_core.proofs.opening.open.Goals as goal
 
@@ -41,7 +41,7 @@ pub over_line-requires-clause-lifted : goal.over_line-requires-clause-lifted
 over_line-requires-clause-lifted c =
     let I = c.args.task.now.instance.now in
     let l = last_claim c.args.path.now.sky.claims in
-    c.ground-claim.ensures.value I l (rw c.requires.subject at c.in_ok-levels.ensures)
+    rw c.sky.ensures (c.ground-claim.ensures.value I l (rw c.requires.subject at c.in_ok-levels.ensures))
 
 pub over_line-requires-clause-levels : goal.over_line-requires-clause-levels
 over_line-requires-clause-levels c =
@@ -64,17 +64,17 @@ returns-then-len-eq0-clause-opened c =
 -- ---- an Over line
 pub append-requires-clause-legal : goal.append-requires-clause-legal
 append-requires-clause-legal c =
-    let r = rw c.in-Some-2.is at c.in_ok-line-2.ensures.some in r.legal c.args.log.now.lines
+    let r = rw (c.in-Some-2.is, c.sky.ensures) at c.in_ok-line-2.ensures.some in r.legal c.args.log.now.lines
 
 pub append-requires-clause-within : goal.append-requires-clause-within
-append-requires-clause-within c = let r = rw c.in-Some-2.is at c.in_ok-line-2.ensures.some in r.within
+append-requires-clause-within c = let r = rw (c.in-Some-2.is, c.sky.ensures) at c.in_ok-line-2.ensures.some in r.within
 
 pub append-requires-clause-fresh : goal.append-requires-clause-fresh
 append-requires-clause-fresh c =
     let I = c.args.task.now.instance.now in
     let l = last_claim c.args.path.now.sky.claims in
     let s = rw (c.instance.ensures.value, c.requires.subject) at c.instance.ensures.stands in
-    let r = rw c.in-Some-2.is at c.in_ok-line-2.ensures.some in
+    let r = rw (c.in-Some-2.is, c.sky.ensures) at c.in_ok-line-2.ensures.some in
     covers_less I c.args.log.now.lines (claim_of (line_value c.in-Some-2.line)) l (is_instance I l s) r.covers
     (watched_none I c.args.log.now.lines c.covering.new.watches l c.in_ok-levels.levels
     (rw c.requires.subject at c.in_ok-levels.ensures)
@@ -82,7 +82,7 @@ append-requires-clause-fresh c =
 
 pub returns-in-Some-2-clause-grown : goal.returns-in-Some-2-clause-grown
 returns-in-Some-2-clause-grown c =
-    let r = rw c.in-Some-2.is at c.in_ok-line-2.ensures.some in
+    let r = rw (c.in-Some-2.is, c.sky.ensures) at c.in_ok-line-2.ensures.some in
     c.in_ok-append.ensures.grown (last_claim c.args.path.now.sky.claims) r.covers
 
 pub returns-in-Some-2-clause-opened : goal.returns-in-Some-2-clause-opened
@@ -91,7 +91,7 @@ returns-in-Some-2-clause-opened c =
     let C = c.args.task.now.capacity in
     let l = last_claim c.args.path.now.sky.claims in
     let s = rw (c.instance.ensures.value, c.requires.subject) at c.instance.ensures.stands in
-    let r = rw c.in-Some-2.is at c.in_ok-line-2.ensures.some in
+    let r = rw (c.in-Some-2.is, c.sky.ensures) at c.in_ok-line-2.ensures.some in
     let h = c.in_ok-append.ensures.covered l r.covers in
     record {
       none = covered_has_none I C l c.append.new.log c.in_ok-append.field-0 s c.in_ok-append.ensures.log h;
@@ -114,18 +114,9 @@ returns-in-Some-2-clause-counted c =
 pub returns-in-Some-2-clause-watched : goal.returns-in-Some-2-clause-watched
 returns-in-Some-2-clause-watched c =
     let l = last_claim c.args.path.now.sky.claims in
-    all_watched_more l c.args.log.now.lines c.append.new.log.lines c.covering.new.watches c.args.path.now.frames.items
+    all_watched_more l c.args.log.now.lines c.append.new.log.lines c.covering.new.watches c.args.path.now.frames
     (returns-in-Some-2-clause-grown c)
-    (rw (c.log.ensures, c.as_slice.ensures.value) at c.in_ok-line.ensures.watched)
-
-pub order_of-requires : goal.order_of-requires
-order_of-requires c =
-    let I = c.args.task.now.instance.now in
-    let l = last_claim c.args.path.now.sky.claims in
-    let s = rw (c.instance.ensures.value, c.requires.subject) at c.instance.ensures.stands in
-    let a = rw c.requires.subject at c.in_ok-levels.ensures in
-    let q = c.ground-claim.ensures.value I l a in
-    rw q (lifted_levels I l c.in_ok-levels.levels (is_instance I l s) a)
+    (rw c.log.ensures at c.in_ok-line.ensures.watched)
 
 -- ---- the choices
 pub returns-clause-opened : goal.returns-clause-opened
@@ -135,12 +126,23 @@ returns-clause-opened c =
     let l = last_claim c.args.path.now.sky.claims in
     let s = rw (c.instance.ensures.value, c.requires.subject) at c.instance.ensures.stands in
     let q = c.ground-claim.ensures.value I l (rw c.requires.subject at c.in_ok-levels.ensures) in
-    let none = rw c.in_default-2.is at c.in_ok-line-2.ensures.none in
-    rw c.in_ok-new.ensures
-    (are_choices I C l c.args.log.now.lines c.in_ok-order.order.items c.in_ok-levels.levels c.len-asked.result s.claim
+    let a = rw c.requires.subject at c.in_ok-levels.ensures in
+    let b = c.in_ok-branches.ensures.branches l a in
+    let none = rw (c.in_default-2.is, c.sky.ensures) at c.in_ok-line-2.ensures.none in
+    rw c.new.ensures
+    (are_choices I C l c.args.log.now.lines c.in_ok-branches.branches.order.items c.in_ok-branches.branches.levels
+    c.len-asked.result s.claim
     (λ e. c.if-len-eq0.false (c.len.ensures.value ∙ ap length q ∙ ap (λ (k : Claim). length (lifted I k)) e)) none
-    (lifted_order I l c.in_ok-order.order.items (is_instance I l s) s.claim.rises (rw q at c.in_ok-order.ensures))
-    (rw c.requires.subject at c.in_ok-levels.ensures)
-    (watched_none I c.args.log.now.lines c.covering.new.watches l c.in_ok-levels.levels
-    (rw c.requires.subject at c.in_ok-levels.ensures)
+    b.order b.levels
+    (watched_none I c.args.log.now.lines c.covering.new.watches l c.in_ok-levels.levels a
     (rw (c.in_default.is, c.log.ensures) at c.in_ok-line.ensures.none)))
+
+pub returns-clause-asked : goal.returns-clause-asked
+returns-clause-asked c =
+    let asked = rw c.log-2.ensures at c.len-asked.ensures.value in
+    rw c.new.ensures (record {
+      asked = asked;
+      watched = rw c.in_ok-branches.ensures.levels
+          (watched_to c.args.log.now.lines c.covering.new.watches c.in_ok-levels.levels c.len-asked.result asked
+          (rw (c.in_default.is, c.log.ensures) at c.in_ok-line.ensures.none));
+    })

@@ -1,10 +1,13 @@
-use Rattle.std.proofs.Common.{◌∙◌, length, arith, inl, inr}
+use Rattle.std.proofs.Common.{◌∙◌, length, arith, inl, inr, rules}
 use Rattle.dsa_terms.specs.Parts.{whole}
 use Rattle.search_core.specs.Walks.{due_lines}
 use Rattle.search_core.proofs.Counting.{counted_along, counted_less}
 use Rattle.search_core.proofs.Growing.{extends_along}
 use Rattle.search_core.proofs.Taking.{more_after, more_still, unless_along, unless_always}
 use Rattle.search_core.proofs.turns.search.Goals as goal
+
+pub turns-init : goal.turns-init
+turns-init c = rw (c.new-4.ensures, c.in_ok-sky.ensures) (search rules)
 
 pub turns-preserved : goal.turns-preserved
 turns-preserved c =
@@ -17,7 +20,6 @@ turns-preserved c =
           (rw i.root at c.in_ok-step.ensures.grown);
       place = on.place;
       root = on.root ∙ i.root;
-      room = rw c.in-On.is at c.in_ok-step.ensures.room;
       watched = rw c.in-On.is at c.in_ok-step.ensures.watched;
       most = c.step.ensures.most ∙ i.most;
       taken = λ e. elim (i.taken e) [

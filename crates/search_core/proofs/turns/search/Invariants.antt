@@ -4,7 +4,7 @@ use Rattle.dsa_terms.specs.Search.{work}
 use Rattle.search_core.specs.Descents.{IsPlace, owed, sky_root, turns_left}
 use Rattle.search_core.specs.Logs.{Extends, IsSearchLog}
 use Rattle.search_core.specs.Meters.{AreCounted, AreMore}
-use Rattle.search_core.specs.Walks.{HasRoom, HasWatches, due_lines, place_of}
+use Rattle.search_core.specs.Walks.{HasWatches, due_lines, place_of}
 use Rattle.search_core.proofs.turns.search.Given as goal
 
 abbrev pub decreases-turns : goal.decreases-turns
@@ -16,7 +16,6 @@ invariant-turns l = record {
   grown : Extends (whole l.task.instance.now l.members) l.fn.log.lines l.log.lines;
   place : IsPlace l.task.instance.now l.task.capacity l.log.lines (place_of l.walk);
   root : sky_root l.walk.path.sky ≡ whole l.task.instance.now l.members;
-  room : HasRoom l.walk.path;
   watched : HasWatches l.log.lines l.walk;
   most : l.meter.most ≡ l.fn.meter.most;
   taken : l.fn.log.lines ≡ [] → ((l.walk.line ≡ None) × (l.log.lines ≡ [])) ⊎ AreMore l.fn.meter l.meter;

@@ -1,14 +1,9 @@
-use Rattle.std.proofs.Common.{◌≡◌, ◌∙◌, ◌++◌, ◌∷◌, [], None, map, length, refl, sym, ap, arith}
+use Rattle.std.proofs.Common.{◌≡◌, ◌∙◌, None, map, length, refl, sym, ap}
 use Rattle.dsa_terms.proofs.NumberTests.{equal}
-use Rattle.dsa_terms.specs.Claims.{child}
-use Rattle.canonical_order.specs.Claims.{entry_of}
 use Rattle.skyline.specs.Skies.{last_claim}
 use Rattle.search_core.specs.Descents.{refuted_buffer}
-use Rattle.search_core.specs.Tries.{chosen_of}
-use Rattle.search_core.specs.Walks.{place_of}
-use Rattle.search_core.proofs.Stacks.{when_ok}
-use Rattle.skyline.proofs.Carrying.{last_of_append}
-use Rattle.search_core.proofs.Descent.{is_instance, shorter}
+use Rattle.search_core.specs.Walks.{place_of, place_on}
+use Rattle.search_core.proofs.Descent.{is_instance}
 use Rattle.search_core.proofs.Descending.{ahead_covered, ahead_deeper}
 use Rattle.search_core.proofs.Leveling.{lifted_levels}
 use Rattle.search_core.proofs.LiftedChoices.{lifted_nothing}
@@ -114,75 +109,44 @@ pub returns-then-is_done-clause-watched : goal.returns-then-is_done-clause-watch
 returns-then-is_done-clause-watched c = λ h held.
     let path = c.args.self.now.path in
     all_watched_more (last_claim path.sky.claims) c.args.log.now.lines c.refute.new.log.lines c.args.self.now.watches
-    path.frames.items (returns-then-is_done-clause-grown c) h
+    path.frames (returns-then-is_done-clause-grown c) h
 
 -- ---- a choice deeper
-pub push-requires : goal.push-requires
-push-requires c =
+pub go_down-requires-clause-left : goal.go_down-requires-clause-left
+go_down-requires-clause-left c =
+    let I = c.args.task.now.instance.now in
+    let l = last_claim c.args.self.now.path.sky.claims in
+    one_is_left I c.args.task.now.capacity l c.args.log.now.lines c.args.frame c.requires.ready.opened.trying
+    (sym c.if-is_done.ensures)
+
+pub go_down-requires-clause-has : goal.go_down-requires-clause-has
+go_down-requires-clause-has c =
     let I = c.args.task.now.instance.now in
     let l = last_claim c.args.self.now.path.sky.claims in
     let f = c.args.frame in
     let trying = c.requires.ready.opened.trying in
-    let left = one_is_left I c.args.task.now.capacity l c.args.log.now.lines f trying (sym c.if-is_done.ensures) in
-    rw c.chosen.ensures (chosen_in I c.args.task.now.capacity l c.args.log.now.lines f trying left)
+    chosen_in I c.args.task.now.capacity l c.args.log.now.lines f trying
+    (one_is_left I c.args.task.now.capacity l c.args.log.now.lines f trying (sym c.if-is_done.ensures))
 
-pub returns-clause-room : goal.returns-clause-room
-returns-clause-room c =
-    let I = c.args.task.now.instance.now in
-    let l = last_claim c.args.self.now.path.sky.claims in
-    let f = c.args.frame in
-    let s = rw (c.instance.ensures.value, c.requires.ready.opened.path.subject) at c.instance.ensures.stands in
-    let left = one_is_left I c.args.task.now.capacity l c.args.log.now.lines f c.requires.ready.opened.trying
-    (sym c.if-is_done.ensures) in
-    let len = shorter I l (chosen_of f) s.claim.rises
-    (chosen_in I c.args.task.now.capacity l c.args.log.now.lines f c.requires.ready.opened.trying left) in
-    let claims = rw (c.chosen.ensures, c.requires.ready.opened.path.subject) at c.push.ensures.claims in
-    let last : last_claim c.push.new.self.claims ≡ child I l (entry_of l (chosen_of f)) =
-    ap last_claim claims ∙ last_of_append c.args.self.now.path.sky.claims (child I l (entry_of l (chosen_of f))) in
-    let n = ap length last in
-    omega (
-      arith,
-      len,
-      n,
-      c.requires.room,
-      c.push-2.ensures.upper_bound,
-      c.push-2.ensures.capacity,
-      c.args.self.now.path.frames.ok.0,
-      c.push-2.new.self.ok.0,
-    )
+pub go_down-requires-clause-order : goal.go_down-requires-clause-order
+go_down-requires-clause-order c = rw c.requires.ready.opened.path.subject c.requires.ready.opened.trying.order
+
+pub go_down-requires-clause-levels : goal.go_down-requires-clause-levels
+go_down-requires-clause-levels c = rw c.requires.ready.opened.path.subject c.requires.ready.opened.trying.levels
 
 pub returns-clause-ahead : goal.returns-clause-ahead
 returns-clause-ahead c =
     let I = c.args.task.now.instance.now in
     let l = last_claim c.args.self.now.path.sky.claims in
     let f = c.args.frame in
-    let s = rw (c.instance.ensures.value, c.requires.ready.opened.path.subject) at c.instance.ensures.stands in
     let left = one_is_left I c.args.task.now.capacity l c.args.log.now.lines f c.requires.ready.opened.trying
     (sym c.if-is_done.ensures) in
-    let len = shorter I l (chosen_of f) s.claim.rises
-    (chosen_in I c.args.task.now.capacity l c.args.log.now.lines f c.requires.ready.opened.trying left) in
-    let claims = rw (c.chosen.ensures, c.requires.ready.opened.path.subject) at c.push.ensures.claims in
-    let frames = c.args.self.now.path.frames.items in
-    ahead_deeper I c.args.task.now.capacity c.args.log.now.lines
-    (place_of c.args.self.now)
-    (record { sky = c.push.new.self; frames = c.push-2.new.self.items; line = None }) f
-    c.requires.ready.opened.path
-    c.requires.ready.opened.trying left c.requires.ready.asked c.push.ensures.instance claims
-    (when_ok c.push-2.result (frames ++ f ∷ []) frames c.push-2.new.self.items c.push-2.ensures.items
-    (c.push-2.ensures.succeeds (omega (arith, len, c.requires.room, c.args.self.now.path.frames.ok.0)))) refl
+    ahead_deeper I c.args.task.now.capacity c.args.log.now.lines (place_of c.args.self.now)
+    (place_on c.go_down.new.self None) f c.requires.ready.opened.path c.requires.ready.opened.trying left
+    c.requires.ready.asked c.in_ok-go_down.ensures.instance
+    (rw c.requires.ready.opened.path.subject at c.in_ok-go_down.ensures.claims) c.in_ok-go_down.ensures.frames refl
 
 pub returns-clause-watched : goal.returns-clause-watched
 returns-clause-watched c = λ h held.
-    let I = c.args.task.now.instance.now in
-    let l = last_claim c.args.self.now.path.sky.claims in
-    let f = c.args.frame in
-    let s = rw (c.instance.ensures.value, c.requires.ready.opened.path.subject) at c.instance.ensures.stands in
-    let left = one_is_left I c.args.task.now.capacity l c.args.log.now.lines f c.requires.ready.opened.trying
-    (sym c.if-is_done.ensures) in
-    let len = shorter I l (chosen_of f) s.claim.rises
-    (chosen_in I c.args.task.now.capacity l c.args.log.now.lines f c.requires.ready.opened.trying left) in
-    let frames = c.args.self.now.path.frames.items in
-    all_watched_push c.args.log.now.lines c.args.self.now.watches frames c.push-2.new.self.items f
-    (when_ok c.push-2.result (frames ++ f ∷ []) frames c.push-2.new.self.items c.push-2.ensures.items
-    (c.push-2.ensures.succeeds (omega (arith, len, c.requires.room, c.args.self.now.path.frames.ok.0))))
-    h held
+    all_watched_push c.args.log.now.lines c.args.self.now.watches c.args.self.now.path.frames c.go_down.new.self.frames
+    c.args.frame c.in_ok-go_down.ensures.frames h held

@@ -9,18 +9,18 @@ advance-requires-clause-ready c =
       opened = record {
         path = r.opened.path;
         not_empty = r.opened.not_empty;
-        trying = c.pass_over.ensures.trying;
+        trying = c.in_ok-pass_over.ensures.trying;
       };
       fresh = r.fresh;
-      asked = rw c.pass_over.ensures.asked r.asked;
+      asked = rw c.in_ok-pass_over.ensures.asked r.asked;
     }
 
 pub returns-clause-ahead : goal.returns-clause-ahead
 returns-clause-ahead c =
     ahead_of_less c.args.task.now.instance.now c.args.task.now.capacity c.advance.new.log.lines
     (place_of c.args.self.now) (place_of c.advance.new.self) c.pass_over.new.frame c.args.frame
-    c.pass_over.ensures.less c.in_ok-advance.ensures.ahead
+    c.in_ok-pass_over.ensures.less c.in_ok-advance.ensures.ahead
 
 pub returns-clause-watched : goal.returns-clause-watched
 returns-clause-watched c = λ h held.
-    (rw (c.pass_over.ensures.levels, c.pass_over.ensures.asked) at (c.in_ok-advance.ensures.watched h)) held
+    (rw (c.in_ok-pass_over.ensures.levels, c.in_ok-pass_over.ensures.asked) at (c.in_ok-advance.ensures.watched h)) held

@@ -32,7 +32,7 @@ returns-in-Some-clause-watched c =
     let o = c.requires.opened in
     let levels = c.args.frame.levels in
     let above = above_of c.args.self.now.path.sky.claims in
-    let frames = c.args.self.now.path.frames.items in
+    let frames = c.args.self.now.path.frames in
     all_watched_still c.args.log.now.lines c.args.self.now.watches c.ask.new.self levels frames
     (are_raised I c.args.task.now.capacity c.args.log.now.lines l levels above frames (is_instance I l s)
     o.path.descends o.trying.levels)
@@ -64,7 +64,7 @@ returns-clause-watched c =
     let o = c.requires.opened in
     let levels = c.args.frame.levels in
     let above = above_of c.args.self.now.path.sky.claims in
-    let frames = c.args.self.now.path.frames.items in
+    let frames = c.args.self.now.path.frames in
     c.proceed.ensures.watched
     (all_watched_still c.args.log.now.lines c.args.self.now.watches c.ask.new.self levels frames
     (are_raised I c.args.task.now.capacity c.args.log.now.lines l levels above frames (is_instance I l s)

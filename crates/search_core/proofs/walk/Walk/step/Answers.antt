@@ -1,18 +1,14 @@
-use Rattle.std.proofs.Common.{ℕ, ◌+◌, List, Option, ap, arith, length}
-use Rattle.skyline.specs.Skies.{Sky, last_claim}
-use Rattle.search_core.specs.Descents.{Place, above_of, claim_at}
-use Rattle.search_core.specs.Tries.{Tried}
-use Rattle.search_core.specs.Walks.{place_of}
+use Rattle.std.proofs.Common.{◌+◌, ap, arith, length}
+use Rattle.skyline.specs.Skies.{last_claim}
+use Rattle.search_core.specs.Descents.{above_of, claim_at}
+use Rattle.search_core.specs.Walks.{place_of, place_on}
 use Rattle.search_core.proofs.Counting.{counted_with}
-use Rattle.search_core.proofs.Descent.{is_instance, shorter}
-use Rattle.search_core.proofs.Descending.{are_raised, under_last, back_noted, is_back, path_still}
+use Rattle.search_core.proofs.Descent.{is_instance}
+use Rattle.search_core.proofs.Descending.{are_raised, under_last, back_noted, path_still}
 use Rattle.search_core.proofs.Growing.{extends_along}
-use Rattle.search_core.proofs.Searching.{chosen_in}
-use Rattle.search_core.proofs.Stepping.{asked_above, grown_below, known_line, nothing_in, on_back, on_line, root_refuted, some_owed}
+use Rattle.search_core.proofs.Stepping.{asked_above, grown_below, is_back_from, known_line, on_back, on_line, root_refuted, some_owed}
+use Rattle.search_core.proofs.Watched.{all_watched_pop}
 use Rattle.search_core.proofs.walk.Walk.step.Goals as goal
-
-abbrev at_place : Sky → List Tried → Option ℕ → Place
-at_place sky frames line = record { sky = sky; frames = frames; line = line }
 
 -- ---- back
 pub chosen-requires : goal.chosen-requires
@@ -20,96 +16,92 @@ chosen-requires c =
     let I = c.args.task.now.instance.now in
     let C = c.args.task.now.capacity in
     let p = c.requires.place in
-    let f = c.in-Some-pop.frame in
+    let f = c.in-Some-2.frame in
     let lines = c.args.log.now.lines in
     let here = place_of c.args.self.now in
-    let popped = at_place c.pop-in-Some-pop.new.self c.pop.new.self.items c.args.self.now.line in
-    let b = is_back I C lines here popped f p.path c.in-Some-pop.ensures.items c.pop-in-Some-pop.ensures.instance
-    c.pop-in-Some-pop.ensures.claims in
+    let popped = place_on c.go_back.new.self c.args.self.now.line in
+    let off = rw c.in-Some-2.is at c.in_ok-frame-in-Some.ensures.some in
+    let b = is_back_from I C lines c.args.self.now.path c.go_back.new.self c.args.self.now.line f p.path off in
     b.standing.is_left
+
+pub note-requires-in-Some-2 : goal.note-requires-in-Some-2
+note-requires-in-Some-2 c =
+    let I = c.args.task.now.instance.now in
+    let C = c.args.task.now.capacity in
+    let p = c.requires.place in
+    let f = c.in-Some-2.frame in
+    let lines = c.args.log.now.lines in
+    let off = rw c.in-Some-2.is at c.in_ok-frame-in-Some.ensures.some in
+    let b = is_back_from I C lines c.args.self.now.path c.go_back.new.self c.args.self.now.line f p.path off in
+    b.standing.is_left
+
+pub resume-requires-clause-watched : goal.resume-requires-clause-watched
+resume-requires-clause-watched c =
+    let off = rw c.in-Some-2.is at c.in_ok-frame-in-Some.ensures.some in
+    (all_watched_pop c.args.log.now.lines c.args.self.now.watches c.args.self.now.path.frames c.go_back.new.self.frames
+    c.in-Some-2.frame off.frames c.requires.watched).0
+
+pub resume-requires-clause-held : goal.resume-requires-clause-held
+resume-requires-clause-held c =
+    let off = rw c.in-Some-2.is at c.in_ok-frame-in-Some.ensures.some in
+    rw c.in_ok-note-in-Some-2.ensures
+    (all_watched_pop c.args.log.now.lines c.args.self.now.watches c.args.self.now.path.frames c.go_back.new.self.frames
+    c.in-Some-2.frame off.frames c.requires.watched).1
 
 pub resume-requires-clause-opened : goal.resume-requires-clause-opened
 resume-requires-clause-opened c =
     let I = c.args.task.now.instance.now in
     let C = c.args.task.now.capacity in
     let p = c.requires.place in
-    let f = c.in-Some-pop.frame in
+    let f = c.in-Some-2.frame in
     let lines = c.args.log.now.lines in
     let here = place_of c.args.self.now in
-    let popped = at_place c.pop-in-Some-pop.new.self c.pop.new.self.items c.args.self.now.line in
-    let b = is_back I C lines here popped f p.path c.in-Some-pop.ensures.items c.pop-in-Some-pop.ensures.instance
-    c.pop-in-Some-pop.ensures.claims in
-    rw c.note-in-Some-pop.ensures (record {
+    let popped = place_on c.go_back.new.self c.args.self.now.line in
+    let off = rw c.in-Some-2.is at c.in_ok-frame-in-Some.ensures.some in
+    let b = is_back_from I C lines c.args.self.now.path c.go_back.new.self c.args.self.now.line f p.path off in
+    rw c.in_ok-note-in-Some-2.ensures (record {
       path = b.path;
       not_empty = b.not_empty;
       trying = back_noted I C lines here popped f c.in-Some.k b
           (known_line I C lines here p c.in-Some.k c.in-Some.is);
     })
 
-pub resume-requires-clause-room : goal.resume-requires-clause-room
-resume-requires-clause-room c =
+pub returns-in_ok-resume-in-Some-2-clause-grown : goal.returns-in_ok-resume-in-Some-2-clause-grown
+returns-in_ok-resume-in-Some-2-clause-grown c =
     let I = c.args.task.now.instance.now in
     let C = c.args.task.now.capacity in
     let p = c.requires.place in
-    let f = c.in-Some-pop.frame in
+    let f = c.in-Some-2.frame in
     let lines = c.args.log.now.lines in
     let here = place_of c.args.self.now in
-    let popped = at_place c.pop-in-Some-pop.new.self c.pop.new.self.items c.args.self.now.line in
-    let b = is_back I C lines here popped f p.path c.in-Some-pop.ensures.items c.pop-in-Some-pop.ensures.instance
-    c.pop-in-Some-pop.ensures.claims in
-    let above = last_claim c.pop-in-Some-pop.new.self.claims in
-    let s = rw (c.instance-in-Some-pop.ensures.value, b.path.subject) at c.instance-in-Some-pop.ensures.stands in
-    let has = chosen_in I C above lines f b.trying b.standing.is_left in
-    let len = shorter I above _ s.claim.rises has in
-    let n = ap length b.standing.is_child in
-    omega (
-      arith,
-      len,
-      n,
-      c.requires.room,
-      c.in-Some-pop.ensures.cases,
-      c.in-Some-pop.ensures.capacity,
-      c.args.self.now.path.frames.ok.0,
-      c.pop.new.self.ok.0,
-    )
+    let popped = place_on c.go_back.new.self c.args.self.now.line in
+    let off = rw c.in-Some-2.is at c.in_ok-frame-in-Some.ensures.some in
+    let b = is_back_from I C lines c.args.self.now.path c.go_back.new.self c.args.self.now.line f p.path off in
+    rw b.root (grown_below I C lines c.resume.new.log.lines popped b.path c.in_ok-resume-in-Some-2.ensures.grown)
 
-pub returns-in_ok-resume-in-Some-pop-clause-grown : goal.returns-in_ok-resume-in-Some-pop-clause-grown
-returns-in_ok-resume-in-Some-pop-clause-grown c =
+pub returns-in_ok-resume-in-Some-2-clause-turned : goal.returns-in_ok-resume-in-Some-2-clause-turned
+returns-in_ok-resume-in-Some-2-clause-turned c =
     let I = c.args.task.now.instance.now in
     let C = c.args.task.now.capacity in
     let p = c.requires.place in
-    let f = c.in-Some-pop.frame in
+    let f = c.in-Some-2.frame in
     let lines = c.args.log.now.lines in
     let here = place_of c.args.self.now in
-    let popped = at_place c.pop-in-Some-pop.new.self c.pop.new.self.items c.args.self.now.line in
-    let b = is_back I C lines here popped f p.path c.in-Some-pop.ensures.items c.pop-in-Some-pop.ensures.instance
-    c.pop-in-Some-pop.ensures.claims in
-    rw b.root (grown_below I C lines c.resume.new.log.lines popped b.path c.in_ok-resume-in-Some-pop.ensures.grown)
-
-pub returns-in_ok-resume-in-Some-pop-clause-turned : goal.returns-in_ok-resume-in-Some-pop-clause-turned
-returns-in_ok-resume-in-Some-pop-clause-turned c =
-    let I = c.args.task.now.instance.now in
-    let C = c.args.task.now.capacity in
-    let p = c.requires.place in
-    let f = c.in-Some-pop.frame in
-    let lines = c.args.log.now.lines in
-    let here = place_of c.args.self.now in
-    let popped = at_place c.pop-in-Some-pop.new.self c.pop.new.self.items c.args.self.now.line in
-    let b = is_back I C lines here popped f p.path c.in-Some-pop.ensures.items c.pop-in-Some-pop.ensures.instance
-    c.pop-in-Some-pop.ensures.claims in
+    let popped = place_on c.go_back.new.self c.args.self.now.line in
+    let off = rw c.in-Some-2.is at c.in_ok-frame-in-Some.ensures.some in
+    let b = is_back_from I C lines c.args.self.now.path c.go_back.new.self c.args.self.now.line f p.path off in
     on_back I C lines here p c.resume.new.log.lines popped
     (place_of c.resume.new.self) f
-    c.in-Some.k c.args.meter.now c.in-Some.is c.in-Some-pop.ensures.items b
-    (rw c.note-in-Some-pop.ensures at c.in_ok-resume-in-Some-pop.ensures.ahead)
+    c.in-Some.k c.args.meter.now c.in-Some.is off.frames b
+    (rw c.in_ok-note-in-Some-2.ensures at c.in_ok-resume-in-Some-2.ensures.ahead)
 
-pub returns-in-None-pop-clause-turned : goal.returns-in-None-pop-clause-turned
-returns-in-None-pop-clause-turned c =
-    let k = c.in-None-pop.ensures.cases in
+pub returns-in-None-2-clause-turned : goal.returns-in-None-2-clause-turned
+returns-in-None-2-clause-turned c =
     let here = place_of c.args.self.now in
+    let none = rw c.in-None-2.is at c.in_ok-frame-in-Some.ensures.none in
     record {
       found = root_refuted c.args.task.now.instance.now c.args.task.now.capacity c.args.log.now.lines here
-          c.requires.place c.in-Some.k c.in-Some.is
-          (nothing_in c.args.self.now.path.frames.items (omega (arith, k.0, c.args.self.now.path.frames.ok.0)));
+          c.requires.place c.in-Some.k c.in-Some.is none.0;
       spent = tt;
     }
 
@@ -124,7 +116,7 @@ pub open-requires-clause-under : goal.open-requires-clause-under
 open-requires-clause-under c =
     let path = c.args.self.now.path in
     under_last c.args.task.now.instance.now c.args.task.now.capacity c.args.log.now.lines
-    (last_claim path.sky.claims) (above_of path.sky.claims) path.frames.items c.requires.place.path.descends
+    (last_claim path.sky.claims) (above_of path.sky.claims) path.frames c.requires.place.path.descends
 
 pub open-requires-clause-raised : goal.open-requires-clause-raised
 open-requires-clause-raised c = λ levels a.
@@ -133,7 +125,7 @@ open-requires-clause-raised c = λ levels a.
     let p = c.requires.place.path in
     let s = rw (c.instance.ensures.value, p.subject) at c.instance.ensures.stands in
     (are_raised I c.args.task.now.capacity c.args.log.now.lines l levels (above_of c.args.self.now.path.sky.claims)
-    c.args.self.now.path.frames.items (is_instance I l s) p.descends a)
+    c.args.self.now.path.frames (is_instance I l s) p.descends a)
 
 pub returns-in_err-k-in-None-clause-used : goal.returns-in_err-k-in-None-clause-used
 returns-in_err-k-in-None-clause-used c =
@@ -252,5 +244,5 @@ pub returns-in_ok-seats-in-Empty-clause-counted : goal.returns-in_ok-seats-in-Em
 returns-in_ok-seats-in-Empty-clause-counted c =
     let n = ap length c.in_ok-seats-in-Empty.ensures.emptied in
     counted_with c.args.meter.now c.open.new.meter (length c.args.log.now.lines) (length c.open.new.log.lines + 0)
-    (length c.args.self.now.path.frames.items) (length c.open.new.log.lines + length c.seats.new.path.frames.items)
+    (length c.args.self.now.path.frames) (length c.open.new.log.lines + length c.seats.new.path.frames)
     (rw c.in-Empty.is at c.in_ok-k-in-None.ensures.counted) (omega (arith, n))

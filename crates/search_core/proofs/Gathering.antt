@@ -1,0 +1,90 @@
+-- A layout of the first claim, from offsets that are written on the way back from an empty one.
+use Rattle.std.proofs.Common.{◌≡◌, ℕ, ◌<◌, List, [], length, reverse, Some, None, slice_set, refl, sym, ap, ◌∙◌, subst, arith}
+use Rattle.std.proofs.lemmas.List.{length-set}
+use Rattle.dsa_terms.specs.Buffers.{Instance}
+use Rattle.dsa_terms.specs.Claims.{Claim, child, up}
+use Rattle.dsa_terms.specs.Logs.{Line}
+use Rattle.dsa_terms.specs.Search.{first, seated}
+use Rattle.dsa_search_laws.proofs.Search.{first_empty}
+use Rattle.canonical_order.specs.Claims.{HasBuffer, entry_of}
+use Rattle.canonical_order.specs.Stands.{Stands}
+use Rattle.canonical_order.proofs.Entries.{in_range}
+use Rattle.skyline.specs.Skies.{last_claim}
+use Rattle.search_core.specs.Descents.{Descends, IsPath, above_of, sky_root}
+use Rattle.search_core.specs.Seats.{seats_by}
+use Rattle.search_core.specs.Tries.{Tried, chosen_of}
+use Rattle.search_core.specs.Walks.{place_on}
+use Rattle.search_core.specs.Ways.{IsBackBy, Way}
+use Rattle.search_core.proofs.Descending.{IsBack, no_above}
+use Rattle.search_core.proofs.Searching.{chosen_in, layout_found}
+use Rattle.search_core.proofs.Seating.{seated_by, seats_of_none}
+use Rattle.search_core.proofs.Stepping.{is_back_from}
+
+-- the last claim of the way
+abbrev last_on : Way → Claim
+last_on way = last_claim way.sky.claims
+
+module _ (I : Instance) (C : ℕ) (lines : List Line) where
+  -- the first claim of the way is the top, and the first layout of the last one is by the offsets
+  pub record IsGathering (top : Claim) (way : Way) (offsets : List ℕ) : Type 0 where
+    pub path : IsPath I C lines (place_on way None)
+    pub root : sky_root way.sky ≡ top
+    pub count : length offsets ≡ length I
+    pub found : first I C (last_claim way.sky.claims) ≡ Some (seats_by offsets (last_claim way.sky.claims))
+
+  -- at an empty claim any offsets do
+  pub gathering_start : (way : Way) (offsets : List ℕ) → IsPath I C lines (place_on way None) →
+      first I C (last_claim way.sky.claims) ≡ Some [] → length offsets ≡ length I →
+      IsGathering (sky_root way.sky) way offsets
+  gathering_start way offsets p e n = record {
+    path = p;
+    root = refl;
+    count = n;
+    found = subst (λ (l : Claim). first I C l ≡ Some (seats_by offsets l)) (sym (seats_of_none I C (last_on way) e))
+        (first_empty I C);
+  }
+
+  -- a step back
+  module _ (top : Claim) (before after : Way) (offsets : List ℕ) (b : ℕ) (g : IsGathering top before offsets)
+      (h : IsBackBy before after b) where
+    back : IsBack I C lines (place_on before None) (place_on after None) h.f
+    back = is_back_from I C lines before after None h.f g.path h.back
+
+    pub gathering_has : HasBuffer (last_claim after.sky.claims) b
+    gathering_has = subst (HasBuffer (last_on after)) (sym h.chosen)
+        (chosen_in I C (last_on after) lines h.f back.trying back.standing.is_left)
+
+    pub gathering_within : Stands after.sky.instance (last_claim after.sky.claims) → b < length offsets
+    gathering_within s =
+        let lt = in_range after.sky.instance (last_on after) b s gathering_has in
+        let n = g.count in
+        let m = ap length back.path.subject in
+        omega (arith, lt, n, m)
+
+    pub gathering_next : (low : ℕ) → Stands after.sky.instance (last_claim after.sky.claims) →
+        low ≡ up after.sky.instance (entry_of (last_claim after.sky.claims) b) →
+        IsGathering top after (slice_set offsets b low)
+    gathering_next low s e = record {
+      path = back.path;
+      root = sym back.root ∙ g.root;
+      count = length-set offsets b low ∙ g.count;
+      found = layout_found I C l lines h.f (seats_by offsets (child I l (entry_of l (chosen_of h.f))))
+          (seats_by (slice_set offsets b low) l) back.trying back.standing.is_left
+          (subst (λ (m : Claim). first I C m ≡ Some (seats_by offsets m)) back.standing.is_child g.found)
+          (subst (λ (c : ℕ). seated I l (entry_of l c) (Some (seats_by offsets (child I l (entry_of l c))))
+          ≡ Some (seats_by (slice_set offsets b low) l)) h.chosen (seated_by I l offsets b low (gathering_within s) low_is));
+    }
+      where
+        l : Claim
+        l = last_on after
+
+        low_is : low ≡ up I (entry_of l b)
+        low_is = e ∙ ap (λ (J : Instance). up J (entry_of l b)) back.path.subject
+
+  pub all_gathered : (top : Claim) (way : Way) (offsets : List ℕ) → IsGathering top way offsets → way.frames ≡ [] →
+      first I C top ≡ Some (seats_by offsets (last_claim way.sky.claims))
+  all_gathered top way offsets g e =
+      subst (λ (l : Claim). first I C l ≡ Some (seats_by offsets (last_on way)))
+      (sym (no_above I C lines (last_on way) (above_of way.sky.claims)
+      (subst (λ (fs : List Tried). Descends I C lines (last_on way) (above_of way.sky.claims) (reverse fs)) e
+      g.path.descends)) ∙ g.root) g.found

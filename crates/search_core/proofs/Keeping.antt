@@ -1,0 +1,225 @@
+-- What is kept of the choices of claims, and what is made again.
+use Rattle.std.proofs.Common.{◌≡◌, ℕ, zero, suc, ◌+◌, ◌-◌, ◌<◌, ◌==◌, Bool, true, false, cond, List, [], ◌∷◌, ◌++◌, length, map, slice_get, slice_index_or, slice_set, IfSome, Some, inl, inr, refl, sym, ap, ◌∙◌, subst, arith, length-append}
+use Rattle.std.proofs.lemmas.List.{ext_get_or, get_or_append_left, get_or_push, get_or-set_other, length-set}
+use Rattle.std.proofs.lemmas.List.FromFn.{get_or-map-range_with_len, length-map-range_with_len}
+use Rattle.std.proofs.lemmas.Grind.{get_or-set_at}
+use Rattle.std.proofs.Math.Seq.{map-set_same}
+use Rattle.dsa_terms.specs.Buffers.{Instance}
+use Rattle.dsa_terms.specs.Claims.{Claim, buffers_of, number_of, up}
+use Rattle.dsa_terms.specs.Search.{choices, not_excluded}
+use Rattle.dsa_terms.proofs.NumberTests.{below_or_last, equal, same, same_or_not}
+use Rattle.canonical_order.specs.Claims.{HasBuffer, entry_of}
+use Rattle.canonical_order.specs.Levels.{AreLevels}
+use Rattle.canonical_order.proofs.LevelLemmas.{has_or_not}
+use Rattle.skyline.specs.Skies.{last_claim}
+use Rattle.search_core.specs.declared.branches.Branches.{Branches}
+use Rattle.search_core.specs.declared.kept.Kept.{Kept}
+use Rattle.search_core.specs.declared.notes.Notes.{Notes}
+use Rattle.search_core.specs.Tries.{Tried}
+use Rattle.search_core.specs.Ways.{AreBranches, AreKeptAlong, IsKeptOf, claim_no, level_of, levels_of, notes_of, order_of, tried_by, tried_of, tries_of}
+use Rattle.search_core.proofs.LiftedChoices.{buffers_of_entries}
+
+-- ---- the levels and the choices of a claim are all there are
+level_inside : (I : Instance) (l : Claim) (b : ℕ) → HasBuffer l b → level_of I l b ≡ up I (entry_of l b) + 1
+level_inside I [] b h = absurd h
+level_inside I (e ∷ es) b h = go (level_inside I es b) (e.0 == b) refl
+  where
+    go : (HasBuffer es b → level_of I es b ≡ up I (entry_of es b) + 1) → (t : Bool) → (e.0 == b) ≡ t →
+        cond t (up I e + 1) (level_of I es b) ≡ up I (b, cond t e.1 (number_of es b)) + 1
+    go ih true q = ap (λ (n : ℕ). up I (n, e.1) + 1) (equal e.0 b q)
+    go ih false q = elim h [
+      | inl p ↦ absurd (let k = same e.0 b (sym p) in let r = sym q ∙ k in cc)
+      | inr i ↦ ih i
+    ]
+
+level_outside : (I : Instance) (l : Claim) (b : ℕ) → (HasBuffer l b → ⊥) → level_of I l b ≡ 0
+level_outside I [] b n = refl
+level_outside I (e ∷ es) b n = go (level_outside I es b (λ i. n (inr i))) (e.0 == b) refl
+  where
+    go : level_of I es b ≡ 0 → (t : Bool) → (e.0 == b) ≡ t → cond t (up I e + 1) (level_of I es b) ≡ 0
+    go ih true q = absurd (n (inl (sym (equal e.0 b q))))
+    go ih false q = ih
+
+pub levels_are : (I : Instance) (l : Claim) (levels : List ℕ) → AreLevels I l levels → levels ≡ levels_of I l
+levels_are I l levels h =
+    ext_get_or 0 levels (levels_of I l) (h.count ∙ sym (length-map-range_with_len (level_of I l) 0 (length I))) each
+  where
+    each : (b : ℕ) → b < length levels → slice_index_or levels b 0 ≡ slice_index_or (levels_of I l) b 0
+    each b lt =
+        let within : b < length I = (let k = h.count in omega arith) in
+        let made : slice_index_or (levels_of I l) b 0 ≡ level_of I l b =
+        get_or-map-range_with_len (level_of I l) 0 (length I) b b 0 within (omega arith) in
+        elim (has_or_not l b) [
+          | inl i ↦ (h.each b within).inside i ∙ sym (level_inside I l b i) ∙ sym made
+          | inr n ↦ (h.each b within).outside n ∙ sym (level_outside I l b n) ∙ sym made
+        ]
+
+pub order_is : (I : Instance) (l : Claim) (order : List ℕ) → map (entry_of l) order ≡ choices I (not_excluded I) l →
+    order ≡ order_of I l
+order_is I l order q = sym (buffers_of_entries l order) ∙ ap buffers_of q
+
+-- so branches of the claim, with notes, are the tries of the claim that are noted so
+pub tries_are : (I : Instance) (l : Claim) (b : Branches) (n : Notes) → AreBranches I l b →
+    tried_by b n ≡ tried_of I l n
+tries_are I l b n h = put (order_is I l b.order.items h.order) (levels_are I l b.levels h.levels)
+  where
+    put : {order : List ℕ} {levels : List ℕ} → b.order.items ≡ order → b.levels ≡ levels → tried_by b n ≡ record {
+      order = order;
+      refuted = n.refuted.items;
+      levels = levels;
+      asked = n.asked;
+    }
+    put p q = rw (← p, ← q) refl
+
+-- the branches of a frame
+pub branches_from : (I : Instance) (l : Claim) (f : Tried) (b : Branches) (n : Notes) → f ≡ tried_by b n →
+    map (entry_of l) f.order ≡ choices I (not_excluded I) l → AreLevels I l f.levels → AreBranches I l b
+branches_from I l f b n e order levels = record {
+  order = subst (λ (f : Tried). map (entry_of l) f.order ≡ choices I (not_excluded I) l) e order;
+  levels = subst (λ (f : Tried). AreLevels I l f.levels) e levels;
+}
+
+-- ---- tries along claims
+last_of_more : (l m : Claim) (ls : List Claim) → last_claim (l ∷ m ∷ ls) ≡ last_claim (m ∷ ls)
+last_of_more l m ls =
+    let p : length (l ∷ m ∷ ls) - 1 ≡ suc (length ls) = omega arith in
+    let q : length (m ∷ ls) - 1 ≡ length ls = omega arith in
+    ap (claim_no (l ∷ m ∷ ls)) p ∙ sym (ap (claim_no (m ∷ ls)) q)
+
+pub tries_push : (I : Instance) (claims : List Claim) (ns : List Notes) (c : Claim) (n : Notes) →
+    length ns + 1 ≡ length claims →
+    tries_of I (claims ++ c ∷ []) (ns ++ n ∷ []) ≡ tries_of I claims ns ++ tried_of I (last_claim claims) n ∷ []
+tries_push I [] ns c n e = absurd (omega (arith, e))
+tries_push I (l ∷ []) [] c n e = refl
+tries_push I (l ∷ []) (x ∷ xs) c n e = absurd (omega (arith, e))
+tries_push I (l ∷ m ∷ ls) [] c n e = absurd (omega (arith, e))
+tries_push I (l ∷ m ∷ ls) (x ∷ xs) c n e =
+    ap (λ fs. tried_of I l x ∷ fs) (tries_push I (m ∷ ls) xs c n (omega (arith, e)))
+    ∙ ap (λ (k : Claim). tried_of I l x ∷ (tries_of I (m ∷ ls) xs ++ tried_of I k n ∷ [])) (sym (last_of_more l m ls))
+
+pub no_tries : (I : Instance) (claims : List Claim) → tries_of I claims [] ≡ []
+no_tries I [] = refl
+no_tries I (l ∷ ls) = refl
+
+notes_push : (kept : List Kept) (k : Kept) → notes_of (kept ++ k ∷ []) ≡ notes_of kept ++ k.notes ∷ []
+notes_push [] k = refl
+notes_push (x ∷ xs) k = ap (λ ns. x.notes ∷ ns) (notes_push xs k)
+
+notes_count : (kept : List Kept) → length (notes_of kept) ≡ length kept
+notes_count [] = refl
+notes_count (x ∷ xs) = let e = notes_count xs in omega (arith, e)
+
+-- the tries of one claim
+pub tries_get : (I : Instance) (claims : List Claim) (kept : List Kept) (i : ℕ) (d : Kept) → i < length kept →
+    length kept < length claims →
+    slice_get (tries_of I claims (notes_of kept)) i ≡ Some (tried_of I (claim_no claims i) (slice_index_or kept i d).notes)
+tries_get I [] ks i d lt few = absurd (omega arith)
+tries_get I (l ∷ ls) [] i d lt few = absurd (omega arith)
+tries_get I (l ∷ ls) (k ∷ ks) zero d lt few = refl
+tries_get I (l ∷ ls) (k ∷ ks) (suc i) d lt few = tries_get I ls ks i d (omega arith) (omega arith)
+
+pub tries_count : (I : Instance) (claims : List Claim) (kept : List Kept) → length kept < length claims →
+    length (tries_of I claims (notes_of kept)) ≡ length kept
+tries_count I [] ks few = absurd (omega arith)
+tries_count I (l ∷ ls) [] few = refl
+tries_count I (l ∷ ls) (k ∷ ks) few = let e = tries_count I ls ks (omega arith) in omega (arith, e)
+
+-- ---- what is kept along claims
+module _ (I : Instance) (claims : List Claim) (kept : List Kept) (c : Claim) (k : Kept) where
+  last_no : (n : ℕ) → n + 1 ≡ length claims → claim_no claims n ≡ last_claim claims
+  last_no n e = ap (claim_no claims) (let m : n ≡ length claims - 1 = omega (arith, e) in m)
+
+  pub push_kept : AreKeptAlong I claims kept → IsKeptOf I (last_claim claims) c k →
+      AreKeptAlong I (claims ++ c ∷ []) (kept ++ k ∷ [])
+  push_kept h last = record {
+    count = let m = length-append kept (k ∷ []) in let n = length-append claims (c ∷ []) in let e = h.count in omega arith;
+    each = each;
+  }
+    where
+      each : (i : ℕ) (d : Kept) → i < length (kept ++ k ∷ []) →
+          IsKeptOf I (claim_no (claims ++ c ∷ []) i) (claim_no (claims ++ c ∷ []) (i + 1))
+          (slice_index_or (kept ++ k ∷ []) i d)
+      each i d lt =
+          let m = length-append kept (k ∷ []) in
+          let e = h.count in
+          elim (below_or_last i (length kept) (omega arith)) [
+            | inl below ↦
+                let p : claim_no (claims ++ c ∷ []) i ≡ claim_no claims i =
+                get_or_append_left claims (c ∷ []) [] i (omega arith) in
+                let q : claim_no (claims ++ c ∷ []) (i + 1) ≡ claim_no claims (i + 1) =
+                get_or_append_left claims (c ∷ []) [] (i + 1) (omega arith) in
+                let r : slice_index_or (kept ++ k ∷ []) i d ≡ slice_index_or kept i d =
+                get_or_append_left kept (k ∷ []) d i below in
+                rw (p, q, r) (h.each i d below)
+            | inr is ↦
+                let p : claim_no (claims ++ c ∷ []) i ≡ last_claim claims =
+                get_or_append_left claims (c ∷ []) [] i (omega arith) ∙ last_no i (omega arith) in
+                let q : claim_no (claims ++ c ∷ []) (i + 1) ≡ c = get_or_push claims c [] (i + 1) (omega arith) in
+                let r : slice_index_or (kept ++ k ∷ []) i d ≡ k = get_or_push kept k d i (omega arith) in
+                rw (p, q, r) last
+          ]
+
+  pub pop_kept : AreKeptAlong I (claims ++ c ∷ []) (kept ++ k ∷ []) → AreKeptAlong I claims kept
+  pop_kept h =
+      let m = length-append kept (k ∷ []) in
+      let n = length-append claims (c ∷ []) in
+      let e = h.count in
+      record {
+        count = omega arith;
+        each = λ i d lt.
+            let p : claim_no (claims ++ c ∷ []) i ≡ claim_no claims i =
+            get_or_append_left claims (c ∷ []) [] i (omega arith) in
+            let q : claim_no (claims ++ c ∷ []) (i + 1) ≡ claim_no claims (i + 1) =
+            get_or_append_left claims (c ∷ []) [] (i + 1) (omega arith) in
+            let r : slice_index_or (kept ++ k ∷ []) i d ≡ slice_index_or kept i d =
+            get_or_append_left kept (k ∷ []) d i lt in
+            rw (p, q, r) at (h.each i d (omega arith));
+      }
+
+  pub last_kept : AreKeptAlong I (claims ++ c ∷ []) (kept ++ k ∷ []) → IsKeptOf I (last_claim claims) c k
+  last_kept h =
+      let m = length-append kept (k ∷ []) in
+      let n = length-append claims (c ∷ []) in
+      let e = h.count in
+      let i = length kept in
+      let p : claim_no (claims ++ c ∷ []) i ≡ last_claim claims =
+      get_or_append_left claims (c ∷ []) [] i (omega arith) ∙ last_no i (omega arith) in
+      let q : claim_no (claims ++ c ∷ []) (i + 1) ≡ c = get_or_push claims c [] (i + 1) (omega arith) in
+      let r : slice_index_or (kept ++ k ∷ []) i k ≡ k = get_or_push kept k k i refl in
+      rw (p, q, r) at (h.each i k (omega arith))
+
+  pub pushed_tries : AreKeptAlong I claims kept →
+      tries_of I (claims ++ c ∷ []) (notes_of (kept ++ k ∷ [])) ≡
+      tries_of I claims (notes_of kept) ++ tried_of I (last_claim claims) k.notes ∷ []
+  pushed_tries h =
+      ap (tries_of I (claims ++ c ∷ [])) (notes_push kept k)
+      ∙ tries_push I claims (notes_of kept) c k.notes
+      (let e = h.count in let n = notes_count kept in omega arith)
+
+-- other branches at one place
+pub set_kept : (I : Instance) (claims : List Claim) (kept : List Kept) (i : ℕ) (k old : Kept) → i < length kept →
+    old ≡ slice_index_or kept i old → k.notes ≡ old.notes → k.chosen ≡ old.chosen → IfSome k.branches (AreBranches I (claim_no claims i)) →
+    AreKeptAlong I claims kept → AreKeptAlong I claims (slice_set kept i k)
+set_kept I claims kept i k old lt is same_notes same_choice b h = record {
+  count = let n : length (slice_set kept i k) ≡ length kept = length-set kept i k in let e = h.count in omega arith;
+  each = λ j d within.
+      let n : length (slice_set kept i k) ≡ length kept = length-set kept i k in
+      elim (same_or_not j i) [
+        | inl e ↦
+            let r : slice_index_or (slice_set kept i k) j d ≡ k = get_or-set_at kept i j k d e lt in
+            let o : IsKeptOf I (claim_no claims i) (claim_no claims (i + 1)) old =
+            subst (IsKeptOf I (claim_no claims i) (claim_no claims (i + 1))) (sym is) (h.each i old lt) in
+            rw (r, e) (record {
+              branches = b;
+              standing = rw same_notes o.standing;
+              chosen = same_choice ∙ (rw same_notes o.chosen);
+            })
+        | inr ne ↦
+            let r : slice_index_or (slice_set kept i k) j d ≡ slice_index_or kept j d = get_or-set_other kept i j k d ne in
+            rw r (h.each j d (omega arith))
+      ];
+}
+
+pub set_notes : (kept : List Kept) (i : ℕ) (k old : Kept) → i < length kept → old ≡ slice_index_or kept i old →
+    k.notes ≡ old.notes → notes_of (slice_set kept i k) ≡ notes_of kept
+set_notes kept i k old lt is e = map-set_same (λ (k : Kept). k.notes) kept i k old (e ∙ ap (λ (k : Kept). k.notes) is)

@@ -1,0 +1,47 @@
+-- What the claim of a buffer of size 3 and of one of size 1 that stands at multiples of 4 alone decides of its choices,
+-- and what is left of it by the first of them.
+use Rattle.std.proofs.Common.{◌≡◌, [], ◌∷◌, refl, arith}
+use Rattle.dsa_terms.specs.Buffers.{buffer, do_share, have_same_moments, is_live, some_before}
+use Rattle.dsa_terms.specs.Claims.{child, step, up}
+use Rattle.dsa_terms.specs.Logs.{ends_below, is_twin}
+use Rattle.dsa_terms.specs.Search.{comes_before}
+use Rattle.dsa_terms.proofs.Examples.{small_below}
+use Rattle.search_core.specs.declared.notes.Notes.{Notes}
+use Rattle.search_core.specs.Descents.{IsStanding}
+use Rattle.search_core.specs.Ways.{level_of, levels_of, order_of, tried_of, tries_of}
+use Rattle.search_core.proofs.LevelFacts.{rest, root}
+use Rattle.search_core.proofs.TryFacts.{both_left}
+
+-- ---- levels
+both_at_0 : levels_of small_below root ≡ 1 ∷ 1 ∷ []
+unfolding up buffer
+both_at_0 = refl
+
+-- the one that is not in the claim has none, and the bound 3 of the other one is met at 4
+one_at_4 : levels_of small_below rest ≡ 0 ∷ 5 ∷ []
+unfolding up buffer
+one_at_4 = refl
+
+no_third : level_of small_below rest 2 ≡ 0
+no_third = refl
+
+-- ---- choices
+both_in_order : order_of small_below root ≡ 0 ∷ 1 ∷ []
+unfolding comes_before ends_below is_twin have_same_moments some_before is_live up buffer
+both_in_order = refl
+
+-- ---- tries
+module _ (n : Notes) (none : n.refuted.items ≡ []) (asked : n.asked ≡ 0) where
+  none_refuted : tried_of small_below root n ≡ both_left 0
+  unfolding comes_before ends_below is_twin have_same_moments some_before is_live up buffer
+  none_refuted = rw (none, asked) refl
+
+  -- the last claim has none
+  of_the_first_alone : tries_of small_below (root ∷ rest ∷ []) (n ∷ []) ≡ both_left 0 ∷ []
+  unfolding comes_before ends_below is_twin have_same_moments some_before is_live up buffer
+  of_the_first_alone = rw (none, asked) refl
+
+-- what is left by the first choice
+rest_stands : IsStanding small_below root (both_left 0) rest
+unfolding child step do_share some_before is_live up buffer
+rest_stands = record { is_left = omega arith; is_child = refl }

@@ -1,0 +1,22 @@
+use Rattle.search_core.proofs.Leveling.{lifted_levels}
+use Rattle.search_core.proofs.LiftedChoices.{lifted_order}
+use Rattle.search_core.proofs.branches.Branches.of.Goals as goal
+
+pub invariant_of-view : goal.invariant_of-view
+invariant_of-view c =
+    let I = c.args.task.now.instance.now in
+    let q = c.ground.ensures.value I c.requires.0 c.requires.1 in
+    rw q (record {
+      leveled = lifted_levels I c.requires.0 c.args.levels (λ k d i. (c.len-count.ensures.buffers k d i).sound)
+          c.requires.1;
+    })
+
+pub returns-clause-branches : goal.returns-clause-branches
+returns-clause-branches c = λ l h.
+    let I = c.args.task.now.instance.now in
+    let q = c.ground.ensures.value I l h in
+    record {
+      order = lifted_order I l c.in_ok-order.order.items (λ k d i. (c.len-count.ensures.buffers k d i).sound)
+          h.claim.rises (rw q at c.in_ok-order.ensures);
+      levels = h;
+    }

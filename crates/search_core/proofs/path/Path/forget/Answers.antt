@@ -1,0 +1,15 @@
+use Rattle.std.proofs.Common.{◌∙◌, ◌-◌, List, ap, arith}
+use Rattle.search_core.specs.declared.kept.Kept.{Kept}
+use Rattle.search_core.specs.declared.notes.Notes.{Notes}
+use Rattle.search_core.specs.Ways.{Way, tries_of}
+use Rattle.search_core.proofs.Keeping.{set_notes}
+use Rattle.search_core.proofs.path.Path.forget.Goals as goal
+
+pub returns-then-far-ne0 : goal.returns-then-far-ne0
+returns-then-far-ne0 c =
+    let sky = c.self.inside.sky in
+    ap (λ (ns : List Notes). let w : Way = record { sky = sky; frames = tries_of sky.instance sky.claims ns } in w)
+    (set_notes c.self.inside.kept.items (c.len-far.result - 256) c.forget.new.self c.index_mut.result.now
+    (let k = c.self.inside.kept.ok.0 in let t = c.if-len-ge-NEAR.true in let a = c.len.ensures in let b = c.len-far.ensures in omega arith) c.index_mut.ensures.value
+    (ap (λ (k : Kept). k.notes) c.forget.ensures))
+    ∙ c.self.view_is
