@@ -14,12 +14,13 @@ use Rattle.dsa_terms.proofs.Ranges.{from_range, into_range}
 use Rattle.dsa_start_laws.proofs.Fits.{into_ordered_by}
 use Rattle.dsa_start_laws.proofs.Orders.{from_ordered_by}
 use Rattle.dsa_start_laws.proofs.Planned.{best_start_is_lowest}
-use Rattle.dsa_model.specs.Buffer.{IsBuffer}
+use Rattle.dsa_model.specs.Buffer.{IsBuffer, buffer_limit}
 use Rattle.dsa_model.proofs.Instances.{sound_instance}
 use Rattle.first_fit.specs.Rules.{IsOrderOf}
 use Rattle.first_fit.proofs.Fitting.{first_is_low, fitting_limit}
 
-abbrev by_size : Instance → List ℕ
+-- the order of the first start: by size falling
+abbrev pub by_size : Instance → List ℕ
 by_size I = ordered_by (falls_by (λ (b : Buffer). b.size) I) (numbers (length I))
 
 length_put : (before : ℕ → ℕ → Bool) (b : ℕ) (cs : List ℕ) → length (put_by before b cs) ≡ suc (length cs)
@@ -46,7 +47,8 @@ is_order I = record {
       (into_range (length I) 0 b (omega arith) (omega arith));
 }
 
-first_low : (I : Instance) → All IsBuffer I → length I ≤ 512 → layout_height I (first_fit I (by_size I)) < 2 ^ 54
+-- the first start ends below 2 ^ 54
+pub first_low : (I : Instance) → All IsBuffer I → length I ≤ buffer_limit → layout_height I (first_fit I (by_size I)) < 2 ^ 54
 unfolding first_fit
 first_low I all few = fitting_limit I first_place (by_size I) (first_fit I (by_size I))
     (first_is_low I (sound_instance I all)) all (is_order I) few refl
@@ -55,7 +57,7 @@ first_is_start : (I : Instance) → IsIn (first_fit I (by_size I)) (starts I)
 unfolding starts orders
 first_is_start I = inl refl
 
-pub best_low : (I : Instance) → All IsBuffer I → length I ≤ 512 → layout_height I (best_start I) < 2 ^ 54
+pub best_low : (I : Instance) → All IsBuffer I → length I ≤ buffer_limit → layout_height I (best_start I) < 2 ^ 54
 best_low I all few =
     let low = first_low I all few in
     let le = best_start_is_lowest I (first_fit I (by_size I)) (first_is_start I) in

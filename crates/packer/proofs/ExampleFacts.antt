@@ -233,8 +233,14 @@ two_of_twelve = refl
 few_of_many : placing_steps 1000000 ≡ 65536
 few_of_many = refl
 
-nine_for_512 : placing_cost 512 ≡ 9
-nine_for_512 = refl
+one_for_362 : placing_cost 362 ≡ 1
+one_for_362 = refl
+
+two_for_363 : placing_cost 363 ≡ 2
+two_for_363 = refl
+
+many_for_4096 : placing_cost 4096 ≡ 129
+many_for_4096 = refl
 
 ten_of_twelve : AreUsedUp 12 3 13
 ten_of_twelve = refl

@@ -8,7 +8,7 @@ use Rattle.dsa_terms.specs.Plans.{layout_height}
 use Rattle.dsa_terms.specs.Starts.{best_start}
 use Rattle.dsa_terms.proofs.Lists.{same_some}
 use Rattle.dsa_start_laws.proofs.Stacks.{bound_is_low}
-use Rattle.dsa_model.specs.Buffer.{IsBuffer}
+use Rattle.dsa_model.specs.Buffer.{IsBuffer, buffer_limit}
 use Rattle.first_fit.specs.Starts.{IsStart}
 use Rattle.first_fit.specs.declared.start_list.Start.{Start}
 use Rattle.min_capacity.specs.Brackets.{Refutes}
@@ -109,7 +109,7 @@ decided_at_once I C steps (decision.Refuted log) sound h bound few closed = refu
 decided_at_once I C steps (decision.Open b) sound h bound few closed = absurd (closed b refl)
 
 -- ---- it stays open
-opens : (I : Instance) (b : Bracket) (log : Log) → All IsBuffer I → length I ≤ 512 → b.log ≡ Some log →
+opens : (I : Instance) (b : Bracket) (log : Log) → All IsBuffer I → length I ≤ buffer_limit → b.log ≡ Some log →
     StaysOpen I b.low b.high b.layout.items log → b.low ≡ lower_bound I → IsBoundLog I (b.low - 1) log →
     b.high ≤ layout_height I (best_start I) → IsOpenFrom I b
 opens I b log all few e s low bound high =
@@ -134,7 +134,7 @@ opens I b log all few e s low bound high =
       limit = omega arith;
     }
 
-pub open_from : (I : Instance) (b : Bracket) → All IsBuffer I → length I ≤ 512 → IsOpenAfter I (Some 0) b →
+pub open_from : (I : Instance) (b : Bracket) → All IsBuffer I → length I ≤ buffer_limit → IsOpenAfter I (Some 0) b →
     IsWithinSteps I (Some 0) b → IsOpenFrom I b
 open_from I b all few h w =
     let refuted = h.stays_open.refuted_below in
@@ -143,19 +143,17 @@ open_from I b all few h w =
     let at = at_bound I b.low h.below_log h.stays_open.positive refuted.its_capacity below in
     opens I b h.below_log all few h.its_log h.stays_open at.0 at.1 h.to_best
 
-pub open_at : (I : Instance) (C : ℕ) (b : Bracket) → All IsBuffer I → length I ≤ 512 → IsSpentAt I C (Some 0) b →
+pub open_at : (I : Instance) (C : ℕ) (b : Bracket) → All IsBuffer I → length I ≤ buffer_limit → IsSpentAt I C (Some 0) b →
     IsOpenFrom I b
 open_at I C b all few h = opens I b h.bound_log all few h.its_log h.stays_open h.low_is_bound h.by_bound
     (let e = h.high_is_best in omega arith)
 
--- ---- with a layout that is no higher
-pub lowered : (I : Instance) (b : Bracket) (s : Start) → IsInstance I → IsOpenFrom I b → IsStart I s →
-    s.height ≤ b.high → IsOpenFrom I (record b { high = s.height; layout = s.offsets })
-lowered I b s sound h start le =
+-- ---- with a layout that is no higher than the best start
+pub with_start : (I : Instance) (b : Bracket) (s : Start) → IsInstance I → IsOpenFrom I b → IsStart I s →
+    s.height ≤ layout_height I (best_start I) → IsOpenFrom I (record b { high = s.height; layout = s.offsets })
+with_start I b s sound h start le =
     let bound = bound_is_low I s.height sound (s.offsets.items, start.layout) in
     let at = h.at_bound in
-    let limit = h.bracket.limit in
-    let best = h.to_best in
     record {
       bracket = record {
         ordered = omega arith;
@@ -169,10 +167,6 @@ lowered I b s sound h start le =
       bound_log = h.bound_log;
       its_log = h.its_log;
       by_bound = h.by_bound;
-      to_best = omega arith;
+      to_best = le;
       limit = start.limit;
     }
-
--- what is improved
-pub start_of : (I : Instance) (b : Bracket) → IsOpenFrom I b → IsStart I (record { height = b.high; offsets = b.layout })
-start_of I b h = record { height = sym h.bracket.height; limit = h.limit; layout = h.bracket.layout }

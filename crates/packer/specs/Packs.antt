@@ -1,5 +1,5 @@
 -- What packing comes to within a number of steps: a layout that need not be the plan, and a log without needless lines.
-use Rattle.std.specs.Prelude.{◌≡◌, ℕ, ◌+◌, ◌-◌, ◌/◌, ◌^◌, ◌<◌, ◌≤◌, ◌↔◌, ◌⊎◌, [], length, min, Option}
+use Rattle.std.specs.Prelude.{◌≡◌, ℕ, ◌+◌, ◌-◌, ◌*◌, ◌/◌, ◌^◌, ◌<◌, ◌≤◌, ◌↔◌, ◌⊎◌, [], length, min, Option}
 use Rattle.std.specs.declared.option.Option.TheVariants.{Some, None}
 use Rattle.dsa_terms.specs.Bounds.{lower_bound}
 use Rattle.dsa_terms.specs.Buffers.{Instance}
@@ -59,9 +59,9 @@ pub record IsPackedOpen (I : Instance) (steps : ℕ) (b : Bracket) : Type 0 wher
 abbrev pub placing_steps : ℕ → ℕ
 placing_steps steps = min (steps / 6) (2 ^ 16)
 
--- how many steps it counts to place n buffers anew once
+-- how many steps it counts to place n buffers anew once, in which each pair of them may be looked at
 abbrev pub placing_cost : ℕ → ℕ
-placing_cost n = 1 + n / 64
+placing_cost n = 1 + n * n / 2 ^ 17
 
 -- the searches have used all the other steps
 abbrev pub AreUsedUp : (steps before after : ℕ) → Type 0

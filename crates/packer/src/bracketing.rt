@@ -1,6 +1,9 @@
 //! The bracket in which to pack.
 
 ghost use Rattle.std.specs.Prelude.{◌≡◌, ◌-◌, ◌/◌, ◌≤◌, IfOk, length};
+ghost use Rattle.dsa_terms.specs.Plans.{layout_height};
+ghost use Rattle.dsa_terms.specs.Starts.{best_start};
+ghost use Rattle.first_fit.specs.Starts.{IsStart};
 ghost use Rattle.packer.specs.Packs.{placing_cost, placing_steps};
 ghost use Rattle.packer.specs.Starts.{IsOpenFrom};
 
@@ -12,6 +15,37 @@ use std::alloc::Global;
 
 /// The greatest number of steps for placings, so that those that are left reach the searches soon.
 const PLACING_LIMIT: u64 = 1 << 16;
+
+/// How many pairs of buffers are looked at for a step.
+const PAIRS: u64 = 1 << 17;
+
+/// How many steps placing all buffers anew counts as.
+fn placing_cost(instance: &Instance) -> u64
+    ensures { result ≡ placing_cost (length instance.now) }
+{
+    let count = instance.len() as u64;
+    1 + count * count / PAIRS
+}
+
+/// The bracket with the layout of the start. The caller owes one that is no higher than the best of
+/// the six.
+fn with_layout(instance: &Instance, bracket: Bracket, start: Start) -> Bracket
+    requires bracket { IsOpenFrom instance.now bracket }
+    requires start { IsStart instance.now start }
+    requires to_best { start.height ≤ layout_height instance.now (best_start instance.now) }
+    ensures bracket { IsOpenFrom instance.now result }
+    ensures low { result.low ≡ bracket.low }
+    ensures log { result.log ≡ bracket.log }
+{
+    let _count = instance.len();
+    let Bracket { low, log, .. } = bracket;
+    Bracket {
+        low,
+        log,
+        high: start.height,
+        layout: start.offsets,
+    }
+}
 
 /// The bracket with a layout that is found by placing orders, if it is lower, the steps that are
 /// not for placings, and how often all buffers were placed. It stops early at `floor`, in bytes.
@@ -30,26 +64,16 @@ pub(crate) fn improved(
     ensures placings { IfOk result (λ found.
         found.2 ≤ placing_steps steps / placing_cost (length instance.now)) }
 {
-    let _count = instance.len();
-    let Bracket {
-        low,
-        log,
-        high,
-        layout,
-    } = bracket;
-    let start = Start {
-        height: high,
-        offsets: layout,
-    };
     let share = (steps / 6).min(PLACING_LIMIT);
-    let passes = share / (1 + instance.len() as u64 / 64);
-    let found = improve(alloc, instance, start, floor, passes)?;
-    let start = found.start;
-    let lowered = Bracket {
-        low,
-        log,
-        high: start.height,
-        layout: start.offsets,
+    let passes = share / placing_cost(instance);
+    let start = Start {
+        height: bracket.high,
+        offsets: bracket.layout.to_vec(alloc)?,
     };
-    Ok((lowered, steps - share, found.passes))
+    let found = improve(alloc, instance, start, floor, passes)?;
+    Ok((
+        with_layout(instance, bracket, found.start),
+        steps - share,
+        found.passes,
+    ))
 }

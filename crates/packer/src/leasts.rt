@@ -10,7 +10,6 @@ use dsa_model::{Instance, NoMemory};
 use min_capacity::Least;
 use narrowing::{Tries, narrow};
 use planner::least_capacity;
-use portfolio::Portfolio;
 use std::alloc::Global;
 
 /// The lowest layout of the instance that so many steps can find, with a log by which none fits
@@ -18,12 +17,12 @@ use std::alloc::Global;
 /// end at least the lower bound and the upper one at most the best start's height.
 ///
 /// A step is a unit of `tries`, a claim that a search opens; placing all n buffers anew counts as
-/// 1 + n/64, rounded down. A sixth of `steps` is for placings, but at most 2^16; the tries use no
-/// more than the others, and it stays open only where these are used up.
+/// 1 + n^2/2^17, rounded down. A sixth of `steps` is for placings, but at most 2^16; the tries use
+/// no more than the others, and it stays open only where these are used up.
 ///
 /// The caller owes tries of the instance, which may be asked any capacity of at most 2^60, and that
 /// the units do not pass 64 bits.
-pub fn pack_least_with<T: Tries>(
+pub fn pack_least<T: Tries>(
     alloc: Global,
     instance: &Instance,
     steps: u64,
@@ -48,13 +47,4 @@ pub fn pack_least_with<T: Tries>(
         Least::Exact(bracket) => Ok(Least::Exact(brief_bracket(alloc, instance, bracket)?)),
         Least::Open(bracket) => Ok(Least::Open(brief_bracket(alloc, instance, bracket)?)),
     }
-}
-
-/// The same with searches in several orders of the buffers, one after another.
-pub fn pack_least(alloc: Global, instance: &Instance, steps: u64) -> Result<Least, NoMemory>
-    requires { steps ≤ 2 ^ 60 }
-    ensures value { IfOk result (Packs instance.now steps) }
-{
-    let mut portfolio = Portfolio::new(alloc, instance)?;
-    pack_least_with(alloc, instance, steps, &mut portfolio)
 }

@@ -11,7 +11,6 @@ use dsa_model::{Instance, NoMemory};
 use min_capacity::Bracket;
 use narrowing::{Tries, settle};
 use planner::{Decision, plan};
-use portfolio::Portfolio;
 use std::alloc::Global;
 
 /// What the bracket says of the capacity. The caller owes a lower end that is at most one above it.
@@ -45,12 +44,12 @@ fn concluded(
 /// A layout of the instance within the capacity, in bytes, or a log by which there is none; where
 /// neither is found in so many steps, the ends that are reached, between which the capacity lies. A
 /// step is a unit of `tries`, a claim that a search opens; placing all n buffers anew counts as
-/// 1 + n/64, rounded down. A sixth of `steps` is for placings, but at most 2^16; the tries use no
-/// more than the others, and it stays open only where these are used up.
+/// 1 + n^2/2^17, rounded down. A sixth of `steps` is for placings, but at most 2^16; the tries use
+/// no more than the others, and it stays open only where these are used up.
 ///
 /// The caller owes a capacity of at most 2^60, tries of the instance, which may be asked any such
 /// capacity, and that the units do not pass 64 bits.
-pub fn pack_within_with<T: Tries>(
+pub fn pack_within<T: Tries>(
     alloc: Global,
     instance: &Instance,
     capacity: u64,
@@ -77,21 +76,4 @@ pub fn pack_within_with<T: Tries>(
     }
     let bracket = settle(alloc, instance, start, capacity, left, tries)?;
     concluded(alloc, instance, bracket, capacity)
-}
-
-/// The same with searches in several orders of the buffers, one after another.
-///
-/// The caller owes a capacity and a number of steps of at most 2^60.
-pub fn pack_within(
-    alloc: Global,
-    instance: &Instance,
-    capacity: u64,
-    steps: u64,
-) -> Result<Decision, NoMemory>
-    requires capacity { capacity ≤ 2 ^ 60 }
-    requires steps { steps ≤ 2 ^ 60 }
-    ensures value { IfOk result (PacksWithin instance.now capacity steps) }
-{
-    let mut portfolio = Portfolio::new(alloc, instance)?;
-    pack_within_with(alloc, instance, capacity, steps, &mut portfolio)
 }

@@ -1,5 +1,5 @@
 -- What packing comes to, as it is written.
-use Rattle.std.proofs.Common.{◌≡◌, ℕ, ◌<◌, ◌≤◌, List, ◌∷◌, Option, None, Some, refl, subst, inl, inr, sym, arith}
+use Rattle.std.proofs.Common.{◌≡◌, ℕ, ◌<◌, ◌≤◌, List, ◌∷◌, Option, None, Some, Result, Ok, Err, IfOk, refl, subst, inl, inr, sym, arith}
 use Rattle.std.specs.Prelude.{IfSome}
 use Rattle.dsa_terms.specs.Buffers.{Instance}
 use Rattle.dsa_terms.specs.Logs.{Log}
@@ -8,7 +8,13 @@ use Rattle.min_capacity.specs.declared.brackets.Bracket.{Bracket}
 use Rattle.packer.specs.Packs.{IsPackedOpen, IsPackedTight, RefutesOneLess}
 use Rattle.run_status.specs.Spoken.{IsSpoken}
 use Rattle.run_status.specs.declared.status.Status.TheVariants.{Least, Open}
-use Rattle.run_course.specs.Course.{Outcome, writes}
+use Rattle.run_status.specs.declared.status.Status.{Status}
+use Rattle.dsa_model.specs.declared.fail.NoMemory.{NoMemory}
+use Rattle.run_course.specs.Course.{Outcome, Write, writes}
+use Rattle.run_course.specs.Prepares.{outcome_of}
+use Rattle.run_course.specs.declared.prepared.Prepared.{Prepared}
+use Rattle.deciding.proofs.Concluding.{told}
+use Rattle.packing.specs.Used.{IfLeavesOpen}
 use Rattle.writings.specs.Writings.{layout_file}
 use Rattle.deciding.specs.Deciding.{AllReadBack, log_files}
 use Rattle.packing.specs.Packing.{LeavesPackedOpen, Pack, Packs, PacksLeast}
@@ -66,3 +72,15 @@ packed_spoken p table I o (inl h) = subst (λ (o : Outcome). IsSpoken o.status) 
 packed_spoken p table I o (inr (inl h)) = subst (λ (o : Outcome). IsSpoken o.status) (sym h.written) tt
 packed_spoken p table I o (inr (inr (inl h))) = subst (λ (o : Outcome). IsSpoken o.status) (sym h.written) tt
 packed_spoken p table I o (inr (inr (inr h))) = subst (λ (o : Outcome). IsSpoken o.status) (sym h.written) tt
+
+-- ---- where it is left open
+-- a fact holds whatever the outcome
+pub of_each : (P : Type 0) (r : Result Prepared NoMemory) → P → IfOk r (λ p. IfLeavesOpen (outcome_of p) P)
+of_each P (Ok p) holds = λ low high e. holds
+of_each P (Err e) holds = tt
+
+-- and any does where a status is told that leaves nothing open
+pub closed_exhausts : (P : Type 0) (ws : List Write) (s : Status) (r : Result Prepared NoMemory) →
+    IfOk r (λ p. outcome_of p ≡ writes ws s) → ((low high : ℕ) → s ≡ Open low high → P) →
+    IfOk r (λ p. IfLeavesOpen (outcome_of p) P)
+closed_exhausts P ws s r is closed = told (λ (o : Outcome). IfLeavesOpen o P) (writes ws s) r is closed

@@ -1,9 +1,12 @@
 //! `pack`: the best layout that a number of steps can find, with a log of what is too little.
 
-ghost use Rattle.std.specs.Prelude.{◌≡◌, ◌+◌, ◌≤◌, None, Some, IfOk, IfSome, length};
+ghost use Rattle.std.specs.Prelude.{◌≡◌, ◌+◌, ◌-◌, ◌≤◌, None, Some, IfOk, IfSome, length};
 ghost use Rattle.command_words.specs.Options.{number_limit};
 ghost use Rattle.run_course.specs.Prepares.{outcome_of};
+ghost use Rattle.packer.specs.Packs.{AreUsedUp, placing_steps};
+ghost use Rattle.portfolio.specs.Trials.{at_start};
 ghost use Rattle.packing.specs.Packing.{Packs, pack};
+ghost use Rattle.packing.specs.Used.{IfLeavesOpen};
 ghost use Rattle.packing.specs.Words.{pack_of};
 
 use csv_instance::Table;
@@ -13,6 +16,7 @@ use dsa_outside::Files;
 use min_capacity::Least;
 use packer::{pack_least, pack_within};
 use planner::Decision;
+use portfolio::Portfolio;
 use readings::{Input, open_input};
 use run_course::{Command, Prepared, one_write, silent};
 use run_status::Status;
@@ -31,19 +35,25 @@ pub struct Pack<'a> {
     pub steps: u64,
 }
 
-/// What is written and told where no capacity is given.
+/// What is written and told where no capacity is given. The searches use no more steps than those
+/// that are not for placings, and it stays open only where they use all of these.
 fn packed_least<'a>(
     alloc: Global,
     words: &Pack<'a>,
     table: &Table,
     instance: &Instance,
+    tries: &mut Portfolio,
 ) -> Result<Prepared<'a>, NoMemory>
     requires none { words.now.capacity ≡ None }
     requires steps { words.now.steps ≤ number_limit }
     requires count { length table.now ≡ length instance.now + 1 }
-    ensures { IfOk result (λ p. Packs (pack_of words.now) table.now instance.now (outcome_of p)) }
+    requires unused { tries.old ≡ at_start instance.now }
+    ensures value { IfOk result (λ p. Packs (pack_of words.now) table.now instance.now (outcome_of p)) }
+    ensures used { tries.new.units ≤ tries.old.units + (words.now.steps - placing_steps words.now.steps) }
+    ensures exhausted { IfOk result (λ p.
+        IfLeavesOpen (outcome_of p) (AreUsedUp words.now.steps tries.old.units tries.new.units)) }
 {
-    match pack_least(alloc, instance, words.steps)? {
+    match pack_least(alloc, instance, words.steps, tries)? {
         Least::Exact(bracket) => {
             let status = Status::Least {
                 capacity: bracket.high,
@@ -60,21 +70,26 @@ fn packed_least<'a>(
     }
 }
 
-/// What is written and told where this capacity is given.
+/// What is written and told where this capacity is given. The searches use steps as with none.
 fn packed_within<'a>(
     alloc: Global,
     words: &Pack<'a>,
     capacity: u64,
     table: &Table,
     instance: &Instance,
+    tries: &mut Portfolio,
 ) -> Result<Prepared<'a>, NoMemory>
     requires given { words.now.capacity ≡ Some capacity }
     requires capacity { capacity ≤ number_limit }
     requires steps { words.now.steps ≤ number_limit }
     requires count { length table.now ≡ length instance.now + 1 }
-    ensures { IfOk result (λ p. Packs (pack_of words.now) table.now instance.now (outcome_of p)) }
+    requires unused { tries.old ≡ at_start instance.now }
+    ensures value { IfOk result (λ p. Packs (pack_of words.now) table.now instance.now (outcome_of p)) }
+    ensures used { tries.new.units ≤ tries.old.units + (words.now.steps - placing_steps words.now.steps) }
+    ensures exhausted { IfOk result (λ p.
+        IfLeavesOpen (outcome_of p) (AreUsedUp words.now.steps tries.old.units tries.new.units)) }
 {
-    match pack_within(alloc, instance, capacity, words.steps)? {
+    match pack_within(alloc, instance, capacity, words.steps, tries)? {
         Decision::Layout(offsets) => {
             let file = layout_file(alloc, table, offsets.as_slice(), words.output)?;
             one_write(alloc, file, Status::Feasible { capacity })
@@ -93,7 +108,7 @@ fn packed_within<'a>(
     }
 }
 
-/// What is written and told of the table's instance.
+/// What is written and told of the table's instance, by searches in several orders of its buffers.
 fn packed<'a>(
     alloc: Global,
     words: &Pack<'a>,
@@ -105,9 +120,10 @@ fn packed<'a>(
     requires count { length table.now ≡ length instance.now + 1 }
     ensures { IfOk result (λ p. Packs (pack_of words.now) table.now instance.now (outcome_of p)) }
 {
+    let mut tries = Portfolio::new(alloc, instance)?;
     match words.capacity {
-        Some(capacity) => packed_within(alloc, words, capacity, table, instance),
-        None => packed_least(alloc, words, table, instance),
+        Some(capacity) => packed_within(alloc, words, capacity, table, instance, &mut tries),
+        None => packed_least(alloc, words, table, instance, &mut tries),
     }
 }
 

@@ -1,8 +1,10 @@
 //! The orders from which a search by placing begins.
 
-ghost use Rattle.std.specs.Prelude.{◌<◌, IfOk};
+ghost use Rattle.std.specs.Prelude.{◌≡◌, ◌<◌, ◌≤◌, IfOk};
 ghost use Rattle.first_fit.specs.Rules.{IsOrderOf};
 
+use crate::rankings::Ranking;
+use crate::stacking::{HIGHEST, Stack};
 use dsa_model::{Instance, NoMemory};
 use first_fit::Start;
 use row_orders::{Order, in_order};
@@ -20,7 +22,7 @@ fn by_offset(alloc: Global, instance: &Instance, layout: &Start) -> Result<Vec<u
     Ok(order)
 }
 
-/// The order of a beginning: the first is that of the offsets of the best layout so far.
+/// The order of a beginning; one is that of the offsets of the best layout so far.
 pub(crate) fn beginning(
     alloc: Global,
     instance: &Instance,
@@ -30,11 +32,64 @@ pub(crate) fn beginning(
     ensures { IfOk result (λ order. IsOrderOf instance.now order.items) }
 {
     match number {
-        0 => by_offset(alloc, instance, best),
+        0 => in_order(alloc, instance, Order::Met),
         1 => in_order(alloc, instance, Order::Area),
-        2 => in_order(alloc, instance, Order::Met),
+        2 => by_offset(alloc, instance, best),
         3 => in_order(alloc, instance, Order::Lifetime),
         4 => in_order(alloc, instance, Order::Upper),
         _ => in_order(alloc, instance, Order::File),
     }
+}
+
+/// The height of the stack by this order, in bytes.
+fn stack_height(alloc: Global, instance: &Instance, order: Vec<u32>) -> Result<u64, NoMemory>
+    requires { IsOrderOf instance.now order.items }
+{
+    if instance.len() == 0 {
+        return Ok(0);
+    }
+    let mut stack = Stack::of(alloc, instance, &order)?;
+    let ranking = Ranking::of(alloc, instance, order)?;
+    Ok(
+        stack
+            .restack(instance, &ranking.places, HIGHEST)
+            .unwrap_or(HIGHEST),
+    )
+}
+
+/// The beginning with the lowest stack, of equals the first.
+fn lowest_beginning(alloc: Global, instance: &Instance, best: &Start) -> Result<usize, NoMemory>
+    ensures { IfOk result (λ number. number < 6) }
+{
+    let mut lowest = 0;
+    let mut least = u64::MAX;
+    for number in 0..BEGINNINGS {
+        let order = beginning(alloc, instance, best, number)?;
+        let height = stack_height(alloc, instance, order)?;
+        if height < least {
+            least = height;
+            lowest = number;
+        }
+    }
+    Ok(lowest % BEGINNINGS)
+}
+
+/// The beginning with which a search by placing begins, and how often all buffers were stacked to
+/// find it: it has the lowest stack, where there are placings enough to try all.
+pub(crate) fn first_beginning(
+    alloc: Global,
+    instance: &Instance,
+    best: &Start,
+    floor: u64,
+    passes: u64,
+) -> Result<(usize, u64), NoMemory>
+    ensures number { IfOk result (λ first. first.0 < 6) }
+    ensures passes { IfOk result (λ first. first.1 ≤ passes) }
+    ensures idle { best.now.height ≤ floor → IfOk result (λ first. first.1 ≡ 0) }
+{
+    if best.height <= floor || passes <= BEGINNINGS as u64 {
+        return Ok((0, 0));
+    }
+    let number = lowest_beginning(alloc, instance, best)?;
+    Ok((number, BEGINNINGS as u64))
 }

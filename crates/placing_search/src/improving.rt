@@ -3,7 +3,7 @@
 ghost use Rattle.std.specs.Prelude.{◌≡◌, ◌<◌, ◌≤◌, IfOk};
 ghost use Rattle.first_fit.specs.Starts.{IsStart};
 
-use crate::beginnings::{BEGINNINGS, beginning};
+use crate::beginnings::{BEGINNINGS, beginning, first_beginning};
 use crate::climbing::climb;
 use crate::draws::Draws;
 use dsa_model::{Instance, NoMemory};
@@ -19,12 +19,13 @@ pub struct Improved {
     pub passes: u64,
 }
 
-/// The lowest layout that is found by placing all buffers at most `passes` times, each time by
-/// first-fit in another order; the one given where none is lower. The search stops at the first
-/// whose height is at most `floor`, in bytes.
+/// The lowest layout that is found by placing all buffers at most `passes` times; the one given
+/// where none is lower. The search stops at the first whose height is at most `floor`, in bytes.
 ///
-/// An order is kept where its layout is no higher than the one before. It begins with the order of
-/// the offsets given, and begins anew with another where many placings have not lowered the height.
+/// It climbs from one order of the buffers after another, from that of the lowest stack first, two
+/// of them changing places: an order is judged by stacking the buffers from below, and kept where
+/// the stack is no higher than the one before. A climb ends where many stacks have not lowered the height, with first-fit in the order
+/// of its lowest stack, whose layout counts.
 pub fn improve(
     alloc: Global,
     instance: &Instance,
@@ -42,9 +43,8 @@ pub fn improve(
         improved.passes < passes → improved.start.height ≤ floor) }
 {
     let mut best = start;
-    let mut made = 0;
+    let (mut number, mut made) = first_beginning(alloc, instance, &best, floor, passes)?;
     let mut draws = Draws::new();
-    let mut number = 0;
     while made < passes && floor < best.height {
         let order = beginning(alloc, instance, &best, number)?;
         let climbed = climb(alloc, instance, order, &mut draws, floor, passes - made)?;

@@ -1,11 +1,12 @@
-//! Better layouts by placing the buffers in many orders, each by first-fit, an order made a little
-//! better at a time.
+//! Better layouts by placing the buffers in many orders, an order made a little better at a time.
 #![tactic(auto)]
 
 mod beginnings;
 mod climbing;
 mod draws;
 mod improving;
+mod rankings;
+mod stacking;
 mod swaps;
 #[cfg(test)]
 mod tests;

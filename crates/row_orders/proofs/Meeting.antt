@@ -7,7 +7,7 @@ use Rattle.std.proofs.lemmas.List.Sums.{sum_by-append}
 use Rattle.dsa_terms.specs.Buffers.{Buffer, Instance, buffer, do_share, no_buffer}
 use Rattle.dsa_terms.specs.Claims.{IsIn}
 use Rattle.dsa_terms.proofs.Places.{in_from_all}
-use Rattle.dsa_model.specs.Buffer.{IsBuffer}
+use Rattle.dsa_model.specs.Buffer.{IsBuffer, buffer_limit}
 use Rattle.first_fit.proofs.Keys.{area_limit}
 use Rattle.row_orders.specs.Orders.{measure, met}
 use Rattle.row_orders.specs.declared.orders.Order.{Order}
@@ -30,12 +30,12 @@ sum_under p (x ∷ xs) h = go (sum_under p xs (λ y i. h y (inr i))) (h x (inl r
         longer (length xs) (sum_by (λ (c : Buffer). c.size) (x ∷ filter p xs)) (omega arith)
     go ih small false = longer (length xs) (sum_by (λ (c : Buffer). c.size) (filter p xs)) (omega arith)
 
-pub met_limit : (I : Instance) (b : Buffer) → All IsBuffer I → length I ≤ 512 → met I b ≤ 2 ^ 49
+pub met_limit : (I : Instance) (b : Buffer) → All IsBuffer I → length I ≤ buffer_limit → met I b ≤ 2 ^ 52
 unfolding met
 met_limit I b all few =
     let k = sum_under (do_share b) I (λ x i. (in_from_all IsBuffer I all x i).within_size) in omega arith
 
-pub measure_limit : (order : Order) (I : Instance) (b : Buffer) → All IsBuffer I → length I ≤ 512 → IsBuffer b →
+pub measure_limit : (order : Order) (I : Instance) (b : Buffer) → All IsBuffer I → length I ≤ buffer_limit → IsBuffer b →
     measure order I b ≤ 2 ^ 102
 measure_limit File I b all few h = omega arith
 measure_limit Area I b all few h = area_limit b h

@@ -29,7 +29,7 @@ pub enum Order {
 fn met(instance: &Instance, b: u32) -> u64
     requires { b < length instance.now }
     ensures value { result ≡ met instance.now (buffer_at instance.now b) }
-    ensures limit { result ≤ 2 ^ 49 }
+    ensures limit { result ≤ 2 ^ 52 }
 {
     let mut sum = 0;
     for c in 0..instance.len() {

@@ -6,11 +6,11 @@ use Rattle.deciding.specs.Deciding.{AllReadBack, log_files}
 use Rattle.deciding.proofs.Concluding.{told_by}
 use Rattle.packing.specs.Packing.{Packs}
 use Rattle.packing.specs.Words.{pack_of}
-use Rattle.packing.proofs.Packed.{leaves_open, packs_least}
+use Rattle.packing.proofs.Packed.{closed_exhausts, leaves_open, of_each, packs_least}
 use Rattle.packing.proofs.pack.packed_least.Goals as goal
 
-pub returns-in-Exact : goal.returns-in-Exact
-returns-in-Exact c =
+pub returns-in-Exact-clause-value : goal.returns-in-Exact-clause-value
+returns-in-Exact-clause-value c =
     let words = pack_of c.args.words.now in
     let table = c.args.table.now in
     let I = c.args.instance.now in
@@ -21,8 +21,8 @@ returns-in-Exact c =
     (λ readable. inl (packs_least words table I b c.requires.none
     (rw c.in-Exact.is at c.in_ok-bracket.ensures.value) readable))
 
-pub returns-in-Open : goal.returns-in-Open
-returns-in-Open c =
+pub returns-in-Open-clause-value : goal.returns-in-Open-clause-value
+returns-in-Open-clause-value c =
     let words = pack_of c.args.words.now in
     let table = c.args.table.now in
     let I = c.args.instance.now in
@@ -33,3 +33,14 @@ returns-in-Open c =
     c.both_files-in-Open.ensures.readable
     (λ readable. inr (inr (inr (leaves_open words table I b (rw c.in-Open.is at c.in_ok-bracket.ensures.value)
     (rw c.requires.none tt) readable))))
+
+pub returns-in-Exact-clause-exhausted : goal.returns-in-Exact-clause-exhausted
+returns-in-Exact-clause-exhausted c =
+    let words = pack_of c.args.words.now in
+    let b = c.in-Exact.bracket in
+    closed_exhausts _ (layout_file words.output c.args.table.now b.layout.items ∷ log_files words.log b.log)
+    (Least b.high) c.both_files.result c.both_files.ensures.files (λ low high e. absurd cc)
+
+pub returns-in-Open-clause-exhausted : goal.returns-in-Open-clause-exhausted
+returns-in-Open-clause-exhausted c =
+    of_each _ c.both_files-in-Open.result (rw c.in-Open.is at c.in_ok-bracket.ensures.exhausted)

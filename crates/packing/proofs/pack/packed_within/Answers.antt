@@ -7,11 +7,11 @@ use Rattle.deciding.specs.Deciding.{AllReadBack, log_files}
 use Rattle.deciding.proofs.Concluding.{told, told_by, with_files}
 use Rattle.packing.specs.Packing.{Packs}
 use Rattle.packing.specs.Words.{pack_of}
-use Rattle.packing.proofs.Packed.{leaves_open}
+use Rattle.packing.proofs.Packed.{closed_exhausts, leaves_open, of_each}
 use Rattle.packing.proofs.pack.packed_within.Goals as goal
 
-pub returns-in_ok-file-in-Layout : goal.returns-in_ok-file-in-Layout
-returns-in_ok-file-in-Layout c =
+pub returns-in_ok-file-in-Layout-clause-value : goal.returns-in_ok-file-in-Layout-clause-value
+returns-in_ok-file-in-Layout-clause-value c =
     let words = pack_of c.args.words.now in
     let table = c.args.table.now in
     let I = c.args.instance.now in
@@ -31,8 +31,8 @@ returns-in_ok-file-in-Layout c =
       written = refl;
     })))
 
-pub returns-in_ok-file-in-Refuted : goal.returns-in_ok-file-in-Refuted
-returns-in_ok-file-in-Refuted c =
+pub returns-in_ok-file-in-Refuted-clause-value : goal.returns-in_ok-file-in-Refuted-clause-value
+returns-in_ok-file-in-Refuted-clause-value c =
     let words = pack_of c.args.words.now in
     let I = c.args.instance.now in
     let log = c.in-Refuted.refutation in
@@ -49,8 +49,8 @@ returns-in_ok-file-in-Refuted c =
       written = refl;
     }))))
 
-pub returns-in-Open : goal.returns-in-Open
-returns-in-Open c =
+pub returns-in-Open-clause-value : goal.returns-in-Open-clause-value
+returns-in-Open-clause-value c =
     let words = pack_of c.args.words.now in
     let table = c.args.table.now in
     let I = c.args.instance.now in
@@ -60,3 +60,17 @@ returns-in-Open c =
     (writes (layout_file words.output table b.layout.items ∷ log_files words.log b.log) (Open b.low b.high))
     (AllReadBack b.log) c.both_files.result c.both_files.ensures.files c.both_files.ensures.readable
     (λ readable. inr (inr (inr (leaves_open words table I b left.0 (rw c.requires.given (left.1, left.2)) readable))))
+
+pub returns-in_ok-file-in-Layout-clause-exhausted : goal.returns-in_ok-file-in-Layout-clause-exhausted
+returns-in_ok-file-in-Layout-clause-exhausted c =
+    closed_exhausts _ (write_of c.in_ok-file-in-Layout.file ∷ []) (Feasible c.args.capacity) c.one_write.result
+    c.one_write.ensures (λ low high e. absurd cc)
+
+pub returns-in_ok-file-in-Refuted-clause-exhausted : goal.returns-in_ok-file-in-Refuted-clause-exhausted
+returns-in_ok-file-in-Refuted-clause-exhausted c =
+    closed_exhausts _ (write_of c.in_ok-file-in-Refuted.file ∷ []) (Infeasible c.args.capacity)
+    c.one_write-in-Refuted.result c.one_write-in-Refuted.ensures (λ low high e. absurd cc)
+
+pub returns-in-Open-clause-exhausted : goal.returns-in-Open-clause-exhausted
+returns-in-Open-clause-exhausted c =
+    of_each _ c.both_files.result (rw c.in-Open.is at c.in_ok-offsets.ensures.exhausted)

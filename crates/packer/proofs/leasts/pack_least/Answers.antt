@@ -1,7 +1,7 @@
 use Rattle.std.proofs.Common.{arith}
 use Rattle.packer.proofs.Opening.{open_from, tight_at_once}
 use Rattle.packer.proofs.Reaching.{apart, reached, tight}
-use Rattle.packer.proofs.leasts.pack_least_with.Goals as goal
+use Rattle.packer.proofs.leasts.pack_least.Goals as goal
 
 pub returns-in-Exact-clause-value : goal.returns-in-Exact-clause-value
 returns-in-Exact-clause-value g c =

@@ -2,7 +2,7 @@ use Rattle.std.proofs.Common.{arith}
 use Rattle.dsa_model.proofs.Instances.{sound_instance}
 use Rattle.packer.proofs.Opening.{decided_at_once, open_at}
 use Rattle.packer.proofs.Reaching.{reached}
-use Rattle.packer.proofs.within.pack_within_with.Goals as goal
+use Rattle.packer.proofs.within.pack_within.Goals as goal
 
 pub returns-in_default-clause-value : goal.returns-in_default-clause-value
 returns-in_default-clause-value g c =

@@ -1,0 +1,2 @@
+pub mod Rankings
+pub mod Stacks
