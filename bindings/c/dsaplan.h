@@ -25,14 +25,14 @@ extern "C" {
 #endif
 
 /* The greatest number of buffers, and of gaps of one buffer. */
-enum { DSAPLAN_BUFFER_LIMIT = 512, DSAPLAN_GAP_LIMIT = 8 };
+enum { DSAPLAN_BUFFER_LIMIT = 4096, DSAPLAN_GAP_LIMIT = 64 };
 
 /* What a call returns: the exit codes of the program. */
 enum dsaplan_status {
     DSAPLAN_FITS = 0,           /* offsets are written: a layout within the capacity, or of the least one */
     DSAPLAN_DOES_NOT_FIT = 1,   /* no layout fits within the capacity */
-    DSAPLAN_OPEN = 2,           /* the steps are used up */
-    DSAPLAN_LENGTHS_DIFFER = 3, /* the arrays are not of one length, or the counts of gaps do not add up */
+    DSAPLAN_OPEN = 2,           /* the steps were too few */
+    DSAPLAN_LENGTHS_DIFFER = 3, /* an array is not as long as offsets, or the counts of gaps do not add up */
     DSAPLAN_BAD_BUFFERS = 4,    /* there are too many buffers, or one is bad: see dsaplan_fault */
     DSAPLAN_NO_MEMORY = 6       /* malloc or realloc gave none */
 };
@@ -69,12 +69,13 @@ typedef struct dsaplan_detail {
     uint32_t gap;    /* with DSAPLAN_GAP_EMPTY and DSAPLAN_GAP_OUTSIDE: which of its gaps, from 0 */
 } dsaplan_detail;
 
-/* A layout within `capacity` bytes. Buffer b lives at the moments from lower[b] up to and not including upper[b], takes
+/* A layout within `capacity` bytes. There are `offset_count` buffers, and each array but `gaps` has as many items;
+ * `gap_counts` may have none where there are no gaps. Buffer b lives at the moments from lower[b] up to and not including upper[b], takes
  * size[b] bytes at an offset that is a multiple of alignment[b] and at least lowest[b], and holds no storage in its
  * gaps: `gaps` has those of buffer 0 first, gap_counts[b] of them for buffer b. Both may be empty.
  *
- * With `is_limited` the search opens at most `steps` claims, and DSAPLAN_OPEN says that they are used up; without it
- * the call ends with an answer, however long that takes.
+ * With `is_limited` the search is given `steps` steps, one for each claim that it opens, and DSAPLAN_OPEN says that they
+ * were too few; without it the call ends with an answer, however long that takes.
  *
  * The offsets, in bytes, are written with DSAPLAN_FITS alone; with any other status they are as before. The base
  * address of the range must be a multiple of every alignment. */
@@ -98,8 +99,9 @@ uint32_t dsaplan_least(
     uint64_t *offsets, size_t offset_count, dsaplan_detail *detail);
 
 /* The lowest layout that is found in `steps` steps: a step is a claim that a search opens, and placing all n buffers
- * anew counts as 1 + n/64 of them, rounded down. With DSAPLAN_FITS detail->high is the least capacity, with
- * DSAPLAN_OPEN the least capacity may be lower; a layout of that height is written with both. All else is as with dsaplan_least. */
+ * anew counts as 1 + n^2/2^17 of them, rounded down. With DSAPLAN_FITS detail->high is the least capacity, with
+ * DSAPLAN_OPEN the least capacity may be lower; a layout of that height is written with both. More than 2^60 steps are
+ * taken as 2^60. All else is as with dsaplan_least. */
 uint32_t dsaplan_pack(
     const uint64_t *lower, size_t lower_count, const uint64_t *upper, size_t upper_count,
     const uint64_t *size, size_t size_count, const uint64_t *alignment, size_t alignment_count,
@@ -108,7 +110,7 @@ uint32_t dsaplan_pack(
     uint64_t steps, uint64_t *offsets, size_t offset_count, dsaplan_detail *detail);
 
 /* Buffers whose arrays are of one length, `count`, for the three calls below. Without gaps, `gaps` and `gap_counts` are
- * null and `gap_count` is 0; with some, there are `count` gap_counts. */
+ * null and `gap_count` is 0; with some, there are `count` gap_counts. No other pointer is null, also where `count` is 0. */
 typedef struct dsaplan_buffers {
     size_t count;
     const uint64_t *lower;

@@ -163,6 +163,8 @@ def _call(function, buffers, *numbers):
         raise BadBuffer(detail.buffer, FAULT_NAMES[detail.fault - 2], detail.gap)
     if status == NO_MEMORY:
         raise MemoryError("memory has run out")
+    if status not in (FITS, DOES_NOT_FIT, OPEN):
+        raise DsaplanError(f"the library has answered {status}")
     return status, offsets[:count], detail
 
 
@@ -173,7 +175,7 @@ def _limit(steps):
 def solve(buffers: Iterable[Buffer], capacity: int, steps: Optional[int] = None) -> Optional[List[int]]:
     """The offsets of a layout within `capacity` bytes, or None: no layout fits.
 
-    With `steps`, StepsUsedUp is raised where the search would have to open more claims. A bad buffer raises BadBuffer.
+    With `steps`, StepsUsedUp is raised where they are used up before that is known. A bad buffer raises BadBuffer.
     """
     status, offsets, _ = _call(_library.dsaplan_plan_at, buffers, _word(capacity, "capacity"), *_limit(steps))
     if status == OPEN:
@@ -194,7 +196,7 @@ def least(buffers: Iterable[Buffer], steps: Optional[int] = None) -> Layout:
 def pack(buffers: Iterable[Buffer], steps: int) -> Layout:
     """The lowest layout that is found in `steps` steps.
 
-    A step is a claim that a search opens; placing all n buffers anew counts as 1 + n/64 of them, rounded down.
+    A step is a claim that a search opens; placing all n buffers anew counts as 1 + n**2/2**17 of them, rounded down.
     The height is the least capacity where it is `low`. A bad buffer raises BadBuffer.
     """
     _, offsets, detail = _call(_library.dsaplan_pack, buffers, _word(steps, "steps"))

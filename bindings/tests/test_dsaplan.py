@@ -12,7 +12,7 @@ import dsaplan  # noqa: E402
 from dsaplan import BadBuffer, Buffer, DsaplanError, StepsUsedUp, TooManyBuffers, least, pack, solve  # noqa: E402
 
 FIVE = [Buffer(0, 3, 4), Buffer(3, 9, 4), Buffer(0, 9, 4), Buffer(9, 21, 4), Buffer(0, 21, 4)]
-BUFFER_LIMIT = 512
+BUFFER_LIMIT = 4096
 
 
 # ---- the judge
@@ -153,7 +153,7 @@ class Faults(unittest.TestCase):
         self.assert_bad("alignment_too_large", Buffer(0, 3, 4, 2**32 + 1))
         self.assert_bad("gap_empty", Buffer(0, 9, 4, gaps=((1, 2), (3, 3))), gap=1)
         self.assert_bad("gap_outside", Buffer(0, 9, 4, gaps=((1, 2), (3, 10))), gap=1)
-        self.assert_bad("too_many_gaps", Buffer(0, 99, 4, gaps=tuple((2 * k + 1, 2 * k + 2) for k in range(9))))
+        self.assert_bad("too_many_gaps", Buffer(0, 199, 4, gaps=tuple((2 * k + 1, 2 * k + 2) for k in range(65))))
         self.assert_bad("never_live", Buffer(0, 3, 4, gaps=((0, 3),)))
         self.assert_bad("lowest_too_large", Buffer(0, 3, 4, lowest=2**40 + 1))
 

@@ -1,32 +1,27 @@
 -- What the planner's decisions say of the capacity that was asked.
-use Rattle.std.proofs.Common.{◌≡◌, ◌^◌, ◌<◌, ◌≤◌, ◌↔◌, ℕ, inl, inr, min, List, length, Option, None, Some, refl, subst, arith}
+use Rattle.std.proofs.Common.{◌≡◌, ◌^◌, ◌<◌, ◌≤◌, ℕ, inl, inr, min, List, length, Option, None, Some, refl, subst, arith}
 use Rattle.std.specs.List.{All}
 use Rattle.dsa_terms.specs.Bounds.{lower_bound}
 use Rattle.dsa_terms.specs.Buffers.{Instance}
-use Rattle.dsa_terms.specs.Layouts.{IsFeasible, IsInfeasible}
 use Rattle.dsa_terms.specs.Logs.{Log}
 use Rattle.dsa_terms.specs.Starts.{planned}
 use Rattle.dsa_start_laws.proofs.Planned.{planned_exactly, planned_is_layout}
-use Rattle.dsa_model.specs.Buffer.{IsBuffer}
+use Rattle.dsa_model.specs.Buffer.{IsBuffer, buffer_limit}
 use Rattle.dsa_model.proofs.Instances.{sound_instance}
 use Rattle.min_capacity.specs.declared.brackets.Bracket.{Bracket}
 use Rattle.planner.specs.Decides.{IsAnswered, LeavesNoLayout}
 use Rattle.planner.specs.FirstStart.{start_within}
-use Rattle.planner.specs.LeastCapacity.{AreWithinSteps, HasHalved, IsExactly, IsOpenAfter, IsWithinSteps}
-use Rattle.min_capacity.specs.declared.brackets.Least.TheVariants as found
 use Rattle.planner.specs.Openings.{AreGiven, IsSpentAt}
 use Rattle.planner.proofs.BestStart.{below_starts}
 use Rattle.planner.proofs.Choosing.{le_or_lt, planned_start}
-use Rattle.dsa_plan.specs.Plans.{IsAnswer, IsBetween, IsFoundLeast, IsLeastAnswer, IsLeastPlan}
+use Rattle.dsa_plan.specs.Plans.{IsAnswer}
 use Rattle.dsa_plan.specs.declared.answers.Answer.{Answer}
 use Rattle.dsa_plan.specs.declared.answers.Answer.TheVariants.{Fits, DoesNotFit, Open}
-use Rattle.dsa_plan.specs.declared.answers.LeastAnswer.{LeastAnswer}
-use Rattle.dsa_plan.specs.declared.answers.LeastAnswer.TheVariants.{Least, Open as LeftOpen}
 use Rattle.dsa_plan.proofs.Capacities.{first_start, within_wide}
 
 -- ---- what holds at the capacity or the limit holds at the capacity
 at_wide : (I : Instance) (C c : ℕ) (steps : Option ℕ) (offsets : List ℕ) (answer : Answer) → All IsBuffer I →
-    length I ≤ 512 → 2 ^ 60 ≤ C → 2 ^ 60 ≤ c → IsAnswer I c steps offsets answer → IsAnswer I C steps offsets answer
+    length I ≤ buffer_limit → 2 ^ 60 ≤ C → 2 ^ 60 ≤ c → IsAnswer I c steps offsets answer → IsAnswer I C steps offsets answer
 at_wide I C c steps offsets Fits all few wide near h =
     let here : planned I C ≡ Some (first_start I) = planned_start I C _ (within_wide I C all few wide) in
     let there : planned I c ≡ Some (first_start I) = planned_start I c _ (within_wide I c all few near) in
@@ -40,16 +35,17 @@ at_wide I C c steps offsets DoesNotFit all few wide near h =
     absurd (let e = h.no_plan in cc)
 at_wide I C c steps offsets Open all few wide near h =
     let none = below_starts I c h.below_best in absurd (let e = within_wide I c all few near in cc)
+at_wide I C c steps offsets _ all few wide near h = tt
 
 at_capacity : (I : Instance) (C c : ℕ) (steps : Option ℕ) (offsets : List ℕ) (answer : Answer) → All IsBuffer I →
-    length I ≤ 512 → c ≡ min C (2 ^ 60) → IsAnswer I c steps offsets answer → IsAnswer I C steps offsets answer
+    length I ≤ buffer_limit → c ≡ min C (2 ^ 60) → IsAnswer I c steps offsets answer → IsAnswer I C steps offsets answer
 at_capacity I C c steps offsets answer all few e h = elim (le_or_lt C (2 ^ 60)) [
   | inl le ↦ (let same : c ≡ C = omega arith in subst (λ (k : ℕ). IsAnswer I k steps offsets answer) same h)
   | inr lt ↦ at_wide I C c steps offsets answer all few (omega arith) (omega arith) h
 ]
 
 -- ---- from a decision to an answer
-pub fits : (I : Instance) (C c : ℕ) (steps : Option ℕ) (offsets : List ℕ) → All IsBuffer I → length I ≤ 512 →
+pub fits : (I : Instance) (C c : ℕ) (steps : Option ℕ) (offsets : List ℕ) → All IsBuffer I → length I ≤ buffer_limit →
     c ≡ min C (2 ^ 60) → IsAnswered (planned I c) I c offsets → (c < lower_bound I → ⊥) →
     (start_within I c ≡ None → lower_bound I ≤ c → AreGiven steps 1) → IsAnswer I C steps offsets Fits
 fits I C c steps offsets all few e h not_below given = at_capacity I C c steps offsets Fits all few e (record {
@@ -66,7 +62,7 @@ no_start I c none = go (start_within I c) refl
     go (Some offsets) e = let p = planned_start I c offsets e in absurd cc
 
 pub does_not_fit : (I : Instance) (C c : ℕ) (steps : Option ℕ) (offsets : List ℕ) (log : Log) → All IsBuffer I →
-    length I ≤ 512 → c ≡ min C (2 ^ 60) → LeavesNoLayout I c log →
+    length I ≤ buffer_limit → c ≡ min C (2 ^ 60) → LeavesNoLayout I c log →
     (start_within I c ≡ None → lower_bound I ≤ c → AreGiven steps (length log.lines)) →
     IsAnswer I C steps offsets DoesNotFit
 does_not_fit I C c steps offsets log all few e h given =
@@ -80,59 +76,9 @@ does_not_fit I C c steps offsets log all few e h given =
     })
 
 pub stays_open : (I : Instance) (C c : ℕ) (steps : Option ℕ) (offsets : List ℕ) (b : Bracket) → All IsBuffer I →
-    length I ≤ 512 → c ≡ min C (2 ^ 60) → IsSpentAt I c steps b → IsAnswer I C steps offsets Open
+    length I ≤ buffer_limit → c ≡ min C (2 ^ 60) → IsSpentAt I c steps b → IsAnswer I C steps offsets Open
 stays_open I C c steps offsets b all few e h = at_capacity I C c steps offsets Open all few e (record {
   from_bound = (let low = h.low_is_bound in let le = h.from_low in omega arith);
   below_best = (let high = h.high_is_best in let lt = h.below_high in omega arith);
   too_few = h.too_few;
 })
-
--- ---- without a number of steps
-pub fits_exactly : (I : Instance) (C : ℕ) (steps : Option ℕ) (offsets : List ℕ) (answer : Answer) → steps ≡ None →
-    IsAnswer I C steps offsets answer → (answer ≡ Fits) ↔ IsFeasible I C
-fits_exactly I C steps offsets Fits none h = (λ e. (offsets, h.plan.layout), λ f. refl)
-fits_exactly I C steps offsets DoesNotFit none h = (λ e. absurd cc, λ f. absurd (h.infeasible f.0 f.1))
-fits_exactly I C steps offsets Open none h = let given = h.too_few.given in absurd cc
-
-pub refused_exactly : (I : Instance) (C : ℕ) (steps : Option ℕ) (offsets : List ℕ) (answer : Answer) →
-    steps ≡ None → IsAnswer I C steps offsets answer → (answer ≡ DoesNotFit) ↔ IsInfeasible I C
-refused_exactly I C steps offsets Fits none h = (λ e. absurd cc, λ f. absurd (f offsets h.plan.layout))
-refused_exactly I C steps offsets DoesNotFit none h = (λ e. h.infeasible, λ f. refl)
-refused_exactly I C steps offsets Open none h = let given = h.too_few.given in absurd cc
-
-pub found_least : (I : Instance) (steps : Option ℕ) (offsets : List ℕ) (answer : LeastAnswer) → steps ≡ None →
-    IsLeastAnswer I steps offsets answer → IsFoundLeast answer
-found_least I steps offsets (Least C) none h = tt
-found_least I steps offsets (LeftOpen low high) none h = let given = h.too_few.given in absurd cc
-
--- ---- from a bracket to an answer
-pub is_least : (I : Instance) (steps : Option ℕ) (b : Bracket) → IsExactly I b → IsWithinSteps I steps b →
-    IsLeastPlan I b.high steps b.layout.items
-is_least I steps b h within = record {
-  log = record {
-    refutation = b.log;
-    refuted = h.refuted_below;
-    within_steps = subst (λ (k : ℕ). AreWithinSteps I steps k b.layout.items b.log) h.ends_met within;
-  };
-  least = h.least;
-  plan = record { chosen = h.chosen; layout = h.layout };
-  its_height = h.its_height;
-}
-
-pub is_between : (I : Instance) (steps : Option ℕ) (b : Bracket) → IsOpenAfter I steps b →
-    HasHalved I steps (found.Open b) → IsWithinSteps I steps b → IsBetween I steps b.low b.high b.layout.items
-is_between I steps b h halved within = record {
-  log = record {
-    refutation = Some h.below_log;
-    refuted = (h.stays_open.positive, h.stays_open.refuted_below);
-    within_steps = subst (λ (o : Option Log). AreWithinSteps I steps b.low b.layout.items o) h.its_log within;
-  };
-  ends_apart = h.stays_open.ends_apart;
-  from_bound = h.from_bound;
-  none_below = h.stays_open.refuted_below.infeasible;
-  to_best = h.to_best;
-  plan = record { chosen = h.stays_open.chosen; layout = h.stays_open.layout };
-  its_height = h.stays_open.its_height;
-  too_few = h.too_few;
-  halved = halved;
-}

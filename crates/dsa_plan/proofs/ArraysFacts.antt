@@ -4,8 +4,8 @@ use Rattle.dsa_terms.specs.Buffers.{is_live, some_before}
 use Rattle.dsa_terms.proofs.Examples.{filled, five}
 use Rattle.dsa_model.specs.Buffer.{buffer_of, is_ever_live}
 use Rattle.dsa_model.specs.declared.buffer_fault.BufferFault.TheVariants.{EmptyLifetime, GapOutside, ZeroSize}
-use Rattle.dsa_plan.specs.Arrays.{Arrays, buffer_at, gaps_at, gaps_before, instance_of}
-use Rattle.dsa_plan.specs.Faults.{arrays_fault, buffers_fault, fault_at, have_one_length, numbers_fault}
+use Rattle.dsa_plan.specs.Arrays.{Arrays, buffer_at, gaps_at, gaps_before, instance_of, without_gaps}
+use Rattle.dsa_plan.specs.Faults.{AreSound, arrays_fault, buffers_fault, fault_at, have_one_length, numbers_fault}
 use Rattle.dsa_plan.specs.declared.fault.ArraysFault.TheVariants.{BadBuffer, LengthsDiffer, TooMany}
 use Rattle.dsa_plan.specs.declared.fault.NumbersFault.TheVariants.{Buffer, TimeTooLarge}
 
@@ -51,23 +51,25 @@ second_buffer = refl
 
 -- ---- without gaps there need be no counts
 abbrev plain_five : Arrays
-plain_five = record {
-  lower = 0 ∷ 3 ∷ 0 ∷ 9 ∷ 0 ∷ [];
-  upper = 3 ∷ 9 ∷ 9 ∷ 21 ∷ 21 ∷ [];
-  size = 4 ∷ 4 ∷ 4 ∷ 4 ∷ 4 ∷ [];
-  alignment = 1 ∷ 1 ∷ 1 ∷ 1 ∷ 1 ∷ [];
-  lowest = 0 ∷ 0 ∷ 0 ∷ 0 ∷ 0 ∷ [];
-  gaps = [];
-  gap_counts = [];
-}
+plain_five = without_gaps
+    (0 ∷ 3 ∷ 0 ∷ 9 ∷ 0 ∷ [])
+    (3 ∷ 9 ∷ 9 ∷ 21 ∷ 21 ∷ [])
+    (4 ∷ 4 ∷ 4 ∷ 4 ∷ 4 ∷ [])
+    (1 ∷ 1 ∷ 1 ∷ 1 ∷ 1 ∷ [])
+    (0 ∷ 0 ∷ 0 ∷ 0 ∷ 0 ∷ [])
 
 are_five : instance_of plain_five ≡ five
 unfolding buffer_at
 are_five = refl
 
-five_sound : arrays_fault plain_five 5 ≡ None
+five_sound : AreSound plain_five 5
 unfolding have_one_length buffers_fault fault_at buffer_at is_live some_before is_ever_live
 five_sound = refl
+
+-- each slice in its place
+its_numbers : buffer_at (without_gaps (3 ∷ []) (9 ∷ []) (4 ∷ []) (8 ∷ []) (16 ∷ [])) 0 ≡ buffer_of 3 9 4 8 [] 16
+unfolding buffer_at
+its_numbers = refl
 
 -- ---- lengths come first: four offsets for five buffers; a size too few; counts that do not add up; a gap that is no
 -- buffer's; a count too few
@@ -93,17 +95,9 @@ a_count_too_few = refl
 
 -- ---- then the number of buffers
 abbrev alike : ℕ → Arrays
-alike n = record {
-  lower = replicate n 0;
-  upper = replicate n 0;
-  size = replicate n 1;
-  alignment = replicate n 1;
-  lowest = replicate n 0;
-  gaps = [];
-  gap_counts = [];
-}
+alike n = without_gaps (replicate n 0) (replicate n 0) (replicate n 1) (replicate n 1) (replicate n 0)
 
-one_too_many : arrays_fault (alike 513) 513 ≡ Some TooMany
+one_too_many : arrays_fault (alike 4097) 4097 ≡ Some TooMany
 unfolding have_one_length
 one_too_many = refl
 

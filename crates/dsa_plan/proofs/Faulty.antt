@@ -5,7 +5,7 @@ use Rattle.std.specs.Option.{option_or}
 use Rattle.std.proofs.lemmas.Bool.Decides.{nat_tests}
 use Rattle.dsa_terms.specs.Buffers.{Buffer}
 use Rattle.dsa_terms.specs.Firsts.{first_fault}
-use Rattle.dsa_model.specs.Buffer.{buffer_fault, buffer_of}
+use Rattle.dsa_model.specs.Buffer.{buffer_fault, buffer_of, buffer_limit}
 use Rattle.dsa_model.specs.declared.buffer_fault.BufferFault.{BufferFault}
 use Rattle.dsa_plan.specs.Arrays.{Arrays, buffer_at, gaps_at, gaps_before}
 use Rattle.dsa_plan.specs.Faults.{arrays_fault, buffers_fault, fault_at, have_gaps, have_numbers, have_one_length, numbers_fault, time_limit}
@@ -127,13 +127,13 @@ is_sound a b x e l u h = rw (← e) (ap (option_map (BadBuffer b)) (own_fault x 
 pub lengths_differ : (a : Arrays) (n : ℕ) → have_one_length a n ≡ false → arrays_fault a n ≡ Some LengthsDiffer
 lengths_differ a n h = rw h refl
 
-pub are_too_many : (a : Arrays) (n : ℕ) → have_one_length a n ≡ true → 512 < n → arrays_fault a n ≡ Some TooMany
-are_too_many a n h lt = rw (h, late n 512 lt) refl
+pub are_too_many : (a : Arrays) (n : ℕ) → have_one_length a n ≡ true → buffer_limit < n → arrays_fault a n ≡ Some TooMany
+are_too_many a n h lt = rw (h, late n buffer_limit lt) refl
 
 or_none : {F : Type 0} (o : Option F) → option_or o None ≡ o
 or_none None = refl
 or_none (Some f) = refl
 
-pub else_buffers : (a : Arrays) (n : ℕ) (o : Option ArraysFault) → have_one_length a n ≡ true → n ≤ 512 →
+pub else_buffers : (a : Arrays) (n : ℕ) (o : Option ArraysFault) → have_one_length a n ≡ true → n ≤ buffer_limit →
     buffers_fault a ≡ o → arrays_fault a n ≡ o
-else_buffers a n o h le e = rw (h, not_late n 512 le, e) (or_none o)
+else_buffers a n o h le e = rw (h, not_late n buffer_limit le, e) (or_none o)

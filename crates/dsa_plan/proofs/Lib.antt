@@ -4,6 +4,7 @@ pub mod Failing
 pub mod Growing
 pub mod Capacities
 pub mod Answering
+pub mod WithinMore
+mod AnswersFacts
 mod ArraysFacts
 mod PlansFacts
-pub mod WithinMore

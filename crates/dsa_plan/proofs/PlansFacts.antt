@@ -75,8 +75,11 @@ least_is_4 = record {
   its_height = four_high;
 }
 
-found_at_4 : IsFoundLeast (Least 4)
-found_at_4 = tt
+found_at_4 : IsFoundLeast small_below (Least 4)
+found_at_4 = four_is_least
+
+not_found_where_open : IsFoundLeast small_below (LeftOpen 4 5) → ⊥
+not_found_where_open h = h
 
 not_at_5 : (offsets : List ℕ) → IsLeastAnswer small_below None offsets (Least 5) → ⊥
 not_at_5 offsets h = elim h.least.1 [ inl e ↦ absurd (omega arith) | inr f ↦ f (1 ∷ 0 ∷ []) laid_at_4 ]

@@ -1,5 +1,5 @@
 -- The instance that arrays tell of.
-use Rattle.std.specs.Prelude.{ℕ, List, length, map, sum, slice_index, take, drop}
+use Rattle.std.specs.Prelude.{ℕ, List, [], length, map, sum, slice_index, take, drop}
 use Rattle.dsa_terms.specs.Buffers.{Buffer, Instance}
 use Rattle.dsa_terms.specs.Parts.{numbers}
 use Rattle.dsa_model.specs.Buffer.{buffer_of}
@@ -25,6 +25,18 @@ arrays_of a = record {
   lowest = a.lowest.now;
   gaps = a.gaps.now;
   gap_counts = a.gap_counts.now;
+}
+
+-- the arrays of buffers that have no gaps
+abbrev pub without_gaps : (lower upper size alignment lowest : List ℕ) → Arrays
+without_gaps lower upper size alignment lowest = record {
+  lower = lower;
+  upper = upper;
+  size = size;
+  alignment = alignment;
+  lowest = lowest;
+  gaps = [];
+  gap_counts = [];
 }
 
 -- how many gaps the buffers before b have together

@@ -1,17 +1,13 @@
 -- What is wrong with arrays that tell of no instance.
-use Rattle.std.specs.Prelude.{ℕ, ◌^◌, ◌-◌, ◌==◌, ◌&&◌, ◌||◌, nat_lt, not, Bool, [], ◌∷◌, length, map, sum, Option, option_map}
+use Rattle.std.specs.Prelude.{◌≡◌, ℕ, ◌^◌, ◌-◌, ◌==◌, ◌&&◌, ◌||◌, nat_lt, not, Bool, [], ◌∷◌, length, map, sum, Option, None, option_map}
 use Rattle.dsa_terms.specs.Buffers.{Buffer}
 use Rattle.dsa_terms.specs.Parts.{numbers}
-use Rattle.dsa_model.specs.Buffer.{buffer_fault, first_fault, when}
+use Rattle.dsa_model.specs.Buffer.{buffer_fault, first_fault, when, buffer_limit}
 use Rattle.dsa_plan.specs.Arrays.{Arrays, buffer_at}
 use Rattle.dsa_plan.specs.declared.fault.ArraysFault.{ArraysFault}
 use Rattle.dsa_plan.specs.declared.fault.ArraysFault.TheVariants.{LengthsDiffer, TooMany, BadBuffer}
 use Rattle.dsa_plan.specs.declared.fault.NumbersFault.{NumbersFault}
 use Rattle.dsa_plan.specs.declared.fault.NumbersFault.TheVariants as numbers_fault_is
-
--- the greatest number of buffers
-abbrev pub buffer_limit : ℕ
-buffer_limit = 512
 
 -- the greatest moment at which a lifetime begins or ends
 abbrev pub time_limit : ℕ
@@ -58,3 +54,7 @@ arrays_fault a n = first_fault (
     ∷ when (nat_lt buffer_limit n) TooMany
     ∷ buffers_fault a
     ∷ [])
+
+-- nothing is wrong with arrays that are to tell of n buffers
+abbrev pub AreSound : Arrays → ℕ → Type 0
+AreSound a n = arrays_fault a n ≡ None

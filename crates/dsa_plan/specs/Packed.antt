@@ -32,7 +32,8 @@ pub record IsPackedBetween (I : Instance) (low high steps : ℕ) (offsets : List
   pub layout : IsLayout I high offsets
   pub its_height : layout_height I offsets ≡ high
 
--- what each answer says of the least capacity and the offsets
+-- what each answer says of the least capacity and the offsets; a fault and want of memory say nothing of them
 abbrev pub IsPackAnswer : Instance → ℕ → List ℕ → LeastAnswer → Type 0
 IsPackAnswer I steps offsets (Least C) = IsPackedLeast I C steps offsets
 IsPackAnswer I steps offsets (Open low high) = IsPackedBetween I low high steps offsets
+IsPackAnswer I steps offsets _ = Unit {0}

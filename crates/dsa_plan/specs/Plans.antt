@@ -36,11 +36,12 @@ pub record IsCutShort (I : Instance) (C : ℕ) (steps : Option ℕ) : Type 0 whe
   pub below_best : C < layout_height I (best_start I)
   pub too_few : AreTooFew steps (whole_work I C)
 
--- what each answer says of the capacity and the offsets
+-- what each answer says of the capacity and the offsets; a fault of the arrays and want of memory say nothing of them
 abbrev pub IsAnswer : Instance → ℕ → Option ℕ → List ℕ → Answer → Type 0
 IsAnswer I C steps offsets Fits = IsPlanned I C steps offsets
 IsAnswer I C steps offsets DoesNotFit = IsRefused I C steps
 IsAnswer I C steps offsets Open = IsCutShort I C steps
+IsAnswer I C steps offsets _ = Unit {0}
 
 -- there is a log by which none fits within one byte less, unless `low` is 0, and the steps are enough for it and for the
 -- offsets, where the starts and the bound do not give them
@@ -70,12 +71,13 @@ pub record IsBetween (I : Instance) (steps : Option ℕ) (low high : ℕ) (offse
   pub halved : IfSome steps (λ k. TakesMoreThan I k low high)
   pub log : HasLogBelow I low steps offsets
 
--- what each answer says of the least capacity and the offsets
+-- what each answer says of the least capacity and the offsets; a fault and want of memory say nothing of them
 abbrev pub IsLeastAnswer : Instance → Option ℕ → List ℕ → LeastAnswer → Type 0
 IsLeastAnswer I steps offsets (Least C) = IsLeastPlan I C steps offsets
 IsLeastAnswer I steps offsets (LeftOpen low high) = IsBetween I steps low high offsets
+IsLeastAnswer I steps offsets _ = Unit {0}
 
--- the least capacity is found
-abbrev pub IsFoundLeast : LeastAnswer → Type 0
-IsFoundLeast (Least C) = Unit {0}
-IsFoundLeast (LeftOpen low high) = ⊥
+-- the answer is the least capacity, and it is found
+abbrev pub IsFoundLeast : Instance → LeastAnswer → Type 0
+IsFoundLeast I (Least C) = IsLeast I C
+IsFoundLeast I _ = ⊥

@@ -1,6 +1,7 @@
 //! The instance that arrays tell of.
 
 ghost use Rattle.std.specs.Prelude.{◌≡◌, ◌+◌, ◌<◌, ◌≤◌, ◌^◌, None, Some, drop, length, slice_index, take, true};
+ghost use Rattle.dsa_model.specs.Buffer.{buffer_limit};
 ghost use Rattle.dsa_model.specs.Fails.{UnlessNoMemory};
 ghost use Rattle.dsa_plan.specs.Arrays.{arrays_of, buffer_at, gaps_at, instance_of};
 ghost use Rattle.dsa_plan.specs.Faults.{arrays_fault, buffers_fault, fault_at, have_one_length};
@@ -31,7 +32,7 @@ fn buffer(
 ) -> Result<Buffer, Fail<ArraysFault>>
     requires lengths { have_one_length (arrays_of arrays.now) (length arrays.now.lower.now) ≡ true }
     requires in_range { b < length arrays.now.lower.now }
-    requires few { b < 512 }
+    requires few { b < buffer_limit }
     requires gaps { gaps.now ≡ gaps_at (arrays_of arrays.now) b }
     requires gap_count { length gaps.now < 2 ^ 32 }
     ensures { let a = arrays_of arrays.now in UnlessNoMemory result
@@ -68,7 +69,7 @@ fn gaps_from<'a>(arrays: &Arrays<'a>, first: usize, count: u32) -> &'a [(u64, u6
 /// The buffers, one after another, or the first fault of the first that has one.
 fn buffers(alloc: Global, arrays: &Arrays) -> Result<Instance, Fail<ArraysFault>>
     requires lengths { have_one_length (arrays_of arrays.now) (length arrays.now.lower.now) ≡ true }
-    requires few { length arrays.now.lower.now ≤ 512 }
+    requires few { length arrays.now.lower.now ≤ buffer_limit }
     ensures { let a = arrays_of arrays.now in UnlessNoMemory result
         (λ made. (made ≡ instance_of a) × (buffers_fault a ≡ None))
         (λ fault. buffers_fault a ≡ Some fault) }

@@ -10,6 +10,9 @@ mod leasts;
 mod lengths;
 mod packing;
 mod planning;
+#[cfg(test)]
+mod tests;
+mod writing;
 
 pub use answers::{Answer, LeastAnswer};
 pub use arrays::Arrays;

@@ -1,76 +1,76 @@
 //! The lowest layout that a number of steps can find.
 
-ghost use Rattle.std.specs.Prelude.{◌≡◌, None, Some, IfOk, OnErr, length};
-ghost use Rattle.dsa_model.specs.Fails.{UnlessNoMemory};
-ghost use Rattle.dsa_plan.specs.Arrays.{arrays_of, instance_of};
+ghost use Rattle.std.specs.Prelude.{◌≡◌, ◌≢◌, ◌≤◌, ◌^◌, None, length, IfOk};
+ghost use Rattle.packer.specs.Packs.{Packs};
+ghost use Rattle.dsa_plan.specs.Answers.{least_fault, least_height};
+ghost use Rattle.dsa_plan.specs.Arrays.{arrays_of, instance_of, without_gaps};
 ghost use Rattle.dsa_plan.specs.Faults.{arrays_fault};
 ghost use Rattle.dsa_plan.specs.Packed.{IsPackAnswer};
 
 use crate::answers::LeastAnswer;
 use crate::arrays::Arrays;
 use crate::building::instance;
-use crate::fault::ArraysFault;
-use dsa_model::{Fail, Instance, NoMemory};
+use crate::writing::written;
+use dsa_model::{Instance, NoMemory};
 use min_capacity::Least;
 use packer::pack_least;
+use portfolio::Portfolio;
 use std::alloc::Global;
 
 /// The greatest number of steps that are taken.
 const STEP_LIMIT: u64 = 1 << 60;
 
-/// What is answered of an instance; the layout is written.
-fn decide(
-    alloc: Global,
-    instance: &Instance,
-    steps: u64,
-    offsets: &mut [u64],
-) -> Result<LeastAnswer, NoMemory>
-    requires { length offsets.old ≡ length instance.now }
-    ensures value { IfOk result (IsPackAnswer instance.now steps offsets.new) }
-    ensures unchanged { OnErr result (offsets.new ≡ offsets.old) }
+/// The lowest layout of the instance that is found in so many steps.
+fn packed(alloc: Global, instance: &Instance, steps: u64) -> Result<Least, NoMemory>
+    requires { steps ≤ 2 ^ 60 }
+    ensures { IfOk result (Packs instance.now steps) }
 {
-    match pack_least(alloc, instance, steps.min(STEP_LIMIT))? {
-        Least::Exact(bracket) => {
-            offsets.copy_from_slice(&bracket.layout);
-            Ok(LeastAnswer::Least {
-                capacity: bracket.high,
-            })
-        }
-        Least::Open(bracket) => {
-            offsets.copy_from_slice(&bracket.layout);
-            Ok(LeastAnswer::Open {
-                low: bracket.low,
-                high: bracket.high,
-            })
+    let mut tries = Portfolio::new(alloc, instance)?;
+    pack_least(alloc, instance, steps, &mut tries)
+}
+
+impl Arrays<'_> {
+    /// `pack` of these buffers, which may have gaps.
+    pub fn pack(&self, alloc: Global, steps: u64, offsets: &mut [u64]) -> LeastAnswer
+        ensures fault { let a = arrays_of self.now in
+            result ≢ LeastAnswer.NoMemory →
+            least_fault result ≡ arrays_fault a (length offsets.old) }
+        ensures value { let a = arrays_of self.now in
+            IsPackAnswer (instance_of a) steps offsets.new result }
+        ensures unchanged { least_height result ≡ None → offsets.new ≡ offsets.old }
+    {
+        match instance(alloc, self, offsets.len()) {
+            Ok(instance) => written(packed(alloc, &instance, steps.min(STEP_LIMIT)), offsets),
+            Err(failure) => LeastAnswer::from(failure),
         }
     }
 }
 
 /// The lowest layout of the buffers that it finds in `steps` steps, which need not be the plan, or
-/// the first fault of the arrays. A step is a claim that a search opens; placing all n buffers
-/// anew counts as 1 + n/64 of them, rounded down. More than 2^60 steps are taken as 2^60. Where there is
-/// an answer the offsets are written, in bytes, one for each buffer; with a fault and without memory
-/// they are as before.
+/// the first fault of the slices. A buffer's number is its place in each of them, and they are as
+/// long as `offsets`; `Arrays` says what they hold. With `Least` and `Open` the offsets are written,
+/// in bytes, one for each buffer; with any other answer they are as before.
+///
+/// A step is a claim that a search opens; placing all n buffers anew counts as 1 + n^2/2^17 of
+/// them, rounded down. More than 2^60 steps are taken as 2^60.
 ///
 /// Faults come in this order: `LengthsDiffer`, `TooMany`, `BadBuffer`.
 pub fn pack(
     alloc: Global,
-    arrays: &Arrays,
+    lower: &[u64],
+    upper: &[u64],
+    size: &[u64],
+    alignment: &[u64],
+    lowest: &[u64],
     steps: u64,
     offsets: &mut [u64],
-) -> Result<LeastAnswer, Fail<ArraysFault>>
-    ensures value { let a = arrays_of arrays.now in UnlessNoMemory result
-        (λ answer. (arrays_fault a (length offsets.old) ≡ None)
-        × IsPackAnswer (instance_of a) steps offsets.new answer)
-        (λ fault. arrays_fault a (length offsets.old) ≡ Some fault) }
-    ensures unchanged { OnErr result (offsets.new ≡ offsets.old) }
+) -> LeastAnswer
+    ensures fault { let a = without_gaps lower.now upper.now size.now alignment.now lowest.now in
+        result ≢ LeastAnswer.NoMemory →
+        least_fault result ≡ arrays_fault a (length offsets.old) }
+    ensures value { let a = without_gaps lower.now upper.now size.now alignment.now lowest.now in
+        IsPackAnswer (instance_of a) steps offsets.new result }
+    ensures unchanged { least_height result ≡ None → offsets.new ≡ offsets.old }
 {
-    let instance = match instance(alloc, arrays, offsets.len()) {
-        Ok(instance) => instance,
-        Err(failure) => return Err(failure),
-    };
-    match decide(alloc, &instance, steps, offsets) {
-        Ok(answer) => Ok(answer),
-        Err(NoMemory) => Err(Fail::NoMemory),
-    }
+    Arrays::without_gaps(lower, upper, size, alignment, lowest).pack(alloc, steps, offsets)
 }

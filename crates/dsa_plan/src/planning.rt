@@ -1,17 +1,16 @@
 //! A layout within a capacity.
 
-ghost use Rattle.std.specs.Prelude.{◌≡◌, ◌≢◌, ◌≤◌, ◌^◌, ◌↔◌, None, Some, Ok, IfOk, length, min};
+ghost use Rattle.std.specs.Prelude.{◌≡◌, ◌≢◌, ◌≤◌, ◌^◌, ◌↔◌, None, length, min};
 ghost use Rattle.dsa_terms.specs.Layouts.{IsFeasible, IsInfeasible};
-ghost use Rattle.dsa_model.specs.Fails.{UnlessNoMemory};
-ghost use Rattle.dsa_plan.specs.Arrays.{arrays_of, instance_of};
-ghost use Rattle.dsa_plan.specs.Faults.{arrays_fault};
+ghost use Rattle.dsa_plan.specs.Answers.{plan_fault};
+ghost use Rattle.dsa_plan.specs.Arrays.{arrays_of, instance_of, without_gaps};
+ghost use Rattle.dsa_plan.specs.Faults.{AreSound, arrays_fault};
 ghost use Rattle.dsa_plan.specs.Plans.{IsAnswer};
 
 use crate::answers::Answer;
 use crate::arrays::Arrays;
 use crate::building::instance;
-use crate::fault::ArraysFault;
-use dsa_model::{Fail, Instance, NoMemory};
+use dsa_model::{Instance, NoMemory};
 use planner::{Decision, plan};
 use std::alloc::Global;
 
@@ -37,55 +36,89 @@ fn decide(
     capacity: u64,
     steps: Option<u64>,
     offsets: &mut [u64],
-) -> Result<Answer, NoMemory>
+) -> Answer
     requires { length offsets.old ≡ length instance.now }
-    ensures value { IfOk result (λ answer. IsAnswer instance.now capacity steps offsets.new answer) }
-    ensures unchanged { result ≢ Ok Answer.Fits → offsets.new ≡ offsets.old }
+    ensures value { IsAnswer instance.now capacity steps offsets.new result }
+    ensures no_fault { plan_fault result ≡ None }
+    ensures unchanged { result ≢ Answer.Fits → offsets.new ≡ offsets.old }
 {
     let _count = instance.len();
-    match plan(alloc, instance, limited(capacity), steps)? {
-        Decision::Layout(plan) => {
+    match plan(alloc, instance, limited(capacity), steps) {
+        Ok(Decision::Layout(plan)) => {
             offsets.copy_from_slice(&plan);
-            Ok(Answer::Fits)
+            Answer::Fits
         }
-        Decision::Refuted(_) => Ok(Answer::DoesNotFit),
-        Decision::Open(_) => Ok(Answer::Open),
+        Ok(Decision::Refuted(_)) => Answer::DoesNotFit,
+        Ok(Decision::Open(_)) => Answer::Open,
+        Err(NoMemory) => Answer::NoMemory,
+    }
+}
+
+impl Arrays<'_> {
+    /// `plan_at` of these buffers, which may have gaps.
+    pub fn plan_at(
+        &self,
+        alloc: Global,
+        capacity: u64,
+        steps: Option<u64>,
+        offsets: &mut [u64],
+    ) -> Answer
+        ensures fault { let a = arrays_of self.now in
+            result ≢ Answer.NoMemory → plan_fault result ≡ arrays_fault a (length offsets.old) }
+        ensures value { let a = arrays_of self.now in
+            IsAnswer (instance_of a) capacity steps offsets.new result }
+        ensures unchanged { result ≢ Answer.Fits → offsets.new ≡ offsets.old }
+        ensures fits { steps ≡ None → result ≢ Answer.NoMemory →
+            let a = arrays_of self.now in (result ≡ Answer.Fits) ↔
+            (AreSound a (length offsets.old) × IsFeasible (instance_of a) capacity) }
+        ensures does_not_fit { steps ≡ None → result ≢ Answer.NoMemory →
+            let a = arrays_of self.now in (result ≡ Answer.DoesNotFit) ↔
+            (AreSound a (length offsets.old) × IsInfeasible (instance_of a) capacity) }
+    {
+        match instance(alloc, self, offsets.len()) {
+            Ok(instance) => decide(alloc, &instance, capacity, steps, offsets),
+            Err(failure) => Answer::from(failure),
+        }
     }
 }
 
 /// A layout of the buffers within the capacity, in bytes, or that there is none, or the first fault
-/// of the arrays. With `Fits` the offsets are written, in bytes, one for each buffer; with any
-/// other answer they are as before.
+/// of the slices. A buffer's number is its place in each of them, and they are as long as `offsets`;
+/// `Arrays` says what they hold. With `Fits` the offsets are written, in bytes, one for each buffer;
+/// with any other answer they are as before.
 ///
-/// The search has a budget of `steps` units, one for each claim that it opens, if a number is
-/// given. Where they are used up before it has an answer, the answer is `Open`; without a number
-/// that never comes.
+/// The search is given a budget of `steps` units, one for each claim that it opens, if a number is
+/// given. `Open` comes only where they are fewer than the work that may be needed; without a number
+/// it never comes.
 ///
 /// Faults come in this order: `LengthsDiffer`, `TooMany`, `BadBuffer`. Any capacity may be given:
-/// one above 2^60 is decided as 2^60 is, which has a layout of whatever the arrays may tell of.
+/// one above 2^60 is decided as 2^60 is, which has a layout of whatever the slices may tell of.
 pub fn plan_at(
     alloc: Global,
-    arrays: &Arrays,
+    lower: &[u64],
+    upper: &[u64],
+    size: &[u64],
+    alignment: &[u64],
+    lowest: &[u64],
     capacity: u64,
     steps: Option<u64>,
     offsets: &mut [u64],
-) -> Result<Answer, Fail<ArraysFault>>
-    ensures value { let a = arrays_of arrays.now in UnlessNoMemory result
-        (λ answer. (arrays_fault a (length offsets.old) ≡ None)
-        × IsAnswer (instance_of a) capacity steps offsets.new answer)
-        (λ fault. arrays_fault a (length offsets.old) ≡ Some fault) }
-    ensures unchanged { result ≢ Ok Answer.Fits → offsets.new ≡ offsets.old }
-    ensures fits { steps ≡ None → IfOk result (λ answer.
-        (answer ≡ Answer.Fits) ↔ IsFeasible (instance_of (arrays_of arrays.now)) capacity) }
-    ensures does_not_fit { steps ≡ None → IfOk result (λ answer.
-        (answer ≡ Answer.DoesNotFit) ↔ IsInfeasible (instance_of (arrays_of arrays.now)) capacity) }
+) -> Answer
+    ensures fault { let a = without_gaps lower.now upper.now size.now alignment.now lowest.now in
+        result ≢ Answer.NoMemory → plan_fault result ≡ arrays_fault a (length offsets.old) }
+    ensures value { let a = without_gaps lower.now upper.now size.now alignment.now lowest.now in
+        IsAnswer (instance_of a) capacity steps offsets.new result }
+    ensures unchanged { result ≢ Answer.Fits → offsets.new ≡ offsets.old }
+    ensures fits { steps ≡ None → result ≢ Answer.NoMemory →
+        let a = without_gaps lower.now upper.now size.now alignment.now lowest.now in
+        (result ≡ Answer.Fits) ↔
+        (AreSound a (length offsets.old) × IsFeasible (instance_of a) capacity) }
+    ensures does_not_fit { steps ≡ None → result ≢ Answer.NoMemory →
+        let a = without_gaps lower.now upper.now size.now alignment.now lowest.now in
+        (result ≡ Answer.DoesNotFit) ↔
+        (AreSound a (length offsets.old) × IsInfeasible (instance_of a) capacity) }
 {
-    let instance = match instance(alloc, arrays, offsets.len()) {
-        Ok(instance) => instance,
-        Err(failure) => return Err(failure),
-    };
-    match decide(alloc, &instance, capacity, steps, offsets) {
-        Ok(answer) => Ok(answer),
-        Err(NoMemory) => Err(Fail::NoMemory),
-    }
+    Arrays::without_gaps(lower, upper, size, alignment, lowest).plan_at(
+        alloc, capacity, steps, offsets,
+    )
 }

@@ -1,27 +1,33 @@
--- What the clauses of the calls say of the offsets.
-use Rattle.std.proofs.Common.{◌≡◌, ◌≤◌, ℕ, List, Option, None, Some, Result, Ok, Err, arith}
+-- What the answers on the least capacity say of the offsets.
+use Rattle.std.proofs.Common.{◌≡◌, ◌≤◌, ◌∙◌, ℕ, List, Option, ap, arith, subst, sym}
 use Rattle.dsa_terms.specs.Layouts.{IsLayout}
-use Rattle.dsa_model.specs.Fails.{UnlessNoMemory}
-use Rattle.dsa_model.specs.declared.fail.Fail.{Fail}
-use Rattle.dsa_model.specs.declared.fail.Fail.TheVariants.{Fault, NoMemory}
 use Rattle.dsa_plan.specs.Arrays.{Arrays, instance_of}
-use Rattle.dsa_plan.specs.Faults.{arrays_fault}
 use Rattle.dsa_plan.specs.Plans.{IsLeastAnswer}
 use Rattle.dsa_plan.specs.declared.answers.LeastAnswer.{LeastAnswer}
-use Rattle.dsa_plan.specs.declared.answers.LeastAnswer.TheVariants.{Least, Open}
-use Rattle.dsa_plan.specs.declared.fault.ArraysFault.{ArraysFault}
-use Rattle.dsa_plan.specs.declared.fault.ArraysFault.TheVariants.{BadBuffer, LengthsDiffer, TooMany}
+use Rattle.dsa_plan.specs.declared.answers.LeastAnswer.TheVariants.{Least, Open, LengthsDiffer, TooMany, BadBuffer, NoMemory}
 use Rattle.dsaplan_c.specs.Told.{least_detail, least_status}
+use Rattle.dsaplan_c.specs.declared.detail.Detail.{Detail}
 
--- with an answer the offsets are a layout of the upper end's height
-pub laid : (a : Arrays) (n : ℕ) (steps : Option ℕ) (offsets : List ℕ) (answer : Result LeastAnswer (Fail ArraysFault)) →
-    UnlessNoMemory answer
-    (λ given. (arrays_fault a n ≡ None) × IsLeastAnswer (instance_of a) steps offsets given)
-    (λ fault. arrays_fault a n ≡ Some fault) → least_status answer ≤ 2 →
+-- with a status of at most 2 they are a layout of the upper end's height
+pub laid : (a : Arrays) (steps : Option ℕ) (offsets : List ℕ) (answer : LeastAnswer) →
+    IsLeastAnswer (instance_of a) steps offsets answer → least_status answer ≤ 2 →
     IsLayout (instance_of a) (least_detail answer).high offsets
-laid a n steps offsets (Ok (Least C)) h le = h.1.plan.layout
-laid a n steps offsets (Ok (Open low high)) h le = h.1.plan.layout
-laid a n steps offsets (Err (Fault LengthsDiffer)) h le = absurd (omega (arith, le))
-laid a n steps offsets (Err (Fault TooMany)) h le = absurd (omega (arith, le))
-laid a n steps offsets (Err (Fault (BadBuffer b f))) h le = absurd (omega (arith, le))
-laid a n steps offsets (Err NoMemory) h le = absurd (omega (arith, le))
+laid a steps offsets (Least C) h le = h.plan.layout
+laid a steps offsets (Open low high) h le = h.plan.layout
+laid a steps offsets LengthsDiffer h le = absurd (omega (arith, le))
+laid a steps offsets TooMany h le = absurd (omega (arith, le))
+laid a steps offsets (BadBuffer b f) h le = absurd (omega (arith, le))
+laid a steps offsets NoMemory h le = absurd (omega (arith, le))
+
+-- the same of what stands for them
+pub laid_as : (a b : Arrays) (steps : Option ℕ) (offsets new : List ℕ) (answer told : LeastAnswer) (status : ℕ)
+    (detail : Detail) → a ≡ b → new ≡ offsets → told ≡ answer → status ≡ least_status told →
+    detail ≡ least_detail told → IsLeastAnswer (instance_of a) steps offsets answer → status ≤ 2 →
+    IsLayout (instance_of b) detail.high new
+laid_as a b steps offsets new answer told status detail e f g s d h le =
+    let le_answer : least_status answer ≤ 2 = (let t = ap least_status g in omega arith) in
+    let high : detail.high ≡ (least_detail answer).high = ap (λ (x : Detail). x.high) (d ∙ ap least_detail g) in
+    subst (λ (k : Arrays). IsLayout (instance_of k) detail.high new) e
+    (subst (λ (k : ℕ). IsLayout (instance_of a) k new) (sym high)
+    (subst (λ (l : List ℕ). IsLayout (instance_of a) (least_detail answer).high l) (sym f)
+    (laid a steps offsets answer h le_answer)))

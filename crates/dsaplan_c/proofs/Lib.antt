@@ -1,2 +1,3 @@
 mod ToldFacts
+pub mod Giving
 pub mod Laid

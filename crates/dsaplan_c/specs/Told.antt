@@ -1,15 +1,12 @@
 -- The statuses, which are the program's exit codes, and the details beside them.
-use Rattle.std.specs.Prelude.{ℕ, Result, Ok, Err}
+use Rattle.std.specs.Prelude.{ℕ}
 use Rattle.dsa_model.specs.declared.buffer_fault.BufferFault.{BufferFault}
 use Rattle.dsa_model.specs.declared.buffer_fault.BufferFault.TheVariants as fault
-use Rattle.dsa_model.specs.declared.fail.Fail.{Fail}
-use Rattle.dsa_model.specs.declared.fail.Fail.TheVariants.{Fault, NoMemory}
 use Rattle.dsa_plan.specs.declared.answers.Answer.{Answer}
 use Rattle.dsa_plan.specs.declared.answers.Answer.TheVariants as answer
 use Rattle.dsa_plan.specs.declared.answers.LeastAnswer.{LeastAnswer}
 use Rattle.dsa_plan.specs.declared.answers.LeastAnswer.TheVariants as least
-use Rattle.dsa_plan.specs.declared.fault.ArraysFault.{ArraysFault}
-use Rattle.dsa_plan.specs.declared.fault.ArraysFault.TheVariants.{BadBuffer, LengthsDiffer, TooMany}
+use Rattle.dsa_plan.specs.declared.fault.NumbersFault.{NumbersFault}
 use Rattle.dsa_plan.specs.declared.fault.NumbersFault.TheVariants.{Buffer, TimeTooLarge}
 use Rattle.dsaplan_c.specs.declared.detail.Detail.{Detail}
 
@@ -40,45 +37,40 @@ faulty buffer number gap = record { low = 0; high = 0; buffer = buffer; fault = 
 abbrev pub ends : (low high : ℕ) → Detail
 ends low high = record { low = low; high = high; buffer = 0; fault = 0; gap = 0 }
 
--- what is told of a fault of the arrays
-abbrev pub fault_detail : ArraysFault → Detail
-fault_detail LengthsDiffer = ends 0 0
-fault_detail TooMany = faulty 0 1 0
-fault_detail (BadBuffer b TimeTooLarge) = faulty b 2 0
-fault_detail (BadBuffer b (Buffer f)) = faulty b (fault_number f) (gap_number f)
-
--- the status of what has no answer
-abbrev pub fault_status : Fail ArraysFault → ℕ
-fault_status (Fault LengthsDiffer) = 3
-fault_status (Fault TooMany) = 4
-fault_status (Fault (BadBuffer b f)) = 4
-fault_status NoMemory = 6
-
--- what is told of what has no answer
-abbrev pub failure_detail : Fail ArraysFault → Detail
-failure_detail (Fault f) = fault_detail f
-failure_detail NoMemory = ends 0 0
+-- what is told of a bad buffer
+abbrev pub bad_buffer : ℕ → NumbersFault → Detail
+bad_buffer b TimeTooLarge = faulty b 2 0
+bad_buffer b (Buffer f) = faulty b (fault_number f) (gap_number f)
 
 -- the status of an answer on a capacity
-abbrev pub plan_status : Result Answer (Fail ArraysFault) → ℕ
-plan_status (Ok answer.Fits) = 0
-plan_status (Ok answer.DoesNotFit) = 1
-plan_status (Ok answer.Open) = 2
-plan_status (Err failure) = fault_status failure
+abbrev pub plan_status : Answer → ℕ
+plan_status answer.Fits = 0
+plan_status answer.DoesNotFit = 1
+plan_status answer.Open = 2
+plan_status answer.LengthsDiffer = 3
+plan_status answer.TooMany = 4
+plan_status (answer.BadBuffer b f) = 4
+plan_status answer.NoMemory = 6
 
 -- what is told beside it
-abbrev pub plan_detail : Result Answer (Fail ArraysFault) → Detail
-plan_detail (Ok a) = ends 0 0
-plan_detail (Err failure) = failure_detail failure
+abbrev pub plan_detail : Answer → Detail
+plan_detail answer.TooMany = faulty 0 1 0
+plan_detail (answer.BadBuffer b f) = bad_buffer b f
+plan_detail _ = ends 0 0
 
 -- the status of an answer on the least capacity
-abbrev pub least_status : Result LeastAnswer (Fail ArraysFault) → ℕ
-least_status (Ok (least.Least capacity)) = 0
-least_status (Ok (least.Open low high)) = 2
-least_status (Err failure) = fault_status failure
+abbrev pub least_status : LeastAnswer → ℕ
+least_status (least.Least C) = 0
+least_status (least.Open low high) = 2
+least_status least.LengthsDiffer = 3
+least_status least.TooMany = 4
+least_status (least.BadBuffer b f) = 4
+least_status least.NoMemory = 6
 
 -- what is told beside it
-abbrev pub least_detail : Result LeastAnswer (Fail ArraysFault) → Detail
-least_detail (Ok (least.Least capacity)) = ends capacity capacity
-least_detail (Ok (least.Open low high)) = ends low high
-least_detail (Err failure) = failure_detail failure
+abbrev pub least_detail : LeastAnswer → Detail
+least_detail (least.Least C) = ends C C
+least_detail (least.Open low high) = ends low high
+least_detail least.TooMany = faulty 0 1 0
+least_detail (least.BadBuffer b f) = bad_buffer b f
+least_detail _ = ends 0 0

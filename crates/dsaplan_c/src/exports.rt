@@ -9,13 +9,12 @@ ghost use Rattle.dsaplan_c.specs.Says.{SaysLeast, SaysPacked, SaysPlan};
 use crate::arrays::{Gap, pairs, steps_of};
 use crate::detail::Detail;
 use crate::told::{least_detail, least_status, plan_detail, plan_status};
-use dsa_model::Fail;
-use dsa_plan::{Arrays, pack, plan_at, plan_least};
+use dsa_plan::{Answer, Arrays, LeastAnswer};
 use std::alloc::Global;
 
-/// `dsa_plan::plan_at`: a layout of the buffers within the capacity. The status is 0 where one is
-/// written, 1 where there is none, 2 where the steps are used up, 3 where lengths differ, 4 for too
-/// many buffers and for a bad one, and 6 without memory. Nothing is written but with 0.
+/// `dsa_plan::Arrays::plan_at`: a layout of the buffers within the capacity. The status is 0 where
+/// one is written, 1 where there is none, 2 where the steps are used up, 3 where lengths differ, 4
+/// for too many buffers and for a bad one, and 6 without memory. Nothing is written but with 0.
 #[unsafe(no_mangle)]
 pub extern "C" fn dsaplan_plan_at(
     alloc: Global,
@@ -45,35 +44,21 @@ pub extern "C" fn dsaplan_plan_at(
 {
     let answer = match pairs(alloc, gaps) {
         Ok(gaps) => {
-            let arrays = Arrays {
-                lower,
-                upper,
-                size,
-                alignment,
-                lowest,
-                gaps: gaps.as_slice(),
-                gap_counts,
-            };
-            plan_at(
-                alloc,
-                &arrays,
-                capacity,
-                steps_of(is_limited, steps),
-                offsets,
-            )
+            Arrays::without_gaps(lower, upper, size, alignment, lowest)
+                .with_gaps(&gaps, gap_counts)
+                .plan_at(alloc, capacity, steps_of(is_limited, steps), offsets)
         }
-        Err(_) => Err(Fail::NoMemory),
+        Err(_) => Answer::NoMemory,
     };
     *detail = plan_detail(answer);
     plan_status(answer)
 }
 
-/// `dsa_plan::plan_least`: a layout of the buffers of the least capacity, which both ends of the
-/// detail then are. The status is 0 for that, 2 where the steps are used up, and a layout of the
-/// height of the upper end is written, 3 where lengths differ, 4 for too many buffers and for a bad
-/// one, and 6 without memory. Nothing is written but with 0 and 2.
+/// `dsa_plan::Arrays::plan_least`: a layout of the buffers of the least capacity, which both ends
+/// of the detail then are. The status is 0 for that, 2 where the steps are used up, and a layout of
+/// the height of the upper end is written, 3 where lengths differ, 4 for too many buffers and for a
+/// bad one, and 6 without memory. Nothing is written but with 0 and 2.
 #[unsafe(no_mangle)]
-#[tactic(auto, using(crate::proofs::Laid::laid))]
 pub extern "C" fn dsaplan_least(
     alloc: Global,
     lower: &[u64],
@@ -101,27 +86,20 @@ pub extern "C" fn dsaplan_least(
 {
     let answer = match pairs(alloc, gaps) {
         Ok(gaps) => {
-            let arrays = Arrays {
-                lower,
-                upper,
-                size,
-                alignment,
-                lowest,
-                gaps: gaps.as_slice(),
-                gap_counts,
-            };
-            plan_least(alloc, &arrays, steps_of(is_limited, steps), offsets)
+            Arrays::without_gaps(lower, upper, size, alignment, lowest)
+                .with_gaps(&gaps, gap_counts)
+                .plan_least(alloc, steps_of(is_limited, steps), offsets)
         }
-        Err(_) => Err(Fail::NoMemory),
+        Err(_) => LeastAnswer::NoMemory,
     };
     *detail = least_detail(answer);
     least_status(answer)
 }
 
-/// `dsa_plan::pack`: the lowest layout of the buffers that it finds in so many steps; its height is
-/// the upper end of the detail. The status is 0 where that is the least capacity, 2 where it may
-/// not be, 3 where lengths differ, 4 for too many buffers and for a bad one, and 6 without memory.
-/// Nothing is written but with 0 and 2.
+/// `dsa_plan::Arrays::pack`: the lowest layout of the buffers that it finds in so many steps; its
+/// height is the upper end of the detail. The status is 0 where that is the least capacity, 2 where
+/// it may not be, 3 where lengths differ, 4 for too many buffers and for a bad one, and 6 without
+/// memory. Nothing is written but with 0 and 2.
 #[unsafe(no_mangle)]
 pub extern "C" fn dsaplan_pack(
     alloc: Global,
@@ -149,18 +127,11 @@ pub extern "C" fn dsaplan_pack(
 {
     let answer = match pairs(alloc, gaps) {
         Ok(gaps) => {
-            let arrays = Arrays {
-                lower,
-                upper,
-                size,
-                alignment,
-                lowest,
-                gaps: gaps.as_slice(),
-                gap_counts,
-            };
-            pack(alloc, &arrays, steps, offsets)
+            Arrays::without_gaps(lower, upper, size, alignment, lowest)
+                .with_gaps(&gaps, gap_counts)
+                .pack(alloc, steps, offsets)
         }
-        Err(_) => Err(Fail::NoMemory),
+        Err(_) => LeastAnswer::NoMemory,
     };
     *detail = least_detail(answer);
     least_status(answer)

@@ -1,12 +1,12 @@
 //! Statuses and details.
 
 ghost use Rattle.std.specs.Prelude.{◌≡◌};
-ghost use Rattle.dsaplan_c.specs.Told.{ends, failure_detail, fault_detail, fault_number, fault_status, gap_number};
+ghost use Rattle.dsaplan_c.specs.Told.{bad_buffer, ends, fault_number, faulty, gap_number};
 ghost use Rattle.dsaplan_c.specs.Told.{least_detail, least_status, plan_detail, plan_status};
 
 use crate::detail::Detail;
-use dsa_model::{BufferFault, Fail};
-use dsa_plan::{Answer, ArraysFault, LeastAnswer, NumbersFault};
+use dsa_model::BufferFault;
+use dsa_plan::{Answer, LeastAnswer, NumbersFault};
 
 /// Nothing is told.
 const NOTHING: Detail = Detail {
@@ -46,93 +46,26 @@ fn gap_number(fault: BufferFault) -> u32
     }
 }
 
-/// What is told of a fault of the arrays.
-fn fault_detail(fault: ArraysFault) -> Detail
-    ensures { result ≡ fault_detail fault }
+/// What is told of a fault.
+fn faulty(buffer: u32, fault: u32, gap: u32) -> Detail
+    ensures { result ≡ faulty buffer fault gap }
+{
+    Detail {
+        low: 0,
+        high: 0,
+        buffer,
+        fault,
+        gap,
+    }
+}
+
+/// What is told of a bad buffer.
+fn bad_buffer(buffer: u32, fault: NumbersFault) -> Detail
+    ensures { result ≡ bad_buffer buffer fault }
 {
     match fault {
-        ArraysFault::LengthsDiffer => NOTHING,
-        ArraysFault::TooMany => Detail {
-            low: 0,
-            high: 0,
-            buffer: 0,
-            fault: 1,
-            gap: 0,
-        },
-        ArraysFault::BadBuffer {
-            buffer,
-            fault: NumbersFault::TimeTooLarge,
-        } => Detail {
-            low: 0,
-            high: 0,
-            buffer,
-            fault: 2,
-            gap: 0,
-        },
-        ArraysFault::BadBuffer {
-            buffer,
-            fault: NumbersFault::Buffer(fault),
-        } => Detail {
-            low: 0,
-            high: 0,
-            buffer,
-            fault: fault_number(fault),
-            gap: gap_number(fault),
-        },
-    }
-}
-
-/// The status of what has no answer.
-fn fault_status(failure: Fail<ArraysFault>) -> u32
-    ensures { result ≡ fault_status failure }
-{
-    match failure {
-        Fail::Fault(ArraysFault::LengthsDiffer) => 3,
-        Fail::Fault(_) => 4,
-        Fail::NoMemory => 6,
-    }
-}
-
-/// What is told of what has no answer.
-fn failure_detail(failure: Fail<ArraysFault>) -> Detail
-    ensures { result ≡ failure_detail failure }
-{
-    match failure {
-        Fail::Fault(fault) => fault_detail(fault),
-        Fail::NoMemory => NOTHING,
-    }
-}
-
-/// The status of an answer on a capacity.
-pub(crate) fn plan_status(answer: Result<Answer, Fail<ArraysFault>>) -> u32
-    ensures { result ≡ plan_status answer }
-{
-    match answer {
-        Ok(Answer::Fits) => 0,
-        Ok(Answer::DoesNotFit) => 1,
-        Ok(Answer::Open) => 2,
-        Err(failure) => fault_status(failure),
-    }
-}
-
-/// What is told beside it.
-pub(crate) fn plan_detail(answer: Result<Answer, Fail<ArraysFault>>) -> Detail
-    ensures { result ≡ plan_detail answer }
-{
-    match answer {
-        Ok(_) => NOTHING,
-        Err(failure) => failure_detail(failure),
-    }
-}
-
-/// The status of an answer on the least capacity.
-pub(crate) fn least_status(answer: Result<LeastAnswer, Fail<ArraysFault>>) -> u32
-    ensures { result ≡ least_status answer }
-{
-    match answer {
-        Ok(LeastAnswer::Least { capacity: _ }) => 0,
-        Ok(LeastAnswer::Open { low: _, high: _ }) => 2,
-        Err(failure) => fault_status(failure),
+        NumbersFault::TimeTooLarge => faulty(buffer, 2, 0),
+        NumbersFault::Buffer(fault) => faulty(buffer, fault_number(fault), gap_number(fault)),
     }
 }
 
@@ -149,13 +82,53 @@ fn ends(low: u64, high: u64) -> Detail
     }
 }
 
+/// The status of an answer on a capacity.
+pub(crate) fn plan_status(answer: Answer) -> u32
+    ensures { result ≡ plan_status answer }
+{
+    match answer {
+        Answer::Fits => 0,
+        Answer::DoesNotFit => 1,
+        Answer::Open => 2,
+        Answer::LengthsDiffer => 3,
+        Answer::TooMany | Answer::BadBuffer { .. } => 4,
+        Answer::NoMemory => 6,
+    }
+}
+
 /// What is told beside it.
-pub(crate) fn least_detail(answer: Result<LeastAnswer, Fail<ArraysFault>>) -> Detail
+pub(crate) fn plan_detail(answer: Answer) -> Detail
+    ensures { result ≡ plan_detail answer }
+{
+    match answer {
+        Answer::TooMany => faulty(0, 1, 0),
+        Answer::BadBuffer { buffer, fault } => bad_buffer(buffer, fault),
+        _ => NOTHING,
+    }
+}
+
+/// The status of an answer on the least capacity.
+pub(crate) fn least_status(answer: LeastAnswer) -> u32
+    ensures { result ≡ least_status answer }
+{
+    match answer {
+        LeastAnswer::Least { .. } => 0,
+        LeastAnswer::Open { .. } => 2,
+        LeastAnswer::LengthsDiffer => 3,
+        LeastAnswer::TooMany | LeastAnswer::BadBuffer { .. } => 4,
+        LeastAnswer::NoMemory => 6,
+    }
+}
+
+/// What is told beside it.
+pub(crate) fn least_detail(answer: LeastAnswer) -> Detail
     ensures { result ≡ least_detail answer }
 {
     match answer {
-        Ok(LeastAnswer::Least { capacity }) => ends(capacity, capacity),
-        Ok(LeastAnswer::Open { low, high }) => ends(low, high),
-        Err(failure) => failure_detail(failure),
+        LeastAnswer::Least { capacity } => ends(capacity, capacity),
+        LeastAnswer::Open { low, high } => ends(low, high),
+        LeastAnswer::TooMany => faulty(0, 1, 0),
+        LeastAnswer::BadBuffer { buffer, fault } => bad_buffer(buffer, fault),
+        _ => NOTHING,
     }
 }
