@@ -6,8 +6,8 @@ NUMBER = re.compile(rb"[0-9]{1,20}")
 # The limits of docs/FORMATS.md that a run's line does not tell.
 TIME_LIMIT = 2**62 - 1
 WORD_LIMIT = 2**60
-MOST_BUFFERS = 512
-MOST_GAPS = 8
+MOST_BUFFERS = 4096
+MOST_GAPS = 64
 
 
 def shown(text, most=60):

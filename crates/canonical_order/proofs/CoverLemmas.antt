@@ -3,7 +3,7 @@ use Rattle.std.proofs.Common.{◌≡◌, ℕ, zero, suc, ◌+◌, ◌<◌, ◌�
 use Rattle.std.proofs.lemmas.Bool.Decides.{nat_tests}
 use Rattle.std.proofs.lemmas.Grind.{common_steps}
 use Rattle.dsa_terms.specs.Buffers.{Instance, buffer, do_share}
-use Rattle.dsa_model.specs.Buffer.{IsBuffer}
+use Rattle.dsa_model.specs.Buffer.{IsBuffer, buffer_limit}
 use Rattle.dsa_model.proofs.Instances.{sound_buffer}
 use Rattle.dsa_terms.specs.Claims.{Entry, Claim, IsIn, Rises, buffers_of, up, step, child, Covers}
 use Rattle.dsa_search_laws.proofs.Placing.{in_buffers, in_child, of_child}
@@ -274,7 +274,7 @@ child_is_kept I l b s k h = record {
       omega arith;
   count = let q : suc (length (child I l (entry_of l b))) ≡ length l =
       length-child I l (entry_of l b) s.claim.rises (entry_in l b h) in let n : length l ≤ length I =
-      length_within l (length I) s.claim.rises s.claim.in_range in let m : length I ≤ 512 = s.count in omega arith;
+      length_within l (length I) s.claim.rises s.claim.in_range in let m : length I ≤ buffer_limit = s.count in omega arith;
 }
 
 -- the test of one entry

@@ -1,17 +1,14 @@
 -- Entries of a claim: by buffer, by place, and below a number.
-use Rattle.std.proofs.Common.{◌≡◌, ℕ, ◌+◌, ◌<◌, ◌≤◌, ◌≢◌, inl, inr, Bool, true, false, cond, ◌==◌, List, [], ◌∷◌, length, Option, Some, None, find, option_map, All, ◌^◌, is_some, refl, sym, ap, arith}
+use Rattle.std.proofs.Common.{◌≡◌, ℕ, ◌+◌, ◌<◌, ◌≤◌, ◌≢◌, inl, inr, Bool, true, false, cond, ◌==◌, [], ◌∷◌, length, Option, Some, None, find, option_map, All, ◌^◌, is_some, refl, sym, ap, arith}
 use Rattle.std.proofs.lemmas.Bool.Decides.{nat_tests}
 use Rattle.dsa_terms.specs.Claims.{Entry, Claim, IsIn, Rises, buffers_of, number_of, up}
 use Rattle.dsa_search_laws.proofs.Placing.{in_buffers, same_entry}
-use Rattle.dsa_search_laws.proofs.Members.{buffers_of-whole, length-whole}
-use Rattle.dsa_terms.proofs.Lists.{from_map}
 use Rattle.dsa_terms.proofs.Numbers.{next_is_below}
 use Rattle.canonical_order.specs.Claims.{HasBuffer, entry_of, bound_of, IsBoundedBy, IsKeptClaim}
 use Rattle.canonical_order.specs.Stands.{Stands}
 use Rattle.dsa_terms.specs.Buffers.{Instance, buffer}
 use Rattle.std.specs.Int.{next_multiple_of}
-use Rattle.dsa_terms.specs.Parts.{whole}
-use Rattle.dsa_model.specs.Buffer.{IsBuffer}
+use Rattle.dsa_model.specs.Buffer.{IsBuffer, buffer_limit}
 use Rattle.dsa_model.proofs.Instances.{sound_buffer}
 
 -- a buffer of the claim stands in it with its bound
@@ -53,7 +50,7 @@ bound_none (x ∷ xs) b h i = go (x.0 == b) refl h i (bound_none xs b)
 
 -- ---- claims of the code
 pub stands : (I : Instance) (l : Claim) → IsKeptClaim l → ((b : ℕ) → HasBuffer l b → b < length I) → All IsBuffer I →
-    length I ≤ 512 → Stands I l
+    length I ≤ buffer_limit → Stands I l
 stands I l k h bs n = record {
   claim = record { rises = k.rises; in_range = λ e i. h e.0 (in_buffers l e i) };
   bounds = k.bounds;

@@ -1,19 +1,19 @@
 -- Whole claims, and claims without a bound above a floor.
-use Rattle.std.proofs.Common.{◌≡◌, ℕ, ◌+◌, ◌<◌, ◌≤◌, ◌↔◌, ◌^◌, ◌∷◌, [], true, false, List, length, drop, slice_index_or, Option, Some, None, option_map, find, is_none, is_some, not, IsTrue, All, nat_lt, inl, inr, Bool, cond, refl, sym, ap, ◌∙◌, subst, arith}
+use Rattle.std.proofs.Common.{◌≡◌, ℕ, ◌+◌, ◌<◌, ◌≤◌, ◌↔◌, ◌^◌, ◌∷◌, [], true, false, List, length, drop, slice_index_or, Option, Some, None, option_map, find, is_none, is_some, not, IsTrue, All, inl, inr, Bool, cond, refl, sym, ◌∙◌, arith}
 use Rattle.dsa_terms.specs.Buffers.{Instance, buffer, floor}
-use Rattle.dsa_terms.specs.Claims.{Entry, Claim, IsIn, IsWhole, Rises, buffers_of}
+use Rattle.dsa_terms.specs.Claims.{Entry, Claim, IsIn, IsWhole, Rises}
 use Rattle.dsa_terms.specs.Parts.{whole}
 use Rattle.dsa_terms.proofs.NumberTests.{not_below, not_less}
 use Rattle.dsa_terms.proofs.Places.{in_from_all}
 use Rattle.dsa_search_laws.proofs.Members.{buffers_of-whole, in_whole}
-use Rattle.dsa_model.specs.Buffer.{IsBuffer}
+use Rattle.dsa_model.specs.Buffer.{IsBuffer, buffer_limit}
 use Rattle.dsa_model.proofs.Instances.{sound_buffer}
 use Rattle.canonical_order.specs.Claims.{IsKeptClaim, is_above_floor, least_buffer}
 use Rattle.canonical_order.proofs.CoverLemmas.{length_within}
 use Rattle.canonical_order.proofs.Places.{at_place}
 
 -- a whole claim is one that the code keeps
-pub whole_is_kept : (I : Instance) (bs : List ℕ) → All IsBuffer I → length I ≤ 512 → Rises bs →
+pub whole_is_kept : (I : Instance) (bs : List ℕ) → All IsBuffer I → length I ≤ buffer_limit → Rises bs →
     All (λ b. b < length I) bs → IsKeptClaim (whole I bs)
 whole_is_kept I bs h n r range = record {
   rises = rw (buffers_of-whole I bs) r;

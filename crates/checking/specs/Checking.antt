@@ -1,5 +1,5 @@
 -- How the commands go that check a log's file.
-use Rattle.std.specs.Prelude.{ℕ, List, [], ◌∷◌, length}
+use Rattle.std.specs.Prelude.{[], ◌∷◌, length}
 use Rattle.dsa_terms.specs.Logs.{Log}
 use Rattle.dsa_terms.specs.Trims.{trimmed}
 use Rattle.log_text.specs.Spellings.{log_text2}

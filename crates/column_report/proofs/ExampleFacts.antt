@@ -46,7 +46,7 @@ unfolding misspelt_table is_live some_before is_ever_live
 misspelt_read = refl
 
 misspelt_told : inspect_text misspelt_table unaligned
-    ≡ codes "buffers 1 of 512 aligned 0 gaps 0 lowest 0\n"
+    ≡ codes "buffers 1 of 4096 aligned 0 gaps 0 lowest 0\n"
     ++ codes "column,meaning\nid,id\nlower,lower\nupper,upper\nsize,size\nAlignment,carried\n"
 unfolding misspelt_table digits escaped fields_text is_blank
 misspelt_told = refl
@@ -71,7 +71,7 @@ unfolding full_table is_live some_before is_ever_live
 full_read = refl
 
 full_told : inspect_text full_table full
-    ≡ codes "buffers 3 of 512 aligned 2 gaps 1 lowest 1\ncolumn,meaning\nlowest,lowest\ngaps,gaps\n"
+    ≡ codes "buffers 3 of 4096 aligned 2 gaps 1 lowest 1\ncolumn,meaning\nlowest,lowest\ngaps,gaps\n"
     ++ codes "alignment,alignment\nsize,size\nupper,upper\nlower,lower\nid,id\n"
 unfolding full_table digits escaped fields_text is_blank
 full_told = refl
@@ -79,13 +79,13 @@ full_told = refl
 -- ---- an alignment of 1 is none
 
 pub two_told : inspect_text two_rows two
-    ≡ codes "buffers 2 of 512 aligned 0 gaps 0 lowest 0\ncolumn,meaning\nid,id\nlower,lower\nupper,upper\n"
+    ≡ codes "buffers 2 of 4096 aligned 0 gaps 0 lowest 0\ncolumn,meaning\nid,id\nlower,lower\nupper,upper\n"
     ++ codes "size,size\nalignment,alignment\n"
 unfolding digits fields_text is_blank
 two_told = refl
 
 -- ---- no buffers
 
-none : counts_line (counts_of []) ≡ codes "buffers 0 of 512 aligned 0 gaps 0 lowest 0\n"
+none : counts_line (counts_of []) ≡ codes "buffers 0 of 4096 aligned 0 gaps 0 lowest 0\n"
 unfolding digits
 none = refl

@@ -2,7 +2,7 @@
 use Rattle.std.specs.Prelude.{ℕ, List, ◌++◌, Bool, codes, count_by, decimal, length, nat_lt, not}
 use Rattle.dsa_terms.specs.Buffers.{Buffer, Instance}
 use Rattle.dsa_terms.specs.Parts.{is_empty}
-use Rattle.csv_instance.specs.Parse.{buffer_limit}
+use Rattle.dsa_model.specs.Buffer.{buffer_limit}
 use Rattle.column_report.specs.declared.counts.Counts.{Counts}
 
 -- the buffer has an alignment above 1

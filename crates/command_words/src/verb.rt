@@ -6,7 +6,7 @@ ghost use Rattle.command_words.specs.Forms.{option_of, verb_of};
 use crate::OptionName;
 
 /// A command. C is a capacity in bytes, S a seed, N a count of buffers and K a budget in units,
-/// each a claim that is opened; the others are names of files.
+/// each a claim that is opened, or for `pack` also so much placing; the others are names of files.
 #[derive(Clone, Copy, Debug, PartialEq, Eq)]
 pub enum Verb {
     /// `solve --capacity C --input I --output O --log L`, and `--steps K` where it is given: lay

@@ -10,7 +10,7 @@ use Rattle.dsa_search_laws.proofs.Placing.{in_buffers}
 use Rattle.canonical_order.specs.Claims.{HasBuffer, IsBoundedBy}
 use Rattle.canonical_order.specs.Stands.{Stands}
 use Rattle.canonical_order.proofs.Entries.{entry_in, raise_limit}
-use Rattle.dsa_model.specs.Buffer.{IsBuffer}
+use Rattle.dsa_model.specs.Buffer.{IsBuffer, buffer_limit}
 use Rattle.refute_log.specs.Lines.{IsWithin}
 
 -- it is legal, within the limits of numbers, covers the given one's claim, and is lean
@@ -26,7 +26,7 @@ among I k l h b i = let q = h _ (entry_in k b i) in subst (λ b. HasBuffer l b) 
 
 -- a claim with bounds within the limit of lines
 pub stands_within : (I : Instance) (l : Claim) → IsClaim I l → IsBoundedBy (2 ^ 60) l → All IsBuffer I →
-    length I ≤ 512 → Stands I l
+    length I ≤ buffer_limit → Stands I l
 stands_within I l c b s n = record { claim = c; bounds = raise_limit l b; buffers = s; count = n }
 
 -- the answer of a call that gives that eased line

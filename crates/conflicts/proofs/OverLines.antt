@@ -13,6 +13,7 @@ use Rattle.dsa_terms.proofs.Moments.{and_true}
 use Rattle.dsa_terms.proofs.Numbers.{next_at_or_above, next_is_below, next_is_least, next_is_multiple}
 use Rattle.dsa_search_laws.proofs.Claims.{buffers_of-map, rises-filter}
 use Rattle.dsa_terms.proofs.NumberTests.{at_most, is_at_most}
+use Rattle.dsa_model.specs.Buffer.{buffer_limit}
 use Rattle.canonical_order.proofs.CoverLemmas.{length_within}
 use Rattle.canonical_order.specs.Claims.{IsBoundedBy}
 use Rattle.canonical_order.specs.Stands.{Stands}
@@ -172,7 +173,7 @@ module _ (I : Instance) (C : ℕ) (l : Claim) (T H G : ℕ) (s : Stands I l) (ov
       let c = from_is_claim h in
       let k : length (from_height h members) ≤ length I =
       length_within (from_height h members) (length I) c.rises c.in_range in
-      let m : length I ≤ 512 = s.count in omega arith
+      let m : length I ≤ buffer_limit = s.count in omega arith
 
   pub from_bounds : (n h : ℕ) → h ≡ height → H ≤ n → IsBoundedBy n (from_height h members)
   from_bounds n h q le e i =

@@ -11,6 +11,7 @@ use Rattle.dsa_terms.specs.Trims.{trimmed}
 use Rattle.dsa_terms.proofs.Lists.{from_map}
 use Rattle.dsa_terms.proofs.NumberTests.{below_or_from, not_less}
 use Rattle.dsa_terms.proofs.Places.{all_from_in, get_map, in_from_all}
+use Rattle.dsa_model.specs.Buffer.{buffer_limit}
 use Rattle.dsa_trim_laws.proofs.Picked.{get_in}
 use Rattle.dsa_model.specs.Chosen.{some_of}
 use Rattle.canonical_order.specs.Claims.{IsBoundedBy}
@@ -46,12 +47,12 @@ place_limit : (b : ℕ) (ms : List ℕ) → place_among b ms ≤ length ms
 unfolding place_among
 place_limit b ms = prefix_len-le-length (λ m. not (m == b)) ms
 
-pub places_limit : (before members places : List ℕ) → places ≡ places_among before members → length members ≤ 512 →
-    All (λ n. n ≤ 512) places
+pub places_limit : (before members places : List ℕ) → places ≡ places_among before members → length members ≤ buffer_limit →
+    All (λ n. n ≤ buffer_limit) places
 places_limit before members places is few =
-    rw is (all_from_in (λ n. n ≤ 512) (places_among before members) (λ n i. each n i))
+    rw is (all_from_in (λ n. n ≤ buffer_limit) (places_among before members) (λ n i. each n i))
   where
-    each : (n : ℕ) → IsIn n (places_among before members) → n ≤ 512
+    each : (n : ℕ) → IsIn n (places_among before members) → n ≤ buffer_limit
     each n i =
         let b = from_map (λ b. place_among b members) before n i in
         let same = b.2 in
@@ -59,10 +60,10 @@ places_limit before members places is few =
         omega arith
 
 -- ---- the limits of lines
-number_limit : (numbers : List ℕ) (b : ℕ) → All (λ n. n ≤ 512) numbers → slice_index numbers b ≤ 512
+number_limit : (numbers : List ℕ) (b : ℕ) → All (λ n. n ≤ buffer_limit) numbers → slice_index numbers b ≤ buffer_limit
 number_limit numbers b h = go (below_or_from b (length numbers))
   where
-    go : (b < length numbers) ⊎ (length numbers ≤ b) → slice_index numbers b ≤ 512
+    go : (b < length numbers) ⊎ (length numbers ≤ b) → slice_index numbers b ≤ buffer_limit
     go (inl lt) = h b 0 lt
     go (inr past) = let none = get_or_past numbers b 0 past in omega arith
 
@@ -73,7 +74,7 @@ renamed_bounds to l limit h e i =
     let le = h f.0 f.1 in
     omega arith
 
-cites_within : (numbers : List ℕ) (cites : List Cite) → All (λ n. n ≤ 512) numbers → All IsCiteWithin cites →
+cites_within : (numbers : List ℕ) (cites : List Cite) → All (λ n. n ≤ buffer_limit) numbers → All IsCiteWithin cites →
     All IsCiteWithin (map (renamed_cite (slice_index numbers)) cites)
 cites_within numbers cites h all =
     all_from_in IsCiteWithin (map (renamed_cite (slice_index numbers)) cites) each
@@ -88,7 +89,7 @@ cites_within numbers cites h all =
         let d = from_map (renamed_cite (slice_index numbers)) cites c i in
         subst IsCiteWithin (sym d.2) (one d.0 (in_from_all IsCiteWithin cites all d.0 d.1))
 
-pub renamed_within : (numbers : List ℕ) (line : Line) → All (λ n. n ≤ 512) numbers → IsWithin line →
+pub renamed_within : (numbers : List ℕ) (line : Line) → All (λ n. n ≤ buffer_limit) numbers → IsWithin line →
     IsWithin (renamed_line (slice_index numbers) line)
 renamed_within numbers (Over l T H G) h w = (renamed_bounds (slice_index numbers) l (2 ^ 60) w.0, w.1, w.2, w.3)
 renamed_within numbers (Cases l cites) h w =

@@ -3,6 +3,7 @@
 ghost use Rattle.std.specs.Prelude.{◌≡◌, ◌==◌, ◌^◌, ◌++◌, ◌∷◌, [], ◌<◌, ◌≤◌, All, IfOk, OnOk, length, map, position, slice_index};
 ghost use Rattle.dsa_terms.specs.Claims.{Rises, buffers_of};
 ghost use Rattle.dsa_terms.specs.Logs.{IsAccepted, IsLegal, claim_of};
+ghost use Rattle.dsa_model.specs.Buffer.{buffer_limit};
 ghost use Rattle.dsa_model.specs.Chosen.{some_of};
 ghost use Rattle.canonical_order.specs.Claims.{IsBoundedBy};
 ghost use Rattle.refute_log.specs.Lines.{IsLineKept, IsWithin, cite_value, line_value};
@@ -25,7 +26,7 @@ fn find_place(b: u32, members: &[u32]) -> Option<usize>
 
 /// The place of b among the members, and one past the last where it is none of them.
 fn place_among(b: u32, members: &[u32]) -> u32
-    requires { length members.now ≤ 512 }
+    requires { length members.now ≤ buffer_limit }
     ensures { result ≡ place_among b members.now }
 {
     match find_place(b, members) {
@@ -36,7 +37,7 @@ fn place_among(b: u32, members: &[u32]) -> u32
 
 /// For each of those before its place among the members.
 fn places_among(alloc: Global, before: &[u32], members: &[u32]) -> Result<Vec<u32>, AllocError>
-    requires { length members.now ≤ 512 }
+    requires { length members.now ≤ buffer_limit }
     ensures { IfOk result (λ places. places.items ≡ places_among before.now members.now) }
 {
     let mut places = Vec::new(alloc);
@@ -143,7 +144,7 @@ fn renamed_log(
     log: &ClosedLog,
     numbers: &[u32],
 ) -> Result<Log, NoMemory>
-    requires numbers { All (λ n. n ≤ 512) numbers.now }
+    requires numbers { All (λ n. n ≤ buffer_limit) numbers.now }
     requires belongs { let n = length instance.now in
         Belongs instance.now (renamed_log n (slice_index numbers.now) log.now) }
     ensures value { let n = length instance.now in

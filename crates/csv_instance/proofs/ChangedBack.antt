@@ -8,13 +8,13 @@ use Rattle.std.specs.Str.{bytes_eq}
 use Rattle.dsa_terms.specs.Buffers.{Buffer}
 use Rattle.dsa_terms.specs.Claims.{IsIn}
 use Rattle.dsa_terms.proofs.Places.{in_from_all}
-use Rattle.dsa_model.specs.Buffer.{first_fault, when}
+use Rattle.dsa_model.specs.Buffer.{first_fault, when, buffer_limit}
 use Rattle.dsa_model.proofs.Faults.{map_none, neither, not_so}
 use Rattle.csv_instance.specs.Changed.{AreMoments, Change, change_of, changed_from, changed_header, changed_records, changed_row, changed_rows, changed_text, changed_value, changed_values}
 use Rattle.csv_instance.specs.Columns.{column_place, field_of, has_column, name_of, named_columns, needed_columns, stands_twice}
 use Rattle.csv_instance.specs.Gaps.{gaps_of}
 use Rattle.csv_instance.specs.Numbers.{time_limit}
-use Rattle.csv_instance.specs.Parse.{buffer_limit, form_faults, header_fault, header_faults, id_fault, id_faults, id_limit, mark, number_under, row_buffer}
+use Rattle.csv_instance.specs.Parse.{form_faults, header_fault, header_faults, id_fault, id_faults, id_limit, mark, number_under, row_buffer}
 use Rattle.csv_instance.specs.Records.{Record, table_of}
 use Rattle.csv_instance.specs.Rows.{form_fault, parse_rows, row_form_fault, rows_form_fault, values_of}
 use Rattle.csv_instance.specs.declared.columns.Column.{Column}

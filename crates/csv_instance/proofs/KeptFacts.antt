@@ -9,7 +9,7 @@ use Rattle.csv.specs.declared.iter.ByteRecordsIntoIter.{ByteRecordsIntoIter}
 use Rattle.csv.specs.declared.parser.State.TheVariants as state
 use Rattle.csv.specs.declared.reader.Trim.TheVariants as trim
 use Rattle.csv.specs.declared.writer.Writer.{Writer}
-use Rattle.dsa_model.specs.Buffer.{is_ever_live}
+use Rattle.dsa_model.specs.Buffer.{is_ever_live, buffer_limit}
 use Rattle.dsa_terms.specs.Buffers.{Buffer, is_live, some_before}
 use Rattle.csv_instance.specs.Found.{AreColumns, AreFound, AreOf, by_buffer, found_for}
 use Rattle.csv_instance.specs.Gives.{Gives, records_left}
@@ -37,10 +37,10 @@ numbers_of_first = record { lower = refl; upper = refl; size = refl; alignment =
 two_of_them_changed : AreNumbers plain first_row (record { lower = 5; upper = 2; size = 4; alignment = 1; lowest = 0 }) → ⊥
 two_of_them_changed n = let e : Some 2 ≡ Some 5 = n.lower in cc
 
-past_the_last : length_fault 512 4 3 0 ≡ Some fault.TooManyBuffers
+past_the_last : length_fault buffer_limit 4 3 0 ≡ Some fault.TooManyBuffers
 past_the_last = refl
 
-few_fields : length_fault 511 4 3 0 ≡ Some (fault.FieldCount 511)
+few_fields : length_fault 4095 4 3 0 ≡ Some (fault.FieldCount 4095)
 few_fields = refl
 
 no_id : length_fault 5 4 4 0 ≡ Some (fault.EmptyId 5)
@@ -56,8 +56,9 @@ longest_id = refl
 row_of_a_long_id : id_fault plain [] (replicate 256 65 ∷ [] ∷ [] ∷ [] ∷ []) ≡ Some (fault.IdTooLong 0)
 row_of_a_long_id = refl
 
-row_past_the_last : id_fault plain (replicate 512 first_row) [] ≡ Some fault.TooManyBuffers
-row_past_the_last = refl
+row_past_the_last : (rows : List Record) → length rows ≡ buffer_limit →
+    id_fault plain rows [] ≡ Some fault.TooManyBuffers
+row_past_the_last rows many = rw many refl
 
 short : HasShortFields (codes "A" ∷ [])
 short zero d lt = lit≤ tt

@@ -4,6 +4,7 @@ use Rattle.std.proofs.lemmas.List.{get_or-map, length-map}
 use Rattle.std.proofs.lemmas.List.Elements.{All-get_or}
 use Rattle.csv.specs.Records.{Row, fields_of}
 use Rattle.dsa_terms.specs.Buffers.{Buffer, buffer, no_buffer}
+use Rattle.dsa_model.specs.Buffer.{buffer_limit}
 use Rattle.csv_instance.specs.Records.{Record}
 use Rattle.csv_instance.specs.KeptRows.{IsKeptRows, records_of}
 use Rattle.csv_instance.specs.Parse.{row_buffer}
@@ -33,7 +34,7 @@ kept_within a r table k is within =
     omega (arith, a.values.ok.0)
 
 -- and there are few
-pub kept_few : (a : Inside) → IsKeptRows a → vec_len a.values ≤ 512
+pub kept_few : (a : Inside) → IsKeptRows a → vec_len a.values ≤ buffer_limit
 kept_few a k =
     let count = kept_count a k in
     let rows = length-map a.rows.items fields_of in

@@ -10,11 +10,11 @@ use Rattle.dsa_terms.specs.Claims.{IsIn, Rises}
 use Rattle.dsa_terms.specs.Firsts.{when}
 use Rattle.dsa_terms.proofs.Lists.{from_append, left_append, none_passes, right_append}
 use Rattle.dsa_terms.proofs.NumberTests.{apart, differ}
-use Rattle.dsa_model.specs.Buffer.{buffer_fault}
+use Rattle.dsa_model.specs.Buffer.{buffer_fault, buffer_limit}
 use Rattle.dsa_model.proofs.Faults.{map_none, neither, not_so}
 use Rattle.csv_instance.specs.Columns.{field_of}
 use Rattle.csv_instance.specs.Gaps.{gaps_of}
-use Rattle.csv_instance.specs.Parse.{bad_column, buffer_limit, content_fault, header_fault, id_fault, id_faults, parse, row_buffer, row_fault, rows_fault}
+use Rattle.csv_instance.specs.Parse.{bad_column, content_fault, header_fault, id_fault, id_faults, parse, row_buffer, row_fault, rows_fault}
 use Rattle.csv_instance.specs.Records.{Record}
 use Rattle.csv_instance.specs.declared.columns.Column.TheVariants.{Gaps, Id}
 use Rattle.csv_instance.specs.declared.fault.InstanceFault.TheVariants as fault

@@ -6,6 +6,7 @@ use Rattle.csv_instance.specs.Records.{Record}
 use Rattle.csv_instance.specs.Parse.{row_buffer, content_fault, header_fault, id_fault, row_fault, rows_fault, parse}
 use Rattle.std.specs.Prelude.{nat_lt, ◌==◌}
 use Rattle.std.proofs.lemmas.Bool.Decides.{nat_tests}
+use Rattle.dsa_model.specs.Buffer.{buffer_limit}
 use Rattle.dsa_model.proofs.Faults.{neither, not_so}
 use Rattle.csv_instance.specs.Columns.{field_of}
 use Rattle.csv_instance.specs.Parse.{id_faults}
@@ -59,7 +60,7 @@ pub row-content : (header : Record) (rows : List Record) (row : Record) (o : Opt
 row-content header rows row o e g = rw (e, g) refl
 
 -- there is room for a row that is not one too many
-pub room : (header : Record) (rows : List Record) (row : Record) → id_fault header rows row ≡ None → length rows ≢ 512
+pub room : (header : Record) (rows : List Record) (row : Record) → id_fault header rows row ≡ None → length rows ≢ buffer_limit
 room header rows row e full = cc (rw full at e)
 
 pub none_left : {A : Type 0} (o : Option A) → ((x : A) → o ≡ Some x → ⊥) → o ≡ None

@@ -3,7 +3,7 @@ use Rattle.std.specs.Prelude.{ℕ, List, [], ◌∷◌, ◌++◌, not, ◌==◌,
 use Rattle.std.specs.List.{starts_with}
 use Rattle.std.specs.Option.{option_or, option_map_or}
 use Rattle.std.specs.Str.{bytes_eq}
-use Rattle.dsa_model.specs.Buffer.{first_fault, when, buffer_fault}
+use Rattle.dsa_model.specs.Buffer.{first_fault, when, buffer_fault, buffer_limit}
 use Rattle.dsa_model.specs.Numbers.{written_number}
 use Rattle.dsa_terms.specs.Buffers.{Buffer}
 use Rattle.csv_instance.specs.Records.{Record}
@@ -60,10 +60,6 @@ row_buffer header row = record {
   gaps = unwrap_or (gaps_of (field_of header row Gaps)) [];
   lowest = unwrap_or (number_under header row Lowest) 0;
 }
-
--- the greatest number of buffers
-abbrev pub buffer_limit : ℕ
-buffer_limit = 512
 
 -- the greatest length of an id, in bytes
 abbrev pub id_limit : ℕ

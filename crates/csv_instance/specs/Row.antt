@@ -1,7 +1,7 @@
 -- The numbers of a row, once read, and what is wrong with how long it and its id are.
 use Rattle.std.specs.Prelude.{◌≡◌, ◌==◌, ◌∷◌, [], ℕ, Option, Some, nat_lt, not}
-use Rattle.dsa_model.specs.Buffer.{first_fault, when}
-use Rattle.csv_instance.specs.Parse.{buffer_limit, id_limit, number_under}
+use Rattle.dsa_model.specs.Buffer.{first_fault, when, buffer_limit}
+use Rattle.csv_instance.specs.Parse.{id_limit, number_under}
 use Rattle.csv_instance.specs.Records.{Record}
 use Rattle.csv_instance.specs.declared.columns.Column.TheVariants.{Lower, Upper, Size, Alignment, Lowest}
 use Rattle.csv_instance.specs.declared.fault.InstanceFault.{InstanceFault}

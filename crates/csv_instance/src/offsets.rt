@@ -1,6 +1,7 @@
 //! A layout file, read.
 
 ghost use Rattle.std.specs.Prelude.{◌≡◌, ◌≤◌, ◌+◌, List, ℕ, IfOk, Ok, Err, Some, length, map, not, is_some, option_map, position};
+ghost use Rattle.dsa_model.specs.Buffer.{buffer_limit};
 ghost use Rattle.dsa_model.specs.Fails.{UnlessNoMemory};
 ghost use Rattle.csv_instance.specs.Found.{AreFound, by_buffer};
 ghost use Rattle.csv_instance.specs.Layout.{layout_text};
@@ -56,7 +57,7 @@ fn offsets_by_buffer(
     ids: &IndexSet<Vec<u8>>,
     found: &IndexMap<Vec<u8>, u64>,
 ) -> Result<Vec<u64>, Fail<OffsetsFault>>
-    requires { length ids.now.keys ≤ 512 }
+    requires { length ids.now.keys ≤ buffer_limit }
     ensures { let found = by_buffer ids.now.keys found.now.entries in UnlessNoMemory result
         (λ offsets. map Some offsets.items ≡ found)
         (λ f. option_map fault.MissingId (position (λ o. not (is_some o)) found) ≡ Some f) }

@@ -11,6 +11,7 @@ ghost use Rattle.csv_instance.specs.Parse.{bad_column, content_fault, id_fault, 
 ghost use Rattle.csv_instance.specs.Row.{AreNumbers, length_fault};
 ghost use Rattle.csv_instance.specs.Rows.{AreKeptValues, form_fault, value_of};
 ghost use Rattle.std.specs.Option.{option_map_or};
+ghost use Rattle.dsa_model.specs.Buffer.{buffer_limit};
 ghost use Rattle.csv_instance.specs.declared.columns.Column.TheVariants.{Id};
 
 use crate::columns::{Column, ColumnPlaces, field_under};
@@ -54,7 +55,7 @@ pub(crate) fn check_id(
     requires places { places.now ≡ column_places (fields_of header.now) }
     requires ids { map (λ k. k.items) ids.now.keys
         ≡ map (λ e. field_of (fields_of header.now) (fields_of e) Id) rows.now.items }
-    requires few { length rows.now.items ≤ 512 }
+    requires few { length rows.now.items ≤ buffer_limit }
     ensures { result
         ≡ id_fault (fields_of header.now) (map fields_of rows.now.items) (fields_of row.now) }
 {

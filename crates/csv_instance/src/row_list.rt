@@ -3,6 +3,7 @@
 ghost use Rattle.std.specs.Prelude.{◌≡◌, ◌∷◌, ◌++◌, ◌+◌, ◌<◌, ◌≤◌, ◌^◌, [], List, Ok, Err, MatchResult, length, map};
 ghost use Rattle.csv.specs.Records.{fields_of};
 ghost use Rattle.dsa_terms.specs.Buffers.{buffer};
+ghost use Rattle.dsa_model.specs.Buffer.{buffer_limit};
 ghost use Rattle.dsa_model.specs.Fails.{UnlessNoMemory};
 ghost use Rattle.csv_instance.specs.Numbers.{time_limit};
 ghost use Rattle.csv_instance.specs.Places.{column_places};
@@ -113,16 +114,16 @@ impl Rows {
         ensures records { self.now ≡ fields_of result.0.now ∷ map fields_of result.2.now }
         ensures places { result.1.now ≡ column_places (fields_of result.0.now) }
         ensures parsed { parse_rows self.now ≡ Ok (values_of self.now) }
-        ensures few { length result.2.now ≤ 512 }
+        ensures few { length result.2.now ≤ buffer_limit }
     {
         (&self.header, &self.places, self.rows.as_slice())
     }
 
-    /// The number of rows, at most 512.
+    /// The number of rows, at most `BUFFER_LIMIT` of the crate `dsa_model`.
     pub fn count(&self) -> u32
         ensures value { length self.now ≡ result + 1 }
         ensures parsed { parse_rows self.now ≡ Ok (values_of self.now) }
-        ensures limit { result ≤ 512 }
+        ensures limit { result ≤ buffer_limit }
     {
         self.values.len() as u32
     }

@@ -3,6 +3,7 @@
 ghost use Rattle.std.specs.Prelude.{◌≡◌, ◌∷◌, ◌++◌, ◌+◌, ◌<◌, ◌≤◌, [], List, ℕ, Ok, Err, MatchResult, length, map, slice_index_or};
 ghost use Rattle.csv.specs.Records.{fields_of};
 ghost use Rattle.dsa_terms.specs.Buffers.{Buffer as BufferTerm};
+ghost use Rattle.dsa_model.specs.Buffer.{buffer_limit};
 ghost use Rattle.dsa_model.specs.Fails.{UnlessNoMemory};
 ghost use Rattle.csv_instance.specs.Records.{HasShortFields, Record, header_of};
 ghost use Rattle.csv_instance.specs.Offsets.{ids_of};
@@ -118,7 +119,7 @@ impl Table {
     /// The ids of the buffers, in order.
     pub(crate) fn ids(&self) -> &IndexSet<Vec<u8>>
         ensures ids { map (λ k. k.items) result.now.keys ≡ ids_of self.now }
-        ensures few { length result.now.keys ≤ 512 }
+        ensures few { length result.now.keys ≤ buffer_limit }
         ensures parsed { (buffers : List BufferTerm) × (parse self.now ≡ Ok buffers) }
     {
         &self.ids

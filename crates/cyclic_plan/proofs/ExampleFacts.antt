@@ -1,5 +1,5 @@
 -- What lifetimes on a circle come to on small rows of period 10.
-use Rattle.std.proofs.Common.{◌≡◌, arith, lit<, lit≤, inl, inr, ℕ, ◌%◌, nat_le, nat_lt, ◌||◌, ◌&&◌, true, false, [], ◌∷◌, map, codes, Some, None, Ok, Err, refl}
+use Rattle.std.proofs.Common.{◌≡◌, arith, lit<, lit≤, inl, inr, ℕ, ◌%◌, nat_le, nat_lt, ◌||◌, ◌&&◌, true, false, [], ◌∷◌, ◌++◌, map, flat_map, replicate, codes, Some, None, Ok, Err, refl}
 use Rattle.std.proofs.lemmas.Bool.Decides.{nat_tests}
 use Rattle.std.specs.Fmt.{digits}
 use Rattle.csv.specs.Machine.{next_record}
@@ -197,10 +197,11 @@ unfolding unrolled_text unrolled records_from strip_bom next_record fields_text 
 wrapping_parses = refl
 
 -- a row at the limit of gaps that wraps has one too many
-nine_gaps : unrolled_of 20 (table_of (codes "id,lower,upper,size,gaps\nA,18,17,4,0-1 2-3 4-5 6-7 8-9 10-11 12-13 14-15\n"))
+one_gap_too_many : unrolled_of 20 (table_of (codes "id,lower,upper,size,gaps\nA,18,17,4,0-1"
+    ++ flat_map (λ (n : ℕ). codes " 2-3") (replicate 63 0) ++ codes "\n"))
     ≡ Err (fault.BadBuffer 0 buffer_fault.TooManyGaps)
 unfolding unrolled_of unrolled records_from strip_bom next_record
-nine_gaps = refl
+one_gap_too_many = refl
 
 -- a gap outside the lifetime on the circle lies within the whole period: it is carried
 gap_of_the_wrap : unrolled_of 10 (table_of (codes "id,lower,upper,size,gaps\nA,8,2,4,4-6\n"))

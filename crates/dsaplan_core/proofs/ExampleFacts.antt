@@ -249,11 +249,11 @@ concluded_by_the_core = none_at_7
 concluded_without_core : IsConcluded verb.Core (pairs_of (core_values (codes "8"))) two (status.NoCore 8)
 concluded_without_core = (refl, (0 ∷ 4 ∷ [], laid_at_8))
 
-trial_of_512 : IsConcluded verb.Trial (pairs_of (trial_values (codes "512"))) two status.Shown
-trial_of_512 = lit≤ tt
+trial_of_4096 : IsConcluded verb.Trial (pairs_of (trial_values (codes "4096"))) two status.Shown
+trial_of_4096 = lit≤ tt
 
-too_many : IsConcluded verb.Trial (pairs_of (trial_values (codes "513"))) two (status.TooMany 513)
+too_many : IsConcluded verb.Trial (pairs_of (trial_values (codes "4097"))) two (status.TooMany 4097)
 too_many = (refl, lit< tt)
 
-not_too_many : IsConcluded verb.Trial (pairs_of (trial_values (codes "512"))) two (status.TooMany 512) → ⊥
-not_too_many h = let k : 512 < 512 = h.1 in omega (arith, k)
+not_too_many : IsConcluded verb.Trial (pairs_of (trial_values (codes "4096"))) two (status.TooMany 4096) → ⊥
+not_too_many h = let k : 4096 < 4096 = h.1 in omega (arith, k)

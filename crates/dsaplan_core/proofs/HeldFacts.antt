@@ -102,7 +102,7 @@ inspected = asking (codes "inspect" ∷ bounds_values) verb.Inspect (pairs_of bo
 
 -- the columns of the input are told
 tells_columns : Tells (codes "inspect" ∷ bounds_values) (told input_alone) (told input_alone) status.Shown
-    (codes "buffers 2 of 512 aligned 0 gaps 0 lowest 0\ncolumn,meaning\nid,id\nlower,lower\nupper,upper\n"
+    (codes "buffers 2 of 4096 aligned 0 gaps 0 lowest 0\ncolumn,meaning\nid,id\nlower,lower\nupper,upper\n"
     ++ codes "size,size\nalignment,alignment\n")
 tells_columns = (refl, inr (inr (inl (inspected, record { command = refl; its_text = sym two_told }))))
 
@@ -141,17 +141,17 @@ refused_input = record {
   files = refl;
 }
 
-refused_count : (files : FilesSeen) → AskTooMany (codes "trial" ∷ trial_values (codes "513")) files files 513
+refused_count : (files : FilesSeen) → AskTooMany (codes "trial" ∷ trial_values (codes "4097")) files files 4097
 refused_count files = record {
-  pairs = pairs_of (trial_values (codes "513"));
+  pairs = pairs_of (trial_values (codes "4097"));
   words_ask = refl;
   its_count = refl;
   many = lit< tt;
   files = refl;
 }
 
-not_refused_at_512 : (words : List Word) (old new : FilesSeen) → AskTooMany words old new 512 → ⊥
-not_refused_at_512 words old new h = let lt = h.many in omega (arith, lt)
+not_refused_at_4096 : (words : List Word) (old new : FilesSeen) → AskTooMany words old new 4096 → ⊥
+not_refused_at_4096 words old new h = let lt = h.many in omega (arith, lt)
 
 no_command : (files : FilesSeen) → AreNoCommand [] files files usage.NoCommand
 no_command files = record { refused = refl; files = refl }

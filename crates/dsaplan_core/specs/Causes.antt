@@ -1,8 +1,8 @@
 -- Why a run refuses: its words, the number of a trial's buffers, the bytes of its input, of its layout file or of its
 -- log's file. Nothing is written then.
 use Rattle.std.specs.Prelude.{◌≡◌, ◌<◌, ◌⊎◌, ◌^◌, ℕ, List, Ok, Err}
+use Rattle.dsa_model.specs.Buffer.{buffer_limit}
 use Rattle.dsa_outside.specs.Seen.{FilesSeen}
-use Rattle.csv_instance.specs.Parse.{buffer_limit}
 use Rattle.csv_instance.specs.declared.fault.InstanceFault.{InstanceFault}
 use Rattle.command_words.specs.Options.{Word}
 use Rattle.command_words.specs.Pairs.{Pair, number_at, word_at}

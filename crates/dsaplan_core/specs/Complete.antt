@@ -4,11 +4,12 @@ use Rattle.dsa_terms.specs.Buffers.{Instance}
 use Rattle.dsa_terms.specs.Claims.{IsIn}
 use Rattle.dsa_terms.specs.Layouts.{IsFeasible, IsInfeasible, IsLeast}
 use Rattle.dsa_terms.specs.Logs.{Log, IsAccepted}
+use Rattle.dsa_model.specs.Buffer.{buffer_limit}
 use Rattle.dsa_outside.specs.Held.{file_at}
 use Rattle.dsa_outside.specs.Seen.{FilesSeen, SinkSeen}
 use Rattle.dsa_model.specs.Counts.{Rose}
 use Rattle.csv_instance.specs.Records.{file_limit, table_of}
-use Rattle.csv_instance.specs.Parse.{parse, buffer_limit}
+use Rattle.csv_instance.specs.Parse.{parse}
 use Rattle.log_text.specs.Says.{Says}
 use Rattle.log_text.specs.Text.{raw_log_of}
 use Rattle.size_classes.specs.Plain.{IsPlain, first_rough}

@@ -1,10 +1,11 @@
 -- What a printed report says.
 use Rattle.std.specs.Prelude.{◌≡◌, ◌≤◌, ◌⊎◌, ◌++◌, ◌^◌, ℕ, List, Ok}
 use Rattle.dsa_terms.specs.Buffers.{Instance}
+use Rattle.dsa_model.specs.Buffer.{buffer_limit}
 use Rattle.dsa_outside.specs.Held.{with_text}
 use Rattle.dsa_outside.specs.Seen.{FilesSeen, SinkSeen}
 use Rattle.csv_instance.specs.Records.{table_of}
-use Rattle.csv_instance.specs.Parse.{parse, buffer_limit}
+use Rattle.csv_instance.specs.Parse.{parse}
 use Rattle.column_report.specs.Report.{inspect_text}
 use Rattle.layout_report.specs.Facts.{bounds_text}
 use Rattle.layout_report.specs.Report.{IsReportOf}

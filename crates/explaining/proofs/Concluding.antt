@@ -1,5 +1,5 @@
 -- From what is prepared to what is concluded.
-use Rattle.std.proofs.Common.{◌≡◌, ◌⊎◌, inl, inr, ℕ, List, [], ◌∷◌, length, ap, ◌∙◌, Result, Ok, Err, IfOk, sym, subst}
+use Rattle.std.proofs.Common.{◌≡◌, inl, inr, ℕ, List, [], ◌∷◌, length, ap, ◌∙◌, Result, Ok, Err, IfOk, sym, subst}
 use Rattle.dsa_terms.specs.Buffers.{Instance}
 use Rattle.dsa_terms.specs.Layouts.{IsFeasible}
 use Rattle.dsa_terms.specs.Logs.{IsAccepted, Log}

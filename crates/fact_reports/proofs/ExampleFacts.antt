@@ -88,7 +88,7 @@ not_as_right h = let e = ap (λ (o : Outcome). o.status) h.shown in absurd cc
 
 -- ---- columns
 shows_columns : ShowsColumns two_rows two
-    (shows (codes "buffers 2 of 512 aligned 0 gaps 0 lowest 0\ncolumn,meaning\nid,id\nlower,lower\nupper,upper\n"
+    (shows (codes "buffers 2 of 4096 aligned 0 gaps 0 lowest 0\ncolumn,meaning\nid,id\nlower,lower\nupper,upper\n"
     ++ codes "size,size\nalignment,alignment\n"))
 shows_columns = ap shows (sym two_told)
 
@@ -225,9 +225,9 @@ module _ (old new : FilesSeen) where
   goes_without_buffers : Comes old new (trial of_none) none_shown
   goes_without_buffers = (tt, shows_trial)
 
-  goes_with_too_many : Comes old new (trial (trial_of 513)) (says (status.TooMany 513))
+  goes_with_too_many : Comes old new (trial (trial_of 4097)) (says (status.TooMany 4097))
   goes_with_too_many = (tt, refl)
 
-  -- 512 are not too many
-  not_too_many : Comes old new (trial (trial_of 512)) (says (status.TooMany 512)) → ⊥
+  -- 4096 are not too many
+  not_too_many : Comes old new (trial (trial_of 4096)) (says (status.TooMany 4096)) → ⊥
   not_too_many h = let e = ap (λ (o : Outcome). o.status) h.1.shown in absurd cc

@@ -2,11 +2,11 @@
 use Rattle.std.proofs.Common.{◌≡◌, ◌<◌, ◌≤◌, ℕ, List, Ok, Err, Result, IfOk, Bool, true, false, nat_lt, sym, subst, arith}
 use Rattle.std.proofs.lemmas.Bool.Decides.{nat_tests}
 use Rattle.dsa_terms.specs.Buffers.{Instance}
+use Rattle.dsa_model.specs.Buffer.{buffer_limit}
 use Rattle.dsa_model.specs.Fails.{IfFault, UnlessNoMemory}
 use Rattle.dsa_model.specs.declared.fail.Fail.{Fail}
 use Rattle.dsa_model.specs.declared.fail.Fail.TheVariants.{Fault}
 use Rattle.dsa_model.specs.declared.fail.NoMemory.{NoMemory}
-use Rattle.csv_instance.specs.Parse.{buffer_limit}
 use Rattle.csv_instance.specs.Records.{Record}
 use Rattle.dsa_outside.specs.Seen.{FilesSeen}
 use Rattle.run_status.specs.Spoken.{IsSpoken}

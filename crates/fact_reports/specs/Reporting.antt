@@ -5,8 +5,9 @@ use Rattle.dsa_terms.specs.Layouts.{IsLayout, IsLeast}
 use Rattle.dsa_terms.specs.Logs.{Log}
 use Rattle.dsa_terms.specs.Plans.{layout_height}
 use Rattle.dsa_terms.specs.Starts.{planned}
+use Rattle.dsa_model.specs.Buffer.{buffer_limit}
 use Rattle.csv_instance.specs.Records.{Record, table_of}
-use Rattle.csv_instance.specs.Parse.{parse, buffer_limit}
+use Rattle.csv_instance.specs.Parse.{parse}
 use Rattle.column_report.specs.Report.{inspect_text}
 use Rattle.layout_report.specs.Facts.{bounds_text}
 use Rattle.layout_report.specs.declared.facts.Facts.{Facts}

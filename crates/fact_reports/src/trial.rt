@@ -1,9 +1,10 @@
 //! `trial`: a made instance, and what is found of it.
 
 ghost use Rattle.std.specs.Prelude.{◌≡◌, ◌<◌, ◌≤◌, ◌++◌, IfOk, Ok};
+ghost use Rattle.dsa_model.specs.Buffer.{buffer_limit};
 ghost use Rattle.dsa_model.specs.Fails.{UnlessNoMemory};
 ghost use Rattle.csv_instance.specs.Records.{table_of};
-ghost use Rattle.csv_instance.specs.Parse.{buffer_limit, parse};
+ghost use Rattle.csv_instance.specs.Parse.{parse};
 ghost use Rattle.layout_report.specs.Facts.{bounds_text};
 ghost use Rattle.make_instance.specs.Made.{made_text};
 ghost use Rattle.run_status.specs.Lines.{line};

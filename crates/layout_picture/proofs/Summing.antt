@@ -8,6 +8,7 @@ use Rattle.std.proofs.lemmas.List.Sums.{sum_by-append}
 use Rattle.dsa_terms.specs.Buffers.{Buffer, Instance, buffer, is_live, no_buffer}
 use Rattle.dsa_terms.specs.Plans.{load}
 use Rattle.dsa_terms.proofs.Places.{any_default}
+use Rattle.dsa_model.specs.Buffer.{buffer_limit}
 
 -- the size where the buffer is live, and else 0
 abbrev added : Bool → ℕ → ℕ
@@ -98,13 +99,13 @@ as_many I columns loads lent flags items x n h e f g =
 
 -- and each has room for one more size
 pub have_room : (I : Instance) (columns loads lent : List ℕ) (n size : ℕ) → IsSummed I columns n loads → lent ≡ loads →
-    n ≤ 512 → size ≤ 2 ^ 40 → All (λ (load : ℕ). load + size < 2 ^ 64) lent
+    n ≤ buffer_limit → size ≤ 2 ^ 40 → All (λ (load : ℕ). load + size < 2 ^ 64) lent
 have_room I columns loads lent n size h e few s = rw e (λ k d lt.
     let kt : k < length columns = let c = h.count in omega arith in
     let z : get_or loads k d ≡ get_or loads k 0 = any_default loads k d 0 lt in
     let l = h.limit k kt in omega arith)
 
-pub summed_limit : (I : Instance) (columns loads : List ℕ) (n : ℕ) → IsSummed I columns n loads → n ≤ 512 →
+pub summed_limit : (I : Instance) (columns loads : List ℕ) (n : ℕ) → IsSummed I columns n loads → n ≤ buffer_limit →
     All (λ (load : ℕ). load < 2 ^ 60) loads
 summed_limit I columns loads n h few = λ k d lt.
     let kt : k < length columns = let c = h.count in omega arith in

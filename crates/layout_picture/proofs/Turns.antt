@@ -15,7 +15,7 @@ use Rattle.dsa_terms.proofs.Lists.{any_from, any_gives, from_append, from_filter
 use Rattle.dsa_terms.proofs.NumberTests.{below_or_last}
 use Rattle.dsa_terms.proofs.Places.{from_contains, in_at, place_of, rises_from_increasing, to_contains}
 use Rattle.dsa_terms.proofs.Ranges.{among}
-use Rattle.dsa_model.specs.Buffer.{IsBuffer, IsInside}
+use Rattle.dsa_model.specs.Buffer.{IsBuffer, IsInside, gap_limit}
 use Rattle.lifetime.specs.Edges.{edge_moments, gap_ends}
 use Rattle.lifetime.specs.Runs.{was_live}
 use Rattle.lifetime.proofs.Among.{same_members}
@@ -67,7 +67,7 @@ in_greatest (y ∷ I) x (inr i) = let k = in_greatest I x i in omega arith
 pub record IsGathered (I : Instance) (n : ℕ) (xs : List ℕ) : Type 0 where
   pub each : (t : ℕ) → IsIn t xs → (b : ℕ) × (b < n) × (turns_at t (buffer I b) ≡ true)
   pub all : (b t : ℕ) → b < n → turns_at t (buffer I b) ≡ true → IsIn t xs
-  pub few : length xs ≤ 18 * n
+  pub few : length xs ≤ (2 + 2 * gap_limit) * n
 
 pub gathered_none : (I : Instance) (xs : List ℕ) → xs ≡ [] → IsGathered I 0 xs
 gathered_none I xs e = rw e (record {
@@ -81,7 +81,7 @@ length-gap_ends [] = refl
 length-gap_ends (g ∷ gs) = let k = length-gap_ends gs in omega arith
 
 pub gathered_more : (I : Instance) (n : ℕ) (x : Buffer) (xs more : List ℕ) → IsGathered I n xs → x ≡ buffer I n →
-    length x.gaps ≤ 8 → more ≡ xs ++ filter (λ t. turns_at t x) (edge_moments x) → IsGathered I (n + 1) more
+    length x.gaps ≤ gap_limit → more ≡ xs ++ filter (λ t. turns_at t x) (edge_moments x) → IsGathered I (n + 1) more
 gathered_more I n x xs more h e few m = rw m (record {
   each = each;
   all = all;

@@ -1,11 +1,12 @@
 -- The whole picture.
-use Rattle.std.proofs.Common.{◌≡◌, ℕ, ◌^◌, ◌<◌, ◌≤◌, List, ◌++◌, length, map, codes, get_or, Result, Ok, sym, ap, ap₂, subst, ◌∙◌, arith}
+use Rattle.std.proofs.Common.{◌≡◌, ℕ, ◌+◌, ◌*◌, ◌^◌, ◌<◌, ◌≤◌, List, ◌++◌, length, map, codes, get_or, Result, Ok, sym, ap, ap₂, subst, ◌∙◌, arith}
 use Rattle.std.specs.List.{All}
 use Rattle.std.proofs.lemmas.List.{length-map}
 use Rattle.dsa_terms.specs.Buffers.{Buffer, Instance}
 use Rattle.dsa_terms.specs.Layouts.{IsLayout}
 use Rattle.dsa_terms.specs.Plans.{load}
 use Rattle.dsa_terms.proofs.Places.{any_default}
+use Rattle.dsa_model.specs.Buffer.{buffer_limit, gap_limit}
 use Rattle.layout_picture.specs.Colours.{colours_of}
 use Rattle.layout_picture.specs.Columns.{columns_of}
 use Rattle.layout_picture.specs.Rectangles.{EndsWithin, rectangles}
@@ -31,7 +32,7 @@ offsets_within I offsets h k d lt =
     let w = h.within k kt in omega arith
 
 -- loads are as many as the columns
-pub few_loads : (f : ℕ → ℕ) (columns items loads lent : List ℕ) → columns ≡ items → length items ≤ 9216 →
+pub few_loads : (f : ℕ → ℕ) (columns items loads lent : List ℕ) → columns ≡ items → length items ≤ (2 + 2 * gap_limit) * buffer_limit →
     loads ≡ map f columns → lent ≡ loads → length lent < 2 ^ 32
 few_loads f columns items loads lent c few l e =
     let k = ap (λ (xs : List ℕ). length xs) (e ∙ l) in

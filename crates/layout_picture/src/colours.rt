@@ -2,6 +2,7 @@
 
 ghost use Rattle.std.specs.Prelude.{◌≡◌, ◌<◌, IfOk, length};
 ghost use Rattle.std.specs.List.{All};
+ghost use Rattle.dsa_model.specs.Buffer.{buffer_limit};
 ghost use Rattle.layout_picture.specs.Colours.{colours_of};
 ghost use Rattle.layout_picture.specs.Rectangles.{EndsWithin, rectangles as all_rectangles};
 ghost use Rattle.layout_picture.specs.Sides.{colour_left, has_colour};
@@ -30,7 +31,7 @@ fn has_colour(colours: &[u32], pairs: &[Pair], colour: u32) -> bool
 /// The colour of the next buffer, which is the later one of these pairs: the first that no earlier
 /// one has, or by its number where all are taken.
 fn colour_left(colours: &[u32], pairs: &[Pair]) -> u32
-    requires few { length colours.now < 512 }
+    requires few { length colours.now < buffer_limit }
     requires earlier { All (λ p. p.earlier < length colours.now) pairs.now }
     ensures { result ≡ colour_left colours.now pairs.now }
 {

@@ -1,7 +1,8 @@
 //! The columns: the moments at which some buffer begins or ends to be live.
 
-ghost use Rattle.std.specs.Prelude.{◌≡◌, ◌∷◌, ◌++◌, ◌≤◌, [], IfOk, OnOk, length};
+ghost use Rattle.std.specs.Prelude.{◌≡◌, ◌∷◌, ◌++◌, ◌+◌, ◌*◌, ◌≤◌, [], IfOk, OnOk, length};
 ghost use Rattle.std.specs.List.{filter};
+ghost use Rattle.dsa_model.specs.Buffer.{buffer_limit, gap_limit};
 ghost use Rattle.lifetime.specs.Edges.{edge_moments};
 ghost use Rattle.lifetime.specs.Runs.{was_live};
 ghost use Rattle.layout_picture.specs.Columns.{columns_of, turns_at};
@@ -57,7 +58,7 @@ fn push_turns(moments: &mut Vec<u64>, buffer: &Buffer) -> Result<(), AllocError>
 /// The moments at which some buffer begins or ends to be live, rising.
 pub(crate) fn columns(alloc: Global, instance: &Instance) -> Result<Vec<u64>, AllocError>
     ensures value { IfOk result (λ moments. moments.items ≡ columns_of instance.now) }
-    ensures few { IfOk result (λ moments. length moments.items ≤ 9216) }
+    ensures few { IfOk result (λ moments. length moments.items ≤ (2 + 2 * gap_limit) * buffer_limit) }
 {
     let mut moments = Vec::with_capacity(alloc, 2 * instance.len() as usize)?;
     for b in 0..instance.len() {

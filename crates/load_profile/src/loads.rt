@@ -2,6 +2,7 @@
 
 ghost use Rattle.std.specs.Prelude.{◌≡◌, ◌<◌, ◌≤◌, ◌↔◌, length, IfOk, IsTrue};
 ghost use Rattle.std.specs.List.{All};
+ghost use Rattle.dsa_model.specs.Buffer.{buffer_limit};
 ghost use Rattle.lifetime.specs.SectionList.{AreSectionsOf, count_of};
 ghost use Rattle.load_profile.specs.LoadProfile.{Exceeds, IsGreatestOf, load_of, loads_of};
 
@@ -12,7 +13,7 @@ use std::alloc::{AllocError, Global};
 /// The sum of the sizes of these buffers.
 fn load_of(instance: &Instance, members: &[u32]) -> u64
     requires in_range { All (λ b. b < length instance.now) members.now }
-    requires few { length members.now ≤ 512 }
+    requires few { length members.now ≤ buffer_limit }
     ensures { result ≡ load_of instance.now members.now }
 {
     let mut load = 0;
@@ -29,7 +30,7 @@ pub(crate) fn loads(
     sections: &Sections,
 ) -> Result<Vec<u64>, AllocError>
     requires sections { AreSectionsOf instance.now sections.now }
-    requires few { length instance.now ≤ 512 }
+    requires few { length instance.now ≤ buffer_limit }
     ensures { IfOk result (λ loads. loads.items ≡ loads_of instance.now sections.now) }
 {
     let mut loads = Vec::new(alloc);

@@ -11,6 +11,7 @@ use Rattle.dsa_terms.proofs.Lists.{any_gives, into_map, true_or_false}
 use Rattle.dsa_terms.proofs.Moments.{and_true}
 use Rattle.canonical_order.specs.Claims.{IsBoundedBy}
 use Rattle.dsa_terms.proofs.NumberTests.{equal}
+use Rattle.dsa_model.specs.Buffer.{buffer_limit}
 use Rattle.dsa_model.proofs.Faults.{neither}
 use Rattle.canonical_order.proofs.CoverLemmas.{length_within}
 use Rattle.refute_log.specs.Lines as lines
@@ -33,7 +34,7 @@ abbrev pub IsBelow : ℕ → Claim → Type 0
 IsBelow n l = (e : Entry) → IsIn e l → e.0 < n
 
 -- ---- other buffers that are cited
-fits : (c : ℕ) → (min c (2 ^ 32 - 1) ≡ c) ⊎ ((512 ≤ c) × (512 ≤ min c (2 ^ 32 - 1)))
+fits : (c : ℕ) → (min c (2 ^ 32 - 1) ≡ c) ⊎ ((buffer_limit ≤ c) × (buffer_limit ≤ min c (2 ^ 32 - 1)))
 fits c = elim (order c) [
   | inl le ↦ inl (omega arith)
   | inr gt ↦ inr (omega arith, omega arith)
@@ -55,7 +56,7 @@ absent test l n c h le = elim (true_or_false (list_any (λ (f : Entry). (f.0 == 
   | inr t ↦ t
 ]
 
-same_test : (test : Entry → Bool) (l : Claim) (n c : ℕ) → n ≤ 512 → IsBelow n l →
+same_test : (test : Entry → Bool) (l : Claim) (n c : ℕ) → n ≤ buffer_limit → IsBelow n l →
     list_any (λ (f : Entry). (f.0 == min c (2 ^ 32 - 1)) && test f) l ≡ list_any (λ (f : Entry). (f.0 == c) && test f) l
 same_test test l n c le h = elim (fits c) [
   | inl e ↦ ap (λ d. list_any (λ (f : Entry). (f.0 == d) && test f) l) e
@@ -64,7 +65,7 @@ same_test test l n c le h = elim (fits c) [
 ]
 
 -- a buffer of the claim is not narrowed
-same_buffer : (test : Entry → Bool) (l : Claim) (n c : ℕ) → n ≤ 512 → IsBelow n l →
+same_buffer : (test : Entry → Bool) (l : Claim) (n c : ℕ) → n ≤ buffer_limit → IsBelow n l →
     list_any (λ (f : Entry). (f.0 == min c (2 ^ 32 - 1)) && test f) l ≡ true → min c (2 ^ 32 - 1) ≡ c
 same_buffer test l n c le h t = elim (fits c) [
   | inl e ↦ e
@@ -72,7 +73,7 @@ same_buffer test l n c le h t = elim (fits c) [
 ]
 
 -- ---- cites
-same_cite_reason : (I : Instance) (earlier : List Line) (l : Claim) (e : Entry) (cite : RawCite) → length I ≤ 512 →
+same_cite_reason : (I : Instance) (earlier : List Line) (l : Claim) (e : Entry) (cite : RawCite) → length I ≤ buffer_limit →
     IsBelow (length I) l →
     cite_reason I earlier l e (cite_value (narrow_cite cite)) ≡ cite_reason I earlier l e (cite_of cite)
 same_cite_reason I earlier l e (raw_cite.Line k) n h = refl
@@ -82,7 +83,7 @@ same_cite_reason I earlier l e (raw_cite.Twin c) n h =
     ap (λ b. when (not b) (reason.NotTwin e.0)) (same_test (λ f. is_twin I f e) l (length I) c n h)
 
 same_cites_reason : (I : Instance) (earlier : List Line) (l es : Claim) (cites : List (ℕ × RawCite)) →
-    length I ≤ 512 → IsBelow (length I) l →
+    length I ≤ buffer_limit → IsBelow (length I) l →
     cites_reason I earlier l es (map cite_value (map (λ p. narrow_cite p.1) cites))
     ≡ cites_reason I earlier l es (map (λ p. cite_of p.1) cites)
 same_cites_reason I earlier l [] cites n h = refl
@@ -95,7 +96,7 @@ length-same : {X Y Z W : Type 0} (f : X → Y) (g : Y → Z) (h : X → W) (xs :
 length-same f g h [] = refl
 length-same f g h (x ∷ xs) = ap suc (length-same f g h xs)
 
-pub same_rule : (I : Instance) (C : ℕ) (earlier : List Line) (line : RawLine) → length I ≤ 512 →
+pub same_rule : (I : Instance) (C : ℕ) (earlier : List Line) (line : RawLine) → length I ≤ buffer_limit →
     IsBelow (length I) (claim_of (line_of line)) →
     rule_reason I C earlier (narrow_line line) ≡ rule_reason I C earlier (line_of line)
 same_rule I C earlier (raw.Over T H G l) n h = refl
@@ -105,7 +106,7 @@ same_rule I C earlier (raw.Cases l cites) n h =
       same_cites_reason I earlier l l cites n h,
     ) refl
 
-same_cite : (I : Instance) (earlier : List Line) (l : Claim) (e : Entry) (cite : RawCite) → length I ≤ 512 →
+same_cite : (I : Instance) (earlier : List Line) (l : Claim) (e : Entry) (cite : RawCite) → length I ≤ buffer_limit →
     IsBelow (length I) l → cite_reason I earlier l e (cite_value (narrow_cite cite)) ≡ None →
     cite_value (narrow_cite cite) ≡ cite_of cite
 same_cite I earlier l e (raw_cite.Line k) n h q = refl
@@ -116,7 +117,7 @@ same_cite I earlier l e (raw_cite.Twin c) n h q =
     ap Twin (same_buffer (λ f. is_twin I f e) l (length I) c n h
     (so (list_any (λ (f : Entry). (f.0 == min c (2 ^ 32 - 1)) && is_twin I f e) l) (reason.NotTwin e.0) q))
 
-same_cites : (I : Instance) (earlier : List Line) (l es : Claim) (cites : List (ℕ × RawCite)) → length I ≤ 512 →
+same_cites : (I : Instance) (earlier : List Line) (l es : Claim) (cites : List (ℕ × RawCite)) → length I ≤ buffer_limit →
     IsBelow (length I) l → length (map cite_value (map (λ p. narrow_cite p.1) cites)) ≡ length es →
     cites_reason I earlier l es (map cite_value (map (λ p. narrow_cite p.1) cites)) ≡ None →
     map cite_value (map (λ p. narrow_cite p.1) cites) ≡ map (λ p. cite_of p.1) cites
@@ -129,7 +130,7 @@ same_cites I earlier l (e ∷ es) (p ∷ ps) n h m q =
     rw (one, more) refl
 
 -- ---- lines
-pub same_line : (I : Instance) (C : ℕ) (earlier : List Line) (line : RawLine) → length I ≤ 512 →
+pub same_line : (I : Instance) (C : ℕ) (earlier : List Line) (line : RawLine) → length I ≤ buffer_limit →
     IsBelow (length I) (claim_of (line_of line)) → rule_reason I C earlier (narrow_line line) ≡ None →
     narrow_line line ≡ line_of line
 same_line I C earlier (raw.Over T H G l) n h q = refl

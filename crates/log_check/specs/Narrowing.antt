@@ -3,6 +3,7 @@ use Rattle.std.specs.Prelude.{◌≡◌, ◌^◌, ◌-◌, ◌≤◌, length, mi
 use Rattle.dsa_terms.specs.Buffers.{Instance}
 use Rattle.dsa_terms.specs.Logs.{Line, Over, Cases, claim_of}
 use Rattle.dsa_terms.specs.Firsts.{when, first_fault}
+use Rattle.dsa_model.specs.Buffer.{buffer_limit}
 use Rattle.refute_log.specs.Lines.{cite_value}
 use Rattle.refute_log.specs.Reasons.{claim_reason}
 use Rattle.refute_log.specs.declared.line.Cite.{Cite}
@@ -34,8 +35,8 @@ shape_reason I line = first_fault (
     ∷ [])
 
 -- nothing is wrong with the line's shape, and the other line is the one that it says, narrowed, of an instance of at
--- most 512 buffers
+-- most `buffer_limit` buffers
 pub record IsNarrowed (I : Instance) (line : RawLine) (made : Line) : Type 0 where
   pub shape : shape_reason I line ≡ None
   pub is_made : made ≡ narrow_line line
-  pub few : length I ≤ 512
+  pub few : length I ≤ buffer_limit

@@ -1,7 +1,7 @@
 //! Texts of logs, read and checked.
 
 use crate::{CheckFault, check};
-use dsa_model::{Buffer, Fail, Instance};
+use dsa_model::{BUFFER_LIMIT, Buffer, Fail, Instance};
 use log_text::read_log;
 use refute_log::Reason;
 use std::alloc::Global;
@@ -25,7 +25,7 @@ fn buffers(alloc: Global, sizes: &[(u64, u64)]) -> Option<Instance> {
     let mut instance = Instance::new(alloc);
     for pair in sizes {
         let buffer = Buffer::new(alloc, 0, 1, pair.0, pair.1, &[], 0).ok()?;
-        if instance.len() < 512 {
+        if instance.len() < BUFFER_LIMIT {
             instance.push(buffer).ok()?;
         }
     }

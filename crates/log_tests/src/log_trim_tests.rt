@@ -8,7 +8,7 @@ ghost use Rattle.refute_log.specs.Lines.{IsCiteWithin, cite_value};
 ghost use Rattle.refute_log.specs.Logs.{Belongs};
 
 use canonical_order::Claim;
-use dsa_model::{Buffer, Fail, Instance};
+use dsa_model::{BUFFER_LIMIT, Buffer, Fail, Instance};
 use log_trim::trim;
 use refute_log::{Cite, Cites, ClosedLog, Line, Log, Reason};
 use std::alloc::{AllocError, Global};
@@ -19,7 +19,7 @@ fn buffers(alloc: Global, sizes: &[(u64, u64)]) -> Option<Instance> {
     let mut instance = Instance::new(alloc);
     for pair in sizes {
         let buffer = Buffer::new(alloc, 0, 1, pair.0, pair.1, &[], 0).ok()?;
-        if instance.len() < 512 {
+        if instance.len() < BUFFER_LIMIT {
             instance.push(buffer).ok()?;
         }
     }

@@ -4,7 +4,7 @@ ghost use Rattle.refute_log.specs.Lines.{IsWithin, line_value};
 
 use crate::{RawLine, TextFault, read_log, write_log, write_log2};
 use canonical_order::Claim;
-use dsa_model::{Buffer, Fail, Instance};
+use dsa_model::{BUFFER_LIMIT, Buffer, Fail, Instance};
 use refute_log::{Line, Log};
 use std::alloc::Global;
 use std::process::Abort;
@@ -208,7 +208,7 @@ fn a_log_is_written_byte_for_byte(rt: HostRuntime) {
     let mut three = Instance::new(alloc);
     for size in [1, 1, 2] {
         let buffer = Buffer::new(alloc, 0, 1, size, 1, &[], 0).expect(&rt, "memory");
-        if three.len() < 512 {
+        if three.len() < BUFFER_LIMIT {
             three.push(buffer).expect(&rt, "memory");
         }
     }
@@ -249,7 +249,7 @@ fn a_line_like_the_one_before_it_is_written_as_a_difference(rt: HostRuntime) {
     let mut three = Instance::new(alloc);
     for size in [1, 1, 2] {
         let buffer = Buffer::new(alloc, 0, 1, size, 1, &[], 0).expect(&rt, "memory");
-        if three.len() < 512 {
+        if three.len() < BUFFER_LIMIT {
             three.push(buffer).expect(&rt, "memory");
         }
     }

@@ -15,7 +15,7 @@ use Rattle.dsa_terms.proofs.Lists.{length-filter_le, nil_or_not}
 use Rattle.dsa_terms.proofs.Moments.{live_before}
 use Rattle.dsa_terms.proofs.NumberTests.{equal}
 use Rattle.dsa_start_laws.proofs.Stacks.{in_bound, in_counted, over_stack, stack_of_some}
-use Rattle.dsa_model.specs.Buffer.{IsBuffer}
+use Rattle.dsa_model.specs.Buffer.{IsBuffer, buffer_limit}
 use Rattle.dsa_model.proofs.Instances.{sound_buffer}
 use Rattle.canonical_order.specs.Claims.{IsBoundedBy}
 use Rattle.refute_log.specs.Logs.{OpenLog, ended}
@@ -65,7 +65,7 @@ few_counted I t H G =
     omega arith
 
 pub few_lifted : (I : Instance) (t H G h : ℕ) (xs : List Entry) → xs ≡ lifted h (counted I t H G) →
-    length I ≤ 512 → length xs < 2 ^ 32
+    length I ≤ buffer_limit → length xs < 2 ^ 32
 few_lifted I t H G h xs e few = rw e (
     let k = few_counted I t H G in
     let m = length-map (counted I t H G) (λ (b : ℕ). let e : Entry = (b, h) in e) in
@@ -149,14 +149,14 @@ height_limit I b C a h =
     let k = q.2 in
     omega arith
 
-pile_limit : (I : Instance) (t H G : ℕ) → All IsBuffer I → length I ≤ 512 → IsModulus G → pile I t H G ≤ 2 ^ 50
+pile_limit : (I : Instance) (t H G : ℕ) → All IsBuffer I → length I ≤ buffer_limit → IsModulus G → pile I t H G ≤ 2 ^ 53
 unfolding pile total_of
 pile_limit I t H G h few m =
     let k = total_limit I G (counted I t H G) (λ b i. sound_buffer I b h (in_counted I t H G b i).0) m in
     let n = few_counted I t H G in
     omega arith
 
-pub capacity_limit : (I : Instance) (b : Bound) (C : ℕ) → IsAbove I b C → All IsBuffer I → length I ≤ 512 → C ≤ 2 ^ 60
+pub capacity_limit : (I : Instance) (b : Bound) (C : ℕ) → IsAbove I b C → All IsBuffer I → length I ≤ buffer_limit → C ≤ 2 ^ 60
 capacity_limit I b C a h few =
     let m = modulus_limit I b.moment b.height b.modulus a.member h a.modulus a.counts in
     let p = pile_limit I b.moment b.height b.modulus h few m in

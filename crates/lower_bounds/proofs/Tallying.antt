@@ -7,7 +7,7 @@ use Rattle.dsa_terms.specs.Bounds.{rounded_size}
 use Rattle.dsa_terms.specs.Buffers.{Buffer, Instance, buffer, floor, is_live}
 use Rattle.dsa_terms.specs.Claims.{IsIn}
 use Rattle.dsa_terms.proofs.Lists.{from_filter, length-filter_le}
-use Rattle.dsa_model.specs.Buffer.{IsBuffer}
+use Rattle.dsa_model.specs.Buffer.{IsBuffer, buffer_limit}
 use Rattle.dsa_model.proofs.Instances.{sound_buffer}
 use Rattle.lifetime.specs.SectionList.{SectionList, start_of}
 use Rattle.lower_bounds.specs.Stacks.{IsFalling, IsModulus, is_counted, rounding_of, spare_of, total_of}
@@ -88,8 +88,8 @@ module _ (I : Instance) (S : SectionList) (order : List ℕ) (place s : ℕ) (lt
 
 -- the sums are within the limits of the numbers
 pub tally_limit : (I : Instance) (S : SectionList) (G : ℕ) (order : List ℕ) (place s : ℕ) (x : Tally) → All IsBuffer I →
-    length I ≤ 512 → IsFalling I order → IsModulus G → IsTally I G (members_among I S (take place order) s) x →
-    (x.total ≤ 2 ^ 50) × (x.spare ≤ x.total)
+    length I ≤ buffer_limit → IsFalling I order → IsModulus G → IsTally I G (members_among I S (take place order) s) x →
+    (x.total ≤ 2 ^ 53) × (x.spare ≤ x.total)
 unfolding members_among
 tally_limit I S G order place s x buffers few f m h =
     let t = total_limit I G counted (λ b i. sound_buffer I b buffers (order_below I order b f (among_order b i))) m in

@@ -3,7 +3,7 @@
 ghost use Rattle.std.specs.Prelude.{◌≡◌, ◌≤◌, length, IfOk};
 ghost use Rattle.std.specs.List.{All};
 ghost use Rattle.dsa_terms.specs.Bounds.{bound_height, bound_modulus, bound_moment, lower_bound};
-ghost use Rattle.dsa_model.specs.Buffer.{IsBuffer};
+ghost use Rattle.dsa_model.specs.Buffer.{IsBuffer, buffer_limit};
 ghost use Rattle.lifetime.specs.Runs.{starts_of};
 ghost use Rattle.lifetime.specs.SectionList.{AreSectionsOf, count_of};
 ghost use Rattle.lower_bounds.specs.Best.{IsBoundOf, IsRaised};
@@ -64,7 +64,7 @@ fn raised(
 ) -> Bound
     requires sections { AreSectionsOf instance.now sections.now }
     requires buffers { All IsBuffer instance.now }
-    requires few { length instance.now ≤ 512 }
+    requires few { length instance.now ≤ buffer_limit }
     requires order { IsFalling instance.now order.now }
     requires modulus { IsModulus modulus }
     requires count { length tallies.old ≡ count_of sections.now }

@@ -6,7 +6,7 @@ ghost use Rattle.std.specs.List.{All};
 ghost use Rattle.dsa_terms.specs.Bounds.{counted, stack_log};
 ghost use Rattle.dsa_terms.specs.Layouts.{IsMultiple};
 ghost use Rattle.dsa_terms.specs.Logs.{IsAccepted};
-ghost use Rattle.dsa_model.specs.Buffer.{IsBuffer};
+ghost use Rattle.dsa_model.specs.Buffer.{IsBuffer, buffer_limit};
 ghost use Rattle.lower_bounds.specs.Best.{IsBoundOf};
 ghost use Rattle.lower_bounds.specs.Stacks.{counts};
 
@@ -39,7 +39,7 @@ fn lifted(
     ensures value { let b = bound in let members = counted instance.now b.moment b.height b.modulus in
         IfOk result (λ pairs. pairs.items ≡ map (λ c. (c, height)) members) }
     ensures buffers { OnOk result (All IsBuffer instance.now) }
-    ensures limit { OnOk result (length instance.now ≤ 512) }
+    ensures limit { OnOk result (length instance.now ≤ buffer_limit) }
 {
     let mut pairs = Vec::new(alloc);
     for b in 0..instance.len() {

@@ -2,7 +2,7 @@
 
 ghost use Rattle.std.specs.Prelude.{◌≡◌, ◌+◌, ◌-◌, ◌^◌, ◌<◌, ◌≤◌, cond, length, max, nat_lt, take};
 ghost use Rattle.std.specs.List.{All};
-ghost use Rattle.dsa_model.specs.Buffer.{IsBuffer};
+ghost use Rattle.dsa_model.specs.Buffer.{IsBuffer, buffer_limit};
 ghost use Rattle.lifetime.specs.SectionList.{AreSectionsOf, count_of};
 ghost use Rattle.lower_bounds.specs.Stacks.{IsFalling, IsModulus};
 ghost use Rattle.lower_bounds.specs.Tallies.{AreTallies};
@@ -37,7 +37,7 @@ impl Tally {
 /// The tally with one more buffer, given by its floor, its rounded size and what rounding adds. No
 /// floor so far is below its own, so from there on all of them are stacked.
 fn with(tally: Tally, floor: u64, rounded: u64, rounding: u64) -> Tally
-    requires total { tally.total ≤ 2 ^ 50 }
+    requires total { tally.total ≤ 2 ^ 53 }
     requires spare { tally.spare ≤ tally.total }
     requires floor { floor ≤ 2 ^ 41 }
     requires rounded { rounded ≤ 2 ^ 41 }
@@ -79,7 +79,7 @@ fn put(
 )
     requires sections { AreSectionsOf instance.now sections.now }
     requires buffers { All IsBuffer instance.now }
-    requires few { length instance.now ≤ 512 }
+    requires few { length instance.now ≤ buffer_limit }
     requires order { IsFalling instance.now order.now }
     requires in_order { place < length order.now }
     requires modulus { IsModulus modulus }
@@ -112,7 +112,7 @@ pub(crate) fn tally_all(
 )
     requires sections { AreSectionsOf instance.now sections.now }
     requires buffers { All IsBuffer instance.now }
-    requires few { length instance.now ≤ 512 }
+    requires few { length instance.now ≤ buffer_limit }
     requires order { IsFalling instance.now order.now }
     requires modulus { IsModulus modulus }
     requires count { length tallies.old ≡ count_of sections.now }

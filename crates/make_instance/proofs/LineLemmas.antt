@@ -1,14 +1,9 @@
 -- A line of fields that need no quotes is what the `csv` writer writes of them.
-use Rattle.std.proofs.Common.{◌≡◌, ◌<◌, ◌^◌, ◌++◌, ◌∷◌, ◌∙◌, ◌==◌, ℕ, List, [], true, false, refl, sym, ap, arith, append-nil}
-use Rattle.std.proofs.lemmas.Bool.Decides.{nat_tests}
-use Rattle.std.proofs.lemmas.Fmt.{digits_decimal}
-use Rattle.std.proofs.lemmas.List.Folds.{list_any-append}
+use Rattle.std.proofs.Common.{◌≡◌, ◌<◌, ◌^◌, ◌++◌, ◌∷◌, ◌∙◌, ℕ, List, [], true, false, refl, sym, ap, append-nil}
 use Rattle.std.specs.Char.{is_ascii_digit}
 use Rattle.std.specs.Fmt.{decimal}
 use Rattle.std.specs.List.{join_with_byte, list_any}
-use Rattle.std.specs.Prelude.{⊤, Bool, ◌&&◌}
-use Rattle.std.specs.Str.{all_ascii_digits}
-use Rattle.dsa_model.proofs.NumberLemmas.{own}
+use Rattle.std.specs.Prelude.{⊤}
 use Rattle.csv.specs.Writing.{default_writer, field_text, fields_text, is_blank, needs_byte, row_text}
 use Rattle.csv_instance.specs.Records.{Record}
 pub use Rattle.csv_instance.proofs.GapTexts.{digit_other, digits_are, none_in_pair, none_of_digits}

@@ -3,6 +3,7 @@ use Rattle.std.proofs.Common.{◌≡◌, ◌<◌, ◌≤◌, ◌+◌, ◌-◌, �
 use Rattle.std.proofs.lemmas.Bool.Decides.{nat_tests}
 use Rattle.std.proofs.lemmas.Nat.{mod_below}
 use Rattle.std.specs.Prelude.{⊤}
+use Rattle.dsa_model.specs.Buffer.{buffer_limit}
 use Rattle.make_instance.specs.Draws.{state_at}
 use Rattle.make_instance.specs.Rows.{gap_in, made_row, row_of}
 use Rattle.make_instance.specs.declared.row.Row.{Row}
@@ -15,7 +16,7 @@ IsGapIn lower upper (Some gap) = (lower < gap.0) × (gap.0 < gap.1) × (gap.1 < 
 -- a row of a buffer without a fault, with small numbers
 pub record IsMade (row : Row) : Type 0 where
   pub lasts : row.lower < row.upper
-  pub soon : row.upper < 2048
+  pub soon : row.upper < 16384
   pub some_size : 0 < row.size
   pub small : row.size ≤ 64
   pub some_alignment : 0 < row.alignment
@@ -34,7 +35,7 @@ gap_is flag lower length = go (flag == 0) (nat_le 3 length) refl
     go true false e = tt
     go true true e = let long = at_least e in (omega arith, omega arith, omega arith)
 
-row_is_made : (lower q r s t : ℕ) → lower < 1024 → q < 16 → r < 64 → s < 4
+row_is_made : (lower q r s t : ℕ) → lower < 8192 → q < 16 → r < 64 → s < 4
     → IsMade (row_of lower (1 + q) (1 + r) (1 + s) t)
 row_is_made lower q r s t hl hq hr hs = record {
   lasts = omega arith;
@@ -47,7 +48,7 @@ row_is_made lower q r s t hl hq hr hs = record {
 }
 
 -- every row is such
-pub made : (seed count i : ℕ) → i < count → count ≤ 512 → IsMade (made_row seed count i)
+pub made : (seed count i : ℕ) → i < count → count ≤ buffer_limit → IsMade (made_row seed count i)
 unfolding made_row
 made seed count i some few =
     let below = mod_below (state_at seed (5 * i + 1)) (2 * count) (omega arith) in

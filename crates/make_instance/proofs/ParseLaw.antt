@@ -12,6 +12,7 @@ use Rattle.std.specs.Str.{bytes_eq}
 use Rattle.std.specs.Str.Parse.{digits_value}
 use Rattle.dsa_terms.specs.Buffers.{Buffer}
 use Rattle.dsa_terms.specs.Parts.{numbers}
+use Rattle.dsa_model.specs.Buffer.{buffer_limit}
 use Rattle.dsa_model.proofs.NumberLemmas.{own}
 use Rattle.csv_instance.specs.Columns.{field_of}
 use Rattle.csv_instance.specs.Parse.{row_buffer, id_fault, id_faults, parse, row_fault, rows_fault}
@@ -55,13 +56,13 @@ none_among p f k a (suc n) h =
 abbrev before : (seed count a : ℕ) → List Record
 before seed count a = map (made_record seed count) (range_with_len 0 a)
 
-id_good : (seed count a : ℕ) → a < count → count ≤ 512
+id_good : (seed count a : ℕ) → a < count → count ≤ buffer_limit
     → id_fault header (before seed count a) (made_record seed count a) ≡ None
 id_good seed count a less few =
     let rows = before seed count a in
     let id = 98 ∷ decimal a in
     let number : length rows ≡ a = length-map-range_with_len (made_record seed count) 0 a in
-    let room : (length rows == 512) ≡ false = not_limit (length rows) (omega arith) in
+    let room : (length rows == buffer_limit) ≡ false = not_limit (length rows) (omega arith) in
     let some : (length id == 0) ≡ false = not_zero (length id) (omega arith) in
     let long : length (decimal a) ≤ 20 = length-decimal-le 20 a (omega arith) (omega arith) (omega arith) in
     let short : nat_lt 255 (length id) ≡ false = not_above (length id) (omega arith) in
@@ -83,7 +84,7 @@ id_good seed count a less few =
       ),
     )
   where
-    not_limit : (n : ℕ) → n < 512 → (n == 512) ≡ false
+    not_limit : (n : ℕ) → n < buffer_limit → (n == buffer_limit) ≡ false
     not_limit n h = grind (arith, nat_tests)
 
     not_zero : (n : ℕ) → 0 < n → (n == 0) ≡ false
@@ -92,13 +93,13 @@ id_good seed count a less few =
     not_above : (n : ℕ) → n ≤ 255 → nat_lt 255 n ≡ false
     not_above n h = grind (arith, nat_tests)
 
-row_good : (seed count a : ℕ) → a < count → count ≤ 512
+row_good : (seed count a : ℕ) → a < count → count ≤ buffer_limit
     → row_fault header (before seed count a) (made_record seed count a) ≡ None
 row_good seed count a less few =
     rw (id_good seed count a less few)
     (content_good a (length (before seed count a)) (made_row seed count a) (made seed count a less few))
 
-rows_good : (seed count a n : ℕ) → a + n ≤ count → count ≤ 512
+rows_good : (seed count a n : ℕ) → a + n ≤ count → count ≤ buffer_limit
     → rows_fault header (before seed count a) (map (made_record seed count) (range_with_len a n)) ≡ None
 rows_good seed count a zero within few = refl
 rows_good seed count a (suc n) within few =
@@ -108,7 +109,7 @@ rows_good seed count a (suc n) within few =
     rw (row_good seed count a (omega arith) few) (rw (sym grown) rest)
 
 -- the records of a made text have no fault, and tell of as many buffers
-pub parsed : (seed count : ℕ) → count ≤ 512
+pub parsed : (seed count : ℕ) → count ≤ buffer_limit
     → (I : List Buffer) × (parse (table_of (made_text seed count)) ≡ Ok I) × (length I ≡ count)
 parsed seed count few =
     let rows = map (made_record seed count) (numbers count) in

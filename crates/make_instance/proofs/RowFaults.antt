@@ -79,16 +79,16 @@ no_fault row h =
 
 -- ---- what the row says of it
 
-pub gaps_are : (lower upper : ℕ) (gap : Option (ℕ × ℕ)) → upper < 2048 → IsGapIn lower upper gap
+pub gaps_are : (lower upper : ℕ) (gap : Option (ℕ × ℕ)) → upper < 16384 → IsGapIn lower upper gap
     → gaps_of (gap_text gap) ≡ Some (option_to_list gap)
 gaps_are lower upper None soon inside = refl
 gaps_are lower upper (Some (a, b)) soon inside =
     let (after, some, before) = inside in gaps-read a b (omega arith) (omega arith)
 
-number : (n : ℕ) → n < 2048 → written_number time_limit (decimal n) ≡ Some n
+number : (n : ℕ) → n < 16384 → written_number time_limit (decimal n) ≡ Some n
 number n small = number-decimal time_limit n (omega arith) (omega arith)
 
-alignment : (n : ℕ) → n < 2048 → number_or 1 (decimal n) ≡ Some n
+alignment : (n : ℕ) → n < 16384 → number_or 1 (decimal n) ≡ Some n
 alignment n small =
     let some : (length (decimal n) == 0) ≡ false = long _ (decimal_nonempty n (omega arith)) in
     rw some (number n small)

@@ -3,6 +3,7 @@ use Rattle.std.proofs.Common.{◌≡◌, ◌<◌, ◌≤◌, ◌+◌, ◌*◌, �
 use Rattle.std.proofs.lemmas.Fmt.{length-decimal-le}
 use Rattle.std.specs.Fmt.{decimal}
 use Rattle.std.specs.List.{flat_map, join_with_byte, range_with_len}
+use Rattle.dsa_model.specs.Buffer.{buffer_limit}
 use Rattle.csv.specs.Reading.{default_config, records}
 use Rattle.csv.specs.Writing.{default_writer, row_text}
 use Rattle.csv_instance.specs.Layout.{text_of}
@@ -15,12 +16,12 @@ use Rattle.make_instance.specs.declared.row.Row.{Row}
 use Rattle.make_instance.proofs.LineLemmas.{ArePlain, IsPlain, line-row, plain_number, plain_pair}
 use Rattle.make_instance.proofs.MadeRows.{IsGapIn, IsMade, made}
 
-plain_gap : (lower upper : ℕ) (gap : Option (ℕ × ℕ)) → upper < 2048 → IsGapIn lower upper gap → IsPlain (gap_text gap)
+plain_gap : (lower upper : ℕ) (gap : Option (ℕ × ℕ)) → upper < 16384 → IsGapIn lower upper gap → IsPlain (gap_text gap)
 plain_gap lower upper None soon inside = refl
 plain_gap lower upper (Some (a, b)) soon inside =
     let (after, some, before) = inside in plain_pair a b (omega arith) (omega arith)
 
-row_plain : (i : ℕ) (row : Row) → i < 512 → IsMade row → ArePlain (record_of i row)
+row_plain : (i : ℕ) (row : Row) → i < buffer_limit → IsMade row → ArePlain (record_of i row)
 row_plain i row few h = (
   plain_number i (omega arith),
   (
@@ -39,13 +40,13 @@ row_plain i row few h = (
 )
 
 -- the line of a row
-row_line : (i : ℕ) (row : Row) → i < 512 → IsMade row
+row_line : (i : ℕ) (row : Row) → i < buffer_limit → IsMade row
     → record_line (record_of i row) ≡ row_text default_writer (record_of i row)
 row_line i row few h = line-row (codes "b" ++ decimal i) (decimal row.lower)
     (decimal row.upper ∷ decimal row.size ∷ decimal row.alignment ∷ gap_text row.gap ∷ []) (row_plain i row few h)
 
 -- the lines from buffer a on, n of them
-lines_same : (seed count a n : ℕ) → a + n ≤ count → count ≤ 512
+lines_same : (seed count a n : ℕ) → a + n ≤ count → count ≤ buffer_limit
     → flat_map record_line (map (made_record seed count) (range_with_len a n))
     ≡ text_of (map (made_record seed count) (range_with_len a n))
 lines_same seed count a zero within few = refl
@@ -61,7 +62,7 @@ header_same = line-row (codes "id") (codes "lower")
     (codes "upper" ∷ codes "size" ∷ codes "alignment" ∷ codes "gaps" ∷ [])
     (refl, (refl, (refl, (refl, (refl, (refl, tt))))))
 
-text_same : (seed count : ℕ) → count ≤ 512 → made_text seed count ≡ text_of (made_table seed count)
+text_same : (seed count : ℕ) → count ≤ buffer_limit → made_text seed count ≡ text_of (made_table seed count)
 unfolding made_text
 text_same seed count few =
     ap (λ (t : List ℕ). t ++ flat_map record_line (map (made_record seed count) (range_with_len 0 count))) header_same
@@ -73,7 +74,7 @@ rows_read seed count a zero = tt
 rows_read seed count a (suc n) = (refl, rows_read seed count (a + 1) n)
 
 -- a made text reads as its records
-pub table-read : (seed count : ℕ) → count ≤ 512 → table_of (made_text seed count) ≡ made_table seed count
+pub table-read : (seed count : ℕ) → count ≤ buffer_limit → table_of (made_text seed count) ≡ made_table seed count
 table-read seed count few =
     ap table_of (text_same seed count few)
     ∙ ap (records default_config) (no_mark (codes "id") (codes "lower") _ _ refl)
@@ -81,8 +82,8 @@ table-read seed count few =
 
 -- ---- its length
 
-gap_short : (lower upper : ℕ) (gap : Option (ℕ × ℕ)) → upper < 2048 → IsGapIn lower upper gap
-    → length (gap_text gap) ≤ 9
+gap_short : (lower upper : ℕ) (gap : Option (ℕ × ℕ)) → upper < 16384 → IsGapIn lower upper gap
+    → length (gap_text gap) ≤ 11
 gap_short lower upper None soon inside = omega arith
 gap_short lower upper (Some (a, b)) soon inside =
     let (after, some, before) = inside in
@@ -90,8 +91,8 @@ gap_short lower upper (Some (a, b)) soon inside =
       arith,
       length-append (decimal a ++ 45 ∷ []) (decimal b),
       length-append (decimal a) (45 ∷ []),
-      length-decimal-le 4 a (omega arith) (omega arith) (omega arith),
-      length-decimal-le 4 b (omega arith) (omega arith) (omega arith),
+      length-decimal-le 5 a (omega arith) (omega arith) (omega arith),
+      length-decimal-le 5 b (omega arith) (omega arith) (omega arith),
     )
 
 -- a line of six fields
@@ -108,20 +109,20 @@ line_length a b c d e f = omega (
   length-append e (44 ∷ f),
 )
 
-line_short : (i : ℕ) (row : Row) → i < 512 → IsMade row → length (record_line (record_of i row)) ≤ 60
+line_short : (i : ℕ) (row : Row) → i < buffer_limit → IsMade row → length (record_line (record_of i row)) ≤ 60
 line_short i row few h = omega (
   arith,
   line_length (98 ∷ decimal i) (decimal row.lower) (decimal row.upper) (decimal row.size) (decimal row.alignment)
       (gap_text row.gap),
   gap_short row.lower row.upper row.gap h.soon h.gap,
   length-decimal-le 4 i (omega arith) (omega arith) (omega arith),
-  length-decimal-le 4 row.lower (omega arith) (omega (arith, h.lasts, h.soon)) (omega (arith, h.lasts, h.soon)),
-  length-decimal-le 4 row.upper (omega arith) (omega (arith, h.soon)) (omega (arith, h.soon)),
+  length-decimal-le 5 row.lower (omega arith) (omega (arith, h.lasts, h.soon)) (omega (arith, h.lasts, h.soon)),
+  length-decimal-le 5 row.upper (omega arith) (omega (arith, h.soon)) (omega (arith, h.soon)),
   length-decimal-le 4 row.size (omega arith) (omega (arith, h.small)) (omega (arith, h.small)),
   length-decimal-le 4 row.alignment (omega arith) (omega (arith, h.narrow)) (omega (arith, h.narrow)),
 )
 
-lines_short : (seed count a n : ℕ) → a + n ≤ count → count ≤ 512
+lines_short : (seed count a n : ℕ) → a + n ≤ count → count ≤ buffer_limit
     → length (flat_map record_line (map (made_record seed count) (range_with_len a n))) ≤ 60 * n
 lines_short seed count a zero within few = omega arith
 lines_short seed count a (suc n) within few =
@@ -136,7 +137,7 @@ lines_short seed count a (suc n) within few =
     )
 
 -- a made text is no longer than a file may be
-pub text_short : (seed count : ℕ) → count ≤ 512 → length (made_text seed count) ≤ 67108864
+pub text_short : (seed count : ℕ) → count ≤ buffer_limit → length (made_text seed count) ≤ 67108864
 unfolding made_text
 text_short seed count few =
     omega (

@@ -3,6 +3,7 @@
 ghost use Rattle.std.specs.Prelude.{◌≡◌, ◌<◌, ◌≤◌, ◌↔◌, List, Err, IfOk, Ok, length};
 ghost use Rattle.dsa_model.specs.Fails.{UnlessNoMemory};
 ghost use Rattle.dsa_terms.specs.Buffers.{Buffer};
+ghost use Rattle.dsa_model.specs.Buffer.{buffer_limit};
 ghost use Rattle.csv_instance.specs.Parse.{parse};
 ghost use Rattle.csv_instance.specs.Records.{table_of};
 ghost use Rattle.make_instance.specs.Made.{made_text};
@@ -35,7 +36,7 @@ const HEADER: &str = "id,lower,upper,size,alignment,gaps\n";
 pub fn make(alloc: Global, seed: u64, count: u64) -> Result<Vec<u8>, Fail<MakeFault>>
     ensures value { UnlessNoMemory result (λ text. text.items ≡ made_text seed count)
         (λ fault. fault ≡ MakeFault.CountTooLarge count) }
-    ensures refused { (result ≡ Err (Fail.Fault (MakeFault.CountTooLarge count))) ↔ (512 < count) }
+    ensures refused { (result ≡ Err (Fail.Fault (MakeFault.CountTooLarge count))) ↔ (buffer_limit < count) }
     ensures short { IfOk result (λ text. length text.items ≤ 67108864) }
     ensures parsed { IfOk result (λ text. (I : List Buffer)
         × (parse (table_of text.items) ≡ Ok I) × (length I ≡ count)) }

@@ -1,6 +1,7 @@
 //! A row of a made instance.
 
 ghost use Rattle.std.specs.Prelude.{◌≡◌, ◌+◌, ◌*◌, ◌^◌, ◌<◌, ◌≤◌, ℕ, IfOk, string_bytes};
+ghost use Rattle.dsa_model.specs.Buffer.{buffer_limit};
 ghost use Rattle.make_instance.specs.Draws.{state_at};
 ghost use Rattle.make_instance.specs.Rows.{gap_in, made_row};
 ghost use Rattle.make_instance.specs.Made.{gap_text, record_line, gap_pair_text, record_of};
@@ -32,10 +33,10 @@ fn gap_in(flag: u64, lower: u64, length: u64) -> Option<(u64, u64)>
     }
 }
 
-/// The next row, drawn by five numbers. The caller owes a count of 1 to 512.
+/// The next row, drawn by five numbers. The caller owes a count of 1 to `BUFFER_LIMIT`.
 pub(crate) fn next_row(draws: &mut Draws, count: u64) -> Row
     requires some { 0 < count }
-    requires few { count ≤ 512 }
+    requires few { count ≤ buffer_limit }
     ensures row { (seed i : ℕ) → draws.old.state ≡ state_at seed (5 * i)
         → result ≡ made_row seed count i }
     ensures state { (seed i : ℕ) → draws.old.state ≡ state_at seed (5 * i)

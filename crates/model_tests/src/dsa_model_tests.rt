@@ -46,7 +46,7 @@ fn a_buffer_keeps_what_it_was_given(rt: HostRuntime) -> Result<(), test::Fail> {
 #[test]
 fn the_first_fault_of_a_buffer_is_answered(rt: HostRuntime) {
     let alloc = rt.alloc();
-    let nine = [(0, 1); 9];
+    let too_many = [(0, 1); 65];
     let rows = [
         (
             refusal(alloc, 1, 1, 0, 0, &[], 0),
@@ -74,7 +74,7 @@ fn the_first_fault_of_a_buffer_is_answered(rt: HostRuntime) {
             BufferFault::GapOutside { gap: 1 },
         ),
         (
-            refusal(alloc, 0, 1, 4, 1, &nine, 0),
+            refusal(alloc, 0, 1, 4, 1, &too_many, 0),
             BufferFault::TooManyGaps,
         ),
         (

@@ -1,6 +1,6 @@
 //! Worked texts for a seed and a count, and the greatest count.
 
-use dsa_model::Fail;
+use dsa_model::{BUFFER_LIMIT, Fail};
 use make_instance::{MakeFault, make};
 
 #[test]
@@ -26,9 +26,9 @@ fn a_seed_and_a_count_give_a_text(rt: HostRuntime) {
 
 #[test]
 fn no_more_buffers_than_an_instance_has_are_made(rt: HostRuntime) {
-    let most = make(rt.alloc(), 1, 512).expect(&rt, "memory");
+    let most = make(rt.alloc(), 1, BUFFER_LIMIT as u64).expect(&rt, "memory");
     assert!(rt; most.len() > 0);
-    let refused = make(rt.alloc(), 1, 513);
-    let fault = MakeFault::CountTooLarge { count: 513 };
+    let refused = make(rt.alloc(), 1, 4097);
+    let fault = MakeFault::CountTooLarge { count: 4097 };
     assert!(rt; matches!(refused, Err(Fail::Fault(found)) if found == fault));
 }

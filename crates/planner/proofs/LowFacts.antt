@@ -3,7 +3,7 @@ use Rattle.std.proofs.Common.{◌≡◌, ℕ, ◌≤◌, inl, inr, [], ◌∷◌
 use Rattle.dsa_terms.specs.Bounds.{bound_modulus, counted, heights, highest_at, highest_stack, least_of, line_height, lower_bound, moduli, moments, pile, rounded_size, stack, stack_line, stack_log}
 use Rattle.dsa_terms.specs.Buffers.{buffer, floor, is_live}
 use Rattle.dsa_terms.specs.Claims.{IsIn}
-use Rattle.dsa_terms.specs.Logs.{Log, Over}
+use Rattle.dsa_terms.specs.Logs.{Over}
 use Rattle.dsa_terms.proofs.Examples.{low}
 use Rattle.lower_bounds.specs.declared.value.Bound.{Bound}
 use Rattle.planner.specs.Decides.{IsBoundLog}

@@ -1,5 +1,5 @@
 -- From what is prepared to what is concluded.
-use Rattle.std.proofs.Common.{◌≡◌, ◌≤◌, ◌⊎◌, inl, inr, ℕ, List, [], ◌∷◌, Result, Ok, Err, IfOk, Some, sym, subst, ap, ◌∙◌}
+use Rattle.std.proofs.Common.{◌≡◌, ◌≤◌, inl, inr, ℕ, List, [], ◌∷◌, Result, Ok, Err, IfOk, Some, sym, subst, ap, ◌∙◌}
 use Rattle.dsa_terms.specs.Buffers.{Instance}
 use Rattle.dsa_model.specs.declared.fail.NoMemory.{NoMemory}
 use Rattle.csv_instance.specs.Records.{Record}
@@ -12,7 +12,7 @@ use Rattle.run_course.specs.Course.{Outcome, Write, says, writes}
 use Rattle.run_course.specs.Prepares.{outcome_of}
 use Rattle.run_course.specs.declared.prepared.Prepared.{Prepared}
 use Rattle.writings.specs.Writings.{layout_file}
-use Rattle.planning.specs.Planning.{Classes, Plans, PlansByClass}
+use Rattle.planning.specs.Planning.{Classes, Plans}
 
 pub plans_spoken : (c : Classes) (table : List Record) (I : Instance) (o : Outcome) → Plans c table I o →
     IsSpoken o.status

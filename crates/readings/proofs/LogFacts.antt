@@ -1,5 +1,5 @@
 -- What files of logs come to: the sample log, one with an Over line that is too low, and no log.
-use Rattle.std.proofs.Common.{◌≡◌, ℕ, List, [], ◌∷◌, Some, codes, refl}
+use Rattle.std.proofs.Common.{◌≡◌, ℕ, List, [], ◌∷◌, Some, refl}
 use Rattle.dsa_terms.specs.Buffers.{buffer, is_live}
 use Rattle.dsa_terms.specs.Claims.{up}
 use Rattle.dsa_terms.specs.Logs.{IsAccepted, Log, is_stacked, rounded, rounding}

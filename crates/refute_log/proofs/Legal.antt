@@ -14,6 +14,7 @@ use Rattle.dsa_terms.specs.Parts.{is_empty}
 use Rattle.dsa_terms.specs.Firsts.{when}
 use Rattle.canonical_order.specs.Stands.{Stands}
 use Rattle.dsa_terms.proofs.NumberTests.{equal, same, apart, above, not_at_most, below_or_from}
+use Rattle.dsa_model.specs.Buffer.{buffer_limit}
 use Rattle.dsa_model.proofs.Faults.{neither, not_so}
 use Rattle.refute_log.specs.Reasons.{first_reason, claim_reason, rule_reason, over_reason, cite_reason, cites_reason, line_reason, covers, stacked, stack_height}
 use Rattle.refute_log.specs.Logs.{OpenLog, Belongs, ended}
@@ -211,7 +212,7 @@ pub all_kept_pushed : {X : Type 0} (f : X → Line) (items new : List X) (x : X)
 all_kept_pushed f items new x q h k = rw (q, map-append f items (x ∷ [])) (All-push IsLineKept (map f items) (f x) h k)
 
 -- a legal line keeps what lines keep
-pub legal_is_kept : (I : Instance) (C : ℕ) (earlier : List Line) (line : Line) → length I ≤ 512 → IsWithin line →
+pub legal_is_kept : (I : Instance) (C : ℕ) (earlier : List Line) (line : Line) → length I ≤ buffer_limit → IsWithin line →
     IsLegal I C earlier line → IsLineKept line
 legal_is_kept I C earlier line n w h = record {
   within = w;

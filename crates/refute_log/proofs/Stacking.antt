@@ -8,7 +8,7 @@ use Rattle.canonical_order.proofs.CoverLemmas.{length_within}
 use Rattle.dsa_terms.proofs.Moments.{and_true}
 use Rattle.dsa_terms.proofs.Numbers.{multiple_is, next_is_below}
 use Rattle.dsa_terms.proofs.NumberTests.{equal}
-use Rattle.dsa_model.specs.Buffer.{IsBuffer}
+use Rattle.dsa_model.specs.Buffer.{IsBuffer, buffer_limit}
 use Rattle.refute_log.specs.Stacks.{stacks}
 
 -- a modulus that divides an alignment is no greater
@@ -28,7 +28,7 @@ rounded_limit b bound T H G r k pos h e =
     below_both : {m s a g : ℕ} → m < s + g → s ≤ 2 ^ 40 → a ≤ 2 ^ 32 → g ≤ a → m ≤ 2 ^ 41
     below_both m s a g = omega arith
 
--- a claim of an instance has at most 512 buffers
-pub few : (I : Instance) (l items : Claim) → Stands I l → items ≡ l → length items ≤ 512
+-- a claim of an instance has at most `buffer_limit` buffers
+pub few : (I : Instance) (l items : Claim) → Stands I l → items ≡ l → length items ≤ buffer_limit
 few I l items s e = rw e (let k : length l ≤ length I = length_within l (length I) s.claim.rises s.claim.in_range in
-    let m : length I ≤ 512 = s.count in omega arith)
+    let m : length I ≤ buffer_limit = s.count in omega arith)

@@ -1,14 +1,14 @@
 -- What follows from an answer for every command.
-use Rattle.std.proofs.Common.{◌≡◌, ◌⊎◌, ℕ, ◌≤◌, ◌<◌, List, length, Option, IsSome, Some, None, refl, sym, subst, ap, ◌∙◌, inl, inr, arith}
+use Rattle.std.proofs.Common.{◌≡◌, ℕ, ◌≤◌, List, length, Option, IsSome, Some, None, refl, sym, subst, inl, inr, arith}
 use Rattle.dsa_outside.specs.Held.{FileMap, file_at, IsMissing}
 use Rattle.command_words.specs.Options.{Word}
 use Rattle.run_status.specs.declared.status.Status.{Status}
 use Rattle.run_status.specs.declared.status.Status.TheVariants as status
 use Rattle.run_status.specs.declared.status.Role.{Role}
 use Rattle.dsa_outside.specs.Seen.{FilesSeen, SinkSeen}
-use Rattle.run_course.specs.Readings.{IsWholeFile, HoldsMore}
-use Rattle.run_course.specs.Course.{Course, Concludes, Reads, Comes, Outcome, IsUnreadable}
-use Rattle.run_course.specs.Answers.{Tells, IsSaid, Leaves, told_status, with_writes}
+use Rattle.run_course.specs.Readings.{HoldsMore}
+use Rattle.run_course.specs.Course.{Course, Concludes, Reads, Comes, Outcome}
+use Rattle.run_course.specs.Answers.{IsSaid, Leaves, told_status, with_writes}
 use Rattle.run_course.specs.Complete.{IsReadable, IsServed, ConcludesOn}
 
 -- the outcome that the run came to, with all its files written

@@ -1,8 +1,7 @@
 -- From what a command concludes to what the run answers.
-use Rattle.std.proofs.Common.{◌≡◌, ℕ, List, ◌∷◌, ◌++◌, Option, Some, None, refl, sym, ap, ◌∙◌, subst, inl, inr}
+use Rattle.std.proofs.Common.{◌≡◌, ℕ, List, Option, Some, None, sym, ap, ◌∙◌, subst, inl, inr}
 use Rattle.dsa_outside.specs.Faults.{NoneFell}
-use Rattle.dsa_outside.specs.Held.{without_file, with_text}
-use Rattle.dsa_model.specs.Counts.{Rose}
+use Rattle.dsa_outside.specs.Held.{without_file}
 use Rattle.run_status.specs.Spoken.{IsSpoken}
 use Rattle.run_status.specs.declared.status.Status.{Status}
 use Rattle.run_status.specs.declared.status.Status.TheVariants as status

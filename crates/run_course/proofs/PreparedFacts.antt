@@ -1,5 +1,5 @@
 -- What stands before the first write, and what reading a file comes to.
-use Rattle.std.proofs.Common.{◌≡◌, ◌∙◌, ℕ, List, [], ◌∷◌, Some, Vec, Global, inl, inr, codes, refl, sym, ap, lit≤}
+use Rattle.std.proofs.Common.{◌≡◌, ◌∙◌, ℕ, Some, Vec, Global, inl, inr, codes, refl, sym, ap, lit≤}
 use Rattle.dsa_outside.specs.Held.{IsMissing, file_at}
 use Rattle.dsa_outside.specs.Seen.{FilesSeen}
 use Rattle.command_words.specs.Options.{Word}

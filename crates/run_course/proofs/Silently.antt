@@ -1,5 +1,5 @@
 -- A status that is told alone.
-use Rattle.std.proofs.Common.{◌≡◌, ◌⊎◌, ℕ, Result, Ok, Err, IfOk, sym, subst, inl, inr}
+use Rattle.std.proofs.Common.{◌≡◌, ℕ, Result, Ok, Err, IfOk, sym, subst, inl, inr}
 use Rattle.dsa_model.specs.declared.fail.NoMemory.{NoMemory}
 use Rattle.command_words.specs.Options.{Word}
 use Rattle.run_status.specs.Spoken.{IsSpoken}

@@ -1,11 +1,11 @@
 -- Two writes, of which one fails.
-use Rattle.std.proofs.Common.{◌≡◌, ℕ, List, [], ◌∷◌, ◌++◌, refl, ap, ◌∙◌, subst}
+use Rattle.std.proofs.Common.{◌≡◌, List, [], ◌∷◌, refl, ap, ◌∙◌}
 use Rattle.dsa_outside.specs.Faults.{NoneFell}
 use Rattle.dsa_outside.specs.Held.{with_file, without_file}
 use Rattle.dsa_model.specs.Counts.{Rose}
 use Rattle.dsa_outside.specs.Seen.{FilesSeen}
 use Rattle.run_course.specs.Course.{Write}
-use Rattle.run_course.specs.Answers.{AreBegun, AreBroken, with_writes}
+use Rattle.run_course.specs.Answers.{AreBegun, AreBroken}
 use Rattle.run_course.proofs.Since.{rose_since}
 
 pub first_lost : (old new : FilesSeen) (w : Write) (rest : List Write) → Rose (old.faults w.name) (new.faults w.name) →

@@ -5,7 +5,7 @@ use Rattle.dsa_model.specs.Counts.{Rose}
 use Rattle.command_words.specs.Options.{Word}
 use Rattle.dsa_outside.specs.Seen.{FilesSeen}
 use Rattle.run_status.specs.Spoken.{IsSpoken}
-use Rattle.run_course.specs.Course.{Course, Concludes, Reads, Write, Outcome}
+use Rattle.run_course.specs.Course.{Course, Concludes, Reads, Outcome}
 
 -- the name holds bytes, and no more than that
 pub record IsReadable (files : FilesSeen) (name : Word) (most : ℕ) : Type 0 where

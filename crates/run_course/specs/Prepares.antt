@@ -1,7 +1,6 @@
 -- What stands before the first write, and what comes of reading and of writing.
-use Rattle.std.specs.Prelude.{◌≡◌, ℕ, List, [], ◌∷◌, Option, Some, None}
+use Rattle.std.specs.Prelude.{ℕ, [], ◌∷◌}
 use Rattle.command_words.specs.Options.{Word}
-use Rattle.run_status.specs.declared.status.Status.{Status}
 use Rattle.run_status.specs.declared.status.Role.{Role}
 use Rattle.dsa_outside.specs.Seen.{FilesSeen}
 use Rattle.run_course.specs.Readings.{IsWholeFile}

@@ -105,7 +105,7 @@ unwritten = refl
 log_role : role_text role.Log ≡ codes "--log"
 log_role = refl
 
-too_many : line (status.TooMany 513) ≡ codes "too many 513\n"
+too_many : line (status.TooMany 4097) ≡ codes "too many 4097\n"
 unfolding digits
 too_many = refl
 

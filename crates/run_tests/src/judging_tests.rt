@@ -11,7 +11,7 @@ use std::test::Fail;
 
 const THREE_REPORT: &str = "moment 0 load 4 height 5\nplace,size,id\n0,2,C\n2,1,A\n3,1,\n4,1,B\n";
 
-const THREE_COLUMNS: &str = "buffers 3 of 512 aligned 2 gaps 0 lowest 0
+const THREE_COLUMNS: &str = "buffers 3 of 4096 aligned 2 gaps 0 lowest 0
 column,meaning
 id,id
 lower,lower
@@ -20,7 +20,7 @@ size,size
 alignment,alignment
 ";
 
-const MISSPELT_COLUMNS: &str = "buffers 1 of 512 aligned 0 gaps 1 lowest 1
+const MISSPELT_COLUMNS: &str = "buffers 1 of 4096 aligned 0 gaps 1 lowest 1
 column,meaning
 id,id
 lower,lower
@@ -132,9 +132,9 @@ fn what_is_read_is_judged(rt: HostRuntime) -> Result<(), Fail> {
             MADE_IN_0,
         ),
         (
-            "trial --seed 1 --count 513 --steps 1000",
-            Status::TooMany { count: 513 },
-            "too many 513\n",
+            "trial --seed 1 --count 4097 --steps 1000",
+            Status::TooMany { count: 4097 },
+            "too many 4097\n",
         ),
     ];
     for (line, status, printed) in cases {

@@ -2,7 +2,7 @@
 
 ghost use Rattle.std.specs.Prelude.{◌<◌, ◌^◌, length};
 
-use dsa_model::{Buffer, BufferFault, Fail, Instance};
+use dsa_model::{BUFFER_LIMIT, Buffer, BufferFault, Fail, Instance};
 use lifetime::Sections;
 use lower_bounds::bound;
 use refute_log::Line;
@@ -23,7 +23,7 @@ fn instance_of(
         let own = if instance.len() == 0 { gaps } else { &[] };
         let (lower, upper) = (*lower as u64, *upper as u64);
         let buffer = Buffer::new(alloc, lower, upper, *size as u64, *alignment as u64, own, 0)?;
-        if instance.len() < 512 {
+        if instance.len() < BUFFER_LIMIT {
             instance.push(buffer)?;
         }
     }

@@ -6,7 +6,7 @@ ghost use Rattle.min_capacity.specs.Brackets.{IsBracket};
 ghost use Rattle.search_tests.specs.Prepared.{AreRight, IsOfTwelve, twelve_from_twelve};
 
 use canonical_order::Claim;
-use dsa_model::{Buffer, BufferFault, Fail, Instance, NoMemory, height, judge};
+use dsa_model::{BUFFER_LIMIT, Buffer, BufferFault, Fail, Instance, NoMemory, height, judge};
 use min_capacity::{Bracket, Least, least};
 use refute_log::{ClosedLog, Decided, Decider, Line, Log};
 use std::alloc::Global;
@@ -94,7 +94,7 @@ fn make_five(alloc: Global) -> Result<Instance, Fail<BufferFault>> {
     let mut five = Instance::new(alloc);
     for (lower, upper) in [(0u32, 3u32), (3, 9), (0, 9), (9, 21), (0, 21)] {
         let buffer = Buffer::new(alloc, lower as u64, upper as u64, 4, 1, &[], 0)?;
-        if five.len() < 512 {
+        if five.len() < BUFFER_LIMIT {
             five.push(buffer)?;
         }
     }

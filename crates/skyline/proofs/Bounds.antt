@@ -10,7 +10,7 @@ use Rattle.dsa_terms.proofs.Numbers.{next_is_below}
 use Rattle.dsa_model.proofs.Instances.{sound_instance}
 use Rattle.dsa_search_laws.proofs.Placing.{in_buffers, up_at_or_above}
 use Rattle.dsa_search_laws.proofs.Members.{buffers_of-whole}
-use Rattle.dsa_model.specs.Buffer.{IsBuffer}
+use Rattle.dsa_model.specs.Buffer.{IsBuffer, buffer_limit}
 use Rattle.lifetime.specs.SectionList.{AreSectionsOf, SectionList}
 use Rattle.canonical_order.specs.Stands.{Stands}
 use Rattle.skyline.specs.Carried.{claims_of}
@@ -22,7 +22,7 @@ use Rattle.skyline.proofs.SectionFacts.{members_few}
 use Rattle.skyline.proofs.Standing.{has_lowests, up_is_raised}
 
 -- a bound is at most the up, which is the rounded height to which the standing buffers raise
-pub bound_low : (I : Instance) (members bs : List ℕ) (e : Entry) → All IsBuffer I → length I ≤ 512 →
+pub bound_low : (I : Instance) (members bs : List ℕ) (e : Entry) → All IsBuffer I → length I ≤ buffer_limit →
     All (λ b. b < length I) members → Rises members → IsStack I (whole I members) bs →
     IsIn e (claim_after I (whole I members) bs) → e.1 < 2 ^ 54
 bound_low I members bs e buffers count range rise stack i =
@@ -39,7 +39,7 @@ bound_low I members bs e buffers count range rise stack i =
     let q = members_few I members range rise count in
     omega arith
 
-all_low : (I : Instance) (members bs : List ℕ) → All IsBuffer I → length I ≤ 512 → All (λ b. b < length I) members →
+all_low : (I : Instance) (members bs : List ℕ) → All IsBuffer I → length I ≤ buffer_limit → All (λ b. b < length I) members →
     Rises members → IsStack I (whole I members) bs → AreLow (claims_of I (whole I members) bs)
 all_low I members [] buffers count range rise stack l e (inl q) i =
     bound_low I members [] e buffers count range rise stack (subst (λ (l : Claim). IsIn e l) q i)

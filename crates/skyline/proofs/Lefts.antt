@@ -10,6 +10,7 @@ use Rattle.dsa_terms.specs.Parts.{whole}
 use Rattle.dsa_terms.proofs.Numbers.{next_is_below}
 use Rattle.dsa_terms.proofs.Moments.{sound}
 use Rattle.dsa_terms.proofs.Places.{in_at}
+use Rattle.dsa_model.specs.Buffer.{buffer_limit}
 use Rattle.dsa_model.proofs.Instances.{sound_instance}
 use Rattle.lifetime.specs.SectionList.{count_of, sections_of, SectionList}
 use Rattle.skyline.specs.Standing.{claim_after, offset_after, raised, ledge, top_under}
@@ -51,7 +52,7 @@ pub record LowFacts (I : Instance) (S : SectionList) (members : List ℕ) (n : �
 
 -- the standing buffers' offsets are limited
 first_limited : (I : Instance) (members bs ys : List ℕ) (hs : List ℕ) (S : SectionList) (rows : List (List ℕ))
-    (flags : List Bool) → Carries I S members bs ys hs rows flags → slice_index ys 0 ≤ 512 * 1103806595072 + 2 ^ 32
+    (flags : List Bool) → Carries I S members bs ys hs rows flags → slice_index ys 0 ≤ buffer_limit * 1103806595072 + 2 ^ 32
 first_limited I members [] ys hs S rows flags h = let e = ap (λ zs. slice_index zs 0) h.offsets in omega arith
 first_limited I members (d ∷ ds) ys hs S rows flags h =
     let e : slice_index ys 0 ≡ offset_after I (whole I members) ds d = ap (λ zs. slice_index zs 0) h.offsets in
@@ -97,7 +98,7 @@ low_facts I S members n stack ledges hs rows flags b h i = record {
     hs_count : length hs ≡ count_of S
     hs_count = ap length h.carries.heights ∙ length-heights_after I S (whole I members) (reverse (take n stack))
 
-    small : raised I (whole I members) (reverse (take n stack)) b ≤ 512 * 1103806595072
+    small : raised I (whole I members) (reverse (take n stack)) b ≤ buffer_limit * 1103806595072
     small =
         let r = raised_limited I (whole I members) (reverse (take n stack)) b
         (sound_instance I h.carries.buffers) h.carries.buffers (has_lowests I members) h.carries.stands

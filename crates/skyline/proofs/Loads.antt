@@ -10,7 +10,7 @@ use Rattle.dsa_terms.specs.Claims.{Claim, Entry, IsIn, Rises, child}
 use Rattle.dsa_search_laws.proofs.Placing.{in_buffers}
 use Rattle.dsa_terms.proofs.Lists.{any_gives, any_from, true_or_false, from_map}
 use Rattle.dsa_terms.proofs.NumberTests.{below_or_from, equal, same}
-use Rattle.dsa_model.specs.Buffer.{IsBuffer}
+use Rattle.dsa_model.specs.Buffer.{IsBuffer, buffer_limit}
 use Rattle.dsa_model.proofs.Instances.{sound_buffer}
 use Rattle.lifetime.specs.SectionList.{count_of, members_of, sections_of, AreSectionsOf, SectionList}
 use Rattle.skyline.specs.Places.{set_each}
@@ -185,8 +185,8 @@ sum_limited f p (x ∷ xs) K h = go (sum_limited f p xs K h) (p x)
     go ih true = let k = sum_by-cons f x (filter p xs) in let j = h x in omega arith
     go ih false = omega arith
 
-pub load_limited : (I : Instance) (S : SectionList) (l : Claim) (s : ℕ) → All IsBuffer I → length I ≤ 512 →
-    AreSectionsOf I S → s < count_of S → free_load I S l s ≤ 512 * 2 ^ 40
+pub load_limited : (I : Instance) (S : SectionList) (l : Claim) (s : ℕ) → All IsBuffer I → length I ≤ buffer_limit →
+    AreSectionsOf I S → s < count_of S → free_load I S l s ≤ buffer_limit * 2 ^ 40
 unfolding free_load
 load_limited I S l s h n p ls =
     let k = sum_limited (λ c. (buffer I c).size) (is_left l) (members_of S s) (2 ^ 40) (λ c. size_limited I c h) in

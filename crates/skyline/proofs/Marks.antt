@@ -7,7 +7,7 @@ use Rattle.dsa_terms.specs.Buffers.{Instance}
 use Rattle.dsa_terms.specs.Claims.{IsIn, Rises}
 use Rattle.dsa_terms.proofs.NumberTests.{same_or_not}
 use Rattle.dsa_search_laws.proofs.Members.{buffers_of-whole}
-use Rattle.dsa_model.specs.Buffer.{IsBuffer}
+use Rattle.dsa_model.specs.Buffer.{IsBuffer, buffer_limit}
 use Rattle.dsa_model.specs.Lists.{items_of}
 use Rattle.lifetime.specs.SectionList.{count_of, sections_of, AreSectionsOf, SectionList}
 use Rattle.skyline.specs.Skylines.{IsSkyline}
@@ -57,7 +57,7 @@ marked-more marks ms i n li lt len h c lc =
 -- the fields of a new skyline
 pub new_sky : (I : Instance) (S : SectionList) (members stack ledges hs : List ℕ) (saved : List (Vec ℕ Global))
     (flags : List Bool) →
-    All IsBuffer I → length I ≤ 512 → AreSectionsOf I S → All (λ b. b < length I) members → Rises members →
+    All IsBuffer I → length I ≤ buffer_limit → AreSectionsOf I S → All (λ b. b < length I) members → Rises members →
     length stack ≡ length members → length ledges ≡ length members → hs ≡ replicate (count_of S) 0 →
     length saved ≡ length I →
     ((b : ℕ) (d : Vec ℕ Global) → b < length I → slice_index_or flags b false ≡ true →

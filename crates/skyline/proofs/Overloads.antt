@@ -11,6 +11,7 @@ use Rattle.dsa_terms.specs.Claims.{Claim, IsIn, up}
 use Rattle.dsa_terms.proofs.Lists.{into_filter, into_map}
 use Rattle.dsa_terms.proofs.NumberTests.{is_below, not_below}
 use Rattle.dsa_terms.specs.Parts.{whole}
+use Rattle.dsa_model.specs.Buffer.{buffer_limit}
 use Rattle.lifetime.specs.SectionList.{count_of, start_of, members_of, SectionList}
 use Rattle.canonical_order.specs.Claims.{HasBuffer, entry_of}
 use Rattle.skyline.specs.Standing.{claim_after}
@@ -197,7 +198,7 @@ pub load_of_view : (I : Instance) (S : SectionList) (members : List ℕ) (n : �
     record { instance = I; sections = S; claims = claims_of I (whole I members) (reverse (take n stack)) } ≡ k →
     IsLoaded I S members n stack ledges hs rows flags ls → s < count_of k.sections →
     (s < length ls) × ((slice_index ls s ≡ free_load k.instance k.sections (last_claim k.claims) s) ×
-    (slice_index ls s ≤ 512 * 2 ^ 40))
+    (slice_index ls s ≤ buffer_limit * 2 ^ 40))
 load_of_view I S members n stack ledges hs rows flags ls k s e h lt = (
   omega (arith, here, h.loads.count),
   (

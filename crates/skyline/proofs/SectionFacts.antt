@@ -8,6 +8,7 @@ use Rattle.dsa_terms.proofs.Lists.{from_filter, into_filter, true_or_false}
 use Rattle.dsa_terms.proofs.Moments.{do_share-false, do_share-gives}
 use Rattle.dsa_terms.proofs.Places.{in_from_all}
 use Rattle.dsa_terms.proofs.Ranges.{below, among}
+use Rattle.dsa_model.specs.Buffer.{buffer_limit}
 use Rattle.lifetime.specs.SectionList.{count_of, start_of, members_of, sections_of, AreSectionsOf, SectionList}
 use Rattle.lifetime.proofs.Live.{from_live, into_live, rises_live}
 use Rattle.lifetime.proofs.Members.{live_few}
@@ -23,7 +24,7 @@ rising_few (x ∷ xs) a n r from to =
     let f = from x (inl refl) in let t = to x (inl refl) in omega arith
 
 pub members_few : (I : Instance) (members : List ℕ) → All (λ b. b < length I) members → Rises members →
-    length I ≤ 512 → length members ≤ 512
+    length I ≤ buffer_limit → length members ≤ buffer_limit
 members_few I members h r few =
     let k = rising_few members 0 (length I) r (λ x i. omega arith)
     (in_from_all (λ b. b < length I) members h) in omega arith

@@ -4,7 +4,7 @@ use Rattle.std.specs.List.{All}
 use Rattle.dsa_terms.specs.Buffers.{Instance, buffer}
 use Rattle.dsa_terms.specs.Claims.{Claim, IsIn, Rises}
 use Rattle.dsa_terms.specs.Parts.{whole}
-use Rattle.dsa_model.specs.Buffer.{IsBuffer}
+use Rattle.dsa_model.specs.Buffer.{IsBuffer, buffer_limit}
 use Rattle.lifetime.specs.SectionList.{count_of, sections_of, AreSectionsOf, SectionList}
 use Rattle.canonical_order.specs.Claims.{HasBuffer}
 use Rattle.skyline.specs.Standing.{claim_after, offset_after, IsStack}
@@ -36,7 +36,7 @@ IsSaved I S root saved (b ∷ bs) =
 pub record Carries (I : Instance) (S : SectionList) (members bs ys hs : List ℕ) (rows : List (List ℕ))
     (flags : List Bool) : Type 0 where
   pub buffers : All IsBuffer I
-  pub count : length I ≤ 512
+  pub count : length I ≤ buffer_limit
   pub belongs : AreSectionsOf I S
   pub in_range : All (λ b. b < length I) members
   pub rise : Rises members

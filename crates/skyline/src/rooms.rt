@@ -6,6 +6,7 @@ ghost use Rattle.dsa_terms.specs.Buffers.{buffer};
 ghost use Rattle.lifetime.specs.SectionList.{AreSectionsOf, count_of, members_of};
 ghost use Rattle.std.specs.List.{All};
 ghost use Rattle.dsa_terms.specs.Claims.{IsIn};
+ghost use Rattle.dsa_model.specs.Buffer.{buffer_limit};
 ghost use Rattle.lifetime.specs.SectionList.{sections_of};
 
 use dsa_model::Instance;
@@ -45,7 +46,7 @@ pub(crate) fn make_rows(
     members: &[bool],
 ) -> Result<Vec<Vec<u64>>, AllocError>
     requires count { length members.now ≤ length sections.now.of_buffers }
-    requires few { length members.now ≤ 512 }
+    requires few { length members.now ≤ buffer_limit }
     ensures count { IfOk result (λ v. length v.items ≡ length members.now) }
     ensures rooms { IfOk result (λ v. (b : ℕ) (d : _) → b < length members.now →
         slice_index_or members.now b false ≡ true →
@@ -63,7 +64,7 @@ pub(crate) fn make_rows(
 pub(crate) fn load_of(instance: &Instance, members: &[u32], free: &[bool]) -> u64
     requires in_range { All (λ b. b < length instance.now) members.now }
     requires count { length free.now ≡ length instance.now }
-    requires few { length members.now ≤ 512 }
+    requires few { length members.now ≤ buffer_limit }
     ensures { result ≡ sum_by (λ b. (buffer instance.now b).size)
         (filter (λ b. slice_index_or free.now b false) members.now) }
 {

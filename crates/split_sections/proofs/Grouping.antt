@@ -12,7 +12,7 @@ use Rattle.dsa_terms.proofs.Places.{in_at, in_from_all, place_of}
 use Rattle.dsa_terms.proofs.Ranges.{rises-push, into_range, rises-filter_numbers, rises-range}
 use Rattle.dsa_search_laws.proofs.Cuts.{item, last_cut_le}
 use Rattle.split_sections.specs.PartList.{ArePartsKept}
-use Rattle.dsa_model.specs.Buffer.{IsBuffer}
+use Rattle.dsa_model.specs.Buffer.{IsBuffer, buffer_limit}
 use Rattle.dsa_model.specs.Lists.{pair_at}
 use Rattle.split_sections.specs.Sweep.{AreByLower, BeginsAt, IsRun, lower_entry}
 use Rattle.split_sections.proofs.Lists.{rises_same}
@@ -215,6 +215,6 @@ all_parts I order first ps a s le = s.parts_of
         subst (λ (t : ℕ). IsIn t s.cuts) e (s.all q.0 (let z = q.1 in omega arith))
 
 pub all_kept : (I : Instance) (order : List (ℕ × ℕ)) (first : ℕ) (ps : List (List ℕ)) → AreByLower I order →
-    ArePartsBelow I order first ps → length order ≤ first → length I ≤ 512 → ArePartsKept ps
+    ArePartsBelow I order first ps → length order ≤ first → length I ≤ buffer_limit → ArePartsKept ps
 all_kept I order first ps a s le few = kept I ps (all_parts I order first ps a s le)
     (let z = s.few in let y = s.within in let w = a.count in omega arith)

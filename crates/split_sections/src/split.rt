@@ -4,7 +4,7 @@ ghost use Rattle.std.specs.Prelude.{◌≡◌, ℕ, ◌<◌, ◌≤◌, ◌↔�
 ghost use Rattle.std.specs.List.{All};
 ghost use Rattle.dsa_terms.specs.Claims.{IsIn, Rises};
 ghost use Rattle.dsa_terms.specs.Parts.{parts};
-ghost use Rattle.dsa_model.specs.Buffer.{IsBuffer};
+ghost use Rattle.dsa_model.specs.Buffer.{IsBuffer, buffer_limit};
 ghost use Rattle.split_sections.specs.Sweep.{AreByLower, BeginsAt, IsRun};
 
 use crate::Parts;
@@ -15,7 +15,7 @@ use std::alloc::{AllocError, Global};
 fn by_lower(alloc: Global, instance: &Instance) -> Result<Vec<(u64, u32)>, AllocError>
     ensures order { IfOk result (λ order. AreByLower instance.now order.items) }
     ensures buffers { OnOk result (All IsBuffer instance.now) }
-    ensures limit { OnOk result (length instance.now ≤ 512) }
+    ensures limit { OnOk result (length instance.now ≤ buffer_limit) }
 {
     let mut order = Vec::new(alloc);
     for b in 0..instance.len() {

@@ -7,9 +7,9 @@ use Rattle.dsa_terms.specs.Firsts.{when}
 use Rattle.dsa_terms.proofs.Lists.{from_append}
 use Rattle.dsa_terms.proofs.Moments.{and_true}
 use Rattle.dsa_terms.proofs.NumberTests.{above, at_most}
-use Rattle.dsa_model.specs.Buffer.{alignment_limit, size_limit}
+use Rattle.dsa_model.specs.Buffer.{alignment_limit, size_limit, buffer_limit}
 use Rattle.dsa_model.proofs.Faults.{neither, not_so}
-use Rattle.csv_instance.specs.Parse.{buffer_limit, parse}
+use Rattle.csv_instance.specs.Parse.{parse}
 use Rattle.csv_instance.specs.Records.{table_of}
 use Rattle.csv_instance.proofs.Basics.{counted_last, not_false}
 use Rattle.csv_instance.proofs.IdLemmas.{all_none}

@@ -131,7 +131,7 @@ fault_texts : (trace_fault_text (fault.BadLine 7) ≡ codes "bad line 7")
     × (trace_fault_text (fault.BadAlignment 12) ≡ codes "bad alignment 12")
     × (trace_fault_text (fault.StillLive 3 1) ≡ codes "still live 3 1")
     × (trace_fault_text (fault.NotLive 0) ≡ codes "not live 0")
-    × (trace_fault_text (fault.TooManyBuffers 512) ≡ codes "too many buffers 512")
+    × (trace_fault_text (fault.TooManyBuffers 4096) ≡ codes "too many buffers 4096")
 unfolding digits
 fault_texts = (refl, refl, refl, refl, refl, refl)
 

@@ -2,8 +2,7 @@
 use Rattle.std.proofs.Common.{◌≡◌, ◌∙◌, ◌<◌, ◌≤◌, ◌⊎◌, ◌++◌, ◌∷◌, [], ap, append_assoc, arith, count_by, Err, inl, inr, length, List, map, nat_le, None, not, Ok, Option, option_map, refl, slice_get, Some, subst, suc, sym, take, true, false, Bool, is_some, zero, ℕ}
 use Rattle.std.proofs.lemmas.List.{length-map, map_push}
 use Rattle.std.specs.Option.{option_map_or, option_or}
-use Rattle.csv_instance.specs.Parse.{buffer_limit}
-use Rattle.dsa_model.specs.Buffer.{alignment_limit, size_limit, when}
+use Rattle.dsa_model.specs.Buffer.{alignment_limit, size_limit, when, buffer_limit}
 use Rattle.dsa_model.proofs.Faults.{map_none, neither}
 use Rattle.trace_import.specs.Faults.{event_fault, holder, is_to, number_fault, pieces_of, place_fault, read_from, trace_of, with_event}
 use Rattle.trace_import.specs.Laws.{IsNotLive, IsStillLive, Reaches}

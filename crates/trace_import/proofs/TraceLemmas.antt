@@ -4,7 +4,7 @@ use Rattle.std.proofs.lemmas.List.{length-map, map_push}
 use Rattle.std.specs.declared.alloc.Global.{Global}
 use Rattle.std.specs.declared.vec.Vec.{Vec}
 use Rattle.dsa_terms.proofs.NumberTests.{not_at_most}
-use Rattle.csv_instance.specs.Parse.{buffer_limit}
+use Rattle.dsa_model.specs.Buffer.{buffer_limit}
 use Rattle.csv_instance.proofs.Basics.{counted_last}
 use Rattle.trace_import.specs.Faults.{holder, number_fault, place_fault, with_event}
 use Rattle.trace_import.specs.Kept.{line_value}

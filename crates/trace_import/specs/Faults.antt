@@ -3,8 +3,7 @@ use Rattle.std.specs.Prelude.{ℕ, ◌+◌, Bool, not, ◌==◌, ◌&&◌, nat_l
 use Rattle.std.specs.List.{list_any, slice_split, count_by}
 use Rattle.std.specs.Option.{option_or, option_map_or}
 use Rattle.std.specs.Str.{bytes_eq}
-use Rattle.dsa_model.specs.Buffer.{alignment_limit, first_fault, size_limit, when}
-use Rattle.csv_instance.specs.Parse.{buffer_limit}
+use Rattle.dsa_model.specs.Buffer.{alignment_limit, first_fault, size_limit, when, buffer_limit}
 use Rattle.trace_import.specs.Lines.{event_in}
 use Rattle.trace_import.specs.Traces.{Event, Alloc, Free, Trace, frees, is_alloc}
 use Rattle.trace_import.specs.declared.fault.TraceFault.{TraceFault}

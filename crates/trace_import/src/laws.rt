@@ -2,7 +2,8 @@
 
 ghost use Rattle.std.specs.Prelude.{◌≡◌, ◌≤◌, ℕ, List, Err, Ok, length};
 ghost use Rattle.dsa_terms.specs.Buffers.{IsInstance};
-ghost use Rattle.csv_instance.specs.Parse.{buffer_limit, parse};
+ghost use Rattle.dsa_model.specs.Buffer.{buffer_limit};
+ghost use Rattle.csv_instance.specs.Parse.{parse};
 ghost use Rattle.csv_instance.specs.Records.{file_limit, table_of};
 ghost use Rattle.trace_import.specs.Faults.{trace_of};
 ghost use Rattle.trace_import.specs.ImportText.{import_text};

@@ -1,8 +1,8 @@
 //! A trace that was read.
 
 ghost use Rattle.std.specs.Prelude.{◌≡◌, ◌<◌, ◌≤◌, ◌++◌, ◌∷◌, [], ℕ, None, Ok, Err, length, map};
+ghost use Rattle.dsa_model.specs.Buffer.{buffer_limit};
 ghost use Rattle.csv_instance.specs.Records.{file_limit};
-ghost use Rattle.csv_instance.specs.Parse.{buffer_limit};
 ghost use Rattle.dsa_model.specs.Fails.{UnlessNoMemory};
 ghost use Rattle.trace_import.specs.Faults.{number_fault, place_fault, with_event};
 ghost use Rattle.trace_import.specs.Found.{AreHolders};

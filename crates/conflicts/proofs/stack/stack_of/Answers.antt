@@ -1,4 +1,5 @@
 use Rattle.std.proofs.Common.{◌^◌, ◌≤◌, ◌∙◌, length, slice_index_or, sym, refl, ap, arith}
+use Rattle.dsa_model.specs.Buffer.{buffer_limit}
 use Rattle.refute_log.proofs.Stacking.{few, rounded_limit}
 use Rattle.conflicts.proofs.Stacking.{gather_skip, gather_take, rounded_of, rounding_of, stacked_test}
 use Rattle.canonical_order.proofs.Places.{at_in, at_place}
@@ -15,7 +16,7 @@ stacks-requires-clause-bound_limit c = (c.requires.stands).bounds _
 
 pub overflow_add-sum : goal.overflow_add-sum
 overflow_add-sum c =
-    let n : length c.pairs-pair-items.result.now ≤ 512 = few _ _ _ c.requires.stands c.pairs-pair-items.ensures.value in
+    let n : length c.pairs-pair-items.result.now ≤ buffer_limit = few _ _ _ c.requires.stands c.pairs-pair-items.ensures.value in
     let r : c.next_multiple_of-rounded.result ≤ 2 ^ 41 =
     rounded_limit _ _ _ _ _ _ c.buffer-buffer.ensures.buffer c.requires.some_modulus
     (sym c.stacks.ensures ∙ c.if-stacks.true) (rw (← c.size.ensures.value) c.next_multiple_of-rounded.ensures.value) in

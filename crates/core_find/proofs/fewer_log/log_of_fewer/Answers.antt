@@ -1,6 +1,7 @@
 use Rattle.std.proofs.Common.{◌≡◌, ◌≤◌, ◌∙◌, length, ap, arith}
 use Rattle.std.proofs.lemmas.List.{length-map}
 use Rattle.dsa_terms.specs.Buffers.{Instance, buffer}
+use Rattle.dsa_model.specs.Buffer.{buffer_limit}
 use Rattle.core_find.specs.Carried.{carried}
 use Rattle.core_find.proofs.Carried.{carried_capacity}
 use Rattle.core_find.proofs.Carrying.{ended_is_carried, is_ready, places_limit}
@@ -10,7 +11,7 @@ pub renamed_log-requires-clause-numbers : goal.renamed_log-requires-clause-numbe
 renamed_log-requires-clause-numbers c =
     let same = ap (λ (J : Instance). length J) c.in_ok-some.ensures.value
     ∙ length-map c.args.members.now (buffer c.args.instance.now) in
-    let few : length c.args.members.now ≤ 512 = omega (arith, same, c.len-count.ensures.limit) in
+    let few : length c.args.members.now ≤ buffer_limit = omega (arith, same, c.len-count.ensures.limit) in
     rw c.deref.ensures.value
     (places_limit c.args.before.now c.args.members.now c.in_ok-places.places.items c.in_ok-places.ensures few)
 

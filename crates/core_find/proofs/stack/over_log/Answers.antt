@@ -1,4 +1,3 @@
-use Rattle.std.proofs.Common.{◌≤◌, ◌^◌, arith}
 use Rattle.dsa_terms.specs.Logs.{Over}
 use Rattle.dsa_search_laws.proofs.Members.{whole_is_whole}
 use Rattle.core_find.proofs.Bounding.{whole_is_bounded}

@@ -1,8 +1,6 @@
 use Rattle.std.proofs.Common.{◌≡◌, ◌∙◌, List, ℕ, Ok, ap, subst}
 use Rattle.run_status.specs.declared.status.Role.TheVariants as role
-use Rattle.run_course.specs.Course.{Write}
 use Rattle.run_course.specs.Prepares.{write_of}
-use Rattle.csv_instance.specs.Chosen.{chosen_text}
 use Rattle.csv_instance.specs.Parse.{parse}
 use Rattle.csv_instance.specs.Records.{table_of}
 use Rattle.dsa_model.specs.Chosen.{some_of}

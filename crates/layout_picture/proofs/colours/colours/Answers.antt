@@ -1,4 +1,5 @@
 use Rattle.std.proofs.Common.{ℕ, [], ◌∷◌, ◌++◌, ap, ◌∙◌, arith, rules}
+use Rattle.dsa_model.specs.Buffer.{buffer_limit}
 use Rattle.layout_picture.proofs.Colouring.{all_coloured, as_many_colours, colours_more, fewer, no_colours, so_many}
 use Rattle.layout_picture.proofs.PairLemmas.{earlier_are, next_is}
 use Rattle.layout_picture.proofs.colours.colours.Goals as goal
@@ -8,7 +9,7 @@ loop-b-init c = no_colours _ _ _ (search rules)
 
 pub colour_left-requires-clause-few : goal.colour_left-requires-clause-few
 colour_left-requires-clause-few c = fewer c.args.instance.now c.args.offsets.now c.loop-b.colours.items
-    c.deref.result.now c.loop-b.b 512 c.loop-b.invariant c.deref.ensures.value
+    c.deref.result.now c.loop-b.b buffer_limit c.loop-b.invariant c.deref.ensures.value
     (let k = c.len-b-end.ensures.limit in let e = c.len-b-end.ensures.value in let t = c.loop-b-test.true in omega arith)
 
 pub colour_left-requires-clause-earlier : goal.colour_left-requires-clause-earlier

@@ -1,7 +1,7 @@
 use Rattle.std.proofs.Common.{ap}
 use Rattle.run_status.specs.declared.status.Status.TheVariants as status
 use Rattle.run_course.specs.Course.{says}
-use Rattle.run_course.proofs.Silently.{silently, comes_by}
+use Rattle.run_course.proofs.Silently.{silently}
 use Rattle.readings.specs.Checking.{checked}
 use Rattle.readings.proofs.Opening.{no_input}
 use Rattle.readings.proofs.CheckedLogs.{not_checked, then_checked}

@@ -1,4 +1,3 @@
-use Rattle.run_status.specs.declared.status.Status.TheVariants as status
 use Rattle.run_course.proofs.Silently.{concluded, silently}
 use Rattle.readings.specs.Checking.{checked}
 use Rattle.readings.proofs.Opening.{no_input}

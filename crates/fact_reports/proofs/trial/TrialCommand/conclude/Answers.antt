@@ -1,5 +1,5 @@
 use Rattle.std.proofs.Common.{◌≡◌, ◌<◌, List}
-use Rattle.csv_instance.specs.Parse.{buffer_limit}
+use Rattle.dsa_model.specs.Buffer.{buffer_limit}
 use Rattle.csv_instance.specs.Records.{Record, table_of}
 use Rattle.make_instance.specs.Made.{made_text}
 use Rattle.make_instance.specs.declared.made.MakeFault.{MakeFault}

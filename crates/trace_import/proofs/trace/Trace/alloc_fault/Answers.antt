@@ -1,6 +1,6 @@
 use Rattle.std.proofs.Common.{◌≡◌, ◌∙◌, ◌<◌, ap, arith, count_by, None, sym}
 use Rattle.std.specs.Option.{option_copied}
-use Rattle.csv_instance.specs.Parse.{buffer_limit}
+use Rattle.dsa_model.specs.Buffer.{buffer_limit}
 use Rattle.trace_import.specs.Faults.{holder}
 use Rattle.trace_import.specs.Traces.{is_alloc}
 use Rattle.trace_import.proofs.TraceLemmas.{has_room}
