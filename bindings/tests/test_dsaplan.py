@@ -118,8 +118,9 @@ class Answers(unittest.TestCase):
 
     def test_steps_run_out(self):
         below = [Buffer(0, 1, 3), Buffer(0, 1, 1, 4)]
-        with self.assertRaises(StepsUsedUp):
-            solve(below, 4, steps=0)
+        for steps in range(4):
+            with self.assertRaises(StepsUsedUp):
+                solve(below, 4, steps=steps)
         self.assertEqual(solve(below, 4, steps=4), [1, 0])
         self.assertEqual(least(below, steps=0), ([0, 4], 5, 4))
         self.assertEqual(pack(below, 0), ([0, 4], 5, 4))

@@ -33,13 +33,14 @@ least_height (least.Least C) = Some C
 least_height (least.Open low high) = Some high
 least_height _ = None
 
--- the answers to arrays that tell of no instance
+-- the answer on a capacity where no instance is made of the arrays: their fault, or want of memory
 abbrev pub plan_failed : Fail ArraysFault → Answer
 plan_failed (fail.Fault LengthsDiffer) = answer.LengthsDiffer
 plan_failed (fail.Fault TooMany) = answer.TooMany
 plan_failed (fail.Fault (BadBuffer b f)) = answer.BadBuffer b f
 plan_failed fail.NoMemory = answer.NoMemory
 
+-- the answer on the least capacity there
 abbrev pub least_failed : Fail ArraysFault → LeastAnswer
 least_failed (fail.Fault LengthsDiffer) = least.LengthsDiffer
 least_failed (fail.Fault TooMany) = least.TooMany
