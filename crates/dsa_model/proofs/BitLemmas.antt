@@ -10,7 +10,7 @@ use mir.Val.{bool_byte}
 use Rattle.dsa_model.specs.Bits.{Reaches, is_set}
 
 -- ---- no bit is set, and one is read
-no_word : (n i : ℕ) → slice_index (replicate n 0) i ≡ 0
+pub no_word : (n i : ℕ) → slice_index (replicate n 0) i ≡ 0
 no_word n i = go (cases_lt i n)
   where
     go : (i < n) ⊎ (n ≤ i) → slice_index (replicate n 0) i ≡ 0

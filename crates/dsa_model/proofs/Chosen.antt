@@ -5,7 +5,7 @@ use Rattle.std.proofs.lemmas.List.Elements.{All-push}
 use Rattle.dsa_terms.specs.Buffers.{Instance, buffer, do_share, no_buffer}
 use Rattle.dsa_model.specs.Buffer.{IsBuffer}
 use Rattle.dsa_model.specs.Chosen.{some_of}
-use Rattle.dsa_model.specs.Rows.{AreChosen, Tells, words_of, instance_of}
+use Rattle.dsa_model.specs.Rows.{AreChosen, IsNoted, words_of, instance_of}
 use Rattle.dsa_model.specs.declared.instance.Row.{Row}
 use Rattle.dsa_model.proofs.Sharing.{all_pushed}
 
@@ -47,14 +47,14 @@ chosen_count I members rows n within h =
 pub chosen_next : (base rows now : List Row) (I : Instance) (members : List ℕ) (n : ℕ) (row next : Row) →
     instance_of base ≡ I → All (λ b. b < length I) members → n < length members →
     row ≡ slice_index_or base (slice_index members n) row → next.buffer ≡ row.buffer → IsBuffer next.buffer →
-    Tells (some_of I members) n next.shares.words.items → now ≡ rows ++ next ∷ [] →
+    IsNoted (some_of I members) n next.shares.words.items (length members) → now ≡ rows ++ next ∷ [] →
     AreChosen I members rows n → AreChosen I members now (n + 1)
 chosen_next base rows now I members n row next view all lt at same sound tells is h =
     rw is record {
       buffers = pushed ∙ rw (h.buffers, source) (sym (ap (some_of I) (take_more members n 0 lt)
           ∙ map_push (buffer I) (take n members) (slice_index members n)));
       sound = rw pushed (All-push IsBuffer (instance_of rows) next.buffer h.sound sound);
-      told = rw words (all_pushed (some_of I members) (words_of rows) next.shares.words.items n count h.told tells);
+      told = rw words (all_pushed (some_of I members) (words_of rows) next.shares.words.items n count h.told (rw count_all tells));
     }
   where
     pushed : instance_of (rows ++ next ∷ []) ≡ instance_of rows ++ next.buffer ∷ []
@@ -68,3 +68,6 @@ chosen_next base rows now I members n row next view all lt at same sound tells i
 
     count : length (words_of rows) ≡ n
     count = length-map rows (λ (r : Row). r.shares.words.items) ∙ chosen_count I members rows n (omega (arith, lt)) h
+
+    count_all : length (some_of I members) ≡ length members
+    count_all = length-map members (buffer I)

@@ -1,9 +1,13 @@
 -- Worked facts of the rows of an instance.
-use Rattle.std.proofs.Common.{◌≡◌, ℕ, zero, suc, ◌≤◌, true, false, List, [], ◌∷◌, length, map, refl, ap, subst, arith}
+use Rattle.std.proofs.Common.{◌≡◌, ℕ, zero, suc, ◌-◌, ◌/◌, ◌%◌, ◌^◌, ◌==◌, ◌<◌, ◌≤◌, ◌⊎◌, inl, inr, ◌&&◌, Bool, true, false, List, [], ◌∷◌, nat_lt, length, map, replicate, refl, ◌∙◌, ap, subst, arith}
+use Rattle.std.proofs.lemmas.Bool.{cases_lt}
+use Rattle.std.proofs.lemmas.Bool.Decides.{nat_tests}
+use Rattle.std.proofs.lemmas.Nat.Bits.{bit_at_above, bit_at-zero}
+use Rattle.dsa_model.proofs.BitLemmas.{no_word}
 use Rattle.dsa_terms.specs.Buffers.{Instance, buffer, do_share, is_live, some_before}
 use Rattle.dsa_model.specs.Bits.{Reaches, is_set}
 use Rattle.dsa_model.specs.Buffer.{lasting}
-use Rattle.dsa_model.specs.Rows.{AllTell, AreChosen, AreRows, IsNoted, Tells, instance_of, words_of}
+use Rattle.dsa_model.specs.Rows.{AllNoted, AreChosen, AreRows, IsNoted, instance_of, words_of}
 use Rattle.dsa_model.specs.declared.instance.Row.{Row}
 
 -- ---- bits: 5 has those of the places 0 and 2, and 1 in the second word that of place 64
@@ -34,72 +38,91 @@ its_words first second = refl
 three : Instance
 three = lasting 0 3 [] ∷ lasting 2 4 [] ∷ lasting 3 5 [] ∷ []
 
--- the first tells of itself
-first_tells : Tells three 0 (1 ∷ [])
-unfolding three buffer do_share some_before is_live is_set
-first_tells = record { reaches = omega arith; told = told }
-  where
-    told : (c : ℕ) → c ≤ 0 → is_set (1 ∷ []) c ≡ do_share (buffer three 0) (buffer three c)
-    told zero le = refl
-    told (suc c) le = absurd (omega arith)
+-- 63 words without a bit, so that with one more there is a bit for each buffer that an instance can have
+unfoldable rest : List ℕ
+rest = replicate 63 0
 
-second_tells : Tells three 1 (3 ∷ [])
-unfolding three buffer do_share some_before is_live is_set
-second_tells = record { reaches = omega arith; told = told }
+no_other_bit : (word c : ℕ) → word < 2 ^ 3 → 3 ≤ c → is_set (word ∷ rest) c ≡ false
+unfolding is_set rest
+no_other_bit word c small past = go (cases_lt c 64)
   where
-    told : (c : ℕ) → c ≤ 1 → is_set (3 ∷ []) c ≡ do_share (buffer three 1) (buffer three c)
-    told zero le = refl
-    told (suc zero) le = refl
-    told (suc (suc c)) le = absurd (omega arith)
+    go : (c < 64) ⊎ (64 ≤ c) → is_set (word ∷ rest) c ≡ false
+    go (inl lt) =
+        let first : c / 64 ≡ 0 = omega arith in
+        let place : c % 64 ≡ c = omega arith in
+        rw (first, place) (ap (λ t. t == 1) (bit_at_above word 3 c small past))
+    go (inr le) =
+        let place : c / 64 ≡ suc (c / 64 - 1) = omega arith in
+        rw (place, no_word 63 (c / 64 - 1)) (ap (λ t. t == 1) (bit_at-zero (c % 64)))
 
-third_tells : Tells three 2 (6 ∷ [])
-unfolding three buffer do_share some_before is_live is_set
-third_tells = record { reaches = omega arith; told = told }
+not_below : (c n : ℕ) (t : Bool) → n ≤ c → false ≡ (nat_lt c n && t)
+not_below c n t le = grind (arith, nat_tests)
+
+noted_three : (b word : ℕ) → word < 2 ^ 3 → is_set (word ∷ rest) 0 ≡ do_share (buffer three b) (buffer three 0) →
+    is_set (word ∷ rest) 1 ≡ do_share (buffer three b) (buffer three 1) →
+    is_set (word ∷ rest) 2 ≡ do_share (buffer three b) (buffer three 2) → IsNoted three b (word ∷ rest) 3
+unfolding rest
+noted_three b word small first second third = record { reaches = omega arith; noted = noted }
   where
-    told : (c : ℕ) → c ≤ 2 → is_set (6 ∷ []) c ≡ do_share (buffer three 2) (buffer three c)
-    told zero le = refl
-    told (suc zero) le = refl
-    told (suc (suc zero)) le = refl
-    told (suc (suc (suc c))) le = absurd (omega arith)
+    noted : (c : ℕ) → is_set (word ∷ rest) c ≡ (nat_lt c 3 && do_share (buffer three b) (buffer three c))
+    noted zero = first
+    noted (suc zero) = second
+    noted (suc (suc zero)) = third
+    noted (suc (suc (suc c))) = no_other_bit word _ small (omega arith) ∙ not_below (suc (suc (suc c))) 3 _ (omega arith)
+
+-- the first shares a moment with the second, the second with all three
+first_tells : IsNoted three 0 (3 ∷ rest) 3
+unfolding three buffer do_share some_before is_live is_set rest
+first_tells = noted_three 0 3 (omega arith) refl refl refl
+
+second_tells : IsNoted three 1 (7 ∷ rest) 3
+unfolding three buffer do_share some_before is_live is_set rest
+second_tells = noted_three 1 7 (omega arith) refl refl refl
+
+third_tells : IsNoted three 2 (6 ∷ rest) 3
+unfolding three buffer do_share some_before is_live is_set rest
+third_tells = noted_three 2 6 (omega arith) refl refl refl
 
 -- the third does not share a moment with the first, and does with itself
-not_all_bits : Tells three 2 (7 ∷ []) → ⊥
-unfolding three buffer do_share some_before is_live is_set
-not_all_bits h = let told = h.told 0 (omega arith) in absurd cc
+not_all_bits : IsNoted three 2 (7 ∷ rest) 3 → ⊥
+unfolding three buffer do_share some_before is_live is_set rest
+not_all_bits h = let noted = h.noted 0 in absurd cc
 
-not_without_itself : Tells three 2 (2 ∷ []) → ⊥
-unfolding three buffer do_share some_before is_live is_set
-not_without_itself h = let told = h.told 2 (omega arith) in absurd cc
+not_without_itself : IsNoted three 2 (2 ∷ rest) 3 → ⊥
+unfolding three buffer do_share some_before is_live is_set rest
+not_without_itself h = let noted = h.noted 2 in absurd cc
+
+-- one word is too short
+not_in_one_word : (I : Instance) (b n : ℕ) → IsNoted I b (0 ∷ []) n → ⊥
+not_in_one_word I b n h = let reaches = h.reaches in absurd (omega arith)
 
 -- of any rows with these buffers and words
-all_tell : AllTell three ((1 ∷ []) ∷ (3 ∷ []) ∷ (6 ∷ []) ∷ []) 3
+all_tell : AllNoted three ((3 ∷ rest) ∷ (7 ∷ rest) ∷ (6 ∷ rest) ∷ []) 3
+unfolding three
 all_tell zero lt = first_tells
 all_tell (suc zero) lt = second_tells
 all_tell (suc (suc zero)) lt = third_tells
 all_tell (suc (suc (suc b))) lt = absurd (omega arith)
 
-are_rows : (rows : List Row) → instance_of rows ≡ three → words_of rows ≡ (1 ∷ []) ∷ (3 ∷ []) ∷ (6 ∷ []) ∷ [] →
-    AreRows rows
+are_rows : (rows : List Row) → instance_of rows ≡ three →
+    words_of rows ≡ (3 ∷ rest) ∷ (7 ∷ rest) ∷ (6 ∷ rest) ∷ [] → AreRows rows
 unfolding three
 are_rows rows buffers words = rw (buffers, words) all_tell
 
-no_rows : (rows : List Row) → instance_of rows ≡ three → words_of rows ≡ (1 ∷ []) ∷ (3 ∷ []) ∷ (7 ∷ []) ∷ [] →
-    AreRows rows → ⊥
+no_rows : (rows : List Row) → instance_of rows ≡ three →
+    words_of rows ≡ (3 ∷ rest) ∷ (7 ∷ rest) ∷ (7 ∷ rest) ∷ [] → AreRows rows → ⊥
 unfolding three
 no_rows rows buffers words told = not_all_bits (tells 2 (omega arith))
   where
-    all : AllTell (instance_of rows) (words_of rows) 3
-    all = subst (AllTell (instance_of rows) (words_of rows)) (ap length buffers) told
+    all : AllNoted (instance_of rows) (words_of rows) 3
+    all = subst (AllNoted (instance_of rows) (words_of rows)) (ap length buffers) told
 
-    tells : AllTell three ((1 ∷ []) ∷ (3 ∷ []) ∷ (7 ∷ []) ∷ []) 3
-    tells = rw (← buffers, ← words) all
+    tells : AllNoted three ((3 ∷ rest) ∷ (7 ∷ rest) ∷ (7 ∷ rest) ∷ []) 3
+    tells = subst (λ t. AllNoted three t 3) words (subst (λ J. AllNoted J (words_of rows) 3) buffers all)
 
 -- ---- what is noted of the third, after the first two: nothing of itself
-two_noted : (I : Instance) → IsNoted I 2 (0 ∷ []) 0 → is_set (0 ∷ []) 2 ≡ false
-two_noted I h = h.noted 2
-
-not_itself_yet : IsNoted three 2 (6 ∷ []) 2 → ⊥
-unfolding three buffer do_share some_before is_live is_set
+not_itself_yet : IsNoted three 2 (6 ∷ rest) 2 → ⊥
+unfolding three buffer do_share some_before is_live is_set rest
 not_itself_yet h = let noted = h.noted 2 in absurd cc
 
 -- ---- rows of some of the buffers

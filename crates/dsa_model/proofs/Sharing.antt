@@ -1,17 +1,19 @@
 -- Which buffers share a moment, and the bits that tell of it.
-use Rattle.std.proofs.Common.{◌≡◌, ◌≢◌, ◌+◌, ◌<◌, ◌≤◌, ◌⊎◌, inl, inr, ℕ, min, max, Bool, true, false, ◌&&◌, ◌||◌, ◌==◌, nat_lt, List, [], ◌∷◌, ◌++◌, length, length-append, slice_index_or, All, sym, refl, ap, ◌∙◌, subst, arith}
+use Rattle.std.proofs.Common.{◌≡◌, ◌≢◌, ◌+◌, ◌<◌, ◌≤◌, ◌⊎◌, inl, inr, ℕ, Bool, true, false, ◌&&◌, ◌||◌, ◌==◌, nat_lt, List, [], ◌∷◌, ◌++◌, length, length-append, slice_index_or, slice_set, All, sym, refl, ap, ◌∙◌, subst, arith}
 use Rattle.std.proofs.lemmas.Bool.Decides.{nat_tests}
-use Rattle.std.proofs.Math.Seq.{get_or-append_seam}
+use Rattle.std.proofs.Math.Seq.{get_or-append_seam, map-set_same}
 use Rattle.std.proofs.lemmas.Bool.{cases_eq, cases_lt}
-use Rattle.std.proofs.lemmas.List.{get_or-map, get_or_append_left, length-map, map_push}
+use Rattle.std.proofs.lemmas.List.{get_or-map, get_or-set_other, get_or-set_same, get_or_append_left, get_or_default, length-map, map-set, map_push, with_items_is}
 use Rattle.std.proofs.lemmas.List.Elements.{All-push}
 use Rattle.dsa_terms.specs.Buffers.{Buffer, Instance, buffer, do_share, no_buffer}
 use Rattle.dsa_terms.proofs.Moments.{do_share-gives, do_share-false}
 use Rattle.dsa_terms.proofs.NumberTests.{below_or_last}
 use Rattle.dsa_model.specs.Bits.{is_set}
 use Rattle.dsa_model.specs.Buffer.{IsBuffer, buffer_limit}
-use Rattle.dsa_model.specs.Rows.{AllTell, AreRows, IsNoted, Tells, instance_of, words_of}
+use Rattle.dsa_model.specs.Rows.{AllNoted, AreNext, AreNoted, AreRows, IsNoted, instance_of, words_of}
 use Rattle.dsa_model.specs.declared.instance.Row.{Row}
+use Rattle.std.specs.Global.{Vec}
+use Rattle.std.specs.Vec.{with_items}
 
 -- a buffer shares a moment with itself
 pub shares_with_itself : (b : Buffer) → IsBuffer b → do_share b b ≡ true
@@ -43,8 +45,11 @@ one_more c n t bit h = go (cases_eq c n)
     go (inl q) = let same = h q in grind (arith, nat_tests)
     go (inr ne) = grind (arith, nat_tests)
 
-up_to : (c b : ℕ) (t : Bool) → c ≤ b → (nat_lt c (b + 1) && t) ≡ t
-up_to c b t le = grind (arith, nat_tests)
+pub within : (c n : ℕ) (t : Bool) → c < n → (nat_lt c n && t) ≡ t
+within c n t lt = grind (arith, nat_tests)
+
+past : (c n : ℕ) (t u : Bool) → n ≤ c → (nat_lt c n && t) ≡ (nat_lt c n && u)
+past c n t u le = grind (arith, nat_tests)
 
 pub noted_next : (I : Instance) (b n : ℕ) (words new : List ℕ) (bit : Bool) → IsNoted I b words n →
     length new ≡ length words → ((c : ℕ) → is_set new c ≡ (is_set words c || (c == n && bit))) →
@@ -55,22 +60,15 @@ noted_next I b n words new bit h same value is = record {
       ∙ one_more c n (do_share (buffer I b) (buffer I c)) bit (λ q. rw q is);
 }
 
-noted_all : (I : Instance) (b : ℕ) (words : List ℕ) → IsNoted I b words (b + 1) → Tells I b words
-noted_all I b words h = record {
-  reaches = h.reaches;
-  told = λ c le. h.noted c ∙ up_to c b (do_share (buffer I b) (buffer I c)) le;
-}
-
 -- ---- what the rows tell, where one is put behind them
 pub all_pushed : (I : Instance) (table : List (List ℕ)) (words : List ℕ) (n : ℕ) → length table ≡ n →
-    AllTell I table n → Tells I n words → AllTell I (table ++ words ∷ []) (n + 1)
+    AllNoted I table n → IsNoted I n words (length I) → AllNoted I (table ++ words ∷ []) (n + 1)
 all_pushed I table words n count all last b lt = go (below_or_last b n lt)
   where
-    go : (b < n) ⊎ (b ≡ n) → Tells I b (slice_index_or (table ++ words ∷ []) b [])
-    go (inl l) =
-        subst (Tells I b) (sym (get_or_append_left table (words ∷ []) [] b (rw count l))) (all b l)
+    go : (b < n) ⊎ (b ≡ n) → IsNoted I b (slice_index_or (table ++ words ∷ []) b []) (length I)
+    go (inl l) = rw (get_or_append_left table (words ∷ []) [] b (rw count l)) (all b l)
     go (inr q) =
-        rw q (subst (Tells I n)
+        rw q (subst (λ w. IsNoted I n w (length I))
         (sym (subst (λ k. slice_index_or (table ++ words ∷ []) k [] ≡ words) count
         (get_or-append_seam table words [] []))) last)
 
@@ -83,12 +81,18 @@ at_next : (I : Instance) (next : Buffer) → buffer (I ++ next ∷ []) (length I
 unfolding buffer
 at_next I next = get_or-append_seam I next [] no_buffer
 
-all_kept : (I : Instance) (next : Buffer) (table : List (List ℕ)) → AllTell I table (length I) →
-    AllTell (I ++ next ∷ []) table (length I)
-all_kept I next table all b lt = record {
-  reaches = (all b lt).reaches;
-  told = λ c le. rw (before_next I next b lt, before_next I next c (omega (arith, le, lt))) ((all b lt).told c le);
+noted_before_next : (I : Instance) (next : Buffer) (b : ℕ) (words : List ℕ) → b < length I →
+    IsNoted I b words (length I) → IsNoted (I ++ next ∷ []) b words (length I)
+noted_before_next I next b words lt h = record {
+  reaches = h.reaches;
+  noted = λ c. h.noted c ∙ same c (cases_lt c (length I));
 }
+  where
+    same : (c : ℕ) → (c < length I) ⊎ (length I ≤ c) →
+        (nat_lt c (length I) && do_share (buffer I b) (buffer I c))
+        ≡ (nat_lt c (length I) && do_share (buffer (I ++ next ∷ []) b) (buffer (I ++ next ∷ []) c))
+    same c (inl l) = rw (before_next I next b lt, before_next I next c l) refl
+    same c (inr le) = past c (length I) _ _ le
 
 -- what is found of the next buffer and one before it
 next_shares : (I : Instance) (next : Buffer) (c : ℕ) (bit : Bool) → c < length I →
@@ -102,37 +106,25 @@ next_shares_with_itself : (I : Instance) (next : Buffer) → IsBuffer next →
 next_shares_with_itself I next is = rw (at_next I next) (sym (shares_with_itself next is))
 
 -- ---- what is looked up in a row
-pub row_tells : (rows : List Row) (I : Instance) (b : ℕ) (row : Row) → instance_of rows ≡ I → AreRows rows →
-    b < length I → row ≡ slice_index_or rows b row → Tells I b row.shares.words.items
-row_tells rows I b row view all lt at =
-    subst (λ (J : Instance). Tells J b row.shares.words.items) view
-    (subst (Tells (instance_of rows) b) words (all b (rw view lt)))
-  where
-    some : b < length rows
-    some = rw (← length-map rows (λ (r : Row). r.buffer), view) lt
+pub words_at : (rows : List Row) (b : ℕ) (row : Row) → b < length rows → row ≡ slice_index_or rows b row →
+    slice_index_or (words_of rows) b [] ≡ row.shares.words.items
+words_at rows b row lt at =
+    get_or-map (λ (r : Row). r.shares.words.items) rows b row [] lt
+    ∙ ap (λ (r : Row). r.shares.words.items) (sym at)
 
-    words : slice_index_or (words_of rows) b [] ≡ row.shares.words.items
-    words = get_or-map (λ (r : Row). r.shares.words.items) rows b row [] some
-        ∙ ap (λ (r : Row). r.shares.words.items) (sym at)
+pub row_count : (rows : List Row) (I : Instance) → instance_of rows ≡ I → length rows ≡ length I
+row_count rows I view = sym (length-map rows (λ (r : Row). r.buffer)) ∙ ap length view
 
-pub told_of_both : (I : Instance) (b c high low : ℕ) (words : List ℕ) (bit : Bool) → high ≡ max b c → low ≡ min b c →
-    Tells I high words → bit ≡ is_set words low → bit ≡ do_share (buffer I b) (buffer I c)
-told_of_both I b c high low words bit at below h is = go (cases_lt b c)
-  where
-    told : bit ≡ do_share (buffer I high) (buffer I low)
-    told = is ∙ h.told low (omega (arith, at, below))
+pub row_noted : (rows : List Row) (I : Instance) (b : ℕ) (row : Row) → instance_of rows ≡ I → AreRows rows →
+    b < length I → row ≡ slice_index_or rows b row → IsNoted I b row.shares.words.items (length I)
+row_noted rows I b row view all lt at =
+    subst (λ (J : Instance). IsNoted J b row.shares.words.items (length J)) view
+    (subst (λ words. IsNoted (instance_of rows) b words (length (instance_of rows)))
+    (words_at rows b row (rw (row_count rows I view) lt) at) (all b (rw view lt)))
 
-    go : (b < c) ⊎ (c ≤ b) → bit ≡ do_share (buffer I b) (buffer I c)
-    go (inl lt) =
-        let p : high ≡ c = omega (arith, at, lt) in
-        let q : low ≡ b = omega (arith, below, lt) in
-        subst (λ n. bit ≡ do_share (buffer I b) (buffer I n)) p (subst (λ n. bit ≡ do_share (buffer I n) (buffer I high)) q
-        (told ∙ shared_both (buffer I high) (buffer I low)))
-    go (inr le) =
-        let p : high ≡ b = omega (arith, at, le) in
-        let q : low ≡ c = omega (arith, below, le) in
-        subst (λ n. bit ≡ do_share (buffer I n) (buffer I c)) p
-        (subst (λ n. bit ≡ do_share (buffer I high) (buffer I n)) q told)
+pub looked_up : (I : Instance) (b c : ℕ) (words : List ℕ) (bit : Bool) → IsNoted I b words (length I) → c < length I →
+    bit ≡ is_set words c → bit ≡ do_share (buffer I b) (buffer I c)
+looked_up I b c words bit h lt is = is ∙ h.noted c ∙ within c (length I) _ lt
 
 -- ---- a buffer that is put behind rows
 pub next_by_row : (rows : List Row) (next : Buffer) (c : ℕ) (row : Row) (bit : Bool) → c < length rows →
@@ -151,31 +143,37 @@ next_by_row rows next c row bit lt at is =
 pub next_noted : (rows : List Row) (next : Buffer) (words new : List ℕ) (n : ℕ) → IsBuffer next → n ≡ length rows →
     IsNoted (instance_of rows ++ next ∷ []) (length rows) words n → length new ≡ length words →
     ((c : ℕ) → is_set new c ≡ (is_set words c || (c == length rows && true))) →
-    Tells (instance_of rows ++ next ∷ []) (length rows) new
+    IsNoted (instance_of rows ++ next ∷ []) (length rows) new (length rows + 1)
 next_noted rows next words new n is at h same value =
-    noted_all J (length rows) new (noted_next J (length rows) (length rows) words new true (subst (IsNoted J (length rows) words) at h) same value
+    noted_next J (length rows) (length rows) words new true (subst (IsNoted J (length rows) words) at h) same value
     (subst (λ k. true ≡ do_share (buffer J k) (buffer J k)) (length-map rows (λ (r : Row). r.buffer))
-    (next_shares_with_itself (instance_of rows) next is)))
+    (next_shares_with_itself (instance_of rows) next is))
   where
     J : Instance
     J = instance_of rows ++ next ∷ []
 
-pub pushed : (rows old now : List Row) (I : Instance) (last : Row) → instance_of rows ≡ I → length I < buffer_limit →
-    All IsBuffer (instance_of rows) → AreRows rows → IsBuffer last.buffer → old ≡ rows →
-    Tells (instance_of old ++ last.buffer ∷ []) (length old) last.shares.words.items → now ≡ rows ++ last ∷ [] →
-    (length now ≤ buffer_limit) × All IsBuffer (instance_of now) × AreRows now
-pushed rows old now I last view lt all told sound same tells is =
-    rw is (
-      rw length-append (omega (arith, count, few)),
-      rw buffers (All-push IsBuffer (instance_of rows) last.buffer all sound),
-      rw (buffers, words, length-append) step,
-    )
+-- ---- a row is put behind the rows, and then noted in each of them
+pub put_behind : (v : Vec Row) (old now : List Row) (I : Instance) (last : Row) (place : ℕ) → instance_of v.items ≡ I →
+    length I < buffer_limit → AreRows v.items → old ≡ v.items →
+    IsNoted (instance_of old ++ last.buffer ∷ []) (length old) last.shares.words.items (length old + 1) →
+    now ≡ v.items ++ last ∷ [] → place ≡ v.len → AreNext now place
+put_behind v old now I last place view few told same own is at = rw (is, at, v.ok.0) (
+  rw (row_count rows I view) few,
+  record {
+    view = refl;
+    count = rw (buffers, length-append, count) refl;
+    own = rw (buffers, at_last, ← same) own;
+    done = λ b lt. absurd (omega (arith, lt));
+    left = λ b le lt. rw (buffers, before b lt, ← count)
+        (noted_before_next (instance_of rows) last.buffer b _ (rw count lt) (told b (rw count lt)));
+  },
+)
   where
+    rows : List Row
+    rows = v.items
+
     count : length (instance_of rows) ≡ length rows
     count = length-map rows (λ (r : Row). r.buffer)
-
-    few : length (instance_of rows) < buffer_limit
-    few = rw view lt
 
     buffers : instance_of (rows ++ last ∷ []) ≡ instance_of rows ++ last.buffer ∷ []
     buffers = map_push (λ (r : Row). r.buffer) rows last
@@ -183,8 +181,105 @@ pushed rows old now I last view lt all told sound same tells is =
     words : words_of (rows ++ last ∷ []) ≡ words_of rows ++ last.shares.words.items ∷ []
     words = map_push (λ (r : Row). r.shares.words.items) rows last
 
-    step : AllTell (instance_of rows ++ last.buffer ∷ []) (words_of rows ++ last.shares.words.items ∷ [])
-        (length (instance_of rows) + 1)
-    step = all_pushed (instance_of rows ++ last.buffer ∷ []) (words_of rows) last.shares.words.items
-        (length (instance_of rows)) (length-map rows (λ (r : Row). r.shares.words.items) ∙ sym count)
-        (all_kept (instance_of rows) last.buffer (words_of rows) told) (rw (count, ← same) tells)
+    word_count : length (words_of rows) ≡ length rows
+    word_count = length-map rows (λ (r : Row). r.shares.words.items)
+
+    at_last : slice_index_or (words_of (rows ++ last ∷ [])) (length rows) [] ≡ last.shares.words.items
+    at_last = ap (λ t. slice_index_or t (length rows) []) words
+        ∙ subst (λ n. slice_index_or (words_of rows ++ last.shares.words.items ∷ []) n [] ≡ last.shares.words.items)
+        word_count (get_or-append_seam (words_of rows) last.shares.words.items [] [])
+
+    before : (b : ℕ) → b < length rows →
+        slice_index_or (words_of (rows ++ last ∷ [])) b [] ≡ slice_index_or (words_of rows) b []
+    before b lt = ap (λ t. slice_index_or t b []) words
+        ∙ get_or_append_left (words_of rows) (last.shares.words.items ∷ []) [] b (rw word_count lt)
+
+pub all_noted : (I : Instance) (rows : List Row) (last : ℕ) → AreNoted I rows last last → AreRows rows
+all_noted I rows last h = rw (h.view) (λ b lt. go b (below_or_last b last (rw (← h.count) lt)))
+  where
+    go : (b : ℕ) → (b < last) ⊎ (b ≡ last) → IsNoted I b (slice_index_or (words_of rows) b []) (length I)
+    go b (inl lt) = rw (h.count) (h.done b lt)
+    go b (inr q) = rw (h.count, q) h.own
+
+pub pushed : (v : Vec Row) (rows given new : List Row) (I : Instance) (last : Row) → instance_of rows ≡ I →
+    length I < buffer_limit → All IsBuffer (instance_of rows) → IsBuffer last.buffer → v.items ≡ rows ++ last ∷ [] →
+    given ≡ v.items → instance_of new ≡ instance_of given → AreRows new → let now = (with_items v new).items in
+    (length now ≤ buffer_limit) × All IsBuffer (instance_of now) × AreRows now
+pushed v rows given new I last view few all sound is lent kept noted = rw written (
+  rw (← length-map new (λ (r : Row). r.buffer), buffers, length-append, length-map rows (λ (r : Row). r.buffer)) few_now,
+  rw buffers (All-push IsBuffer (instance_of rows) last.buffer all sound),
+  noted,
+)
+  where
+    same : instance_of new ≡ instance_of v.items
+    same = kept ∙ ap instance_of lent
+
+    buffers : instance_of new ≡ instance_of rows ++ last.buffer ∷ []
+    buffers = same ∙ ap instance_of is ∙ map_push (λ (r : Row). r.buffer) rows last
+
+    few_now : length rows + 1 ≤ buffer_limit
+    few_now = rw (row_count rows I view) (omega (arith, few))
+
+    written : (with_items v new).items ≡ new
+    written = with_items_is v new (sym (length-map new (λ (r : Row). r.buffer)) ∙ ap length same
+        ∙ length-map v.items (λ (r : Row). r.buffer) ∙ sym v.ok.0)
+
+pub noted_in_turn : (I : Instance) (rows : List Row) (last n : ℕ) (d e next : Row) (bit : Bool) →
+    (let own = slice_index_or rows last d in let row = slice_index_or rows n e in
+    AreNoted I rows last n → n < last → bit ≡ is_set own.shares.words.items n → next.buffer ≡ row.buffer →
+    length next.shares.words.items ≡ length row.shares.words.items →
+    ((c : ℕ) → is_set next.shares.words.items c ≡ (is_set row.shares.words.items c || (c == last && bit))) →
+    AreNoted I (slice_set rows n next) last (n + 1))
+noted_in_turn I rows last n d e next bit h lt is same count value = record {
+  view = buffers ∙ h.view;
+  count = h.count;
+  own = rw (other last (omega (arith, lt))) h.own;
+  done = λ b le. step b (below_or_last b n le);
+  left = λ b le below. rw (other b (omega (arith, le))) (h.left b (omega (arith, le)) below);
+}
+  where
+    own : Row
+    own = slice_index_or rows last d
+
+    row : Row
+    row = slice_index_or rows n e
+
+    rows_count : length rows ≡ last + 1
+    rows_count = row_count rows I h.view ∙ h.count
+
+    last_within : last < length rows
+    last_within = omega (arith, rows_count)
+
+    within_rows : n < length rows
+    within_rows = omega (arith, rows_count, lt)
+
+    buffers : instance_of (slice_set rows n next) ≡ instance_of rows
+    buffers = map-set_same (λ (r : Row). r.buffer) rows n next e same
+
+    words : words_of (slice_set rows n next) ≡ slice_set (words_of rows) n next.shares.words.items
+    words = map-set (λ (r : Row). r.shares.words.items) rows n next
+
+    words_count : length (words_of rows) ≡ last + 1
+    words_count = length-map rows (λ (r : Row). r.shares.words.items) ∙ rows_count
+
+    other : (b : ℕ) → b ≢ n →
+        slice_index_or (words_of (slice_set rows n next)) b [] ≡ slice_index_or (words_of rows) b []
+    other b ne = ap (λ t. slice_index_or t b []) words
+        ∙ get_or-set_other (words_of rows) n b next.shares.words.items [] ne
+
+    here : slice_index_or (words_of (slice_set rows n next)) n [] ≡ next.shares.words.items
+    here = ap (λ t. slice_index_or t n []) words
+        ∙ get_or-set_same (words_of rows) n next.shares.words.items [] (omega (arith, words_count, lt))
+
+    old : IsNoted I n row.shares.words.items last
+    old = subst (λ w. IsNoted I n w last) (words_at rows n row within_rows (get_or_default rows n e row within_rows))
+        (h.left n (omega arith) lt)
+
+    told : bit ≡ do_share (buffer I n) (buffer I last)
+    told = is ∙ ap (λ w. is_set w n) (sym (words_at rows last own last_within (get_or_default rows last d own last_within)))
+        ∙ h.own.noted n ∙ within n (last + 1) _ (omega (arith, lt)) ∙ shared_both (buffer I last) (buffer I n)
+
+    step : (b : ℕ) → (b < n) ⊎ (b ≡ n) →
+        IsNoted I b (slice_index_or (words_of (slice_set rows n next)) b []) (last + 1)
+    step b (inl less) = rw (other b (omega (arith, less))) (h.done b less)
+    step b (inr q) = rw (q, here) (noted_next I n last row.shares.words.items next.shares.words.items bit old count value told)

@@ -10,4 +10,5 @@ loop-place-preserved c =
 
 pub returns : goal.returns
 returns c =
-    next_noted _ _ _ _ _ c.requires (search rules) c.loop-place.invariant c.add-2.ensures.same c.add-2.ensures.value
+    next_noted _ _ _ _ _ c.requires.buffer (search rules) c.loop-place.invariant c.add-2.ensures.same
+    c.add-2.ensures.value
