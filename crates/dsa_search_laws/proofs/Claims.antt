@@ -3,8 +3,9 @@ use Rattle.std.proofs.Common.{◌≡◌, ℕ, suc, ◌+◌, ◌<◌, ◌≤◌, 
 use Rattle.std.proofs.lemmas.Bool.Decides.{nat_tests}
 use Rattle.std.proofs.lemmas.List.{length-map}
 use Rattle.dsa_terms.specs.Buffers.{Instance}
-use Rattle.dsa_terms.specs.Claims.{Entry, Claim, IsIn, Rises, buffers_of, IsClaim, up, number_of, Places, IsPlacement, IsRefuted, step, child, IsFirst}
+use Rattle.dsa_terms.specs.Claims.{Entry, Claim, IsIn, Rises, buffers_of, IsClaim, up, number_of, Places, IsPlacement, IsRefuted, step, child}
 use Rattle.dsa_terms.proofs.Lists.{from_map, from_filter}
+use Rattle.dsa_search_laws.specs.Placements.{IsFirst}
 use Rattle.dsa_search_laws.proofs.Placing.{in_buffers, of_child}
 
 -- ---- a placement as a list and as a function

@@ -5,9 +5,10 @@ use Rattle.std.proofs.lemmas.Bool.Decides.{nat_tests}
 use Rattle.dsa_terms.specs.Buffers.{Instance, buffer, IsLive, do_share, IsInstance}
 use Rattle.dsa_terms.specs.Layouts.{IsMultiple}
 use Rattle.dsa_terms.specs.Claims.{Entry, Claim, IsIn, Rises, buffers_of, IsClaim, up, number_of, Places, IsPlacement, IsRefuted, step, child}
-use Rattle.dsa_terms.specs.Search.{is_tall, first_some, choices, seated, Rule, all_taken, first_of, plain_first}
+use Rattle.dsa_terms.specs.Search.{is_tall, first_some, choices, seated, Rule, first_of}
 use Rattle.dsa_terms.proofs.Lists.{into_filter, from_filter, true_or_false, none_or_some, any_gives, none_passes, into_order, from_order, all_none, some_answer}
 use Rattle.dsa_terms.proofs.Moments.{do_share-false}
+use Rattle.dsa_search_laws.specs.Searches.{all_taken, plain_first}
 use Rattle.dsa_search_laws.proofs.Placing.{same_entry, in_child, up_at_or_above, up_is_multiple, above_up, push_down}
 use Rattle.dsa_search_laws.proofs.Claims.{number_of-map, buffers_of-map, places_like, claim-child, length-child, has_first}
 

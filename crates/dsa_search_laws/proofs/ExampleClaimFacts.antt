@@ -1,10 +1,10 @@
 -- Numbers that rise, claims, sound buffers and instances, least weight: what holds of small ones, and what does not.
 use Rattle.std.proofs.Common.{◌≡◌, ℕ, List, zero, suc, ◌+◌, ◌≤◌, ◌<◌, inl, inr, [], ◌∷◌, slice_index_or, refl, sym, ap, subst, arith}
 use Rattle.dsa_terms.specs.Buffers.{Buffer, IsSound, IsInstance, buffer}
-use Rattle.dsa_terms.specs.Claims.{Entry, Claim, IsClaim, IsFirst, IsIn, IsPlacement, Rises, number_of, weight}
+use Rattle.dsa_terms.specs.Claims.{Entry, Claim, IsClaim, IsIn, IsPlacement, Rises, number_of}
 use Rattle.dsa_terms.specs.Layouts.{IsMultiple}
-use Rattle.dsa_terms.specs.Search.{IsSettled}
 use Rattle.dsa_terms.proofs.Examples.{plain, evens}
+use Rattle.dsa_search_laws.specs.Placements.{IsFirst, weight, IsSettled}
 use Rattle.dsa_search_laws.proofs.Weights.{lightest_is_settled}
 
 -- ---- rising numbers

@@ -1,8 +1,9 @@
 -- The search that leaves out excluded buffers is complete.
 use Rattle.std.proofs.Common.{◌≡◌, ℕ, zero, suc, ◌<◌, ◌↔◌, inl, inr, true, List, length, Some, None, refl, arith}
 use Rattle.dsa_terms.specs.Buffers.{Instance, IsInstance}
-use Rattle.dsa_terms.specs.Claims.{Entry, Claim, IsIn, IsClaim, Places, IsPlacement, IsRefuted, IsFirst, weight}
+use Rattle.dsa_terms.specs.Claims.{Entry, Claim, IsIn, IsClaim, Places, IsPlacement, IsRefuted}
 use Rattle.dsa_terms.specs.Search.{not_excluded, first}
+use Rattle.dsa_search_laws.specs.Placements.{IsFirst, weight}
 use Rattle.dsa_search_laws.proofs.Placing.{push_down}
 use Rattle.dsa_search_laws.proofs.Claims.{has_first}
 use Rattle.dsa_search_laws.proofs.Complete.{IsComplete, exactly, some_is_placement}

@@ -1,6 +1,7 @@
 pub mod Placing
 pub mod Claims
 pub mod Complete
+mod Choices
 pub mod Moves
 pub mod Weights
 pub mod First
@@ -18,3 +19,5 @@ mod ExampleClaimFacts
 mod ExampleLogFacts
 mod ExampleLowFacts
 mod ExampleLeanFacts
+mod PlacementFacts
+mod SearchFacts

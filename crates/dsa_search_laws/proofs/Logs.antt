@@ -4,12 +4,13 @@ use Rattle.std.specs.List.{AllZip}
 use Rattle.dsa_terms.specs.Buffers.{Instance, buffer, is_live, IsLive, IsInstance, floor}
 use Rattle.dsa_terms.specs.Layouts.{IsApart, IsMultiple, IsLayout, IsFeasible, IsInfeasible}
 use Rattle.dsa_terms.specs.Claims.{Entry, Claim, IsIn, Rises, buffers_of, IsClaim, up, Places, IsRefuted, child, Covers, number_of}
-use Rattle.dsa_terms.specs.Logs.{is_stacked, rounded, rounding, greatest, IsOver, ends_below, is_twin, Cite, ByLine, Below, Twin, Line, Over, Cases, claim_of, IsLegalCite, IsLegalReason, IsLegal, AreRefuted, Log, IsAccepted}
+use Rattle.dsa_terms.specs.Logs.{is_stacked, rounded, rounding, greatest, IsOver, ends_below, is_twin, Cite, ByLine, Below, Twin, Line, Over, Cases, claim_of, IsLegalCite, IsLegalReason, IsLegal, Log, IsAccepted}
 use Rattle.dsa_terms.proofs.Numbers.{multiple_along, next_is_least, room_for_rounded}
 use Rattle.dsa_search_laws.proofs.Packing.{Disjoint, pack}
 use Rattle.dsa_terms.proofs.Lists.{from_filter, none_passes}
 use Rattle.dsa_terms.proofs.Moments.{and_true, sound}
 use Rattle.dsa_terms.proofs.NumberTests.{at_most, equal}
+use Rattle.dsa_search_laws.specs.Placements.{AreRefuted}
 use Rattle.dsa_search_laws.proofs.Placing.{in_buffers, above_up, up_is_multiple, up_is_least, push_down}
 use Rattle.dsa_search_laws.proofs.Claims.{not_placed, rises-filter}
 use Rattle.dsa_search_laws.proofs.First.{HasSettled, has_settled}

@@ -3,10 +3,11 @@ use Rattle.std.proofs.Common.{◌≡◌, ℕ, ◌+◌, ◌-◌, ◌*◌, ◌<◌
 use Rattle.std.proofs.lemmas.Bool.Decides.{nat_tests}
 use Rattle.dsa_terms.specs.Buffers.{Instance, buffer, is_live, IsInstance, HaveSameMoments, have_same_moments}
 use Rattle.dsa_terms.specs.Layouts.{IsApart, IsMultiple}
-use Rattle.dsa_terms.specs.Claims.{Entry, Claim, IsIn, Rises, buffers_of, up, Places, IsFirst, weight}
+use Rattle.dsa_terms.specs.Claims.{Entry, Claim, IsIn, Rises, buffers_of, up, Places}
 use Rattle.dsa_terms.specs.Logs.{ends_below, is_twin}
 use Rattle.dsa_terms.proofs.Moments.{and_true, same_moments}
 use Rattle.dsa_terms.proofs.NumberTests.{at_most, equal, less}
+use Rattle.dsa_search_laws.specs.Placements.{IsFirst, weight}
 use Rattle.dsa_search_laws.proofs.Placing.{in_buffers, same_entry, up_at_or_above, up_is_multiple, above_up}
 use Rattle.dsa_search_laws.proofs.Complete.{put_at, put_at_same, put_at_other, same_or_not}
 

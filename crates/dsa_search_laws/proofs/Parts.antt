@@ -8,9 +8,10 @@ use Rattle.dsa_terms.specs.Layouts.{IsLayout, IsInfeasible}
 use Rattle.dsa_terms.specs.Claims.{Entry, IsIn, Rises, buffers_of, IsClaim, number_of, Places, IsPlacement, IsRefuted}
 use Rattle.dsa_terms.specs.Logs.{greatest}
 use Rattle.dsa_terms.specs.Search.{first}
-use Rattle.dsa_terms.specs.Parts.{part_of, numbers, members, is_empty, parts, whole, IsUncut, AreTogether, join, first_of_all, offsets_of, offsets_found, searched}
+use Rattle.dsa_terms.specs.Parts.{part_of, numbers, members, is_empty, parts, whole, IsUncut, join, first_of_all, offsets_of, offsets_found, searched}
 use Rattle.dsa_terms.proofs.Lists.{into_map, from_map, from_filter, none_or_some}
 use Rattle.dsa_terms.proofs.Ranges.{rises-range}
+use Rattle.dsa_search_laws.specs.Together.{AreTogether}
 use Rattle.dsa_search_laws.proofs.Claims.{not_placed, places_like}
 use Rattle.dsa_search_laws.proofs.First.{first_exactly, first_places}
 use Rattle.dsa_search_laws.proofs.Logs.{layout_places}

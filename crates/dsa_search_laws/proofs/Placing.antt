@@ -3,10 +3,11 @@ use Rattle.std.proofs.Common.{◌≡◌, ℕ, ◌+◌, ◌<◌, ◌≤◌, ◌�
 use Rattle.std.proofs.lemmas.Bool.Decides.{nat_tests}
 use Rattle.dsa_terms.specs.Buffers.{Buffer, Instance, buffer, do_share, IsInstance}
 use Rattle.dsa_terms.specs.Layouts.{IsApart, IsMultiple}
-use Rattle.dsa_terms.specs.Claims.{Entry, Claim, IsIn, Rises, buffers_of, up, Places, step, child, IsFirst}
+use Rattle.dsa_terms.specs.Claims.{Entry, Claim, IsIn, Rises, buffers_of, up, Places, step, child}
 use Rattle.dsa_terms.proofs.Numbers.{next_at_or_above, next_is_multiple, next_is_least}
 use Rattle.dsa_terms.proofs.Lists.{into_map, from_map, into_filter, from_filter, true_or_false}
 use Rattle.dsa_terms.proofs.Moments.{do_share-gives, sound}
+use Rattle.dsa_search_laws.specs.Placements.{IsFirst}
 
 -- ---- up
 pub up_at_or_above : (I : Instance) (e : Entry) → IsInstance I → e.1 ≤ up I e

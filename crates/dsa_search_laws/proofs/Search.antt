@@ -5,8 +5,9 @@ use Rattle.std.proofs.lemmas.Bool.Decides.{nat_tests}
 use Rattle.std.specs.Option.{option_or}
 use Rattle.dsa_terms.specs.Buffers.{Instance, buffer, IsInstance}
 use Rattle.dsa_terms.specs.Claims.{Entry, Claim, IsIn, buffers_of, IsClaim, up, number_of, IsPlacement, IsRefuted, child}
-use Rattle.dsa_terms.specs.Search.{is_tall, comes_before, put_in, in_order, first_some, choices, seated, Rule, not_excluded, first_of, first, work_through, work_of, work, height, most_work}
+use Rattle.dsa_terms.specs.Search.{is_tall, comes_before, put_in, in_order, first_some, choices, seated, Rule, not_excluded, first_of, first, work_through, work_of, work}
 use Rattle.dsa_terms.proofs.Lists.{any_gives, length-filter_le}
+use Rattle.dsa_search_laws.specs.Searches.{height, most_work}
 use Rattle.dsa_search_laws.proofs.Placing.{above_up, of_child, in_buffers}
 use Rattle.dsa_search_laws.proofs.Claims.{number_of-map, not_placed, claim-child, length-child}
 use Rattle.dsa_search_laws.proofs.Complete.{put_at, put_at_other, IsComplete, exactly, some_is_placement, seated_none, seated_some, from_choices, tall_is}

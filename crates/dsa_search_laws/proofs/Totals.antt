@@ -8,9 +8,10 @@ use Rattle.std.proofs.lemmas.List.Sums.{sum_by-cons}
 use Rattle.dsa_terms.specs.Buffers.{Buffer, Instance, buffer}
 use Rattle.dsa_terms.specs.Claims.{Entry, IsIn, Rises}
 use Rattle.dsa_terms.specs.Logs.{greatest}
-use Rattle.dsa_terms.specs.Search.{most_work, work}
+use Rattle.dsa_terms.specs.Search.{work}
 use Rattle.dsa_terms.specs.Parts.{part_of, numbers, members, is_empty, parts, whole, whole_work}
 use Rattle.dsa_terms.proofs.Ranges.{rises-range}
+use Rattle.dsa_search_laws.specs.Searches.{most_work}
 use Rattle.dsa_search_laws.proofs.Search.{work_bounds, most_work_pos}
 use Rattle.dsa_search_laws.proofs.Members.{claim_of_part}
 

@@ -2,12 +2,12 @@
 use Rattle.std.proofs.Common.{◌≡◌, ℕ, suc, ◌+◌, ◌-◌, ◌*◌, ◌<◌, ◌≤◌, ◌⊎◌, inl, inr, true, false, List, map, length, sym, ap, ◌∙◌, arith}
 use Rattle.std.specs.List.{list_any}
 use Rattle.dsa_terms.specs.Buffers.{Instance, buffer, IsInstance}
-use Rattle.dsa_terms.specs.Search.{IsSettled as Settled}
-use Rattle.dsa_terms.specs.Claims.{Entry, Claim, IsIn, IsClaim, up, Places, IsFirst, IsPlacement, number_of, weight}
+use Rattle.dsa_terms.specs.Claims.{Entry, Claim, IsIn, IsClaim, up, Places, IsPlacement, number_of}
 use Rattle.dsa_search_laws.proofs.Claims.{placement_from, number_of-map}
 use Rattle.dsa_terms.specs.Logs.{ends_below, is_twin}
 use Rattle.dsa_terms.proofs.Lists.{true_or_false, any_gives, none_passes}
 use Rattle.dsa_terms.proofs.Moments.{sound}
+use Rattle.dsa_search_laws.specs.Placements.{IsSettled as Settled, IsFirst, weight}
 use Rattle.dsa_search_laws.proofs.Placing.{above_up, push_down}
 use Rattle.dsa_search_laws.proofs.Complete.{put_at, put_at_same, put_at_other, rise}
 use Rattle.dsa_search_laws.proofs.Moves.{weight_like, weight-put_at, below_is, twin_is, move_below, changed, changed_cases, change_places}

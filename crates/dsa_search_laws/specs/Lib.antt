@@ -1,0 +1,4 @@
+pub mod Placements
+pub mod Searches
+pub mod Together
+pub mod Choosing

@@ -2,9 +2,9 @@
 
 ghost use Rattle.std.specs.Prelude.{ℕ, ◌≤◌, List};
 ghost use Rattle.dsa_terms.specs.Buffers.{Instance, IsInstance, buffer};
-ghost use Rattle.dsa_terms.specs.Claims.{Claim, Covers, Entry, IsClaim, IsFirst, IsPlacement, IsRefuted, number_of, up, weight};
+ghost use Rattle.dsa_terms.specs.Claims.{Claim, Covers, Entry, IsClaim, IsPlacement, IsRefuted, number_of, up};
 ghost use Rattle.dsa_terms.specs.Layouts.{IsMultiple};
-ghost use Rattle.dsa_terms.specs.Search.{IsSettled};
+ghost use Rattle.dsa_search_laws.specs.Placements.{IsFirst, weight, IsSettled};
 
 /// The up of an entry is the least multiple of its buffer's alignment at or above its bound.
 pub fn up_is_least()

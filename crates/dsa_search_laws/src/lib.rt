@@ -16,6 +16,6 @@ pub use part_laws::{
 };
 pub use plan_laws::{higher_is_feasible, plan_stays, search_is_complete};
 pub use search_laws::{
-    ends_of_search, first_is_complete, first_stays, plain_first_is_complete, search_equations,
-    work_is_bounded,
+    choices_are_in_order, ends_of_search, first_is_complete, first_stays, plain_first_is_complete,
+    search_equations, work_is_bounded,
 };

@@ -4,7 +4,8 @@ ghost use Rattle.std.specs.Prelude.{ℕ, List};
 ghost use Rattle.dsa_terms.specs.Buffers.{Instance, IsInstance};
 ghost use Rattle.dsa_terms.specs.Claims.{IsRefuted};
 ghost use Rattle.dsa_terms.specs.Layouts.{IsInfeasible};
-ghost use Rattle.dsa_terms.specs.Logs.{IsAccepted, AreRefuted, IsLegal, Line, Log, claim_of};
+ghost use Rattle.dsa_terms.specs.Logs.{IsAccepted, IsLegal, Line, Log, claim_of};
+ghost use Rattle.dsa_search_laws.specs.Placements.{AreRefuted};
 
 /// A legal line after lines whose claims are refuted has a refuted claim.
 pub fn legal_line_refutes()

@@ -4,7 +4,8 @@ ghost use Rattle.std.specs.Prelude.{◌≡◌, ◌≢◌, true, ℕ, ◌<◌, �
 ghost use Rattle.dsa_terms.specs.Buffers.{Instance, IsInstance, IsLive, buffer};
 ghost use Rattle.dsa_terms.specs.Claims.{Places, Entry, IsIn, IsPlacement, IsRefuted, Rises, number_of};
 ghost use Rattle.dsa_terms.specs.Layouts.{IsInfeasible, IsLayout};
-ghost use Rattle.dsa_terms.specs.Parts.{AreTogether, is_cut, IsUncut, offsets_of, part_of, parts, Separates, whole};
+ghost use Rattle.dsa_terms.specs.Parts.{is_cut, IsUncut, offsets_of, part_of, parts, Separates, whole};
+ghost use Rattle.dsa_search_laws.specs.Together.{AreTogether};
 ghost use Rattle.std.specs.List.{AllZip, flat_map};
 
 /// Buffers that share a moment are in one part, and what lies between the parts is a cut.

@@ -1,11 +1,14 @@
 //! Laws of the search of one claim and of its work.
 
-ghost use Rattle.std.specs.Prelude.{◌≡◌, ℕ, ◌+◌, ◌/◌, ◌<◌, ◌≤◌, ◌≢◌, ◌↔◌, List, [], cond, length, is_some, None, Some};
+ghost use Rattle.std.specs.Prelude.{◌≡◌, true, false, ℕ, ◌+◌, ◌/◌, ◌<◌, ◌≤◌, ◌≢◌, ◌↔◌, List, [], cond, length, is_some, None, Some};
 ghost use Rattle.dsa_terms.specs.Buffers.{Instance, IsInstance};
-ghost use Rattle.dsa_terms.specs.Claims.{Claim, Entry, IsClaim, IsPlacement, IsRefuted, child};
+ghost use Rattle.dsa_terms.specs.Claims.{Claim, Entry, IsClaim, IsIn, IsPlacement, IsRefuted, child};
+ghost use Rattle.dsa_terms.specs.Logs.{ends_below, is_twin};
 ghost use Rattle.dsa_terms.specs.Parts.{whole, whole_work};
 ghost use Rattle.dsa_terms.specs.Plans.{after_plan, hunt, plan};
-ghost use Rattle.dsa_terms.specs.Search.{choices, first, first_some, height, is_tall, most_work, not_excluded, plain_first, seated, work, work_through};
+ghost use Rattle.dsa_terms.specs.Search.{Rule, choices, first, first_some, is_tall, not_excluded, seated, work, work_through};
+ghost use Rattle.dsa_search_laws.specs.Choosing.{AreInOrder};
+ghost use Rattle.dsa_search_laws.specs.Searches.{height, most_work, plain_first};
 ghost use Rattle.std.specs.List.{list_any};
 
 /// The plain search, which takes every buffer, answers none exactly where the claim is refuted, and
@@ -30,6 +33,20 @@ pub fn first_stays()
     ensures { (I : Instance) (C D : ℕ) (l : Claim) (seats : List Entry) →
         IsInstance I → IsClaim I l →
         first I C l ≡ Some seats → height I seats ≤ D → D ≤ C → first I D l ≡ Some seats }
+{}
+
+/// The choices of a claim are its entries that the rule takes, the lower up first and of equal ones
+/// the smaller number, and no other list is so. The search takes an entry where no other of the
+/// claim ends below it and none is a twin before it.
+pub fn choices_are_in_order()
+    ensures order { (I : Instance) (rule : Rule) (l : Claim) → IsClaim I l →
+        AreInOrder I (choices I rule l) }
+    ensures members { (I : Instance) (rule : Rule) (l : Claim) (e : Entry) →
+        IsIn e (choices I rule l) ↔ (IsIn e l × (rule l e ≡ true)) }
+    ensures one { (I : Instance) (es fs : List Entry) → AreInOrder I es → AreInOrder I fs →
+        ((e : Entry) → IsIn e es ↔ IsIn e fs) → es ≡ fs }
+    ensures taken { (I : Instance) (l : Claim) (e : Entry) → (not_excluded I l e ≡ true)
+        ↔ ((f : Entry) → IsIn f l → (ends_below I f e ≡ false) × (is_twin I f e ≡ false)) }
 {}
 
 /// The work of a claim of k buffers is at least 1 and at most N(k), and that of an instance of n

@@ -8,9 +8,10 @@ use Rattle.dsa_terms.specs.Claims.{IsIn}
 use Rattle.dsa_terms.specs.Logs.{greatest}
 use Rattle.dsa_terms.specs.Parts.{numbers}
 use Rattle.dsa_terms.specs.Plans.{load}
-use Rattle.dsa_terms.specs.Bounds.{counted, rounded_size, pile, stack, moduli, heights, moments, highest_at, highest_stack, lower_bound, least_of, bound_modulus, bound_moment, bound_height, HasSections}
+use Rattle.dsa_terms.specs.Bounds.{counted, rounded_size, pile, stack, moduli, heights, moments, highest_at, highest_stack, lower_bound, least_of, bound_modulus}
 use Rattle.dsa_terms.proofs.Lists.{from_filter, into_filter, nil_or_not, none_found}
 use Rattle.dsa_terms.proofs.NumberTests.{equal, is_at_most, same}
+use Rattle.dsa_start_laws.specs.Reaching.{bound_moment, bound_height, HasSections}
 use Rattle.dsa_search_laws.proofs.Logs.{in_greatest}
 use Rattle.dsa_start_laws.proofs.Stacks.{found_in, found_passes, in_counted, into_counted, greatest_in_sum, greatest_of, greatest_all, stack_of_some, stack_of_none, at_reached, at_under_highest, zero_height, stack_under_bound}
 use Rattle.dsa_start_laws.proofs.BoundModuli.{bound_modulus_reaches, least_is, stack_by_one}

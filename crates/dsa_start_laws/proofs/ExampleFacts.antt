@@ -8,7 +8,7 @@ use Rattle.dsa_terms.specs.Parts.{numbers}
 use Rattle.dsa_terms.specs.Plans.{load, IsPeak}
 use Rattle.dsa_terms.specs.Starts.{planned}
 use Rattle.dsa_terms.specs.Logs.{greatest}
-use Rattle.dsa_terms.specs.Bounds.{bound_height, bound_modulus, bound_moment, counted, heights, highest_at, highest_stack, least_of, lower_bound, moduli, moments, stack}
+use Rattle.dsa_terms.specs.Bounds.{bound_modulus, counted, heights, highest_at, highest_stack, least_of, lower_bound, moduli, moments, stack}
 use Rattle.dsa_terms.proofs.Lists.{all_at}
 use Rattle.dsa_terms.proofs.Moments.{and_true}
 use Rattle.dsa_terms.proofs.Examples.{five, two_of_four, evens, filled, overrun, two_parts, small_below, made, low, lifted}
@@ -17,6 +17,7 @@ use Rattle.dsa_terms.proofs.ExampleLowFacts.{low_plan_at_9, low_plan_at_10, lift
 use Rattle.dsa_terms.proofs.Places.{in_at}
 use Rattle.dsa_terms.proofs.NumberTests.{at_most, less}
 use Rattle.dsa_terms.proofs.Ranges.{into_range}
+use Rattle.dsa_start_laws.specs.Reaching.{bound_height, bound_moment}
 use Rattle.dsa_start_laws.proofs.Planned.{planned_is_layout, planned_none}
 use Rattle.dsa_start_laws.proofs.Peaks.{load_under}
 

@@ -7,13 +7,14 @@ use Rattle.dsa_terms.specs.Layouts.{IsMultiple, IsApart, IsLayout}
 use Rattle.dsa_terms.specs.Claims.{Entry, IsIn, buffers_of, number_of}
 use Rattle.dsa_terms.specs.Parts.{numbers, offsets_of}
 use Rattle.dsa_terms.specs.Plans.{layout_height}
-use Rattle.dsa_terms.specs.Fits.{neighbours, IsClear, FitRule, first_place, best_place, fitted, HasEach, first_fit, best_fit}
+use Rattle.dsa_terms.specs.Fits.{neighbours, FitRule, first_place, best_place, fitted, first_fit, best_fit}
 use Rattle.dsa_terms.specs.Orders.{put_by, ordered_by, falls_by, rises_by, area, orders}
 use Rattle.dsa_terms.specs.Starts.{starts}
 use Rattle.dsa_terms.proofs.Lists.{from_append, from_map, into_filter, true_or_false}
 use Rattle.dsa_terms.proofs.Moments.{do_share-false}
 use Rattle.dsa_terms.proofs.NumberTests.{equal}
 use Rattle.dsa_terms.proofs.Ranges.{into_range}
+use Rattle.dsa_start_laws.specs.Fitting.{IsClear, HasEach}
 use Rattle.dsa_search_laws.proofs.Parts.{offset_at}
 use Rattle.dsa_search_laws.proofs.Plans.{under_layout_height}
 use Rattle.dsa_search_laws.proofs.Search.{has_seat}

@@ -9,3 +9,5 @@ pub mod Tightest
 pub mod Planned
 pub mod Peaks
 mod ExampleFacts
+mod FittingFacts
+mod ReachingFacts

@@ -4,8 +4,9 @@ use Rattle.std.proofs.lemmas.Bool.Decides.{nat_tests}
 use Rattle.dsa_terms.specs.Buffers.{Buffer, Instance, buffer}
 use Rattle.dsa_terms.specs.Claims.{IsIn, Rises}
 use Rattle.dsa_terms.specs.Parts.{numbers}
-use Rattle.dsa_terms.specs.Orders.{put_by, ordered_by, IsOrdered, IsOrder, falls_by, rises_by}
+use Rattle.dsa_terms.specs.Orders.{put_by, ordered_by, IsOrdered, falls_by, rises_by}
 use Rattle.dsa_terms.proofs.Ranges.{rises-range}
+use Rattle.dsa_start_laws.specs.Ordering.{IsOrder}
 use Rattle.dsa_start_laws.proofs.Fits.{into_ordered_by}
 
 -- ---- by a measure, ties to the smaller number

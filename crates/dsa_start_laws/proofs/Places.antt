@@ -5,11 +5,12 @@ use Rattle.std.proofs.lemmas.Bool.Decides.{nat_tests}
 use Rattle.dsa_terms.specs.Buffers.{Instance, buffer, IsInstance, floor}
 use Rattle.dsa_terms.specs.Layouts.{IsApart}
 use Rattle.dsa_terms.specs.Claims.{Entry, IsIn}
-use Rattle.dsa_terms.specs.Fits.{top, highest, is_free, IsClear, first_passing, FitRule, first_place, Range, stretches, free_ranges, least_from, holds, is_tighter, tighter_of, tightest, start_in, best_place}
+use Rattle.dsa_terms.specs.Fits.{top, highest, is_free, first_passing, FitRule, first_place, Range, stretches, free_ranges, least_from, holds, is_tighter, tighter_of, tightest, start_in, best_place}
 use Rattle.dsa_terms.proofs.Numbers.{next_is_least, next_is_multiple, multiple_sum, multiple_steps}
 use Rattle.dsa_terms.proofs.Lists.{from_filter, all_at, all_from}
 use Rattle.dsa_terms.proofs.Moments.{and_true, sound}
 use Rattle.dsa_terms.proofs.NumberTests.{at_most}
+use Rattle.dsa_start_laws.specs.Fitting.{IsClear}
 use Rattle.dsa_search_laws.proofs.Logs.{in_greatest}
 use Rattle.dsa_search_laws.proofs.Members.{lowest_to_floor}
 

@@ -4,10 +4,11 @@ use Rattle.std.specs.List.{list_any}
 use Rattle.dsa_terms.specs.Buffers.{Instance, IsInstance}
 use Rattle.dsa_terms.specs.Claims.{Entry, IsIn}
 use Rattle.dsa_terms.specs.Logs.{greatest}
-use Rattle.dsa_terms.specs.Fits.{top, highest, is_free, Range, IsOpen, IsFreeRange, stretches, free_ranges}
+use Rattle.dsa_terms.specs.Fits.{top, highest, is_free, Range, stretches, free_ranges}
 use Rattle.dsa_terms.proofs.Lists.{into_map, from_map, into_filter, from_filter, any_gives, none_passes, true_or_false, into_flat, from_flat}
 use Rattle.dsa_terms.proofs.Moments.{and_true, both_true, sound}
 use Rattle.dsa_terms.proofs.NumberTests.{differ, equal, is_below, less}
+use Rattle.dsa_start_laws.specs.Fitting.{IsOpen, IsFreeRange}
 use Rattle.dsa_start_laws.proofs.Stacks.{greatest_is}
 use Rattle.dsa_start_laws.proofs.Places.{free_at, free_from, under_highest}
 

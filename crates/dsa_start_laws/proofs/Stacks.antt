@@ -6,12 +6,13 @@ use Rattle.dsa_terms.specs.Layouts.{IsFeasible}
 use Rattle.dsa_terms.specs.Claims.{Claim, Entry, IsIn, IsClaim, IsWhole, buffers_of, up}
 use Rattle.dsa_terms.specs.Logs.{is_stacked, rounded, rounding, greatest, IsOver, Line, claim_of, IsLegal, IsAccepted}
 use Rattle.dsa_terms.specs.Parts.{is_empty, numbers}
-use Rattle.dsa_terms.specs.Bounds.{counted, rounded_size, pile, stack, moduli, heights, moments, highest_at, highest_stack, lower_bound, IsReached, line_height, stack_line, stack_log}
+use Rattle.dsa_terms.specs.Bounds.{counted, rounded_size, pile, stack, moduli, heights, moments, highest_at, highest_stack, lower_bound, line_height, stack_line, stack_log}
 use Rattle.dsa_terms.proofs.Lists.{from_map, from_filter, into_filter}
 use Rattle.dsa_terms.proofs.Moments.{and_true, both_true, live_before, sound}
 use Rattle.dsa_terms.proofs.Numbers.{next_at_or_above, next_is_multiple, next_is_least}
 use Rattle.dsa_terms.proofs.NumberTests.{at_most, below_or_from, equal, is_at_most, same}
 use Rattle.dsa_terms.proofs.Ranges.{from_range, into_range, rises-range, rises-filter_numbers}
+use Rattle.dsa_start_laws.specs.Reaching.{IsReached}
 use Rattle.dsa_search_laws.proofs.Logs.{in_greatest, accepted_is_infeasible}
 use Rattle.dsa_search_laws.proofs.Cuts.{item}
 

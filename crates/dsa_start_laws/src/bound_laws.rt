@@ -4,10 +4,11 @@ ghost use Rattle.std.specs.Prelude.{◌≡◌, ◌≢◌, ℕ, ◌<◌, ◌≤�
 ghost use Rattle.dsa_terms.specs.Buffers.{Instance, IsInstance, IsLive, buffer, floor};
 ghost use Rattle.dsa_terms.specs.Claims.{IsIn};
 ghost use Rattle.dsa_terms.specs.Layouts.{IsFeasible, IsMultiple};
-ghost use Rattle.dsa_terms.specs.Bounds.{bound_height, bound_modulus, bound_moment, counted, HasSections, heights, highest_at, highest_stack, IsReached, line_height, lower_bound, moduli, stack, stack_line, stack_log};
+ghost use Rattle.dsa_terms.specs.Bounds.{bound_modulus, counted, heights, highest_at, highest_stack, line_height, lower_bound, moduli, stack, stack_line, stack_log};
 ghost use Rattle.dsa_terms.specs.Lean.{IsLean};
 ghost use Rattle.dsa_terms.specs.Logs.{IsAccepted, IsLegal, Line, greatest};
 ghost use Rattle.dsa_terms.specs.Plans.{load};
+ghost use Rattle.dsa_start_laws.specs.Reaching.{bound_height, bound_moment, HasSections, IsReached};
 
 /// The line of a stack, at the least height with which it is legal, is accepted at each capacity
 /// below it. So the lower bound, the greatest stack of all moments, moduli and heights, is at most

@@ -3,7 +3,8 @@
 ghost use Rattle.std.specs.Prelude.{◌≡◌, ℕ, ◌≤◌, ◌↔◌, List, false, None, Some};
 ghost use Rattle.dsa_terms.specs.Buffers.{Instance, IsInstance};
 ghost use Rattle.dsa_terms.specs.Claims.{Entry, IsIn};
-ghost use Rattle.dsa_terms.specs.Fits.{best_place, first_place, free_ranges, IsClear, IsFreeRange, is_tighter, Range, tightest};
+ghost use Rattle.dsa_terms.specs.Fits.{best_place, first_place, free_ranges, is_tighter, Range, tightest};
+ghost use Rattle.dsa_start_laws.specs.Fitting.{IsClear, IsFreeRange};
 
 /// Where first-fit puts a buffer it is aligned, at or above its lowest and apart from its
 /// neighbours, and nowhere lower.

@@ -4,11 +4,13 @@ ghost use Rattle.std.specs.Prelude.{Bool, ◌≡◌, ℕ, ◌<◌, ◌≤◌, �
 ghost use Rattle.dsa_terms.specs.Buffers.{Buffer, Instance, IsInstance};
 ghost use Rattle.dsa_terms.specs.Claims.{IsIn};
 ghost use Rattle.dsa_terms.specs.Layouts.{IsLayout};
-ghost use Rattle.dsa_terms.specs.Fits.{best_fit, first_fit, HasEach};
-ghost use Rattle.dsa_terms.specs.Orders.{falls_by, IsOrder, IsOrdered, ordered_by, rises_by};
+ghost use Rattle.dsa_terms.specs.Fits.{best_fit, first_fit};
+ghost use Rattle.dsa_terms.specs.Orders.{falls_by, IsOrdered, ordered_by, rises_by};
 ghost use Rattle.dsa_terms.specs.Starts.{best_start, lowest_place, starts};
 ghost use Rattle.dsa_terms.specs.Parts.{numbers};
 ghost use Rattle.dsa_terms.specs.Plans.{layout_height};
+ghost use Rattle.dsa_start_laws.specs.Fitting.{HasEach};
+ghost use Rattle.dsa_start_laws.specs.Ordering.{IsOrder};
 
 /// The numbers brought into an order are ordered, they are the same numbers, and no other list has
 /// both; a measure that falls or rises, ties to the smaller number, is an order.

@@ -1,11 +1,10 @@
 -- What loads and lower bounds come to on small instances.
-use Rattle.std.proofs.Common.{◌≡◌, ℕ, zero, suc, ◌<◌, inl, inr, true, false, [], ◌∷◌, map, sym, refl, ap, ◌∙◌, arith}
-use Rattle.dsa_terms.specs.Buffers.{is_live, IsLive, buffer, floor}
-use Rattle.dsa_terms.specs.Claims.{IsIn}
+use Rattle.std.proofs.Common.{◌≡◌, [], ◌∷◌, map, refl}
+use Rattle.dsa_terms.specs.Buffers.{is_live, buffer, floor}
 use Rattle.dsa_terms.specs.Parts.{numbers}
 use Rattle.dsa_terms.specs.Plans.{load}
 use Rattle.dsa_terms.specs.Logs.{Over}
-use Rattle.dsa_terms.specs.Bounds.{stack_log, counted, rounded_size, stack, moduli, moments, highest_stack, lower_bound, IsReached, bound_modulus, bound_moment, HasSections, heights, highest_at, least_of, pile, stack_line, line_height}
+use Rattle.dsa_terms.specs.Bounds.{stack_log, counted, rounded_size, stack, moduli, moments, highest_stack, lower_bound, bound_modulus, heights, highest_at, least_of, pile, stack_line, line_height}
 use Rattle.dsa_terms.proofs.Examples.{five, two_of_four, evens, filled, overrun, two_parts, small_below, made}
 
 -- ---- loads, moment by moment
@@ -121,13 +120,7 @@ evens_stacks : map (highest_stack evens) (1 ∷ 2 ∷ []) ≡ 4 ∷ 3 ∷ []
 unfolding highest_stack highest_at heights floor stack pile counted rounded_size moments is_live buffer
 evens_stacks = refl
 
--- the first start of a section at which the bound is reached
-overrun_moment : bound_moment overrun (0 ∷ 4 ∷ 6 ∷ 7 ∷ []) ≡ 6
-unfolding bound_moment bound_modulus least_of lower_bound highest_stack highest_at heights floor stack pile counted
-    rounded_size moduli moments is_live buffer
-overrun_moment = refl
-
--- no buffers: bound 0, modulus 1, moment 0
+-- no buffers: bound 0, modulus 1
 none_bound : lower_bound [] ≡ 0
 unfolding lower_bound highest_stack highest_at heights floor stack pile counted moduli moments
 none_bound = refl
@@ -135,63 +128,6 @@ none_bound = refl
 none_modulus : bound_modulus [] ≡ 1
 unfolding bound_modulus least_of lower_bound highest_stack highest_at heights floor stack pile counted moduli moments
 none_modulus = refl
-
-none_moment : bound_moment [] [] ≡ 0
-unfolding bound_moment bound_modulus least_of lower_bound highest_stack highest_at heights floor stack pile counted moduli
-    moments
-none_moment = refl
-
--- ---- what reaches a bound: two sizes of 3 by the modulus 4, which is an alignment, at moment 0
-two_of_four_reached : IsReached two_of_four 7
-unfolding moduli heights floor stack pile counted rounded_size is_live buffer
-two_of_four_reached = record {
-  modulus = 4;
-  moment = 0;
-  height = 0;
-  among = inr (inl refl);
-  from = inl refl;
-  reached = refl;
-}
-
--- past the gap two sizes of 4 by the modulus 1
-overrun_reached : IsReached overrun 8
-unfolding moduli heights floor stack pile counted rounded_size is_live buffer
-overrun_reached = record {
-  modulus = 1;
-  moment = 6;
-  height = 0;
-  among = inl refl;
-  from = inl refl;
-  reached = refl;
-}
-
--- no buffers have no stack
-none_reaches_1 : IsReached [] 1 → ⊥
-unfolding stack pile counted
-none_reaches_1 r = let h = r.reached in cc
-
--- ---- sections: both are live at 6, and at each of 0 and 4 one of them alone
-overrun_sections : HasSections overrun (6 ∷ [])
-unfolding is_live buffer
-overrun_sections t b lt live = (6, inl refl, λ c below live. at_6 c below)
-  where
-    at_6 : (c : ℕ) → c < 2 → IsLive (buffer overrun c) 6
-    at_6 zero lt = refl
-    at_6 (suc zero) lt = refl
-    at_6 (suc (suc c)) lt = absurd (omega arith)
-
-overrun_missed : HasSections overrun (0 ∷ 4 ∷ []) → ⊥
-unfolding is_live buffer
-overrun_missed h = close (h 6 0 (omega arith) refl)
-  where
-    close :
-        (s : ℕ) × IsIn s (0 ∷ 4 ∷ []) × ((c : ℕ) → c < 2 → IsLive (buffer overrun c) 6 → IsLive (buffer overrun c) s)
-        → ⊥
-    close (s, inl q, all) =
-        let k : false ≡ true = ap (is_live (buffer overrun 1)) (sym q) ∙ all 1 (omega arith) refl in cc
-    close (s, inr (inl q), all) =
-        let k : false ≡ true = ap (is_live (buffer overrun 0)) (sym q) ∙ all 0 (omega arith) refl in cc
-    close (s, inr (inr i), all) = i
 
 -- ---- the log of the bound
 five_bound_log :

@@ -3,10 +3,10 @@ use Rattle.std.proofs.Common.{◌≡◌, ℕ, ◌≤◌, ◌⊎◌, inl, inr, tr
 use Rattle.dsa_terms.specs.Firsts.{when, first_fault}
 use Rattle.dsa_terms.specs.Buffers.{Buffer, is_live, buffer, do_share, have_same_moments, some_before}
 use Rattle.dsa_terms.specs.Layouts.{IsLayout}
-use Rattle.dsa_terms.specs.Claims.{up, number_of, weight, step, child}
+use Rattle.dsa_terms.specs.Claims.{up, number_of, step, child}
 use Rattle.dsa_terms.specs.Logs.{greatest, ends_below, is_twin}
 use Rattle.dsa_terms.specs.Parts.{has}
-use Rattle.dsa_terms.specs.Search.{comes_before, in_order, most_work}
+use Rattle.dsa_terms.specs.Search.{comes_before, in_order}
 use Rattle.dsa_terms.specs.Plans.{layout_height}
 use Rattle.dsa_terms.proofs.Examples.{plain, evens, gapped, filled, overrun, made, one_by_one}
 
@@ -160,9 +160,6 @@ choices_in_order : in_order evens ((0, 1) ∷ (1, 0) ∷ (2, 2) ∷ []) ≡ (1, 
 unfolding comes_before up buffer
 choices_in_order = refl
 
-most_works : map most_work (0 ∷ 1 ∷ 2 ∷ 3 ∷ []) ≡ 1 ∷ 2 ∷ 5 ∷ 16 ∷ []
-most_works = refl
-
 -- ---- the first fault
 second_is_first : first_fault {F = ℕ} (when false 1 ∷ when true 2 ∷ when true 3 ∷ []) ≡ Some 2
 second_is_first = refl
@@ -184,8 +181,3 @@ has_not = refl
 
 numbers_of : map (number_of ((1, 4) ∷ (2, 5) ∷ [])) (0 ∷ 1 ∷ 2 ∷ []) ≡ 0 ∷ 4 ∷ 5 ∷ []
 numbers_of = refl
-
--- 3 times 0, 2 times 4 and 1 times 1
-evens_weight :
-    weight evens (number_of ((0, 0) ∷ (1, 4) ∷ (2, 1) ∷ [])) ((0, 0) ∷ (1, 0) ∷ (2, 0) ∷ []) ≡ 9
-evens_weight = refl

@@ -10,7 +10,7 @@ use Rattle.dsa_terms.specs.Plans.{layout_height, plan, hunt}
 use Rattle.dsa_terms.specs.Fits.{top, highest, neighbours, is_free, first_passing, FitRule, first_place, stretches, free_ranges, least_from, holds, is_tighter, best_place, first_fit, best_fit}
 use Rattle.dsa_terms.specs.Orders.{falls_by, rises_by, orders}
 use Rattle.dsa_terms.specs.Starts.{starts, planned, hunted}
-use Rattle.dsa_terms.specs.Bounds.{counted, rounded_size, pile, stack, moduli, heights, moments, highest_at, highest_stack, lower_bound, least_of, bound_modulus, bound_moment, bound_height, line_height, stack_line, stack_log}
+use Rattle.dsa_terms.specs.Bounds.{counted, rounded_size, pile, stack, moduli, heights, moments, highest_at, highest_stack, lower_bound, line_height, stack_line, stack_log}
 use Rattle.dsa_terms.proofs.Examples.{plain, raised, low, lifted, high_fours, tied}
 
 -- 5 and 8 are the least multiples of four at or above 5 and 6
@@ -191,21 +191,10 @@ low_at_0 : map (λ H. stack low 0 H 1) (0 ∷ 6 ∷ 7 ∷ []) ≡ 8 ∷ 10 ∷ 0
 unfolding stack pile counted rounded_size floor is_live buffer
 low_at_0 = refl
 
-low_reaching : bound_modulus low ∷ bound_moment low (0 ∷ []) ∷ bound_height low (0 ∷ []) ∷ [] ≡ 1 ∷ 0 ∷ 6 ∷ []
-unfolding bound_height bound_moment bound_modulus least_of lower_bound highest_stack highest_at heights floor stack pile
-    counted rounded_size moduli moments is_live buffer
-low_reaching = refl
-
 lifted_bound : lower_bound lifted ≡ 5
 unfolding lower_bound highest_stack highest_at heights floor stack pile counted rounded_size moduli moments is_live
     buffer
 lifted_bound = refl
-
-lifted_reaching :
-    bound_modulus lifted ∷ bound_moment lifted (0 ∷ []) ∷ bound_height lifted (0 ∷ []) ∷ [] ≡ 1 ∷ 0 ∷ 0 ∷ []
-unfolding bound_height bound_moment bound_modulus least_of lower_bound highest_stack highest_at heights floor stack pile
-    counted rounded_size moduli moments is_live buffer
-lifted_reaching = refl
 
 -- 8 + 4 + 4 - 1 by the modulus 4, and 8 + 3 + 3 by 1
 fours_heights : map (heights high_fours) (1 ∷ 4 ∷ 3 ∷ []) ≡ (0 ∷ 8 ∷ 8 ∷ 0 ∷ []) ∷ (0 ∷ 8 ∷ 8 ∷ 0 ∷ []) ∷ (0 ∷ 0 ∷ []) ∷ []
@@ -215,13 +204,6 @@ fours_heights = refl
 fours_stacks : map (highest_stack high_fours) (1 ∷ 4 ∷ []) ≡ 14 ∷ 15 ∷ []
 unfolding highest_stack highest_at heights floor stack pile counted rounded_size moments is_live buffer
 fours_stacks = refl
-
-fours_reaching :
-    lower_bound high_fours ∷ bound_modulus high_fours ∷ bound_moment high_fours (0 ∷ 1 ∷ [])
-    ∷ bound_height high_fours (0 ∷ 1 ∷ []) ∷ [] ≡ 15 ∷ 4 ∷ 0 ∷ 8 ∷ []
-unfolding bound_height bound_moment bound_modulus least_of lower_bound highest_stack highest_at heights floor stack pile
-    counted rounded_size moduli moments is_live buffer
-fours_reaching = refl
 
 -- ---- the logs of bounds: the height is the least with which the line is legal
 low_log_at_9 :
@@ -244,13 +226,6 @@ lifted_log_at_4 = refl
 fours_line_heights : map (line_height high_fours 0 8 4) (14 ∷ 11 ∷ 10 ∷ 9 ∷ 7 ∷ 6 ∷ []) ≡ 8 ∷ 8 ∷ 4 ∷ 4 ∷ 4 ∷ 0 ∷ []
 unfolding line_height pile counted rounded_size floor is_live buffer
 fours_line_heights = refl
-
--- ---- two heights that reach the bound: the least one is the bound's, and its line counts both
-tied_reaching :
-    lower_bound tied ∷ bound_height tied (0 ∷ []) ∷ map (λ H. stack tied 0 H 1) (0 ∷ 4 ∷ []) ≡ 8 ∷ 0 ∷ 8 ∷ 8 ∷ []
-unfolding bound_height bound_moment bound_modulus least_of lower_bound highest_stack highest_at heights floor stack pile
-    counted rounded_size moduli moments is_live buffer
-tied_reaching = refl
 
 tied_log_at_7 :
     stack_log tied 0 0 1 7

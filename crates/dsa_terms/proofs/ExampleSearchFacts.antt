@@ -3,7 +3,7 @@ use Rattle.std.proofs.Common.{◌≡◌, [], ◌∷◌, Some, None, refl}
 use Rattle.dsa_terms.specs.Buffers.{is_live, buffer, do_share, have_same_moments, some_before}
 use Rattle.dsa_terms.specs.Claims.{up, step, child}
 use Rattle.dsa_terms.specs.Logs.{ends_below, is_twin}
-use Rattle.dsa_terms.specs.Search.{is_tall, comes_before, first, plain_first, height, work}
+use Rattle.dsa_terms.specs.Search.{is_tall, comes_before, first, work}
 use Rattle.dsa_terms.specs.Parts.{is_cut, last_cut, part_of, parts, searched, whole_work}
 use Rattle.dsa_terms.proofs.Examples.{plain, five, two_of_four, evens, gapped, filled, overrun, two_parts, small_below, made}
 
@@ -216,7 +216,7 @@ none_work : whole_work [] 0 ≡ 0
 unfolding whole_work parts
 none_work = refl
 
--- ---- one claim: its first placement, also where every buffer is a choice, and its height
+-- ---- one claim: its first placement
 evens_first : first evens 5 ((0, 0) ∷ (1, 0) ∷ (2, 0) ∷ []) ≡ Some ((0, 0) ∷ (1, 4) ∷ (2, 1) ∷ [])
 unfolding first is_tall comes_before ends_below is_twin child up step have_same_moments do_share some_before is_live
     buffer
@@ -227,15 +227,3 @@ evens_bounded : first evens 6 ((0, 0) ∷ (1, 1) ∷ (2, 0) ∷ []) ≡ Some ((0
 unfolding first is_tall comes_before ends_below is_twin child up step have_same_moments do_share some_before is_live
     buffer
 evens_bounded = refl
-
-evens_plain : plain_first evens 5 ((0, 0) ∷ (1, 0) ∷ (2, 0) ∷ []) ≡ Some ((0, 0) ∷ (1, 4) ∷ (2, 1) ∷ [])
-unfolding plain_first is_tall comes_before child up step do_share some_before is_live buffer
-evens_plain = refl
-
-evens_plain_none : plain_first evens 4 ((0, 0) ∷ (1, 0) ∷ (2, 0) ∷ []) ≡ None
-unfolding plain_first is_tall comes_before child up step do_share some_before is_live buffer
-evens_plain_none = refl
-
-seats_height : height evens ((0, 2) ∷ (1, 4) ∷ (2, 0) ∷ []) ≡ 5
-unfolding buffer
-seats_height = refl

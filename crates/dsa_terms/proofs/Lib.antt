@@ -11,9 +11,9 @@ mod ExampleBoundFacts
 pub mod ExampleLowFacts
 mod ExampleStartFacts
 mod LayoutFacts
-mod ClaimFacts
+pub mod ClaimFacts
 mod PartFacts
-mod FitFacts
+pub mod FitFacts
 mod SearchFacts
 mod LogFacts
 pub mod ExamplePlanFacts

@@ -1,10 +1,10 @@
 -- Parts: which buffers no cut lies between, and answers of the parts put together.
-use Rattle.std.proofs.Common.{◌≡◌, ℕ, ◌≤◌, inl, inr, true, false, List, [], ◌∷◌, Some, None, sym, subst, refl, ap, ◌∙◌, arith}
+use Rattle.std.proofs.Common.{◌≡◌, ℕ, ◌≤◌, true, false, [], ◌∷◌, Some, None, sym, refl, ap, ◌∙◌, arith}
 use Rattle.dsa_terms.specs.Buffers.{is_live, buffer, do_share, have_same_moments, some_before}
-use Rattle.dsa_terms.specs.Claims.{IsIn, up, step, child}
+use Rattle.dsa_terms.specs.Claims.{up, step, child}
 use Rattle.dsa_terms.specs.Logs.{ends_below, is_twin}
 use Rattle.dsa_terms.specs.Search.{is_tall, comes_before, first}
-use Rattle.dsa_terms.specs.Parts.{is_cut, last_cut, part_of, is_empty, parts, Separates, IsUncut, AreTogether, join, first_of_all, offsets_found}
+use Rattle.dsa_terms.specs.Parts.{is_cut, is_empty, Separates, IsUncut, join, first_of_all, offsets_found}
 use Rattle.dsa_terms.proofs.Examples.{plain, five, evens, two_parts}
 
 some_item : is_empty {X = ℕ} (7 ∷ []) ≡ false
@@ -48,35 +48,6 @@ cut_between u = u.forth 2 refl (omega arith, omega arith)
 cut_before : IsUncut two_parts 3 0 → ⊥
 unfolding is_cut buffer
 cut_before u = u.back 2 refl (omega arith, omega arith)
-
--- the second and the last are in one part, the first and the second in two
-one_part : AreTogether two_parts 3 1
-unfolding parts part_of is_cut last_cut buffer
-one_part = record {
-  part = 1 ∷ 2 ∷ 3 ∷ [];
-  is_part = inr (inl refl);
-  has_first = inr (inr (inl refl));
-  has_second = inl refl;
-}
-
-other_parts : AreTogether two_parts 0 1 → ⊥
-unfolding parts part_of is_cut last_cut buffer
-other_parts t = close t.part t.is_part t.has_first t.has_second
-  where
-    not_in_first : IsIn {X = ℕ} 1 (0 ∷ []) → ⊥
-    not_in_first (inl q) = cc
-    not_in_first (inr i) = i
-
-    not_in_second : IsIn {X = ℕ} 0 (1 ∷ 2 ∷ 3 ∷ []) → ⊥
-    not_in_second (inl q) = cc
-    not_in_second (inr (inl q)) = cc
-    not_in_second (inr (inr (inl q))) = cc
-    not_in_second (inr (inr (inr i))) = i
-
-    close : (p : List ℕ) → IsIn p ((0 ∷ []) ∷ (1 ∷ 2 ∷ 3 ∷ []) ∷ []) → IsIn {X = ℕ} 0 p → IsIn {X = ℕ} 1 p → ⊥
-    close p (inl q) h k = not_in_first (subst (λ (r : List ℕ). IsIn 1 r) q k)
-    close p (inr (inl q)) h k = not_in_second (subst (λ (r : List ℕ). IsIn 0 r) q h)
-    close p (inr (inr i)) h k = i
 
 -- ---- answers put together: none where one of them is none
 joined : join (Some ((0, 3) ∷ [])) (Some ((1, 4) ∷ (2, 0) ∷ [])) ≡ Some ((0, 3) ∷ (1, 4) ∷ (2, 0) ∷ [])

@@ -3,7 +3,7 @@ use Rattle.std.proofs.Common.{◌≡◌, ℕ, ◌+◌, ◌*◌, ◌==◌, true, 
 use Rattle.dsa_terms.specs.Buffers.{is_live, buffer, do_share, have_same_moments, some_before}
 use Rattle.dsa_terms.specs.Claims.{Entry, Claim, up, step, child}
 use Rattle.dsa_terms.specs.Logs.{ends_below, is_twin}
-use Rattle.dsa_terms.specs.Search.{is_tall, comes_before, put_in, first_some, seated, all_taken, not_excluded, choices, first_of, first, work_through, work_of, work}
+use Rattle.dsa_terms.specs.Search.{is_tall, comes_before, put_in, first_some, seated, not_excluded, choices, first_of, first, work_through, work_of, work}
 use Rattle.dsa_terms.specs.Parts.{is_cut, last_cut, part_of, parts, searched, whole_work}
 use Rattle.dsa_terms.specs.Plans.{layout_height, plan, after_plan, hunt_within}
 use Rattle.dsa_terms.proofs.Examples.{evens}
@@ -33,9 +33,6 @@ no_seat : seated evens ((1, 1) ∷ (2, 1) ∷ []) (1, 1) None ≡ None
 no_seat = refl
 
 -- ---- which are taken: 1 has the twin 0
-taken_by_all : map (all_taken all_three) all_three ≡ true ∷ true ∷ true ∷ []
-taken_by_all = refl
-
 without_twin : map (not_excluded evens all_three) all_three ≡ true ∷ false ∷ true ∷ []
 unfolding ends_below is_twin have_same_moments some_before is_live up buffer
 without_twin = refl
@@ -50,10 +47,7 @@ two_choices : choices evens (not_excluded evens) ((0, 1) ∷ (1, 2) ∷ (2, 1) �
 unfolding comes_before ends_below is_twin have_same_moments some_before is_live up buffer
 two_choices = refl
 
--- ---- answers and work: no buffers have the empty answer, and one claim is looked at
-first_of_none : first_of all_taken 0 evens 0 [] ≡ Some []
-first_of_none = refl
-
+-- ---- answers and work: one claim is looked at where there are no buffers
 first_of_three : first_of (not_excluded evens) 3 evens 5 all_three ≡ Some ((0, 0) ∷ (1, 4) ∷ (2, 1) ∷ [])
 unfolding is_tall comes_before ends_below is_twin child up step have_same_moments do_share some_before is_live buffer
 first_of_three = refl

@@ -1,10 +1,9 @@
 -- The lower bound: sizes that are stacked at one moment, from one height on, rounded up to one modulus.
-use Rattle.std.specs.Prelude.{◌≡◌, ◌<◌, ℕ, ◌+◌, ◌-◌, ◌%◌, min, cond, ◌==◌, ◌&&◌, nat_le, List, [], ◌∷◌, map, length}
-use Rattle.std.specs.List.{filter, find, sum_by, reduce}
+use Rattle.std.specs.Prelude.{ℕ, ◌+◌, ◌-◌, ◌%◌, min, cond, ◌==◌, ◌&&◌, nat_le, List, [], ◌∷◌, map, length}
+use Rattle.std.specs.List.{filter, sum_by, reduce}
 use Rattle.std.specs.Option.{unwrap_or}
 use Rattle.std.specs.Int.{next_multiple_of}
-use Rattle.dsa_terms.specs.Buffers.{Buffer, Instance, buffer, is_live, IsLive, floor}
-use Rattle.dsa_terms.specs.Claims.{IsIn}
+use Rattle.dsa_terms.specs.Buffers.{Buffer, Instance, buffer, is_live, floor}
 use Rattle.dsa_terms.specs.Logs.{greatest, Line, Log, Over}
 use Rattle.dsa_terms.specs.Parts.{is_empty, numbers}
 
@@ -52,15 +51,6 @@ highest_stack I G = greatest (map (λ t. highest_at I t G) (moments I))
 unfoldable pub lower_bound : Instance → ℕ
 lower_bound I = greatest (map (highest_stack I) (moduli I))
 
--- a modulus and a height in question and a moment at which the stack is so high
-pub record IsReached (I : Instance) (value : ℕ) : Type 0 where
-  pub modulus : ℕ
-  pub moment : ℕ
-  pub height : ℕ
-  pub among : IsIn modulus (moduli I)
-  pub from : IsIn height (heights I modulus)
-  pub reached : value ≡ stack I moment height modulus
-
 -- the least of some numbers, and the other number where there are none
 unfoldable pub least_of : List ℕ → ℕ → ℕ
 least_of numbers other = unwrap_or (reduce min numbers) other
@@ -68,16 +58,6 @@ least_of numbers other = unwrap_or (reduce min numbers) other
 -- the least modulus that reaches the lower bound
 unfoldable pub bound_modulus : Instance → ℕ
 bound_modulus I = least_of (filter (λ G. highest_stack I G == lower_bound I) (moduli I)) 1
-
--- the first of the given moments, the starts of sections, at which that modulus reaches it, and 0 where none does
-unfoldable pub bound_moment : Instance → List ℕ → ℕ
-bound_moment I starts = unwrap_or (find (λ t. highest_at I t (bound_modulus I) == lower_bound I) starts) 0
-
--- the least height that reaches it with that modulus at that moment
-unfoldable pub bound_height : Instance → List ℕ → ℕ
-bound_height I starts =
-    least_of
-    (filter (λ H. stack I (bound_moment I starts) H (bound_modulus I) == lower_bound I) (heights I (bound_modulus I))) 0
 
 -- the least multiple of G on which the pile from H on is above C
 unfoldable pub line_height : Instance → ℕ → ℕ → ℕ → ℕ → ℕ
@@ -95,9 +75,3 @@ stack_log I t H G C = record {
   lines = stack_line I t H G (line_height I t H G C) ∷ [];
   final = 0;
 }
-
--- for each moment at which something is live there is a given one, as the start of a section, with all of its buffers
-abbrev pub HasSections : Instance → List ℕ → Type 0
-HasSections I starts =
-    (t b : ℕ) → b < length I → IsLive (buffer I b) t →
-    (s : ℕ) × IsIn s starts × ((c : ℕ) → c < length I → IsLive (buffer I c) t → IsLive (buffer I c) s)

@@ -1,5 +1,5 @@
 -- Claims: some of the buffers, with a lower bound for the offset of each.
-use Rattle.std.specs.Prelude.{◌≡◌, ℕ, ◌+◌, ◌-◌, ◌*◌, ◌<◌, ◌≤◌, ◌≢◌, ◌⊎◌, not, cond, ◌==◌, nat_lt, max, List, [], ◌∷◌, map, length}
+use Rattle.std.specs.Prelude.{◌≡◌, ℕ, ◌+◌, ◌<◌, ◌≤◌, ◌≢◌, ◌⊎◌, not, cond, ◌==◌, nat_lt, max, List, [], ◌∷◌, map, length}
 use Rattle.std.specs.List.{filter}
 use Rattle.std.specs.Int.{next_multiple_of}
 use Rattle.dsa_terms.specs.Buffers.{Instance, buffer, IsLive, do_share, floor}
@@ -74,14 +74,3 @@ Covers I k l = (e : Entry) → IsIn e k → (f : Entry) × IsIn f l × (f.0 ≡ 
 -- no bound is above its buffer's floor, so each layout meets the claim
 abbrev pub IsWhole : Instance → Claim → Type 0
 IsWhole I l = (e : Entry) → IsIn e l → e.1 ≤ floor (buffer I e.0)
-
--- the weight of offsets: that of buffer b counts n - b times, n being the number of buffers
-abbrev pub weight : Instance → (ℕ → ℕ) → Claim → ℕ
-weight I offset [] = 0
-weight I offset (e ∷ es) = (length I - e.0) * offset e.0 + weight I offset es
-
--- the first buffer by offset and then number
-pub record IsFirst (l : Claim) (offset : ℕ → ℕ) (e : Entry) : Type 0 where
-  pub is_in : IsIn e l
-  pub lowest : (f : Entry) → IsIn f l → offset e.0 ≤ offset f.0
-  pub least : (f : Entry) → IsIn f l → offset e.0 ≡ offset f.0 → e.0 ≤ f.0

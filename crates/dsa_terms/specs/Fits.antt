@@ -1,11 +1,10 @@
 -- First-fit and best-fit: where a buffer goes beside those that are placed, and an order of buffers placed so.
-use Rattle.std.specs.Prelude.{◌<◌, ◌≤◌, ◌⊎◌, ℕ, max, zero, suc, ◌+◌, ◌-◌, cond, ◌==◌, ◌||◌, ◌&&◌, nat_le, nat_lt, Bool, List, [], ◌∷◌, map, length, ◌≡◌, Option}
+use Rattle.std.specs.Prelude.{ℕ, max, zero, suc, ◌+◌, ◌-◌, cond, ◌==◌, ◌||◌, ◌&&◌, nat_le, nat_lt, Bool, List, [], ◌∷◌, map, Option}
 use Rattle.std.specs.declared.option.Option.TheVariants.{Some, None}
 use Rattle.std.specs.List.{filter, flat_map, list_all}
 use Rattle.std.specs.Int.{next_multiple_of}
 use Rattle.dsa_terms.specs.Buffers.{Instance, buffer, do_share, floor}
-use Rattle.dsa_terms.specs.Layouts.{IsMultiple, IsApart}
-use Rattle.dsa_terms.specs.Claims.{Entry, IsIn}
+use Rattle.dsa_terms.specs.Claims.{Entry}
 use Rattle.dsa_terms.specs.Logs.{greatest}
 use Rattle.dsa_terms.specs.Parts.{offsets_of}
 
@@ -24,12 +23,6 @@ neighbours I b placed = filter (λ e. do_share (buffer I b) (buffer I e.0)) plac
 -- the addresses from x up to and not including y meet no placed one
 unfoldable pub is_free : Instance → List Entry → ℕ → ℕ → Bool
 is_free I placed x y = list_all (λ e. nat_le y e.1 || nat_le (top I e) x) placed
-
--- b at x is aligned, at or above its lowest, and apart from each placed one
-pub record IsClear (I : Instance) (b : ℕ) (placed : List Entry) (x : ℕ) : Type 0 where
-  pub aligned : IsMultiple x (buffer I b).alignment
-  pub above : (buffer I b).lowest ≤ x
-  pub apart : (e : Entry) → IsIn e placed → IsApart (buffer I b) x (buffer I e.0) e.1
 
 -- of x, x + a, x + a + a and so on, the first that passes the test, or the one after n that fail
 unfoldable pub first_passing : (ℕ → Bool) → ℕ → ℕ → ℕ → ℕ
@@ -50,17 +43,6 @@ first_place I b placed =
 pub record Range : Type 0 where
   pub start : ℕ
   pub stop : ℕ
-
--- no placed one meets the range, and it ends at or below the greatest top
-pub record IsOpen (I : Instance) (placed : List Entry) (r : Range) : Type 0 where
-  pub not_empty : r.start < r.stop
-  pub under : r.stop ≤ highest I placed
-  pub free : (e : Entry) → IsIn e placed → (r.stop ≤ e.1) ⊎ (top I e ≤ r.start)
-
--- a free range: no greater one is open
-pub record IsFreeRange (I : Instance) (placed : List Entry) (r : Range) : Type 0 where
-  pub is_open : IsOpen I placed r
-  pub greatest : (s : Range) → IsOpen I placed s → s.start ≤ r.start → r.stop ≤ s.stop → s ≡ r
 
 -- from 0 or a top on, up to the start of a placed one
 unfoldable pub stretches : Instance → List Entry → List Range
@@ -117,7 +99,3 @@ first_fit I order = offsets_of I (fitted first_place I order [])
 -- the offsets of best-fit over the order
 unfoldable pub best_fit : Instance → List ℕ → List ℕ
 best_fit I order = offsets_of I (fitted best_place I order [])
-
--- each buffer is in the order
-abbrev pub HasEach : Instance → List ℕ → Type 0
-HasEach I order = (b : ℕ) → b < length I → IsIn b order

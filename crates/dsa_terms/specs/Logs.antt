@@ -5,7 +5,7 @@ use Rattle.std.specs.List.{filter, sum_by, AllZip}
 use Rattle.std.specs.Int.{next_multiple_of}
 use Rattle.dsa_terms.specs.Buffers.{Instance, buffer, is_live, have_same_moments}
 use Rattle.dsa_terms.specs.Layouts.{IsMultiple}
-use Rattle.dsa_terms.specs.Claims.{Claim, Entry, IsIn, IsClaim, up, child, Covers, IsWhole, IsRefuted}
+use Rattle.dsa_terms.specs.Claims.{Claim, Entry, IsIn, IsClaim, up, child, Covers, IsWhole}
 
 -- the entry's buffer is live at moment T, can start at H or above alone, and has an alignment that is a multiple of G
 unfoldable pub is_stacked : Instance → ℕ → ℕ → ℕ → Entry → Bool
@@ -76,10 +76,6 @@ pub record IsLegal (I : Instance) (C : ℕ) (earlier : List Line) (line : Line) 
   pub claim : IsClaim I (claim_of line)
   pub not_empty : claim_of line ≢ []
   pub reason : IsLegalReason I C earlier line
-
--- the claims of these lines are refuted at C
-abbrev pub AreRefuted : Instance → ℕ → List Line → Type 0
-AreRefuted I C lines = (k : ℕ) (line : Line) → slice_get lines k ≡ Some line → IsRefuted I C (claim_of line)
 
 -- a log: how many buffers, the capacity, the lines, and the number of the line that is its end
 pub record Log : Type 0 where

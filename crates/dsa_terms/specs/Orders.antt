@@ -1,5 +1,5 @@
 -- The three orders in which the starts take the buffers.
-use Rattle.std.specs.Prelude.{◌≡◌, ◌≢◌, true, ◌⊎◌, ℕ, ◌-◌, ◌*◌, cond, ◌==◌, ◌||◌, ◌&&◌, nat_lt, Bool, List, [], ◌∷◌, length}
+use Rattle.std.specs.Prelude.{◌≡◌, true, ℕ, ◌-◌, ◌*◌, cond, ◌==◌, ◌||◌, ◌&&◌, nat_lt, Bool, List, [], ◌∷◌, length}
 use Rattle.dsa_terms.specs.Buffers.{Buffer, Instance, buffer}
 use Rattle.dsa_terms.specs.Claims.{IsIn}
 use Rattle.dsa_terms.specs.Parts.{numbers}
@@ -18,13 +18,6 @@ ordered_by before (b ∷ bs) = put_by before b (ordered_by before bs)
 abbrev pub IsOrdered : (ℕ → ℕ → Bool) → List ℕ → Type 0
 IsOrdered before [] = Unit {0}
 IsOrdered before (b ∷ bs) = ((c : ℕ) → IsIn c bs → before b c ≡ true) × IsOrdered before bs
-
--- of two numbers just one comes before the other, none comes before itself, and what comes before the one comes before
--- the other too
-pub record IsOrder (before : ℕ → ℕ → Bool) : Type 0 where
-  pub total : (b c : ℕ) → b ≢ c → (before b c ≡ true) ⊎ (before c b ≡ true)
-  pub one_way : (b c : ℕ) → before b c ≡ true → before c b ≡ true → ⊥
-  pub along : (b c d : ℕ) → before b c ≡ true → before c d ≡ true → before b d ≡ true
 
 -- the greater measure comes first, and of equal ones the smaller number
 unfoldable pub falls_by : (Buffer → ℕ) → Instance → ℕ → ℕ → Bool

@@ -3,10 +3,11 @@ use Rattle.std.proofs.Common.{◌≡◌, ◌^◌, ◌%◌, ℕ, ◌+◌, ◌<◌
 use Rattle.std.specs.List.Sorted.{IsPermutation}
 use Rattle.dsa_terms.specs.Buffers.{Instance, IsInstance, buffer}
 use Rattle.dsa_terms.specs.Claims.{Entry, IsIn}
-use Rattle.dsa_terms.specs.Fits.{IsClear, first_place, holds, least_from, neighbours, top}
+use Rattle.dsa_terms.specs.Fits.{first_place, holds, least_from, neighbours, top}
 use Rattle.dsa_terms.specs.Layouts.{IsApart}
 use Rattle.dsa_terms.proofs.NumberTests.{above, below_or_from, below_or_last, not_at_most}
 use Rattle.dsa_terms.proofs.Places.{in_at, place_of}
+use Rattle.dsa_start_laws.specs.Fitting.{IsClear}
 use Rattle.dsa_start_laws.proofs.Places.{first_is_clear, first_is_least, from_is_above, from_is_least, from_is_multiple, holds_is}
 use Rattle.first_fit.specs.Seats.{AreSeats, seat_of}
 use Rattle.first_fit.specs.declared.seats.Seat.{Seat}

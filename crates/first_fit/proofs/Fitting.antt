@@ -7,7 +7,7 @@ use Rattle.std.proofs.lemmas.List.Sorted.{IsPermutation-cons, IsPermutation-refl
 use Rattle.std.proofs.lemmas.List.FromFn.{fill_by_all, length-map-range_with_len}
 use Rattle.dsa_terms.specs.Buffers.{Instance, IsInstance, buffer, do_share}
 use Rattle.dsa_terms.specs.Claims.{Entry, IsIn, number_of}
-use Rattle.dsa_terms.specs.Fits.{FitRule, HasEach, IsFreeRange, Range, best_place, first_place, fitted, free_ranges, highest, holds, least_from, neighbours, start_in, tightest, top}
+use Rattle.dsa_terms.specs.Fits.{FitRule, Range, best_place, first_place, fitted, free_ranges, highest, holds, least_from, neighbours, start_in, tightest, top}
 use Rattle.dsa_terms.specs.Layouts.{IsLayout}
 use Rattle.dsa_terms.specs.Parts.{numbers, offsets_of}
 use Rattle.dsa_terms.specs.Plans.{layout_height}
@@ -17,6 +17,7 @@ use Rattle.dsa_terms.proofs.Numbers.{next_is_below}
 use Rattle.dsa_terms.proofs.NumberTests.{differ, equal}
 use Rattle.dsa_terms.proofs.Places.{all_from_in, in_from_all, in_permutation}
 use Rattle.dsa_terms.proofs.Ranges.{from_range}
+use Rattle.dsa_start_laws.specs.Fitting.{HasEach, IsFreeRange}
 use Rattle.dsa_search_laws.proofs.Search.{has_seat}
 use Rattle.dsa_search_laws.proofs.Parts.{offset_at}
 use Rattle.dsa_start_laws.proofs.Fits.{fitted_has, fitted_is_stacked, stacked_is_layout}

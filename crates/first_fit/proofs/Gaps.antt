@@ -3,7 +3,7 @@ use Rattle.std.proofs.Common.{◌≡◌, ℕ, ◌<◌, ◌≤◌, ◌⊎◌, ◌
 use Rattle.std.specs.List.Sorted.{IsNonDecreasingBy}
 use Rattle.dsa_terms.specs.Buffers.{Instance, IsInstance}
 use Rattle.dsa_terms.specs.Claims.{Entry, IsIn}
-use Rattle.dsa_terms.specs.Fits.{IsFreeRange, IsOpen, Range, highest, top}
+use Rattle.dsa_terms.specs.Fits.{Range, highest, top}
 use Rattle.dsa_terms.specs.Logs.{greatest}
 use Rattle.dsa_terms.proofs.Moments.{sound}
 use Rattle.dsa_start_laws.proofs.Places.{under_highest}
@@ -11,6 +11,7 @@ use Rattle.dsa_start_laws.proofs.Stacks.{greatest_is}
 use Rattle.dsa_terms.proofs.Lists.{from_map}
 use Rattle.dsa_terms.proofs.Places.{place_of}
 use Rattle.dsa_terms.proofs.NumberTests.{less, not_less}
+use Rattle.dsa_start_laws.specs.Fitting.{IsFreeRange, IsOpen}
 use Rattle.first_fit.specs.declared.spans.Span.{Span}
 use Rattle.first_fit.proofs.Spanning.{AreTaken}
 

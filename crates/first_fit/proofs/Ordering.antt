@@ -11,12 +11,13 @@ use Rattle.std.proofs.lemmas.List.Sorted.{IsPermutation-map, IsPermutation-sym}
 use Rattle.std.proofs.lemmas.Map.Keys.{IsDistinct-IsPermutation}
 use Rattle.dsa_terms.specs.Buffers.{Buffer, Instance, buffer}
 use Rattle.dsa_terms.specs.Claims.{IsIn, Rises}
-use Rattle.dsa_terms.specs.Orders.{IsOrder, IsOrdered, area}
+use Rattle.dsa_terms.specs.Orders.{IsOrdered, area}
 use Rattle.dsa_terms.specs.Parts.{numbers}
 use Rattle.dsa_terms.proofs.Lists.{from_map}
 use Rattle.dsa_terms.proofs.NumberTests.{differ, equal, not_less}
 use Rattle.dsa_terms.proofs.Ranges.{from_range, rises-range}
 use Rattle.dsa_terms.proofs.Places.{in_permutation}
+use Rattle.dsa_start_laws.specs.Ordering.{IsOrder}
 use Rattle.dsa_start_laws.proofs.Orders.{measures_are_orders, numbers_are_ordered, one_order, ordered_members}
 use Rattle.dsa_model.specs.Buffer.{IsBuffer}
 use Rattle.dsa_model.proofs.Instances.{sound_buffer}

@@ -2,7 +2,8 @@
 use Rattle.std.specs.Prelude.{◌≡◌, ◌<◌, ℕ, List, length}
 use Rattle.std.specs.List.{All}
 use Rattle.dsa_terms.specs.Buffers.{Instance}
-use Rattle.dsa_terms.specs.Fits.{FitRule, HasEach, best_place, first_place}
+use Rattle.dsa_terms.specs.Fits.{FitRule, best_place, first_place}
+use Rattle.dsa_start_laws.specs.Fitting.{HasEach}
 use Rattle.first_fit.specs.declared.fits.Fit.{Fit}
 use Rattle.first_fit.specs.declared.fits.Fit.TheVariants.{Best, First}
 

@@ -17,7 +17,7 @@ use Rattle.lifetime.proofs.Standing.{between_ends}
 
 -- ---- what is live between moments
 -- if u has all that is live from t to u, and k all that is live from u to k, then k has all that is live from t to k
-carried : (I : Instance) (t u k : ℕ) →
+pub carried : (I : Instance) (t u k : ℕ) →
     ((w : ℕ) → IsBetween t u w → AreAmong (live_at I w) (live_at I u)) →
     ((w : ℕ) → IsBetween u k w → AreAmong (live_at I w) (live_at I k)) →
     (w : ℕ) → IsBetween t k w → AreAmong (live_at I w) (live_at I k)
@@ -38,20 +38,20 @@ carried I t u k first second w h = elim (parted w h) [
 
 module _ (I : Instance) (S : SectionList) (a : AreSections I S) where
   -- what stands for t has all that is live from t to its start
-  reach : (s t : ℕ) → StandsFor I S s t → (w : ℕ) → IsBetween t (start_of S s) w →
+  pub reach : (s t : ℕ) → StandsFor I S s t → (w : ℕ) → IsBetween t (start_of S s) w →
       AreAmong (live_at I w) (live_at I (start_of S s))
   reach s t f w h b i =
       let k = from_live I w b i in rw (a.sections.live s f.in_range) at (f.has_all w b h k.0 k.1)
 
   -- some section stands for each start
-  standing : (t : ℕ) → live_at I t ≢ [] → (s : ℕ) × StandsFor I S s t
+  pub standing : (t : ℕ) → live_at I t ≢ [] → (s : ℕ) × StandsFor I S s t
   standing t n = elim (nil_or_not (live_at I t)) [
     | inl e ↦ absurd (n e)
     | inr r ↦ let k = from_live I t r.0 r.1 in a.stand t r.0 k.0 k.1
   ]
 
   -- no start other than its own has all that is live from there to it
-  own_start : (s q : ℕ) → s < count_of S → q < count_of S →
+  pub own_start : (s q : ℕ) → s < count_of S → q < count_of S →
       ((w : ℕ) → IsBetween (start_of S s) (start_of S q) w → AreAmong (live_at I w) (live_at I (start_of S q))) →
       q ≡ s
   own_start s q sn qn all = go (which q s)

@@ -9,6 +9,8 @@ pub mod Candidates
 pub mod Raising
 pub mod SoFar
 pub mod Reaching
+pub mod FirstSection
 pub mod Lines
 pub mod StackFacts
+pub mod MomentFacts
 mod BoundFacts

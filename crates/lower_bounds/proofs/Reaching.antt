@@ -4,13 +4,14 @@ use Rattle.std.proofs.lemmas.Bool.Decides.{nat_tests}
 use Rattle.std.proofs.lemmas.List.{length-map}
 use Rattle.std.specs.List.{All}
 use Rattle.std.specs.Option.{unwrap_or}
-use Rattle.dsa_terms.specs.Bounds.{HasSections, bound_height, bound_modulus, bound_moment, heights, highest_at, highest_stack, lower_bound, moduli, stack}
+use Rattle.dsa_terms.specs.Bounds.{bound_modulus, heights, highest_at, highest_stack, lower_bound, moduli, stack}
 use Rattle.dsa_terms.specs.Buffers.{Instance, IsInstance, IsLive, IsSound, buffer}
 use Rattle.dsa_terms.specs.Claims.{IsIn}
 use Rattle.dsa_terms.specs.Logs.{greatest}
 use Rattle.dsa_terms.proofs.Lists.{from_map, into_map, nil_or_not, greatest_under}
 use Rattle.dsa_terms.proofs.Places.{all_from_in, in_at, in_from_all, place_of}
 use Rattle.dsa_terms.proofs.NumberTests.{below_or_from}
+use Rattle.dsa_start_laws.specs.Reaching.{HasSections, bound_height, bound_moment}
 use Rattle.dsa_start_laws.proofs.Stacks.{greatest_all, greatest_is, height_multiple, zero_height}
 use Rattle.dsa_model.specs.Buffer.{IsBuffer}
 use Rattle.lifetime.specs.Runs.{starts_of}

@@ -1,3 +1,4 @@
 pub mod Stacks
 pub mod Tallies
 pub mod Best
+pub mod BoundMoment

@@ -2,7 +2,8 @@
 
 ghost use Rattle.std.specs.Prelude.{◌≡◌, ◌≤◌, length, IfOk};
 ghost use Rattle.std.specs.List.{All};
-ghost use Rattle.dsa_terms.specs.Bounds.{bound_height, bound_modulus, bound_moment, lower_bound};
+ghost use Rattle.dsa_terms.specs.Bounds.{bound_modulus, lower_bound};
+ghost use Rattle.dsa_start_laws.specs.Reaching.{bound_height, bound_moment};
 ghost use Rattle.dsa_model.specs.Buffer.{IsBuffer, buffer_limit};
 ghost use Rattle.lifetime.specs.Runs.{starts_of};
 ghost use Rattle.lifetime.specs.SectionList.{AreSectionsOf, count_of};

@@ -5,9 +5,11 @@ mod crude;
 mod falling;
 mod highest;
 mod moduli;
+mod moment;
 mod one_line;
 mod tallies;
 mod value;
 
 pub use highest::bound;
+pub use moment::bound_moment_is_one;
 pub use value::Bound;

@@ -16,6 +16,7 @@ use Rattle.min_capacity.specs.declared.brackets.Bracket.{Bracket}
 use Rattle.min_capacity.specs.declared.brackets.Least.TheVariants as found
 use Rattle.planner.specs.Decides.{IsBoundLog}
 use Rattle.planner.specs.declared.decision.Decision.TheVariants as decision
+use Rattle.planner.proofs.ExampleFacts.{five_moment}
 use Rattle.planner.proofs.ExampleLeastFacts.{below_bound, below_log, four_is_open, line_refutes}
 use Rattle.planner.proofs.StepFacts.{best_at_5}
 use Rattle.packer.specs.Packs.{AreUsedUp, IfLeftOpen, IsPackedOpen, IsTrimmed, Packs, PacksWithin, placing_cost, placing_steps, RefutesOneLess, RefutesWithin}
@@ -102,6 +103,7 @@ pub five_by_bound : IsBoundLog five 11 five_log
 five_by_bound = record {
   moment = 0;
   height = 0;
+  its_moment = five_moment;
   from = zero_height five (bound_modulus five);
   least = λ H i e. omega arith;
   reached = rw five_modulus (twelve_stacked ∙ sym five_bound);

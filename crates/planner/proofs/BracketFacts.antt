@@ -10,6 +10,7 @@ use Rattle.dsa_terms.proofs.ExamplePlanFacts.{small_below_plan_at_5, two_of_four
 use Rattle.dsa_start_laws.proofs.Stacks.{zero_height}
 use Rattle.dsa_start_laws.proofs.Planned.{planned_is_layout}
 use Rattle.lower_bounds.specs.declared.value.Bound.{Bound}
+use Rattle.lower_bounds.proofs.MomentFacts.{two_moment}
 use Rattle.min_capacity.specs.declared.brackets.Bracket.{Bracket}
 use Rattle.planner.specs.Decides.{IsStackRefutation}
 use Rattle.planner.specs.FirstBracket.{IsFirstBracket, IsLogBelow, IsLowerBound}
@@ -31,6 +32,7 @@ seven_by_four : IsLowerBound two_of_four (bound_at 7 0 4)
 seven_by_four = record {
   capacity = sym two_bound;
   modulus = sym two_modulus;
+  moment = λ some. two_moment;
   reached = inr (lit≤ tt, refl, sym seven_stacked);
   from = λ some. zero_height two_of_four 4;
   least = λ H i e. omega arith;
@@ -62,6 +64,7 @@ six_by_stack = record {
   by_bound = record {
     moment = 0;
     height = 0;
+    its_moment = two_moment;
     from = zero_height two_of_four (bound_modulus two_of_four);
     least = λ H i e. omega arith;
     reached = rw two_modulus (seven_stacked ∙ sym two_bound);

@@ -1,5 +1,5 @@
 -- What the starts and the search come to together.
-use Rattle.std.proofs.Common.{◌≡◌, ℕ, ◌<◌, ◌≤◌, ◌↔◌, ◌⊎◌, inl, inr, List, Option, Some, None, IsSome, refl, arith}
+use Rattle.std.proofs.Common.{◌≡◌, ℕ, ◌<◌, ◌≤◌, ◌↔◌, ◌⊎◌, inl, inr, List, Option, Some, None, IsSome, length, refl, subst, arith}
 use Rattle.dsa_terms.specs.Bounds.{lower_bound}
 use Rattle.dsa_terms.specs.Buffers.{Instance, IsInstance}
 use Rattle.dsa_terms.specs.Layouts.{IsFeasible, IsInfeasible}
@@ -7,10 +7,13 @@ use Rattle.dsa_terms.specs.Logs.{Log}
 use Rattle.dsa_terms.specs.Parts.{searched}
 use Rattle.dsa_terms.specs.Plans.{plan}
 use Rattle.dsa_terms.specs.Starts.{planned}
+use Rattle.dsa_search_laws.specs.Searches.{most_work}
+use Rattle.dsa_search_laws.proofs.Totals.{whole_work_bound}
 use Rattle.dsa_start_laws.proofs.Planned.{planned_is_layout}
 use Rattle.dsa_start_laws.proofs.Stacks.{bound_is_low}
 use Rattle.planner.specs.Decides.{IsAnswered}
-use Rattle.planner.specs.Decisions.{Decides, IsByLog, IsLaidOut}
+use Rattle.planner.specs.Decisions.{Decides, IsByLog, IsExact, IsLaidOut}
+use Rattle.planner.specs.Openings.{AreEnough}
 use Rattle.planner.specs.FirstStart.{start_within}
 use Rattle.planner.specs.declared.decision.Decision.{Decision}
 use Rattle.planner.specs.declared.decision.Decision.TheVariants.{Layout, Refuted, Open}
@@ -60,6 +63,24 @@ refuted_exactly I C steps (Layout offsets) none h =
     (λ refuted. absurd refuted, λ infeasible. absurd (infeasible offsets.items h.layout))
 refuted_exactly I C steps (Refuted log) none h = (λ refuted. h.infeasible, λ infeasible. tt)
 refuted_exactly I C steps (Open b) none h = let given = h.too_few.given in absurd cc
+
+-- with as many steps as a search can take it never stays open
+pub enough_is_exact : (I : Instance) (C : ℕ) (steps : Option ℕ) (d : Decision) → AreEnough I steps →
+    Decides I C steps d → IsExact I C d
+enough_is_exact I C steps (Layout offsets) enough h = (
+  (λ laid. (offsets.items, h.layout), λ feasible. tt),
+  (λ refuted. absurd refuted, λ infeasible. absurd (infeasible offsets.items h.layout)),
+)
+enough_is_exact I C steps (Refuted log) enough h = (
+  (λ laid. absurd laid, λ feasible. absurd (h.infeasible feasible.0 feasible.1)),
+  (λ refuted. h.infeasible, λ infeasible. tt),
+)
+enough_is_exact I C steps (Open b) enough h =
+    let few = h.too_few in
+    let k : most_work (length I) ≤ few.number = subst (AreEnough I) few.given enough in
+    let most = whole_work_bound I C in
+    let less = few.below_work in
+    absurd (omega arith)
 
 -- ---- the bound
 pub le_or_lt : (m n : ℕ) → (m ≤ n) ⊎ (n < m)

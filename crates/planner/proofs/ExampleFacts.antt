@@ -10,6 +10,8 @@ use Rattle.dsa_terms.specs.Plans.{layout_height}
 use Rattle.dsa_terms.specs.Starts.{best_start, lowest_place, starts}
 use Rattle.dsa_terms.proofs.Examples.{evens, small_below, two_of_four}
 use Rattle.layout_report.specs.declared.facts.Facts.{Facts}
+pub use Rattle.lower_bounds.proofs.MomentFacts.{five_moment}
+use Rattle.lower_bounds.proofs.MomentFacts.{two_moment}
 use Rattle.planner.specs.Decides.{IsBoundLog}
 use Rattle.planner.specs.InstanceFacts.{AreFactsOf}
 use Rattle.planner.specs.FirstStart.{start_within}
@@ -41,6 +43,7 @@ unfolding stack pile stack_log stack_line line_height counted floor rounded_size
 bound_log = record {
   moment = 0;
   height = 0;
+  its_moment = two_moment;
   from = inl refl;
   reached = refl;
   least = λ H i e. omega arith;

@@ -19,6 +19,7 @@ use Rattle.dsa_start_laws.proofs.Peaks.{stack_is_lean}
 use Rattle.dsa_start_laws.proofs.Planned.{planned_exactly, planned_is_layout}
 use Rattle.dsa_start_laws.proofs.Stacks.{zero_height, stack_is_accepted}
 use Rattle.min_capacity.specs.declared.brackets.Bracket.{Bracket}
+use Rattle.lower_bounds.proofs.MomentFacts.{below_moment}
 use Rattle.planner.specs.Decides.{IsBoundLog, LeavesNoLayout}
 use Rattle.min_capacity.specs.declared.brackets.Least.TheVariants.{Open}
 use Rattle.planner.specs.LeastCapacity.{AreWithinSteps, HasHalved, IsByBoundAtLow, IsExactly, IsLayoutWithin, IsLogWithin, IsWithinSteps, RefutesBelow, work_of_least}
@@ -187,6 +188,7 @@ pub below_log : IsBoundLog small_below 3 (stack_log small_below 0 0 1 3)
 below_log = record {
   moment = 0;
   height = 0;
+  its_moment = below_moment;
   from = zero_height small_below (bound_modulus small_below);
   least = λ H i e. omega arith;
   reached = rw below_modulus (four_stacked ∙ sym below_bound);

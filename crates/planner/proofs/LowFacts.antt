@@ -6,6 +6,7 @@ use Rattle.dsa_terms.specs.Claims.{IsIn}
 use Rattle.dsa_terms.specs.Logs.{Over}
 use Rattle.dsa_terms.proofs.Examples.{low}
 use Rattle.lower_bounds.specs.declared.value.Bound.{Bound}
+use Rattle.lower_bounds.proofs.MomentFacts.{low_moment}
 use Rattle.planner.specs.Decides.{IsBoundLog}
 use Rattle.planner.specs.FirstBracket.{IsLowerBound}
 
@@ -26,6 +27,7 @@ unfolding bound_modulus least_of lower_bound highest_stack highest_at heights fl
 ten_from_six = record {
   capacity = refl;
   modulus = refl;
+  moment = λ some. low_moment;
   reached = inr (lit≤ tt, refl, refl);
   from = λ some. inr (inl refl);
   least = no_lower;
@@ -45,6 +47,7 @@ unfolding bound_modulus least_of lower_bound highest_stack highest_at heights fl
 low_log = record {
   moment = 0;
   height = 6;
+  its_moment = low_moment;
   from = inr (inl refl);
   reached = refl;
   least = no_lower;

@@ -1,17 +1,19 @@
 -- Accepted logs as refutations of their capacity.
 use Rattle.std.proofs.Common.{◌≡◌, ℕ, List, ◌<◌, ◌≤◌, inl, inr, refl, sym, ap, subst, ◌∙◌, arith}
 use Rattle.std.specs.List.{All}
-use Rattle.dsa_terms.specs.Bounds.{bound_height, bound_modulus, bound_moment, heights, lower_bound, stack, stack_log, stack_line, line_height, pile}
+use Rattle.dsa_terms.specs.Bounds.{bound_modulus, heights, lower_bound, stack, stack_log, stack_line, line_height, pile}
 use Rattle.dsa_terms.specs.Buffers.{Instance, IsInstance}
 use Rattle.dsa_terms.specs.Claims.{IsIn}
 use Rattle.dsa_terms.specs.Layouts.{IsInfeasible}
 use Rattle.dsa_terms.specs.Lean.{IsLean}
 use Rattle.dsa_terms.specs.Logs.{Log, IsAccepted}
+use Rattle.dsa_start_laws.specs.Reaching.{bound_height, bound_moment}
 use Rattle.dsa_search_laws.proofs.Logs.{accepted_is_infeasible}
 use Rattle.dsa_start_laws.proofs.Peaks.{stack_is_lean}
 use Rattle.dsa_model.specs.Buffer.{IsBuffer}
 use Rattle.dsa_model.proofs.Instances.{sound_instance}
 use Rattle.lower_bounds.specs.Best.{IsBoundOf}
+use Rattle.lower_bounds.specs.BoundMoment.{IsBoundMoment}
 use Rattle.lower_bounds.specs.declared.value.Bound.{Bound}
 use Rattle.search_core.specs.Decisions.{IsRefutation}
 use Rattle.planner.specs.Decides.{LeavesNoLayout, IsStackRefutation}
@@ -35,12 +37,14 @@ search_refutes I C log s h = record {
 pub is_lower_bound : (I : Instance) (starts : List ℕ) (b : Bound) → b.capacity ≡ lower_bound I →
     b.modulus ≡ bound_modulus I → b.moment ≡ bound_moment I starts → b.height ≡ bound_height I starts → IsBoundOf I b →
     (1 ≤ lower_bound I → IsIn (bound_height I starts) (heights I (bound_modulus I))) →
+    (1 ≤ lower_bound I → IsBoundMoment I (bound_moment I starts)) →
     ((H : ℕ) → IsIn H (heights I (bound_modulus I)) →
     stack I (bound_moment I starts) H (bound_modulus I) ≡ lower_bound I → bound_height I starts ≤ H) →
     IsLowerBound I b
-is_lower_bound I starts b c m t h is from least = record {
+is_lower_bound I starts b c m t h is from moment least = record {
   capacity = c;
   modulus = m;
+  moment = rw (c, t) moment;
   reached = is;
   from = rw (c, m, h) from;
   least = rw (c, m, t, h) least;
@@ -75,6 +79,7 @@ bound_refutes I C b log s h lt q a = record {
   by_bound = record {
     moment = b.moment;
     height = b.height;
+    its_moment = h.moment (omega arith);
     from = rw (← h.modulus) (h.from (omega arith));
     reached = rw (← h.modulus) (sym (reaches I C b h.reached lt) ∙ h.capacity);
     least = rw (← h.modulus, ← h.capacity) h.least;

@@ -6,6 +6,7 @@ use Rattle.dsa_terms.specs.Claims.{IsIn}
 use Rattle.dsa_terms.specs.Layouts.{IsLayout, IsInfeasible}
 use Rattle.dsa_terms.specs.Lean.{IsLean}
 use Rattle.dsa_terms.specs.Logs.{Log, IsAccepted}
+use Rattle.lower_bounds.specs.BoundMoment.{IsBoundMoment}
 
 -- the answer is these offsets, and they are a layout
 pub record IsAnswered (answer : Option (List ℕ)) (I : Instance) (C : ℕ) (offsets : List ℕ) : Type 0 where
@@ -19,11 +20,12 @@ pub record LeavesNoLayout (I : Instance) (C : ℕ) (log : Log) : Type 0 where
   pub infeasible : IsInfeasible I C
   pub lean : IsLean I log
 
--- the one line of a stack that is as high as the lower bound, by the bound's modulus and from the least height with
--- which it is as high
+-- the one line of the stack that is as high as the lower bound, at the bound's moment, by its modulus and from the least
+-- height with which it is as high
 pub record IsBoundLog (I : Instance) (C : ℕ) (log : Log) : Type 0 where
   pub moment : ℕ
   pub height : ℕ
+  pub its_moment : IsBoundMoment I moment
   pub from : IsIn height (heights I (bound_modulus I))
   pub reached : stack I moment height (bound_modulus I) ≡ lower_bound I
   pub least : (H : ℕ) → IsIn H (heights I (bound_modulus I)) → stack I moment H (bound_modulus I) ≡ lower_bound I →

@@ -1,6 +1,7 @@
 -- What is decided of a capacity.
-use Rattle.std.specs.Prelude.{ℕ, length, Option}
+use Rattle.std.specs.Prelude.{ℕ, ◌↔◌, length, Option}
 use Rattle.dsa_terms.specs.Buffers.{Instance}
+use Rattle.dsa_terms.specs.Layouts.{IsFeasible, IsInfeasible}
 use Rattle.dsa_terms.specs.Starts.{planned}
 use Rattle.planner.specs.Decides.{IsAnswered, IsBoundLog, LeavesNoLayout}
 use Rattle.planner.specs.Openings.{IsSpentAt}
@@ -24,6 +25,10 @@ abbrev pub IsByLog : Decision → Type 0
 IsByLog (Layout offsets) = ⊥
 IsByLog (Refuted log) = Unit {0}
 IsByLog (Open b) = ⊥
+
+-- the decision is a layout exactly where some layout fits, and a log exactly where none does
+abbrev pub IsExact : Instance → ℕ → Decision → Type 0
+IsExact I C decision = (IsLaidOut decision ↔ IsFeasible I C) × (IsByLog decision ↔ IsInfeasible I C)
 
 -- the decision is the bound's log of one line
 abbrev pub IsByBound : Instance → ℕ → Decision → Type 0

@@ -9,14 +9,16 @@ use Rattle.dsa_terms.specs.Logs.{Log}
 use Rattle.dsa_terms.specs.Plans.{layout_height}
 use Rattle.dsa_terms.specs.Starts.{best_start}
 use Rattle.lower_bounds.specs.Best.{IsBoundOf}
+use Rattle.lower_bounds.specs.BoundMoment.{IsBoundMoment}
 use Rattle.lower_bounds.specs.declared.value.Bound.{Bound}
 use Rattle.min_capacity.specs.declared.brackets.Bracket.{Bracket}
 use Rattle.planner.specs.Decides.{IsStackRefutation}
 
--- the lower bound of the instance, with its modulus and the least height that reaches it at its moment
+-- the lower bound of the instance, with its modulus, its moment and the least height that reaches it there
 pub record IsLowerBound (I : Instance) (b : Bound) : Type 0 where
   pub capacity : b.capacity ≡ lower_bound I
   pub modulus : b.modulus ≡ bound_modulus I
+  pub moment : 1 ≤ b.capacity → IsBoundMoment I b.moment
   pub reached : IsBoundOf I b
   pub from : 1 ≤ b.capacity → IsIn b.height (heights I b.modulus)
   pub least : (H : ℕ) → IsIn H (heights I b.modulus) → stack I b.moment H b.modulus ≡ b.capacity → b.height ≤ H

@@ -1,5 +1,5 @@
 -- What stays open where the steps are used up.
-use Rattle.std.specs.Prelude.{◌≡◌, ℕ, ◌-◌, ◌<◌, ◌≤◌, List, Option, IfSome, Some}
+use Rattle.std.specs.Prelude.{◌≡◌, ℕ, ◌-◌, ◌<◌, ◌≤◌, List, Option, IfSome, Some, length}
 use Rattle.dsa_terms.specs.Bounds.{lower_bound}
 use Rattle.dsa_terms.specs.Buffers.{Instance}
 use Rattle.dsa_terms.specs.Layouts.{IsLayout}
@@ -7,6 +7,7 @@ use Rattle.dsa_terms.specs.Logs.{Log}
 use Rattle.dsa_terms.specs.Parts.{whole_work}
 use Rattle.dsa_terms.specs.Plans.{layout_height}
 use Rattle.dsa_terms.specs.Starts.{best_start, planned}
+use Rattle.dsa_search_laws.specs.Searches.{most_work}
 use Rattle.min_capacity.specs.declared.brackets.Bracket.{Bracket}
 use Rattle.planner.specs.Decides.{IsBoundLog, LeavesNoLayout}
 
@@ -22,6 +23,10 @@ pub record StaysOpen (I : Instance) (low high : ℕ) (offsets : List ℕ) (log :
 -- so many steps are no more than were given, if a number was
 abbrev pub AreGiven : Option ℕ → ℕ → Type 0
 AreGiven steps n = IfSome steps (λ k. n ≤ k)
+
+-- no number of steps is given, or at least the most that a search of all buffers can take
+abbrev pub AreEnough : Instance → Option ℕ → Type 0
+AreEnough I steps = IfSome steps (λ k. most_work (length I) ≤ k)
 
 -- a number of steps was given, and it is below the work that may be needed
 pub record AreTooFew (steps : Option ℕ) (work : ℕ) : Type 0 where

@@ -3,9 +3,10 @@
 ghost use Rattle.std.specs.Prelude.{◌≡◌, ◌<◌, ◌≤◌, ◌^◌, ◌↔◌, None, IfOk};
 ghost use Rattle.dsa_terms.specs.Bounds.{lower_bound};
 ghost use Rattle.dsa_terms.specs.Layouts.{IsFeasible, IsInfeasible};
-ghost use Rattle.planner.specs.Decisions.{Decides, IsByBound, IsByLog, IsLaidOut, decision_steps};
+ghost use Rattle.planner.specs.Decisions.{Decides, IsByBound, IsByLog, IsExact, IsLaidOut};
+ghost use Rattle.planner.specs.Decisions.{decision_steps};
 ghost use Rattle.planner.specs.FirstStart.{IsBestStart, start_within};
-ghost use Rattle.planner.specs.Openings.{AreGiven};
+ghost use Rattle.planner.specs.Openings.{AreEnough, AreGiven};
 
 use crate::Decision;
 use crate::bracketing::first_bracket;
@@ -60,7 +61,8 @@ fn decide_past_starts(
 ///
 /// The search has a budget of `steps` units, one for each claim that it opens, if a number is
 /// given. Where they are used up before it has an answer, the capacity stays open between the lower
-/// bound and the best start; without a number that never comes.
+/// bound and the best start; without a number that never comes, nor with at least N(n) for n
+/// buffers, N(0) being 1 and N(k) being 1 + k N(k - 1).
 ///
 /// The caller owes a capacity of at most 2^60.
 pub fn plan(
@@ -79,6 +81,7 @@ pub fn plan(
         IsLaidOut decision ↔ IsFeasible instance.now capacity) }
     ensures infeasible { steps ≡ None → IfOk result (λ decision.
         IsByLog decision ↔ IsInfeasible instance.now capacity) }
+    ensures enough { AreEnough instance.now steps → IfOk result (IsExact instance.now capacity) }
     ensures bound { capacity < lower_bound instance.now →
         IfOk result (IsByBound instance.now capacity) }
     ensures steps { start_within instance.now capacity ≡ None →

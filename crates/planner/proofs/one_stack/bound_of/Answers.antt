@@ -10,5 +10,11 @@ returns c =
     c.in_ok-bound.ensures.capacity c.in_ok-bound.ensures.modulus c.in_ok-bound.ensures.moment
     c.in_ok-bound.ensures.height c.in_ok-bound.ensures.bound
     (λ some. (laws.height c.args.instance.now (starts_of c.args.sections.now.sections)
-    (sections_are_all c.args.instance.now c.args.sections.now c.requires) some).0)
+    (sections_are_all c.args.instance.now c.args.sections.now c.requires.sections) some).0)
+    (c.bound_moment_is_one.ensures.section c.args.instance.now c.args.sections.now (record {
+      sections = c.requires.sections;
+      runs = c.requires.runs;
+      thin = c.requires.thin;
+      stand = c.requires.stand;
+    }))
     (λ H. laws.lowest c.args.instance.now (starts_of c.args.sections.now.sections) H)
