@@ -1,6 +1,6 @@
 -- Answers of a decider for two buffers of size 3 aligned to four, which fit into 7; and the steps of halving.
-use Rattle.std.proofs.Common.{◌≡◌, ℕ, zero, suc, ◌+◌, ◌*◌, ◌<◌, inl, inr, [], ◌∷◌, slice_get, take, cond, nat_le, Some, None, refl, subst, arith}
-use Rattle.dsa_terms.specs.Buffers.{is_live, buffer, floor}
+use Rattle.std.proofs.Common.{◌≡◌, ℕ, zero, suc, ◌+◌, ◌*◌, ◌<◌, inl, inr, [], ◌∷◌, slice_get, take, cond, nat_le, Some, None, refl, subst, lit≤, lit<, arith}
+use Rattle.dsa_terms.specs.Buffers.{IsInstance, is_live, buffer, floor}
 use Rattle.dsa_terms.specs.Claims.{Entry, Claim, IsIn, IsWhole, up}
 use Rattle.dsa_terms.specs.Layouts.{IsLayout}
 use Rattle.dsa_terms.specs.Logs.{is_stacked, rounded, rounding, Over, Line, IsLegal, IsAccepted, Log}
@@ -9,9 +9,10 @@ use Rattle.dsa_terms.proofs.Examples.{two_of_four}
 use Rattle.dsa_model.specs.LayoutFaults.{first_unaligned, first_too_low, first_above, first_overlap, overlap_after, overlap}
 use Rattle.dsa_model.proofs.LayoutFaults.{layout_exactly}
 use Rattle.refute_log.specs.Answers.{Offsets, Refutation, NoAnswer}
-use Rattle.refute_log.specs.Decided.{answer_of, IsRight, TurnsOut, IfSpent}
+use Rattle.refute_log.specs.Decided.{answer_of, IsRight, Settles, TurnsOut, IfSpent}
 use Rattle.refute_log.specs.Logs.{ended}
 use Rattle.refute_log.specs.Halvings.{after_turn, halving_within}
+use Rattle.refute_log.proofs.Settling.{right_settles}
 use Rattle.refute_log.specs.declared.decided.Decided.{Decided}
 use Rattle.refute_log.specs.declared.decided.Decided.TheVariants.{Layout, Refuted, Spent}
 
@@ -89,6 +90,21 @@ log_at_5 r = let h = r.1 in cc
 
 spent_is_right : IsRight two_of_four 5 Spent
 spent_is_right = tt
+
+-- ---- a log settles 6, where none fits, and not 7; Spent settles nothing
+log_settles : Settles two_of_four 6 (Refuted six)
+log_settles = right_settles two_of_four 6 (Refuted six) sound log_is_right
+  where
+    sound : IsInstance two_of_four
+    sound zero d lt = (lit≤ tt, lit≤ tt, lit< tt)
+    sound (suc zero) d lt = (lit≤ tt, lit≤ tt, lit< tt)
+    sound (suc (suc k)) d lt = absurd (omega arith)
+
+log_at_7 : Settles two_of_four 7 (Refuted six) → ⊥
+log_at_7 none = none (0 ∷ 4 ∷ []) seats
+
+spent_settles : Settles two_of_four 6 Spent
+spent_settles = tt
 
 -- ---- as said: the layout has height 7, and a log comes where no height is said
 seats_turn_out : (d : Decided) → answer_of d ≡ Offsets (0 ∷ 4 ∷ []) → TurnsOut two_of_four (Some 7) d

@@ -2,7 +2,7 @@
 use Rattle.std.specs.Prelude.{◌≡◌, ℕ, Option}
 use Rattle.std.specs.declared.option.Option.TheVariants.{Some, None}
 use Rattle.dsa_terms.specs.Buffers.{Instance}
-use Rattle.dsa_terms.specs.Layouts.{IsLayout}
+use Rattle.dsa_terms.specs.Layouts.{IsFeasible, IsInfeasible, IsLayout}
 use Rattle.dsa_terms.specs.Logs.{IsAccepted}
 use Rattle.dsa_terms.specs.Plans.{layout_height}
 use Rattle.refute_log.specs.Answers.{Answer, Offsets, Refutation, NoAnswer}
@@ -20,6 +20,12 @@ abbrev pub IsRight : Instance → ℕ → Decided → Type 0
 IsRight I C (Layout offsets) = IsLayout I C offsets.items
 IsRight I C (Refuted log) = IsAccepted I log × (log.capacity ≡ C)
 IsRight I C Spent = Unit {0}
+
+-- a layout comes only where some layout fits, and a log only where none does; so each comes exactly there, or Spent
+abbrev pub Settles : Instance → ℕ → Decided → Type 0
+Settles I C (Layout offsets) = IsFeasible I C
+Settles I C (Refuted log) = IsInfeasible I C
+Settles I C Spent = Unit {0}
 
 -- the answer turns out as said: a layout has that height, and a refutation comes only where there is none
 abbrev pub TurnsOut : Instance → Option ℕ → Decided → Type 0

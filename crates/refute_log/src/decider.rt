@@ -4,7 +4,7 @@ ghost use Rattle.std.specs.Prelude.{◌≡◌, ℕ, ◌+◌, ◌<◌, ◌≤◌,
 ghost use Rattle.dsa_terms.specs.Buffers.{Instance};
 ghost use Rattle.dsa_model.specs.Counts.{Rose};
 ghost use Rattle.refute_log.specs.Answers.{Answer};
-ghost use Rattle.refute_log.specs.Decided.{answer_of, IsRight, TurnsOut, IfSpent};
+ghost use Rattle.refute_log.specs.Decided.{answer_of, IsRight, Settles, TurnsOut, IfSpent};
 
 use crate::Decided;
 use dsa_model::NoMemory;
@@ -43,6 +43,7 @@ pub trait Decider {
         ensures units { units self.old ≤ units self.new }
         ensures used { units self.new ≤ units self.old + most (subject self.old) capacity }
         ensures right { IfOk result (λ d. IsRight (subject self.old) capacity d) }
+        ensures settles { IfOk result (Settles (subject self.old) capacity) }
         ensures given { IfOk result (λ d. gives (subject self.old) capacity (answer_of d)) }
         ensures turned { let I = subject self.old in
             IfOk result (λ d. TurnsOut I (turn I capacity) d) }

@@ -84,7 +84,7 @@ impl<'a> Decider for Search<'a> {
     ghost use Rattle.std.specs.Prelude.{◌≡◌, ◌+◌, ◌<◌, ◌≤◌, ◌^◌, IfOk, OnErr, length};
     ghost use Rattle.dsa_terms.specs.Parts.{whole_work};
     ghost use Rattle.dsa_model.specs.Counts.{Rose};
-    ghost use Rattle.refute_log.specs.Decided.{IfSpent, IsRight, TurnsOut, answer_of};
+    ghost use Rattle.refute_log.specs.Decided.{IfSpent, IsRight, Settles, TurnsOut, answer_of};
     ghost use Rattle.search_core.specs.Decisions.{IsGiven, allowance_of, charge_of, turn_of};
     ghost use Rattle.search_core.specs.Meters.{AreMore};
     ghost use Rattle.search_core.specs.Outcomes.{LinesAreCounted, UnlessSpent, spends_after};
@@ -117,6 +117,7 @@ impl<'a> Decider for Search<'a> {
         ensures used { let most = whole_work self.old.subject capacity in
             self.new.units.used ≤ self.old.units.used + most }
         ensures right { IfOk result (λ d. IsRight self.old.subject capacity d) }
+        ensures settles { IfOk result (Settles self.old.subject capacity) }
         ensures given { IfOk result (λ d. IsGiven self.old.subject capacity (answer_of d)) }
         ensures turned { let I = self.old.subject in
             IfOk result (λ d. TurnsOut I (turn_of I capacity) d) }

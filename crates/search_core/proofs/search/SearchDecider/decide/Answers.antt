@@ -1,4 +1,6 @@
 use Rattle.std.proofs.Common.{◌≡◌, ap}
+use Rattle.dsa_model.proofs.Instances.{sound_instance}
+use Rattle.refute_log.proofs.Settling.{right_settles}
 use Rattle.search_core.specs.Courses.{Course}
 use Rattle.search_core.proofs.Charging.{is_charged}
 use Rattle.search_core.proofs.Deciding.{is_right}
@@ -10,6 +12,14 @@ returns-clause-right c =
     let subject = ap (λ (v : Course). v.subject) c.self.view_is in
     rw (← subject) (is_right c.self.inside.instance.now c.args.capacity c.in_ok-decided.decided
     c.len-count.ensures.buffers c.in_ok-decided.ensures.decided)
+
+pub returns-clause-settles : goal.returns-clause-settles
+returns-clause-settles c =
+    let subject = ap (λ (v : Course). v.subject) c.self.view_is in
+    rw (← subject) (right_settles c.self.inside.instance.now c.args.capacity c.in_ok-decided.decided
+    (sound_instance c.self.inside.instance.now c.len-count.ensures.buffers)
+    (is_right c.self.inside.instance.now c.args.capacity c.in_ok-decided.decided c.len-count.ensures.buffers
+    c.in_ok-decided.ensures.decided))
 
 pub returns-clause-charged : goal.returns-clause-charged
 returns-clause-charged c =
