@@ -76,6 +76,7 @@ impl Decider for Prepared<'_> {
     ghost charge = { λ _ _ _. 0 };
 
     fn decide(&mut self, capacity: u64) -> Result<Decided, NoMemory> {
+        let _count = self.instance.len();
         if let Some(Answers { layout, log }) = self.answers.take() {
             if capacity >= 12 {
                 return Ok(Decided::Layout(layout));
