@@ -16,6 +16,7 @@ use Rattle.canonical_order.proofs.LevelLemmas.{has_level, level_inside}
 use Rattle.search_core.specs.Descents.{IsUnder}
 use Rattle.search_core.specs.Levels.{HasLowChild}
 use Rattle.search_core.specs.Tries.{Tried, chosen_of}
+use Rattle.search_core.specs.Watches.{AreTheRaised}
 use Rattle.search_core.proofs.Lifting.{up_of_lift}
 use Rattle.search_core.proofs.Rising.{low_of_child}
 
@@ -95,7 +96,7 @@ child_low I l c n buffers count claim low has q =
     omega arith
 
 -- ---- one level after another
-set_cases : (xs : List ℕ) (j v c : ℕ) → j < length xs →
+pub set_cases : (xs : List ℕ) (j v c : ℕ) → j < length xs →
     ((c ≡ j) × (slice_index (slice_set xs j v) c ≡ v))
     ⊎ ((c ≢ j) × (slice_index (slice_set xs j v) c ≡ slice_index xs c))
 set_cases xs j v c lt = elim (equal_or_not c j) [
@@ -140,6 +141,15 @@ module _ (I : Instance) (levels : List ℕ) (b : ℕ) (numbers : List ℕ) (x : 
       | inr r ↦ (let q = r.1 in let k = h c in omega arith)
     ]
 
+    pub raised_next : (old new : List ℕ) →
+        (slice_index levels x.0 < v → IsIn x.0 new) → ((c : ℕ) → IsIn c old → IsIn c new) →
+        AreTheRaised levels numbers old → AreTheRaised levels (slice_set numbers x.0 v) new
+    raised_next old new now kept h c less = elim (set_cases numbers x.0 v c lt) [
+      | inl r ↦ subst (λ c. IsIn c new) (sym r.0)
+          (now (let q = r.1 in let p = ap (slice_index levels) r.0 in omega arith))
+      | inr r ↦ kept c (h c (let q = r.1 in omega arith))
+    ]
+
     pub outside_next : 0 < slice_index levels x.0 → ((c : ℕ) → slice_index levels c ≡ 0 → slice_index numbers c ≡ 0) →
         (c : ℕ) → slice_index levels c ≡ 0 → slice_index (slice_set numbers x.0 v) c ≡ 0
     outside_next more h c z = elim (set_cases numbers x.0 v c lt) [
@@ -156,3 +166,11 @@ low_child I f levels b l u q e low = record {
   has = subst (λ (b : ℕ). HasBuffer u.above b) (sym e) u.has;
   low = subst (IsBoundedBy (2 ^ 54)) (u.standing.is_child ∙ ap (λ (b : ℕ). child I u.above (entry_of u.above b)) (sym e)) low;
 }
+
+pub child_under : (I : Instance) (f : Tried) (levels numbers : List ℕ) (b : ℕ) (l : Claim) → IsUnder I f l →
+    levels ≡ f.levels → b ≡ chosen_of f →
+    ((m : Claim) → AreLevels I m levels → AreLevels I (child I m (entry_of m b)) numbers) → AreLevels I l numbers
+child_under I f levels numbers b l u q e h =
+    subst (λ (l : Claim). AreLevels I l numbers)
+    (sym (u.standing.is_child ∙ ap (λ (b : ℕ). child I u.above (entry_of u.above b)) (sym e)))
+    (h u.above (subst (AreLevels I u.above) (sym q) u.levels))

@@ -1,37 +1,50 @@
 -- The watches of one buffer after another fail at the levels of a claim, but for those of the buffers that are left.
-use Rattle.std.proofs.Common.{◌≡◌, ℕ, ◌<◌, ◌⊎◌, inl, inr, List, [], ◌∷◌, slice_index, sym, subst, arith}
-use Rattle.dsa_terms.specs.Claims.{Claim, Entry}
+use Rattle.std.proofs.Common.{◌≡◌, ℕ, suc, ◌+◌, ◌<◌, ◌≤◌, ◌⊎◌, inl, inr, List, [], ◌∷◌, drop, length, slice_index, slice_index_or, sym, ap, ◌∙◌, subst, arith}
+use Rattle.std.proofs.lemmas.Grind.{common_steps}
+use Rattle.std.proofs.Math.Seq.{drop-cons}
+use Rattle.dsa_terms.specs.Claims.{Entry, IsIn}
 use Rattle.dsa_terms.specs.Logs.{Line}
 use Rattle.dsa_terms.proofs.NumberTests.{below_or_from}
-use Rattle.canonical_order.specs.Claims.{HasBuffer}
-use Rattle.search_core.specs.Watches.{AreRaised}
+use Rattle.search_core.specs.Watches.{AreTheRaised}
 use Rattle.search_core.specs.Watching.{AreMoved, FailAt}
 use Rattle.search_core.proofs.WatchLemmas.{fail_still}
 
--- a buffer that has a level in the claim above is left, or its watches from there on fail
-abbrev pub FailBut : List Line → List ℕ → List ℕ → List Entry → Claim → Type 0
-FailBut lines before now watches left = (b : ℕ) → 0 < slice_index before b →
-    HasBuffer left b ⊎ FailAt lines watches now b (slice_index before b)
+-- one of the buffers is left, or its watches from the level before on fail
+abbrev pub FailBut : List Line → List ℕ → List ℕ → List Entry → List ℕ → List ℕ → Type 0
+FailBut lines before now watches buffers left = (b : ℕ) → IsIn b buffers →
+    IsIn b left ⊎ FailAt lines watches now b (slice_index before b)
 
-module _ (lines : List Line) (before now : List ℕ) where
-  pub fail_next : (old new : List Entry) (x : Entry) (left rest : Claim) → left ≡ x ∷ rest →
-      AreMoved lines now old new → FailAt lines new now x.0 (slice_index before x.0) →
-      FailBut lines before now old left → FailBut lines before now new rest
-  fail_next old new x left rest s moved here h b more = elim (h b more) [
-    | inl i ↦ elim (subst (λ (l : Claim). HasBuffer l b) s i) [
+-- ---- what is left of the buffers
+pub next_of : (bs : List ℕ) (i : ℕ) → i < length bs → drop i bs ≡ slice_index bs i ∷ drop (i + 1) bs
+next_of bs i lt = drop-cons bs i 0 lt ∙ ap (λ (n : ℕ). slice_index bs i ∷ drop n bs) (one i)
+  where
+    one : (i : ℕ) → suc i ≡ i + 1
+    one i = omega arith
+
+pub none_of : (bs : List ℕ) (i : ℕ) → length bs ≤ i → drop i bs ≡ []
+none_of bs i le = grind (arith, common_steps)
+
+module _ (lines : List Line) (before now buffers : List ℕ) where
+  pub fail_next : (old new : List Entry) (x : ℕ) (left rest : List ℕ) → left ≡ x ∷ rest →
+      AreMoved lines now old new → FailAt lines new now x (slice_index before x) →
+      FailBut lines before now old buffers left → FailBut lines before now new buffers rest
+  fail_next old new x left rest s moved here h b i = elim (h b i) [
+    | inl j ↦ elim (subst (IsIn b) s j) [
       | inl p ↦ inr (subst (λ (b : ℕ). FailAt lines new now b (slice_index before b)) (sym p) here)
-      | inr j ↦ inl j
+      | inr k ↦ inl k
     ]
     | inr f ↦ inr (fail_still lines now old new b (slice_index before b) moved f)
   ]
 
-  -- where none is left, the watches of all buffers fail, since a buffer that has no level above has none below
-  pub fail_at_all : (watches : List Entry) (left : Claim) → left ≡ [] → AreRaised before now →
-      FailBut lines before now watches left → (b : ℕ) → FailAt lines watches now b (slice_index before b)
-  fail_at_all watches left q r h b k line e is at n from below = elim (below_or_from 0 (slice_index before b)) [
-    | inl more ↦ elim (h b more) [
-      | inl i ↦ absurd (subst (λ (l : Claim). HasBuffer l b) q i)
-      | inr f ↦ f k line e is at n from below
-    ]
-    | inr none ↦ absurd (let up = (r b (omega (arith, below))).0 in omega (arith, up, none))
-  ]
+  -- where none is left and these are the buffers that rose, the watches of all fail: none of another buffer is below the
+  -- level now and not below the one before
+  pub fail_at_all : (watches : List Entry) (left : List ℕ) → left ≡ [] → AreTheRaised before now buffers →
+      FailBut lines before now watches buffers left → (b : ℕ) → FailAt lines watches now b (slice_index before b)
+  fail_at_all watches left q raised h b k line e is at n from below =
+      elim (below_or_from (slice_index before b) (slice_index now b)) [
+        | inl more ↦ elim (h b (raised b more)) [
+          | inl i ↦ absurd (subst (IsIn b) q i)
+          | inr f ↦ f k line e is at n from below
+        ]
+        | inr none ↦ absurd (omega (arith, from, below, none))
+      ]

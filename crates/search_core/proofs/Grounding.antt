@@ -1,6 +1,6 @@
 -- The claim beside levels is the claim of the levels, with its lows as bounds.
-use Rattle.std.proofs.Common.{◌≡◌, ℕ, ◌+◌, ◌-◌, ◌<◌, ◌≤◌, ◌⊎◌, ◌^◌, inl, inr, List, [], ◌∷◌, ◌++◌, length, map, slice_index, slice_index_or, ap, sym, ◌∙◌, subst, arith, refl}
-use Rattle.std.proofs.lemmas.List.{get_or_default, get_or_past}
+use Rattle.std.proofs.Common.{◌≡◌, ℕ, ◌+◌, ◌-◌, ◌<◌, ◌≤◌, ◌⊎◌, ◌^◌, inl, inr, List, [], ◌∷◌, ◌++◌, length, map, slice_index, slice_index_or, slice_set, ap, sym, ◌∙◌, subst, arith, refl}
+use Rattle.std.proofs.lemmas.List.{get_or-set_other, get_or-set_same, get_or_default, get_or_past}
 use Rattle.std.specs.List.{All}
 use Rattle.dsa_terms.specs.Buffers.{Instance}
 use Rattle.dsa_terms.specs.Claims.{Claim, Entry, IsIn, Rises, buffers_of, up}
@@ -17,6 +17,7 @@ use Rattle.canonical_order.proofs.Entries.{entry_in, is_entry}
 use Rattle.canonical_order.proofs.LevelLemmas.{has_level, level_inside}
 use Rattle.search_core.specs.Levels.{AreKept}
 use Rattle.search_core.specs.Lifted.{lift, lifted}
+use Rattle.search_core.proofs.ChildLevels.{set_cases}
 use Rattle.search_core.proofs.Meeting.{entries_rise}
 
 -- an entry by its level
@@ -90,14 +91,13 @@ all_low numbers levels low q b = subst (λ (xs : List ℕ). slice_index xs b ≤
 pub all_from_each : (levels : List ℕ) → ((b : ℕ) → slice_index levels b ≤ 2 ^ 55) → All (λ level. level ≤ 2 ^ 55) levels
 all_from_each levels h b d lt = let q = get_or_default levels b d 0 lt in let k = h b in omega arith
 
--- each entry of the claim beside the levels has a level
-pub has_a_level : (numbers levels : List ℕ) (ground items : Claim) (i : ℕ) → AreKept numbers ground →
-    numbers ≡ levels → items ≡ ground → i < length items → 0 < slice_index levels (slice_index_or items i (0, 0)).0
-has_a_level numbers levels ground items i k v q lt =
+-- each entry of the claim beside the levels has one more than its bound for a level
+pub level_of_pair : (numbers levels : List ℕ) (ground items : Claim) (i : ℕ) → AreKept numbers ground →
+    numbers ≡ levels → items ≡ ground → i < length items →
+    (slice_index_or items i (0, 0)).1 + 1 ≡ slice_index levels (slice_index_or items i (0, 0)).0
+level_of_pair numbers levels ground items i k v q lt =
     let x : Entry = slice_index_or items i (0, 0) in
-    let e = k.each x (subst (IsIn x) q (in_at items i (0, 0) lt)) in
-    let n = ap (λ (xs : List ℕ). slice_index xs x.0) v in
-    omega arith
+    sym (k.each x (subst (IsIn x) q (in_at items i (0, 0) lt))) ∙ ap (λ (xs : List ℕ). slice_index xs x.0) v
 
 -- and each buffer that has one is in it
 pub is_among : (numbers levels : List ℕ) (ground items : Claim) (b : ℕ) → AreKept numbers ground → numbers ≡ levels →
@@ -202,6 +202,36 @@ module _ (levels : List ℕ) (x : Entry) (k after left rest : Claim) (s : left �
       ]
     ];
   })
+
+-- the level of the next entry is written
+pub grounded_write : (levels : List ℕ) (k left rest : Claim) (x : Entry) (v : ℕ) → x.0 < length levels →
+    left ≡ x ∷ rest → IsGrounded levels k left → IsGrounded (slice_set levels x.0 v) k left
+grounded_write levels k left rest x v lt s g = record {
+  rises = g.rises;
+  rest = g.rest;
+  below = g.below;
+  each = λ e i.
+      (let less : e.0 < x.0 = g.below e x i (subst (IsIn x) (sym s) (inl refl)) in
+      get_or-set_other levels x.0 e.0 v 0 (λ q. omega (arith, q, less)) ∙ g.each e i);
+  all = λ b more. elim (set_cases levels x.0 v b lt) [
+    | inl r ↦ inr (subst (λ (c : ℕ). HasBuffer left c) (sym r.0)
+        (in_buffers left x (subst (IsIn x) (sym s) (inl refl))))
+    | inr r ↦ g.all b (let q = r.1 in omega arith)
+  ];
+}
+
+-- and the entry is taken, where the level is above 0
+pub grounded_next : (levels : List ℕ) (before after left rest : Claim) (x : Entry) (v : ℕ) → x.0 < length levels →
+    left ≡ x ∷ rest → IsGrounded levels before left → (0 < v → after ≡ before ++ (x.0, v - 1) ∷ []) →
+    (v ≡ 0 → after ≡ before) → IsGrounded (slice_set levels x.0 v) after rest
+grounded_next levels before after left rest x v lt s g some none =
+    let h = grounded_write levels before left rest x v lt s g in
+    let same : slice_index (slice_set levels x.0 v) x.0 ≡ v = get_or-set_same levels x.0 v 0 lt in
+    elim (below_or_from 0 v) [
+      | inl more ↦ grounded_take (slice_set levels x.0 v) x before after left rest s h v (sym same) more (some more)
+      | inr zero ↦ grounded_skip (slice_set levels x.0 v) x before after left rest s h (omega (arith, same, zero))
+          (none (omega (arith, zero)))
+    ]
 
 pub grounded_all : (levels : List ℕ) (k left : Claim) → left ≡ [] → IsGrounded levels k left → length levels ≤ buffer_limit →
     All (λ level. level ≤ 2 ^ 55) levels → AreKept levels k

@@ -33,6 +33,10 @@ AreRaised before now = (b : ℕ) → 0 < slice_index now b →
 abbrev pub AreWatchedAt : List Line → List Entry → List Tried → Type 0
 AreWatchedAt lines watches frames = All (λ (f : Tried). AreWatched lines watches f.levels f.asked) frames
 
+-- these are the buffers whose levels are higher now than before, and maybe more
+abbrev pub AreTheRaised : List ℕ → List ℕ → List ℕ → Type 0
+AreTheRaised before now raised = (b : ℕ) → slice_index before b < slice_index now b → IsIn b raised
+
 -- the levels of each of these claims are no higher than these levels
 abbrev pub AreRaisedFrom : List Tried → List ℕ → Type 0
 AreRaisedFrom frames levels = All (λ (f : Tried). AreRaised f.levels levels) frames

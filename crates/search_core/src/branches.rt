@@ -51,7 +51,7 @@ impl Branches {
             (l m : ClaimTerm) → IsBelow I l m self.now notes.now → IfOk result (AreBranches I m) }
     {
         let chosen = self.order[notes.refuted.len()];
-        let levels = self.levels.child(alloc, task.instance, chosen)?;
-        Branches::of(alloc, task, levels)
+        let child = self.levels.child(alloc, task.instance, chosen)?;
+        Branches::of(alloc, task, child.levels)
     }
 }

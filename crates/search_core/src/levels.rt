@@ -9,9 +9,11 @@ ghost use Rattle.canonical_order.specs.Claims.{HasBuffer, IsBoundedBy, entry_of}
 ghost use Rattle.canonical_order.specs.Levels.{AreLevels, IsLevel};
 ghost use Rattle.search_core.specs.Levels.{HasLowChild};
 ghost use Rattle.search_core.specs.Lifted.{lifted};
+ghost use Rattle.search_core.specs.Watches.{AreTheRaised};
 ghost use Rattle.skyline.specs.Skies.{last_claim};
 
-use crate::grounds::{ground_among, ground_of};
+use crate::grounds::ground_of;
+use crate::raising::Raising;
 use canonical_order::{Claim, Lows, step};
 use dsa_model::{Instance, NoMemory};
 use skyline::Skyline;
@@ -38,10 +40,12 @@ fn fill(levels: &mut [u64], sky: &Skyline)
     }
 }
 
-/// The level of c in the child by b, of a claim with these levels that has both.
-fn child_level(instance: &Instance, levels: &Levels, b: u32, c: u32) -> u64
+/// The level in the child by b of c, which has this level in a claim that has both.
+fn child_level(instance: &Instance, levels: &Levels, b: u32, c: u32, level: u64) -> u64
     requires low { HasLowChild instance.now levels.now b }
-    requires c_in { 0 < slice_index levels.now c }
+    requires level { level ≡ slice_index levels.now c }
+    requires c_in { 0 < level }
+    requires limit { level ≤ 2 ^ 55 }
     ensures level { let I = instance.now in (l : ClaimTerm) → AreLevels I l levels.now →
         IsLevel I (child_of I l (entry_of l b)) c result }
     ensures limit { result ≤ 2 ^ 55 }
@@ -50,7 +54,6 @@ fn child_level(instance: &Instance, levels: &Levels, b: u32, c: u32) -> u64
     if c == b {
         return 0;
     }
-    let level = levels.at(c as usize);
     let least = levels.at(b as usize).saturating_sub(1) + step(instance, b, c);
     if least < level {
         level
@@ -66,6 +69,13 @@ fn child_level(instance: &Instance, levels: &Levels, b: u32, c: u32) -> u64
 pub(crate) struct Levels {
     numbers: Vec<u64>,
     ground: Claim,
+}
+
+/// The levels of a child, and which of its buffers are higher there than in the claim above it.
+#[derive(Drop)]
+pub(crate) struct Child {
+    pub(crate) levels: Levels,
+    pub(crate) raised: Vec<u32>,
 }
 
 impl Model for Levels {
@@ -91,37 +101,34 @@ impl Levels {
     }
 
     /// The levels of the child by the buffer, which is in the claim. They are made from those of
-    /// the claim, and no sections are gone over.
+    /// the claim in one walk along it, and no sections are gone over.
     pub(crate) fn child(
         &self,
         alloc: Global,
         instance: &Instance,
         b: u32,
-    ) -> Result<Levels, NoMemory>
+    ) -> Result<Child, NoMemory>
         requires { HasLowChild instance.now self.now b }
-        ensures { let I = instance.now in (l : ClaimTerm) → AreLevels I l self.now →
-            IfOk result (AreLevels I (child_of I l (entry_of l b))) }
-    {
-        let mut numbers = self.numbers.to_vec(alloc)?;
-        self.lower_to_child(&mut numbers, instance, b);
-        let ground = ground_among(alloc, &numbers, self.ground.pairs())?;
-        Ok(Levels { numbers, ground })
-    }
-
-    /// Writes the levels of the child over the levels, which stand there.
-    fn lower_to_child(&self, numbers: &mut [u64], instance: &Instance, b: u32)
-        requires same { numbers.old ≡ self.now }
-        requires low { HasLowChild instance.now self.now b }
-        ensures count { length numbers.new ≡ length self.now }
-        ensures low { All (λ level. level ≤ 2 ^ 55) numbers.new }
-        ensures outside { (c : ℕ) → slice_index self.now c ≡ 0 → slice_index numbers.new c ≡ 0 }
         ensures levels { let I = instance.now in (l : ClaimTerm) → AreLevels I l self.now →
-            AreLevels I (child_of I l (entry_of l b)) numbers.new }
+            IfOk result (λ child. AreLevels I (child_of I l (entry_of l b)) child.levels) }
+        ensures raised { IfOk result
+            (λ child. AreTheRaised self.now child.levels child.raised.items) }
     {
-        for pair in self.ground.pairs() {
-            let c = pair.0;
-            numbers[c as usize] = child_level(instance, self, b, c);
+        let pairs = self.ground.pairs();
+        let mut raising = Raising::of(alloc, &self.numbers, pairs.len())?;
+        for pair in pairs {
+            let (c, low) = *pair;
+            let level = child_level(instance, self, b, c, low + 1);
+            raising.put(c, low + 1, level)?;
         }
+        let Raising {
+            numbers,
+            pairs,
+            raised,
+        } = raising;
+        let ground = Claim::from_vec(pairs);
+        let levels = Levels { numbers, ground };
+        Ok(Child { levels, raised })
     }
 
     /// How many there are: one for each buffer of the instance.
@@ -135,6 +142,7 @@ impl Levels {
     /// The level of the buffer, and 0 for a number that is no buffer's.
     pub(crate) fn at(&self, b: usize) -> u64
         ensures value { result ≡ slice_index self.now b }
+        ensures some { 0 < result → b < buffer_limit }
         ensures limit { result ≤ 2 ^ 55 }
     {
         if b < self.numbers.len() {

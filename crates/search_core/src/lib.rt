@@ -27,6 +27,7 @@ mod opening;
 mod over;
 mod part;
 mod path;
+mod raising;
 mod recent;
 mod remaking;
 mod search;

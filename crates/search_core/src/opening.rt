@@ -1,8 +1,6 @@
 //! What the search does first at a claim.
 
 ghost use Rattle.std.specs.Prelude.{◌≡◌, ◌+◌, ◌≤◌, ℕ, [], List, length, IfNone, IfOk, IfSome, OnOk};
-ghost use Rattle.dsa_terms.specs.Buffers.{Instance as InstanceTerm};
-ghost use Rattle.dsa_terms.specs.Claims.{Claim as ClaimTerm};
 ghost use Rattle.canonical_order.specs.Levels.{AreLevels};
 ghost use Rattle.search_core.specs.Cites.{IsCoveredBy};
 ghost use Rattle.search_core.specs.Descents.{HasAskedAll, IsUnderLast};
@@ -40,41 +38,53 @@ pub(crate) enum Opened {
     Spent,
 }
 
-/// A line that covers the claim of the levels, which is below those of the path. All lines are
-/// watched there, if there is none.
-fn covering(
-    log: &Log,
-    levels: &Levels,
-    watches: &mut Watches,
-    path: &Path,
-) -> Result<Option<u64>, NoMemory>
-    requires watched { AreWatchedAt log.now.lines watches.old path.now.frames }
-    requires raised { AreRaisedFrom path.now.frames levels.now }
-    requires latest { HasAskedAll log.now.lines path.now.frames }
-    ensures none { IfOk result (λ found. IfNone found
-        (AreWatched log.now.lines watches.new levels.now (length log.now.lines))) }
-    ensures some { (I : InstanceTerm) (l : ClaimTerm) → AreLevels I l levels.now →
-        IfOk result (λ found. IfSome found (IsCoveredBy I log.now.lines l)) }
-    ensures watched { OnOk result (AreWatchedAt log.now.lines watches.new path.now.frames) }
-{
-    match path.above() {
-        Some(above) => watches.find(log, above.levels, levels),
-        None => watches.ask(log, levels, 0),
-    }
+/// The levels of a claim, and the number of a line that covers it, if one is found.
+#[derive(Drop)]
+struct Entered {
+    levels: Levels,
+    line: Option<u64>,
 }
 
-/// The levels of the last claim, from those of the claim above it, if these are at hand.
-fn levels_of(alloc: Global, instance: &Instance, path: &Path) -> Result<Levels, NoMemory>
+/// The levels of the last claim, from those of the claim above it, if these are at hand, and a line
+/// that covers it. All lines are watched there, if there is none.
+fn enter(
+    alloc: Global,
+    instance: &Instance,
+    log: &Log,
+    watches: &mut Watches,
+    path: &Path,
+) -> Result<Entered, NoMemory>
     requires subject { path.now.sky.instance ≡ instance.now }
     requires under { let l = last_claim path.now.sky.claims in
         IsUnderLast instance.now path.now.frames l }
-    ensures { IfOk result
-        (AreLevels path.now.sky.instance (last_claim path.now.sky.claims)) }
+    requires watched { AreWatchedAt log.now.lines watches.old path.now.frames }
+    requires raised { (levels : List ℕ) →
+        AreLevels instance.now (last_claim path.now.sky.claims) levels →
+        AreRaisedFrom path.now.frames levels }
+    requires latest { HasAskedAll log.now.lines path.now.frames }
+    ensures levels { let l = last_claim path.now.sky.claims in
+        IfOk result (λ entered. AreLevels instance.now l entered.levels) }
+    ensures none { IfOk result (λ entered. IfNone entered.line
+        (AreWatched log.now.lines watches.new entered.levels (length log.now.lines))) }
+    ensures some { let l = last_claim path.now.sky.claims in
+        IfOk result (λ entered. IfSome entered.line (IsCoveredBy instance.now log.now.lines l)) }
+    ensures watched { OnOk result (AreWatchedAt log.now.lines watches.new path.now.frames) }
 {
     let _depth = path.sky().depth();
     match path.above() {
-        Some(above) => above.levels.child(alloc, instance, above.chosen),
-        None => Levels::of(alloc, path.sky()),
+        Some(above) => {
+            let child = above.levels.child(alloc, instance, above.chosen)?;
+            let line = watches.find(log, above.levels, &child.levels, &child.raised)?;
+            Ok(Entered {
+                levels: child.levels,
+                line,
+            })
+        }
+        None => {
+            let levels = Levels::of(alloc, path.sky())?;
+            let line = watches.ask(log, &levels, 0)?;
+            Ok(Entered { levels, line })
+        }
     }
 }
 
@@ -114,10 +124,11 @@ pub(crate) fn open(
         (length log.old.lines) (length log.new.lines + left_open o)) }
 {
     let _count = path.instance().len();
-    let levels = levels_of(alloc, task.instance, path)?;
-    if let Some(line) = covering(log.log(), &levels, watches, path)? {
+    let entered = enter(alloc, task.instance, log.log(), watches, path)?;
+    if let Some(line) = entered.line {
         return Ok(Opened::Line(line));
     }
+    let levels = entered.levels;
     let taken = meter.take();
     if !taken {
         return Ok(Opened::Spent);

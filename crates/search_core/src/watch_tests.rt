@@ -112,6 +112,17 @@ impl Tally {
     }
 }
 
+/// The buffers whose levels are higher now than before.
+fn raised(alloc: Global, before: &Levels, now: &Levels) -> Result<Vec<u32>, NoMemory> {
+    let mut raised = Vec::new(alloc);
+    for b in 0..now.len() {
+        if before.at(b) < now.at(b) {
+            raised.push(b as u32)?;
+        }
+    }
+    Ok(raised)
+}
+
 /// A search that learns the lines of a log one after another on its way.
 #[derive(Drop)]
 struct Replay<'a> {
@@ -191,7 +202,10 @@ impl<'a> Replay<'a> {
     {
         sky.push(b);
         let levels = Levels::of(self.alloc, sky)?;
-        let found = self.watches.find(self.lemmas.log(), above, &levels)?;
+        let raised = raised(self.alloc, above, &levels)?;
+        let found = self
+            .watches
+            .find(self.lemmas.log(), above, &levels, &raised)?;
         if self.compare(sky, found) {
             Ok(None)
         } else {

@@ -3,12 +3,11 @@
 ghost use Rattle.std.specs.Prelude.{◌≡◌, ◌≤◌, ◌<◌, ◌↔◌, ℕ, [], List, Some, true, false, IfNone, IfOk, IfSome, IsTrue, OnOk, length, slice_get, slice_index, take};
 ghost use Rattle.dsa_terms.specs.Buffers.{Instance};
 ghost use Rattle.dsa_terms.specs.Claims.{Claim as ClaimTerm, Entry, IsIn};
-ghost use Rattle.dsa_model.specs.Buffer.{buffer_limit};
 ghost use Rattle.canonical_order.specs.Levels.{AreLevels};
 ghost use Rattle.search_core.specs.declared.watch_row.Mark.{Mark as MarkTerm};
 ghost use Rattle.search_core.specs.Cites.{IsCoveredBy};
 ghost use Rattle.search_core.specs.Looks.{IsUnmet};
-ghost use Rattle.search_core.specs.Watches.{AreRaised, AreWatched};
+ghost use Rattle.search_core.specs.Watches.{AreRaised, AreTheRaised, AreWatched};
 ghost use Rattle.search_core.specs.Watching.{AreMoved, AreOwnMoved, FailAt, FailsAtMark, IsWatched, row_at};
 
 use crate::levels::Levels;
@@ -126,7 +125,6 @@ fn find_in(
     low: u64,
     now: &Levels,
 ) -> Result<Option<u64>, NoMemory>
-    requires { b < buffer_limit }
     ensures some { (I : Instance) (l : ClaimTerm) → AreLevels I l now.now →
         IfOk result (λ found. IfSome found (IsCoveredBy I log.now.lines l)) }
     ensures none { IfOk result (λ found. IfNone found
@@ -206,16 +204,19 @@ impl Watches {
         Ok(None)
     }
 
-    /// A line that covers the claim of the levels `now`. If none is found, the claim of the levels
-    /// `before` is above it, and all lines are watched there, then all are watched at the claim. As
-    /// many first lines as are watched at a claim above stay watched there.
+    /// A line that covers the claim of the levels `now`, looked for at the raised buffers. If none
+    /// is found, these are all whose levels are above those of `before`, and all lines are watched
+    /// there, then all are watched at the claim. As many first lines as are watched at a claim above
+    /// stay watched there.
     pub(crate) fn find(
         &mut self,
         log: &Log,
         before: &Levels,
         now: &Levels,
+        raised: &[u32],
     ) -> Result<Option<u64>, NoMemory>
         ensures none { AreRaised before.now now.now →
+            AreTheRaised before.now now.now raised.now →
             AreWatched log.now.lines self.old before.now (length log.now.lines) →
             IfOk result (λ found. IfNone found
             (AreWatched log.now.lines self.new now.now (length log.now.lines))) }
@@ -225,8 +226,8 @@ impl Watches {
             AreWatched log.now.lines self.old above n →
             IfOk result (λ _. AreWatched log.now.lines self.new above n) }
     {
-        for pair in before.ground().pairs() {
-            let b = pair.0 as usize;
+        for number in raised {
+            let b = *number as usize;
             let found = find_in(&mut self.table, log, b, before.at(b), now)?;
             if found.is_some() {
                 return Ok(found);

@@ -34,11 +34,11 @@ returns-then-least-level-clause-level c = λ l h.
     let first = level_inside I c.requires.low.above levels c.requires.low.are b c.requires.low.has in
     let q = raised I levels b c.args.c c.at.result c.saturating_sub.result c.step.result c.at.ensures.value
     c.saturating_sub.ensures c.step.ensures.value in
-    let e : c.at-level.result ≡ slice_index levels c.args.c = c.at-level.ensures.value in
+    let e : c.args.level ≡ slice_index levels c.args.c = c.requires.level in
     subst (IsLevel I (child I l (entry_of l b)) c.args.c) (sym e)
     (level_stays I l levels b h c.args.c (c.saturating_sub.result + c.step.result)
     (λ k d i. (c.len-count.ensures.buffers k d i).sound)
-    (has_level I l levels h b (omega (arith, first))) c.requires.c_in c.if-c-b.false q
+    (has_level I l levels h b (omega (arith, first))) (let e = c.requires.level in let p = c.requires.c_in in omega arith) c.if-c-b.false q
     (let t = c.if-least-level.true in omega (arith, t, e)))
 
 pub returns-else-least-level-clause-level : goal.returns-else-least-level-clause-level
@@ -49,10 +49,10 @@ returns-else-least-level-clause-level c = λ l h.
     let first = level_inside I c.requires.low.above levels c.requires.low.are b c.requires.low.has in
     let q = raised I levels b c.args.c c.at.result c.saturating_sub.result c.step.result c.at.ensures.value
     c.saturating_sub.ensures c.step.ensures.value in
-    let e : c.at-level.result ≡ slice_index levels c.args.c = c.at-level.ensures.value in
+    let e : c.args.level ≡ slice_index levels c.args.c = c.requires.level in
     let least = c.saturating_sub.result + c.step.result in
     level_rises I l levels b h c.args.c least c.least_offset.result
-    (has_level I l levels h b (omega (arith, first))) c.requires.c_in c.if-c-b.false q
+    (has_level I l levels h b (omega (arith, first))) (let e = c.requires.level in let p = c.requires.c_in in omega arith) c.if-c-b.false q
     (let t = c.if-least-level.false in omega (arith, t, e))
     (c.least_offset.ensures ∙ ap (λ (b : Buffer). next_multiple_of least b.alignment) c.buffer.ensures.value)
 
@@ -65,11 +65,11 @@ returns-else-least-level-clause-limit c =
     let b = c.args.b in
     let q = raised I levels b c.args.c c.at.result c.saturating_sub.result c.step.result c.at.ensures.value
     c.saturating_sub.ensures c.step.ensures.value in
-    let e : c.at-level.result ≡ slice_index levels c.args.c = c.at-level.ensures.value in
+    let e : c.args.level ≡ slice_index levels c.args.c = c.requires.level in
     let least = c.saturating_sub.result + c.step.result in
-    let low = low_rises I l levels b h c.args.c least c.least_offset.result c.requires.low.has c.requires.c_in
+    let low = low_rises I l levels b h c.args.c least c.least_offset.result c.requires.low.has (let e = c.requires.level in let p = c.requires.c_in in omega arith)
     c.if-c-b.false q (let t = c.if-least-level.false in omega (arith, t, e))
     (c.least_offset.ensures ∙ ap (λ (b : Buffer). next_multiple_of least b.alignment) c.buffer.ensures.value) in
     child_low I (child I l (entry_of l b)) c.args.c c.least_offset.result c.len-count.ensures.buffers
     c.len-count.ensures.limit (claim-child I l (entry_of l b) h.claim) c.requires.low.low
-    (in_child_by I l b c.args.c (has_level I l levels h c.args.c c.requires.c_in) c.if-c-b.false) low
+    (in_child_by I l b c.args.c (has_level I l levels h c.args.c (let e = c.requires.level in let p = c.requires.c_in in omega arith)) c.if-c-b.false) low

@@ -22,7 +22,7 @@ returns-in-Some-clause-opened c =
     let l = last_claim c.args.path.now.sky.claims in
     let s = rw (c.instance.ensures.value, c.requires.subject) at c.instance.ensures.stands in
     let h = rw (c.in-Some.is, c.log.ensures)
-    at (c.in_ok-line.ensures.some I l (rw c.requires.subject at c.in_ok-levels.ensures)) in
+    at c.in_ok-entered.ensures.some in
     record {
       none = covered_has_none I c.args.task.now.capacity l c.args.log.now c.in-Some.line s c.requires.log h;
       covered = h;
@@ -34,55 +34,55 @@ returns-in-Some-clause-taken c e =
     let l = last_claim c.args.path.now.sky.claims in
     absurd (none_covers I l c.args.log.now.lines c.in-Some.line e
     (rw (c.in-Some.is, c.log.ensures)
-    at (c.in_ok-line.ensures.some I l (rw c.requires.subject at c.in_ok-levels.ensures))))
+    at c.in_ok-entered.ensures.some))
 
 -- ---- the claim with its lows
 pub over_line-requires-clause-lifted : goal.over_line-requires-clause-lifted
 over_line-requires-clause-lifted c =
     let I = c.args.task.now.instance.now in
     let l = last_claim c.args.path.now.sky.claims in
-    rw c.sky.ensures (c.ground-claim.ensures.value I l (rw c.requires.subject at c.in_ok-levels.ensures))
+    rw c.sky.ensures (c.ground-claim.ensures.value I l (c.in_ok-entered.ensures.levels))
 
 pub over_line-requires-clause-levels : goal.over_line-requires-clause-levels
 over_line-requires-clause-levels c =
     let I = c.args.task.now.instance.now in
     let l = last_claim c.args.path.now.sky.claims in
     let s = rw (c.instance.ensures.value, c.requires.subject) at c.instance.ensures.stands in
-    let a = rw c.requires.subject at c.in_ok-levels.ensures in
+    let a = c.in_ok-entered.ensures.levels in
     let q = c.ground-claim.ensures.value I l a in
-    rw q (lifted_levels I l c.in_ok-levels.levels (is_instance I l s) a)
+    rw q (lifted_levels I l c.in_ok-entered.entered.levels (is_instance I l s) a)
 
 -- ---- no buffer
 pub returns-then-len-eq0-clause-opened : goal.returns-then-len-eq0-clause-opened
 returns-then-len-eq0-clause-opened c =
     let I = c.args.task.now.instance.now in
     let l = last_claim c.args.path.now.sky.claims in
-    let q = c.ground-claim.ensures.value I l (rw c.requires.subject at c.in_ok-levels.ensures) in
+    let q = c.ground-claim.ensures.value I l (c.in_ok-entered.ensures.levels) in
     rw (lifted_nothing I l (sym (ap length q) ∙ sym c.len.ensures.value ∙ c.if-len-eq0.true))
     (first_of_nothing I c.args.task.now.capacity [] refl)
 
 -- ---- an Over line
 pub append-requires-clause-legal : goal.append-requires-clause-legal
 append-requires-clause-legal c =
-    let r = rw (c.in-Some-2.is, c.sky.ensures) at c.in_ok-line-2.ensures.some in r.legal c.args.log.now.lines
+    let r = rw (c.in-Some-2.is, c.sky.ensures) at c.in_ok-line.ensures.some in r.legal c.args.log.now.lines
 
 pub append-requires-clause-within : goal.append-requires-clause-within
-append-requires-clause-within c = let r = rw (c.in-Some-2.is, c.sky.ensures) at c.in_ok-line-2.ensures.some in r.within
+append-requires-clause-within c = let r = rw (c.in-Some-2.is, c.sky.ensures) at c.in_ok-line.ensures.some in r.within
 
 pub append-requires-clause-fresh : goal.append-requires-clause-fresh
 append-requires-clause-fresh c =
     let I = c.args.task.now.instance.now in
     let l = last_claim c.args.path.now.sky.claims in
     let s = rw (c.instance.ensures.value, c.requires.subject) at c.instance.ensures.stands in
-    let r = rw (c.in-Some-2.is, c.sky.ensures) at c.in_ok-line-2.ensures.some in
+    let r = rw (c.in-Some-2.is, c.sky.ensures) at c.in_ok-line.ensures.some in
     covers_less I c.args.log.now.lines (claim_of (line_value c.in-Some-2.line)) l (is_instance I l s) r.covers
-    (watched_none I c.args.log.now.lines c.covering.new.watches l c.in_ok-levels.levels
-    (rw c.requires.subject at c.in_ok-levels.ensures)
-    (rw (c.in_default.is, c.log.ensures) at c.in_ok-line.ensures.none))
+    (watched_none I c.args.log.now.lines c.enter.new.watches l c.in_ok-entered.entered.levels
+    (c.in_ok-entered.ensures.levels)
+    (rw (c.in_default.is, c.log.ensures) at c.in_ok-entered.ensures.none))
 
 pub returns-in-Some-2-clause-grown : goal.returns-in-Some-2-clause-grown
 returns-in-Some-2-clause-grown c =
-    let r = rw (c.in-Some-2.is, c.sky.ensures) at c.in_ok-line-2.ensures.some in
+    let r = rw (c.in-Some-2.is, c.sky.ensures) at c.in_ok-line.ensures.some in
     c.in_ok-append.ensures.grown (last_claim c.args.path.now.sky.claims) r.covers
 
 pub returns-in-Some-2-clause-opened : goal.returns-in-Some-2-clause-opened
@@ -91,7 +91,7 @@ returns-in-Some-2-clause-opened c =
     let C = c.args.task.now.capacity in
     let l = last_claim c.args.path.now.sky.claims in
     let s = rw (c.instance.ensures.value, c.requires.subject) at c.instance.ensures.stands in
-    let r = rw (c.in-Some-2.is, c.sky.ensures) at c.in_ok-line-2.ensures.some in
+    let r = rw (c.in-Some-2.is, c.sky.ensures) at c.in_ok-line.ensures.some in
     let h = c.in_ok-append.ensures.covered l r.covers in
     record {
       none = covered_has_none I C l c.append.new.log c.in_ok-append.field-0 s c.in_ok-append.ensures.log h;
@@ -114,9 +114,9 @@ returns-in-Some-2-clause-counted c =
 pub returns-in-Some-2-clause-watched : goal.returns-in-Some-2-clause-watched
 returns-in-Some-2-clause-watched c =
     let l = last_claim c.args.path.now.sky.claims in
-    all_watched_more l c.args.log.now.lines c.append.new.log.lines c.covering.new.watches c.args.path.now.frames
+    all_watched_more l c.args.log.now.lines c.append.new.log.lines c.enter.new.watches c.args.path.now.frames
     (returns-in-Some-2-clause-grown c)
-    (rw c.log.ensures at c.in_ok-line.ensures.watched)
+    (rw c.log.ensures at c.in_ok-entered.ensures.watched)
 
 -- ---- the choices
 pub returns-clause-opened : goal.returns-clause-opened
@@ -125,17 +125,17 @@ returns-clause-opened c =
     let C = c.args.task.now.capacity in
     let l = last_claim c.args.path.now.sky.claims in
     let s = rw (c.instance.ensures.value, c.requires.subject) at c.instance.ensures.stands in
-    let q = c.ground-claim.ensures.value I l (rw c.requires.subject at c.in_ok-levels.ensures) in
-    let a = rw c.requires.subject at c.in_ok-levels.ensures in
+    let q = c.ground-claim.ensures.value I l (c.in_ok-entered.ensures.levels) in
+    let a = c.in_ok-entered.ensures.levels in
     let b = c.in_ok-branches.ensures.branches l a in
-    let none = rw (c.in_default-2.is, c.sky.ensures) at c.in_ok-line-2.ensures.none in
+    let none = rw (c.in_default-2.is, c.sky.ensures) at c.in_ok-line.ensures.none in
     rw c.new.ensures
     (are_choices I C l c.args.log.now.lines c.in_ok-branches.branches.order.items c.in_ok-branches.branches.levels
     c.len-asked.result s.claim
     (λ e. c.if-len-eq0.false (c.len.ensures.value ∙ ap length q ∙ ap (λ (k : Claim). length (lifted I k)) e)) none
     b.order b.levels
-    (watched_none I c.args.log.now.lines c.covering.new.watches l c.in_ok-levels.levels a
-    (rw (c.in_default.is, c.log.ensures) at c.in_ok-line.ensures.none)))
+    (watched_none I c.args.log.now.lines c.enter.new.watches l c.in_ok-entered.entered.levels a
+    (rw (c.in_default.is, c.log.ensures) at c.in_ok-entered.ensures.none)))
 
 pub returns-clause-asked : goal.returns-clause-asked
 returns-clause-asked c =
@@ -143,6 +143,6 @@ returns-clause-asked c =
     rw c.new.ensures (record {
       asked = asked;
       watched = rw c.in_ok-branches.ensures.levels
-          (watched_to c.args.log.now.lines c.covering.new.watches c.in_ok-levels.levels c.len-asked.result asked
-          (rw (c.in_default.is, c.log.ensures) at c.in_ok-line.ensures.none));
+          (watched_to c.args.log.now.lines c.enter.new.watches c.in_ok-entered.entered.levels c.len-asked.result asked
+          (rw (c.in_default.is, c.log.ensures) at c.in_ok-entered.ensures.none));
     })

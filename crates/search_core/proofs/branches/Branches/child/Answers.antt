@@ -16,5 +16,5 @@ returns c = λ l m h.
     let I = c.args.task.now.instance.now in
     let e = child_below I l m c.args.self.now c.args.notes.now h c.len.result c.index-chosen.result.now
     (let e = c.len.ensures in let k = c.args.notes.now.refuted.ok.0 in omega arith) c.index-chosen.ensures in
-    c.of.ensures.branches m (subst (λ (k : Claim). AreLevels I k c.in_ok-levels.levels) e
-    (c.in_ok-levels.ensures l h.branches.levels))
+    c.of.ensures.branches m (subst (λ (k : Claim). AreLevels I k c.in_ok-child.child.levels) e
+    (c.in_ok-child.ensures.levels l h.branches.levels))

@@ -3,8 +3,9 @@ use Rattle.search_core.specs.Watching.{AreMoved}
 use Rattle.search_core.proofs.Finding.{FailBut}
 use Rattle.search_core.proofs.watches.Watches.find.Given as goal
 
-abbrev pub invariant-loop-pair : goal.invariant-loop-pair
-invariant-loop-pair l = record {
+abbrev pub invariant-loop-number : goal.invariant-loop-number
+invariant-loop-number l = record {
   moved : AreMoved l.log.lines l.now l.fn.self l.self-inside.table.watches;
-  fail : FailBut l.log.lines l.before l.now l.self-inside.table.watches (drop l.pair-index l.pair-items);
+  fail : FailBut l.log.lines l.before l.now l.self-inside.table.watches l.raised
+      (drop l.number-index l.raised);
 }

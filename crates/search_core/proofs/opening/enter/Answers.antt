@@ -1,0 +1,65 @@
+use Rattle.std.proofs.Common.{Option, [], ◌-◌, IfSome, arith, length, subst}
+use Rattle.dsa_terms.proofs.Places.{in_at}
+use Rattle.canonical_order.specs.Levels.{AreLevels}
+use Rattle.skyline.specs.Skies.{last_claim}
+use Rattle.search_core.specs.Descents.{IsUnder}
+use Rattle.search_core.specs.Tries.{Tried}
+use Rattle.search_core.proofs.ChildLevels.{child_under, low_child}
+use Rattle.search_core.proofs.Watched.{all_watched_still, watched_above}
+use Rattle.search_core.proofs.opening.enter.Goals as goal
+use Rattle.search_core.proofs.opening.enter.Goals.{In_ok-line-in-Some}
+
+pub child-requires : goal.child-requires
+child-requires c =
+    let I = c.args.instance.now in
+    let claims = c.args.path.now.sky.claims in
+    let l = last_claim claims in
+    let a = rw c.in-Some.is at c.above.ensures in
+    let u : IsUnder I a.f l = subst (λ (o : Option Tried). IfSome o (λ (f : Tried). IsUnder I f l)) a.last
+    c.requires.under in
+    let n = rw c.sky.ensures at c.depth-depth.ensures.value in
+    let low = rw c.sky.ensures at c.depth-depth.ensures.low in
+    low_child I a.f _ _ l u a.levels a.chosen
+    (λ e i. let k = low l e (in_at claims (length claims - 1) [] (omega (arith, n))) i in omega (arith, k))
+
+under : (c : In_ok-line-in-Some) →
+    AreLevels c.args.instance.now (last_claim c.args.path.now.sky.claims) c.in_ok-child-in-Some.child.levels
+under c =
+    let I = c.args.instance.now in
+    let l = last_claim c.args.path.now.sky.claims in
+    let a = rw c.in-Some.is at c.above.ensures in
+    let u : IsUnder I a.f l = subst (λ (o : Option Tried). IfSome o (λ (f : Tried). IsUnder I f l)) a.last
+    c.requires.under in
+    child_under I a.f _ _ _ l u a.levels a.chosen c.in_ok-child-in-Some.ensures.levels
+
+pub returns-in_ok-line-in-Some-clause-levels : goal.returns-in_ok-line-in-Some-clause-levels
+returns-in_ok-line-in-Some-clause-levels c = under (goal.at.returns-in_ok-line-in-Some-clause-levels c).In_ok-line-in-Some
+
+pub returns-in_ok-line-in-Some-clause-none : goal.returns-in_ok-line-in-Some-clause-none
+returns-in_ok-line-in-Some-clause-none c =
+    let raised = c.requires.raised c.in_ok-child-in-Some.child.levels
+    (under (goal.at.returns-in_ok-line-in-Some-clause-none c).In_ok-line-in-Some) in
+    let w = watched_above c.args.log.now.lines c.args.watches.now c.in_ok-child-in-Some.child.levels
+    c.args.path.now.frames c.in-Some.above (rw c.in-Some.is at c.above.ensures) c.requires.watched raised
+    c.requires.latest in
+    c.in_ok-line-in-Some.ensures.none w.0 (rw c.deref.ensures.value c.in_ok-child-in-Some.ensures.raised) w.1
+
+pub returns-in_ok-line-in-Some-clause-some : goal.returns-in_ok-line-in-Some-clause-some
+returns-in_ok-line-in-Some-clause-some c =
+    c.in_ok-line-in-Some.ensures.some c.args.instance.now (last_claim c.args.path.now.sky.claims)
+    (under (goal.at.returns-in_ok-line-in-Some-clause-some c).In_ok-line-in-Some)
+
+pub returns-in_ok-line-in-Some-clause-watched : goal.returns-in_ok-line-in-Some-clause-watched
+returns-in_ok-line-in-Some-clause-watched c =
+    all_watched_still c.args.log.now.lines c.args.watches.now c.find.new.self c.in_ok-child-in-Some.child.levels
+    c.args.path.now.frames
+    (c.requires.raised c.in_ok-child-in-Some.child.levels
+    (under (goal.at.returns-in_ok-line-in-Some-clause-watched c).In_ok-line-in-Some))
+    c.in_ok-line-in-Some.ensures.kept c.requires.watched
+
+pub returns-in_ok-line-in-None-clause-watched : goal.returns-in_ok-line-in-None-clause-watched
+returns-in_ok-line-in-None-clause-watched c =
+    all_watched_still c.args.log.now.lines c.args.watches.now c.ask.new.self c.in_ok-levels-in-None.levels
+    c.args.path.now.frames
+    (c.requires.raised c.in_ok-levels-in-None.levels (rw (c.sky-in-None.ensures, c.requires.subject) at c.in_ok-levels-in-None.ensures))
+    c.in_ok-line-in-None.ensures.kept c.requires.watched
