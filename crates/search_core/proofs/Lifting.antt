@@ -15,7 +15,7 @@ use Rattle.canonical_order.specs.Stands.{Stands}
 use Rattle.canonical_order.proofs.Entries.{entry_in, is_entry}
 use Rattle.search_core.specs.declared.found.Refuted.{Refuted}
 use Rattle.search_core.specs.Cites.{IsChildCovered, IsCoveredBy}
-use Rattle.search_core.specs.Lifted.{lift, lifted}
+use Rattle.search_core.specs.Lifted.{IsAtLows, lift, lifted}
 use Rattle.search_core.specs.Logs.{Extends, NoneCovers}
 use Rattle.search_core.proofs.Growing.{extends_along, extends_none}
 
@@ -33,6 +33,12 @@ up_of_lift I e s =
     (next_is_multiple e.1 (buffer I e.0).alignment (sound I e.0 s).1)
 
 -- ---- buffers and entries
+pub lifted_at_lows : (I : Instance) (l : Claim) → IsInstance I → IsAtLows I (lifted I l)
+lifted_at_lows I l s = record {
+  each = λ e i.
+      (let r = from_map (lift I) l e i in subst (λ (e : Entry). up I e ≡ e.1) (sym r.2) (up_of_lift I r.0 s));
+}
+
 pub buffers_of-lifted : (I : Instance) (l : Claim) → buffers_of (lifted I l) ≡ buffers_of l
 buffers_of-lifted I l = buffers_of-map (up I) l
 

@@ -8,6 +8,7 @@ ghost use Rattle.canonical_order.specs.Levels.{AreLevels};
 ghost use Rattle.canonical_order.specs.Stands.{Stands};
 ghost use Rattle.search_core.specs.declared.found.Refuted.{Refuted as RefutedTerm};
 ghost use Rattle.search_core.specs.Cites.{IsChildCovered, IsCoveredBy};
+ghost use Rattle.search_core.specs.Lifted.{IsAtLows};
 ghost use Rattle.search_core.specs.Logs.{Extends, IsSearchLog, NoneCovers};
 
 use crate::cites::cites;
@@ -32,6 +33,7 @@ pub(crate) fn refute(
     refuted: &[Refuted],
 ) -> Result<u64, NoMemory>
     requires levels { AreLevels task.now.instance.now claim levels.now }
+    requires lows { IsAtLows task.now.instance.now claim }
     requires stands { Stands task.now.instance.now claim }
     requires low { IsBoundedBy (2 ^ 60) claim }
     requires not_empty { claim ≢ [] }

@@ -1,6 +1,7 @@
 //! Which buffers of a claim the search takes first, and in which order.
 
 ghost use Rattle.std.specs.Prelude.{◌≡◌, [], length, map, not, true, is_some, IfOk, IfSome};
+ghost use Rattle.dsa_terms.specs.Claims.{IsIn};
 ghost use Rattle.dsa_terms.specs.Lean.{IsOwnCite};
 ghost use Rattle.dsa_terms.specs.Logs.{IsLegalCite};
 ghost use Rattle.dsa_terms.specs.Search.{choices, not_excluded};
@@ -59,11 +60,29 @@ fn is_taken<L: Lows>(lows: &L, twins: &TwinMarks, least: Ending, b: u32) -> bool
 }
 
 /// What the choices are ordered by: the least offset that the claim leaves, then the number.
-fn key_of<L: Lows>(lows: &L, b: u32) -> (u64, u32)
-    requires { HasBuffer (L.claim lows.now) b }
-    ensures { result ≡ key_of (L.subject lows.now) (entry_of (L.claim lows.now) b) }
+fn key_of(view: &Leveled, pair: (u32, u64)) -> (u64, u32)
+    requires { IsIn pair view.now.claim.now }
+    ensures { result ≡ key_of view.now.instance.now pair }
 {
-    (lows.low(b), b)
+    let (b, low) = pair;
+    (low, b)
+}
+
+/// Whether the search takes the buffer of the pair. Mostly its low says no.
+fn takes(view: &Leveled, twins: &TwinMarks, least: Ending, pair: (u32, u64)) -> bool
+    requires twins { AreTwinMarks view.now.instance.now twins.now }
+    requires pair_in { IsIn pair view.now.claim.now }
+    requires least { let I = view.now.instance.now in
+        IsLeastEnding I view.now.claim.now (length I) least }
+    ensures { let l = view.now.claim.now in
+        result ≡ not_excluded view.now.instance.now l pair }
+{
+    let _stands = view.instance();
+    let (b, low) = pair;
+    if least.end <= low {
+        return false;
+    }
+    is_taken(view, twins, least, b)
 }
 
 /// The buffers that the search takes: the one of least offset first, and of these the one of least
@@ -81,9 +100,8 @@ pub(crate) fn choices(
     let pairs = view.claim.pairs();
     let mut keys = BTreeSet::new(alloc);
     for i in (0..pairs.len()).rev() {
-        let b = pairs[i].0;
-        if is_taken(view, twins, least, b) {
-            keys.insert(key_of(view, b))?;
+        if takes(view, twins, least, pairs[i]) {
+            keys.insert(key_of(view, pairs[i]))?;
         }
     }
     Ok(keys.iter().map(|key| key.1).collect(alloc)?)

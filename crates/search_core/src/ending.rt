@@ -1,12 +1,11 @@
 //! The buffer of a claim that ends lowest.
 
 ghost use Rattle.std.specs.Prelude.{◌≡◌, ◌^◌, ◌<◌, length};
-ghost use Rattle.canonical_order.specs.Claims.{HasBuffer, entry_of};
+ghost use Rattle.dsa_terms.specs.Claims.{IsIn};
 ghost use Rattle.conflicts.specs.Ends.{end_of};
 ghost use Rattle.search_core.specs.Endings.{IsLeastEnding};
 
 use crate::leveled::Leveled;
-use canonical_order::Lows;
 
 /// A buffer of a claim, and where it ends at its low, in bytes.
 #[derive(Clone, Copy, Debug)]
@@ -15,13 +14,15 @@ pub(crate) struct Ending {
     pub(crate) end: u64,
 }
 
-/// Where the buffer ends at its low.
-pub(crate) fn end_of<L: Lows>(lows: &L, b: u32) -> u64
-    requires { HasBuffer (L.claim lows.now) b }
-    ensures value { result ≡ end_of (L.subject lows.now) (entry_of (L.claim lows.now) b) }
+/// Where the buffer of the pair ends at its low.
+pub(crate) fn end_of(view: &Leveled, pair: (u32, u64)) -> u64
+    requires { IsIn pair view.now.claim.now }
+    ensures value { result ≡ end_of view.now.instance.now pair }
     ensures limit { result < 2 ^ 63 }
 {
-    lows.low(b) + lows.instance().buffer(b).size()
+    let _count = view.instance.len();
+    let _pairs = view.claim.len();
+    pair.1 + view.instance.buffer(pair.0).size()
 }
 
 /// The buffer of the claim that ends lowest, and of these the one of least number. Where the claim
@@ -35,9 +36,9 @@ pub(crate) fn least_end(view: &Leveled) -> Ending
         end: u64::MAX,
     };
     for pair in view.claim.pairs() {
-        let buffer = pair.0;
-        let end = end_of(view, buffer);
+        let end = end_of(view, *pair);
         if end < least.end {
+            let buffer = pair.0;
             least = Ending { buffer, end };
         }
     }

@@ -1,17 +1,20 @@
 //! A claim with its lows at hand.
 
 ghost use Rattle.canonical_order.specs.Levels.{AreLevels, AreLevels-prop};
+ghost use Rattle.search_core.specs.Lifted.{IsAtLows, IsAtLows-prop};
 
 use crate::levels::Levels;
 use canonical_order::{Claim, Lows};
 use dsa_model::Instance;
 
 /// A claim beside its instance and its levels, which say its lows without a search or a division.
+/// Each bound of the claim is its buffer's low.
 #[derive(Drop)]
 pub(crate) struct Leveled<'a> {
     pub(crate) instance: &'a Instance,
     pub(crate) claim: &'a Claim,
     pub(crate) levels: &'a Levels,
+    ghost at_lows: { IsAtLows instance.now claim.now } by { IsAtLows-prop },
     ghost leveled: { AreLevels instance.now claim.now levels.now } by { AreLevels-prop },
 }
 

@@ -26,9 +26,8 @@ fn tall(view: &Leveled, capacity: u64) -> Option<u32>
         result ≡ least_buffer (is_tall I capacity) view.now.claim.now }
 {
     for pair in view.claim.pairs() {
-        let b = pair.0;
-        if capacity < end_of(view, b) {
-            return Some(b);
+        if capacity < end_of(view, *pair) {
+            return Some(pair.0);
         }
     }
     None

@@ -5,7 +5,7 @@ use Rattle.search_core.proofs.Descent.{covers_itself, is_instance}
 use Rattle.search_core.proofs.cases.refute.Goals as goal
 
 pub invariant_of-view : goal.invariant_of-view
-invariant_of-view c = record { leveled = c.requires.levels }
+invariant_of-view c = record { at_lows = c.requires.lows; leveled = c.requires.levels }
 
 pub append-requires-clause-legal : goal.append-requires-clause-legal
 append-requires-clause-legal c =

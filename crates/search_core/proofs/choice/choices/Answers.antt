@@ -1,6 +1,6 @@
-use Rattle.std.proofs.Common.{◌≡◌, ◌∙◌, ◌+◌, ◌-◌, ◌<◌, ℕ, [], ap, arith, drop, length, map, rules, subst, sym}
+use Rattle.std.proofs.Common.{◌≡◌, ◌∙◌, ◌+◌, ◌-◌, ◌<◌, ℕ, [], ap, arith, drop, length, map, refl, rules, subst, sym}
 use Rattle.dsa_terms.specs.Claims.{Claim, Rises, buffers_of}
-use Rattle.search_core.proofs.Along.{nothing_left, place_has, place_is}
+use Rattle.search_core.proofs.Along.{nothing_left, place_in}
 use Rattle.search_core.proofs.Order.{all_keys, keys_exclude_at, keys_of, keys_take_at}
 use Rattle.search_core.proofs.choice.choices.Goals as goal
 
@@ -10,14 +10,14 @@ loop-i-init c =
     let none : drop (length items) items ≡ [] = nothing_left items (length items) (omega arith) in
     c.new-keys.ensures.empty ∙ sym (ap (keys_of c.args.view.now.instance.now c.args.view.now.claim.now) none)
 
-pub is_taken-requires-clause-b_in : goal.is_taken-requires-clause-b_in
-is_taken-requires-clause-b_in c =
-    place_has c.args.view.now.claim.now c.pairs-pairs.result.now (c.loop-i.i - 1) c.pairs-pairs.ensures.value
+pub takes-requires-clause-pair_in : goal.takes-requires-clause-pair_in
+takes-requires-clause-pair_in c =
+    place_in c.args.view.now.claim.now c.pairs-pairs.result.now (c.loop-i.i - 1) c.pairs-pairs.ensures.value
     (omega arith)
 
 pub key_of-requires : goal.key_of-requires
 key_of-requires c =
-    place_has c.args.view.now.claim.now c.pairs-pairs.result.now (c.loop-i.i - 1) c.pairs-pairs.ensures.value
+    place_in c.args.view.now.claim.now c.pairs-pairs.result.now (c.loop-i.i - 1) c.pairs-pairs.ensures.value
     (omega arith)
 
 pub loop-i-preserved-in_ok-insert : goal.loop-i-preserved-in_ok-insert
@@ -30,8 +30,8 @@ loop-i-preserved-in_ok-insert c =
     let j = c.loop-i.i - 1 in
     let lt : j < length items = omega arith in
     let m : c.loop-i.i ≡ j + 1 = omega arith in
-    let k = keys_take_at I l items c.loop-i.i j m lt _ (place_is l items j q lt r)
-    (subst (λ (k : Claim). Rises (buffers_of k)) (sym q) r) (sym c.is_taken.ensures ∙ c.if-is_taken.true) in
+    let k = keys_take_at I l items c.loop-i.i j m lt _ refl
+    (subst (λ (k : Claim). Rises (buffers_of k)) (sym q) r) (sym c.takes.ensures ∙ c.if-takes.true) in
     c.in_ok-insert.ensures.keys ∙ (rw (c.loop-i.invariant, c.key_of.ensures) k)
 
 pub loop-i-preserved : goal.loop-i-preserved
@@ -44,7 +44,7 @@ loop-i-preserved c =
     let lt : j < length items = omega arith in
     let m : c.loop-i.i ≡ j + 1 = omega arith in
     c.loop-i.invariant ∙ keys_exclude_at I l items c.loop-i.i j m lt _
-    (place_is l items j c.pairs-pairs.ensures.value lt r) (sym c.is_taken.ensures ∙ c.if-is_taken.false)
+    refl (sym c.takes.ensures ∙ c.if-takes.false)
 
 pub returns : goal.returns
 returns c =

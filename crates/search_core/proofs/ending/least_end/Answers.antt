@@ -1,6 +1,6 @@
-use Rattle.std.proofs.Common.{◌+◌, ap, arith, drop, inl, refl, slice_index_or, subst, sym}
+use Rattle.std.proofs.Common.{◌+◌, ◌∙◌, ap, arith, drop, inl, refl, slice_index_or, subst, sym}
 use Rattle.conflicts.specs.Ends.{end_of}
-use Rattle.search_core.proofs.Along.{next_left, nothing_left, place_has, place_in, place_is}
+use Rattle.search_core.proofs.Along.{next_left, nothing_left, place_in, place_is}
 use Rattle.search_core.proofs.Ends.{IsLeastBut, least_keep, least_of_all, least_take}
 use Rattle.search_core.proofs.ending.least_end.Goals as goal
 use Rattle.search_core.proofs.ending.least_end.Goals.{else-end-least, then-end-least}
@@ -12,7 +12,7 @@ loop-pair-init c = record {
 }
 
 pub end_of-end-requires : goal.end_of-end-requires
-end_of-end-requires c = place_has c.args.view.now.claim.now c.pairs-pair-items.result.now c.loop-pair.pair-index
+end_of-end-requires c = place_in c.args.view.now.claim.now c.pairs-pair-items.result.now c.loop-pair.pair-index
     c.pairs-pair-items.ensures.value c.loop-pair-test.true
 
 pub loop-pair-preserved : goal.loop-pair-preserved
@@ -30,10 +30,10 @@ loop-pair-preserved c =
     elim c.if-end-least.branch [
       | then-end-least w ↦ subst (IsLeastBut I l (drop (i + 1) items)) (sym w.least-is)
           (least_take I l (drop i items) (drop (i + 1) items) x c.loop-pair.least s c.loop-pair.invariant _ r
-          (place_in l items i q c.loop-pair-test.true) refl end w.if-end-least.true)
+          (place_in l items i q c.loop-pair-test.true) refl (end ∙ is) w.if-end-least.true)
       | else-end-least w ↦ subst (IsLeastBut I l (drop (i + 1) items)) (sym w.least-is)
           (least_keep I l (drop i items) (drop (i + 1) items) x c.loop-pair.least s c.loop-pair.invariant
-          (let k = w.if-end-least.false in omega (arith, k, end, is)))
+          (let k = w.if-end-least.false in omega (arith, k, end)))
     ]
 
 pub returns : goal.returns

@@ -1,19 +1,27 @@
-use Rattle.std.proofs.Common.{◌∙◌, sym, arith}
+use Rattle.std.proofs.Common.{◌∙◌, sym, subst, arith}
 use Rattle.dsa_model.proofs.Instances.{sound_buffer}
 use Rattle.dsa_terms.specs.Buffers.{buffer}
 use Rattle.dsa_terms.specs.Logs.{claim_of}
 use Rattle.dsa_terms.proofs.Moments.{live_before}
 use Rattle.refute_log.specs.Lines.{line_value}
 use Rattle.skyline.specs.Skies.{last_claim}
+use Rattle.search_core.specs.Lifted.{IsAtLows}
 use Rattle.search_core.proofs.Descent.{is_instance}
 use Rattle.search_core.proofs.FullSections.{full_is_legal, full_section, some_live}
 use Rattle.search_core.proofs.LiftedChoices.{lifted_tall}
-use Rattle.search_core.proofs.Lifting.{covers_lifted, lifted_stands}
+use Rattle.search_core.proofs.Lifting.{covers_lifted, lifted_at_lows, lifted_stands}
 use Rattle.search_core.proofs.Searching.{tall_covers, tall_in_range}
 use Rattle.search_core.proofs.over.over_line.Goals as goal
 
 pub invariant_of-view : goal.invariant_of-view
-invariant_of-view c = record { leveled = c.requires.levels }
+invariant_of-view c =
+    let l = last_claim c.args.sky.now.claims in
+    let s = rw (c.instance.ensures.value, c.requires.subject) at c.instance.ensures.stands in
+    record {
+      at_lows = subst (IsAtLows c.args.task.now.instance.now) (sym c.requires.lifted)
+          (lifted_at_lows c.args.task.now.instance.now l (is_instance c.args.task.now.instance.now l s));
+      leveled = c.requires.levels;
+    }
 
 -- ---- a tall buffer
 pub tall_line-requires : goal.tall_line-requires

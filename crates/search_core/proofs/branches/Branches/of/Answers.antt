@@ -1,5 +1,6 @@
 use Rattle.search_core.proofs.Leveling.{lifted_levels}
 use Rattle.search_core.proofs.LiftedChoices.{lifted_order}
+use Rattle.search_core.proofs.Lifting.{lifted_at_lows}
 use Rattle.search_core.proofs.branches.Branches.of.Goals as goal
 
 pub invariant_of-view : goal.invariant_of-view
@@ -7,6 +8,7 @@ invariant_of-view c =
     let I = c.args.task.now.instance.now in
     let q = c.ground.ensures.value I c.requires.0 c.requires.1 in
     rw q (record {
+      at_lows = lifted_at_lows I c.requires.0 (λ k d i. (c.len-count.ensures.buffers k d i).sound);
       leveled = lifted_levels I c.requires.0 c.args.levels (λ k d i. (c.len-count.ensures.buffers k d i).sound)
           c.requires.1;
     })

@@ -7,7 +7,7 @@ use Rattle.search_core.proofs.Descent.{is_instance}
 use Rattle.search_core.proofs.Descending.{ahead_covered, ahead_deeper}
 use Rattle.search_core.proofs.Leveling.{lifted_levels}
 use Rattle.search_core.proofs.LiftedChoices.{lifted_nothing}
-use Rattle.search_core.proofs.Lifting.{covered_from_lifted, lifted_covered, lifted_extends, lifted_fresh, lifted_noted, lifted_stands}
+use Rattle.search_core.proofs.Lifting.{covered_from_lifted, lifted_at_lows, lifted_covered, lifted_extends, lifted_fresh, lifted_noted, lifted_stands}
 use Rattle.search_core.proofs.Watched.{all_watched_more, all_watched_push}
 use Rattle.search_core.proofs.Searching.{all_refuted, chosen_in, each_noted, one_is_left, refuted_in}
 use Rattle.search_core.proofs.walk.Walk.advance.Goals as goal
@@ -21,6 +21,14 @@ refute-requires-clause-levels c =
     let q = c.in_ok-claim.ensures.value I l (rw c.levels.ensures c.requires.ready.opened.trying.levels) in
     rw (q, c.levels-then-is_done.ensures)
     (lifted_levels I l c.args.frame.levels (is_instance I l s) c.requires.ready.opened.trying.levels)
+
+pub refute-requires-clause-lows : goal.refute-requires-clause-lows
+refute-requires-clause-lows c =
+    let I = c.args.task.now.instance.now in
+    let l = last_claim c.args.self.now.path.sky.claims in
+    let s = rw (c.instance.ensures.value, c.requires.ready.opened.path.subject) at c.instance.ensures.stands in
+    let q = c.in_ok-claim.ensures.value I l (rw c.levels.ensures c.requires.ready.opened.trying.levels) in
+    rw q (lifted_at_lows I l (is_instance I l s))
 
 pub refute-requires-clause-stands : goal.refute-requires-clause-stands
 refute-requires-clause-stands c =
