@@ -1,7 +1,8 @@
 //! Claims that one Over line refutes.
 
 ghost use Rattle.std.specs.Prelude.{◌≡◌, ◌^◌, None, IfNone, IfOk, IfSome};
-ghost use Rattle.dsa_terms.specs.Search.{is_tall};
+ghost use Rattle.dsa_terms.specs.Claims.{IsIn};
+ghost use Rattle.dsa_terms.specs.Search.{is_tall as is_tall_entry};
 ghost use Rattle.canonical_order.specs.Claims.{IsBoundedBy, least_buffer};
 ghost use Rattle.canonical_order.specs.Levels.{AreLevels};
 ghost use Rattle.refute_log.specs.Lines.{line_value};
@@ -20,13 +21,28 @@ use refute_log::Line;
 use skyline::Skyline;
 use std::alloc::Global;
 
+/// Whether the buffer of the pair ends above the capacity at its low. Where a buffer of the
+/// greatest size does not, its own size is not looked up.
+fn is_tall(view: &Leveled, task: &Task, pair: (u32, u64)) -> bool
+    requires subject { view.now.instance.now ≡ task.now.instance.now }
+    requires pair_in { IsIn pair view.now.claim.now }
+    ensures { result ≡ is_tall_entry view.now.instance.now task.now.capacity pair }
+{
+    let _pairs = view.claim.len();
+    if pair.1 + task.size <= task.capacity {
+        return false;
+    }
+    task.capacity < end_of(view, pair)
+}
+
 /// The least buffer of the claim that ends above the capacity at its low.
-fn tall(view: &Leveled, capacity: u64) -> Option<u32>
+fn tall(view: &Leveled, task: &Task) -> Option<u32>
+    requires { view.now.instance.now ≡ task.now.instance.now }
     ensures { let I = view.now.instance.now in
-        result ≡ least_buffer (is_tall I capacity) view.now.claim.now }
+        result ≡ least_buffer (is_tall_entry I task.now.capacity) view.now.claim.now }
 {
     for pair in view.claim.pairs() {
-        if capacity < end_of(view, *pair) {
+        if is_tall(view, task, *pair) {
             return Some(pair.0);
         }
     }
@@ -49,7 +65,7 @@ pub(crate) fn over_line(
     requires own { AreLevels task.now.instance.now (last_claim sky.now.claims) levels.now }
     requires low { IsBoundedBy (2 ^ 60) claim.now }
     ensures none { let I = task.now.instance.now in let l = last_claim sky.now.claims in
-        IfOk result (λ o. IfNone o (None ≡ least_buffer (is_tall I task.now.capacity) l)) }
+        IfOk result (λ o. IfNone o (None ≡ least_buffer (is_tall_entry I task.now.capacity) l)) }
     ensures some { let I = task.now.instance.now in let l = last_claim sky.now.claims in
         IfOk result (λ o. IfSome o (λ line.
         RefutesAtOnce I task.now.capacity l (line_value line))) }
@@ -60,7 +76,7 @@ pub(crate) fn over_line(
         claim,
         levels,
     };
-    if let Some(b) = tall(&view, task.capacity) {
+    if let Some(b) = tall(&view, task) {
         return Ok(Some(tall_line(alloc, task, b)?));
     }
     match sky.overloaded_at(task.capacity, levels.as_slice()) {

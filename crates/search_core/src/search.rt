@@ -8,7 +8,7 @@ ghost use Rattle.search_core.specs.Meters.{AreWithin};
 
 use crate::Budget;
 use crate::meter::Meter;
-use crate::task::Task;
+use crate::task::{Task, greatest_size};
 use crate::twin_marks::TwinMarks;
 use crate::whole::search_parts;
 use dsa_model::{Instance, NoMemory};
@@ -141,6 +141,7 @@ impl<'a> Decider for Search<'a> {
             instance: self.instance,
             twins: &self.twins,
             capacity,
+            size: greatest_size(self.instance),
         };
         let meter = &mut self.meter;
         let decided = search_parts(self.alloc, &task, meter, self.sections, self.parts)?;
