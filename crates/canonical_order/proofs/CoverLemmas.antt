@@ -274,7 +274,8 @@ child_is_kept I l b s k h = record {
       omega arith;
   count = let q : suc (length (child I l (entry_of l b))) ≡ length l =
       length-child I l (entry_of l b) s.claim.rises (entry_in l b h) in let n : length l ≤ length I =
-      length_within l (length I) s.claim.rises s.claim.in_range in let m : length I ≤ buffer_limit = s.count in omega arith;
+      length_within l (length I) s.claim.rises s.claim.in_range in let m : length I ≤ buffer_limit = s.count in
+      omega arith;
 }
 
 -- the test of one entry

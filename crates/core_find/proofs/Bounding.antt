@@ -8,7 +8,8 @@ use Rattle.dsa_model.specs.Buffer.{IsBuffer}
 use Rattle.dsa_model.proofs.Instances.{sound_buffer}
 use Rattle.canonical_order.specs.Claims.{IsBoundedBy}
 
-pub whole_is_bounded : (I : Instance) (ks : List ℕ) → All IsBuffer I → All (λ b. b < length I) ks → IsBoundedBy (2 ^ 60) (whole I ks)
+pub whole_is_bounded : (I : Instance) (ks : List ℕ) → All IsBuffer I → All (λ b. b < length I) ks →
+    IsBoundedBy (2 ^ 60) (whole I ks)
 whole_is_bounded I ks buffers all e i =
     let is = in_whole I ks e i in
     let low : (buffer I e.0).lowest ≤ 2 ^ 40 =

@@ -106,7 +106,8 @@ module _ (I : Instance) (before members : List ℕ) (log : Log) (rises : Rises m
         renamed_line to w.0,
         get_map (renamed_line to) (trimmed log).lines (trimmed log).final w.0 w.1,
         rw (claim_of-renamed to w.0)
-            (whole_renamed J K (buffers_of (claim_of last)) to are (claim_of w.0) (is_of (trimmed log).final w.0 w.1) w.2),
+            (whole_renamed J K (buffers_of (claim_of last)) to are (claim_of w.0)
+            (is_of (trimmed log).final w.0 w.1) w.2),
       )
 
   pub carried_is_accepted : IsAccepted K (carried before members log)

@@ -35,7 +35,8 @@ a_case : renamed_line (λ b. b - 2) (Cases ((3, 7) ∷ (5, 1) ∷ []) (Below 5 �
     ≡ Cases ((1, 7) ∷ (3, 1) ∷ []) (Below 3 ∷ ByLine 3 ∷ [])
 a_case = refl
 
-a_log : renamed_log 6 (λ b. b - 2) (record { count = 9; capacity = 4; lines = Over ((3, 7) ∷ []) 4 6 3 ∷ []; final = 0 })
+a_log : renamed_log 6 (λ b. b - 2) (record
+    { count = 9; capacity = 4; lines = Over ((3, 7) ∷ []) 4 6 3 ∷ []; final = 0 })
     ≡ record { count = 6; capacity = 4; lines = Over ((1, 7) ∷ []) 4 6 3 ∷ [] }
 a_log = refl
 

@@ -47,7 +47,8 @@ place_limit : (b : ℕ) (ms : List ℕ) → place_among b ms ≤ length ms
 unfolding place_among
 place_limit b ms = prefix_len-le-length (λ m. not (m == b)) ms
 
-pub places_limit : (before members places : List ℕ) → places ≡ places_among before members → length members ≤ buffer_limit →
+pub places_limit : (before members places : List ℕ) → places ≡ places_among before members →
+    length members ≤ buffer_limit →
     All (λ n. n ≤ buffer_limit) places
 places_limit before members places is few =
     rw is (all_from_in (λ n. n ≤ buffer_limit) (places_among before members) (λ n i. each n i))

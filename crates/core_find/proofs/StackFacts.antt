@@ -63,9 +63,14 @@ by_second = record { count = 2; capacity = 3; lines = Over last 0 0 1 ∷ []; fi
 
 second_is_accepted : IsAccepted two by_second
 unfolding buffer
-second_is_accepted = record { same_count = refl; legal = legal; whole = (Over last 0 0 1, refl, whole_is_whole two (1 ∷ [])) }
+second_is_accepted = record {
+  same_count = refl;
+  legal = legal;
+  whole = (Over last 0 0 1, refl, whole_is_whole two (1 ∷ []));
+}
   where
-    legal : (k : ℕ) (line : Line) → slice_get by_second.lines k ≡ Some line → IsLegal two 3 (take k by_second.lines) line
+    legal : (k : ℕ) (line : Line) → slice_get by_second.lines k ≡ Some line →
+        IsLegal two 3 (take k by_second.lines) line
     legal zero line e = subst (λ (x : Line). IsLegal two 3 [] x) (same_some e) second_is_over
     legal (suc k) line e = absurd cc
 

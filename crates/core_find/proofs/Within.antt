@@ -70,7 +70,8 @@ names_from J log last a end final later (suc n) k le line at =
 
     cited_by : (c : IsCited log.lines k) → AreAmong (buffers_of (claim_of line)) (buffers_of (claim_of c.line))
     cited_by c =
-        line_names J log.capacity (take c.number log.lines) c.line k (a.legal c.number c.line c.there).reason c.cites line
+        line_names J log.capacity (take c.number log.lines) c.line k
+        (a.legal c.number c.line c.there).reason c.cites line
         (into_take log.lines c.number k line at c.later)
 
     go : ((j : ℕ) → length log.lines ≤ j + n → NamesOnly log.lines j (buffers_of (claim_of last))) →

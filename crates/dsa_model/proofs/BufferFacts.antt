@@ -24,7 +24,8 @@ most_gaps = refl
 most_buffers : buffer_limit ≡ 4096
 most_buffers = refl
 
-of_size_one : lasting 2 9 ((3, 4) ∷ []) ≡ record { lower = 2; upper = 9; size = 1; alignment = 1; gaps = (3, 4) ∷ []; lowest = 0 }
+of_size_one : lasting 2 9 ((3, 4) ∷ [])
+    ≡ record { lower = 2; upper = 9; size = 1; alignment = 1; gaps = (3, 4) ∷ []; lowest = 0 }
 of_size_one = refl
 
 -- ---- gaps: 5..5 and 6..5 hold no moment, 5..6 does

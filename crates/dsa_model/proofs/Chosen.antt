@@ -54,7 +54,8 @@ chosen_next base rows now I members n row next view all lt at same sound tells i
       buffers = pushed ∙ rw (h.buffers, source) (sym (ap (some_of I) (take_more members n 0 lt)
           ∙ map_push (buffer I) (take n members) (slice_index members n)));
       sound = rw pushed (All-push IsBuffer (instance_of rows) next.buffer h.sound sound);
-      told = rw words (all_pushed (some_of I members) (words_of rows) next.shares.words.items n count h.told (rw count_all tells));
+      told = rw words (all_pushed (some_of I members) (words_of rows) next.shares.words.items n count h.told
+          (rw count_all tells));
     }
   where
     pushed : instance_of (rows ++ next ∷ []) ≡ instance_of rows ++ next.buffer ∷ []

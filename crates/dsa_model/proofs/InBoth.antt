@@ -111,7 +111,8 @@ pub common : (b c : Buffer) (mine theirs : List (ℕ × ℕ)) → AreLiveRanges 
     (is_live b t && is_live c t) ≡ are_in mine theirs t
 common b c mine theirs h k t = rw (h.live t, k.live t) refl
 
-pub shared : (b c : Buffer) (mine theirs : List (ℕ × ℕ)) (s : Option ℕ) → AreLiveRanges b mine → AreLiveRanges c theirs →
+pub shared : (b c : Buffer) (mine theirs : List (ℕ × ℕ)) (s : Option ℕ) → AreLiveRanges b mine →
+    AreLiveRanges c theirs →
     IsLeastMoment (are_in mine theirs) 0 s → is_some s ≡ do_share b c
 shared b c mine theirs None h k none =
     (never_common b c (λ t. common b c mine theirs h k t ∙ none t (omega arith))).shared

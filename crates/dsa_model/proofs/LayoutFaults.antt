@@ -253,7 +253,8 @@ layout_exactly I C offsets = (layout_of_no_fault I C offsets, no_fault_of_layout
 -- ---- an overlap
 -- the first fault is an overlap only as the first overlap
 only_overlaps : (w : Bool) (u l a : Option ℕ) (o : Option LayoutFault) (b c t : ℕ) →
-    first_fault (when w fault.WrongCount ∷ option_map fault.Unaligned u ∷ option_map fault.TooLow l ∷ option_map fault.Above a ∷ o ∷ []) ≡ Some
+    first_fault (when w fault.WrongCount ∷ option_map fault.Unaligned u ∷ option_map fault.TooLow l ∷
+    option_map fault.Above a ∷ o ∷ []) ≡ Some
     (fault.Overlap b c t) →
     o ≡ Some (fault.Overlap b c t)
 only_overlaps true u l a o b c t h = absurd cc

@@ -68,7 +68,8 @@ ends_rise n (r ∷ rs) h zero (suc j) d le lt =
 ends_rise n (r ∷ rs) h (suc i) zero d le lt = absurd (omega arith)
 ends_rise n (r ∷ rs) h (suc i) (suc j) d le lt = ends_rise (r.1 + 1) rs h.2 i j d (omega arith) (omega arith)
 
-pub are_parted : (ranges : List (ℕ × ℕ)) (t : ℕ) → AreApartFrom 0 ranges → IsPartitionedBy (λ (r : ℕ × ℕ). leb r.1 t) ranges
+pub are_parted : (ranges : List (ℕ × ℕ)) (t : ℕ) → AreApartFrom 0 ranges →
+    IsPartitionedBy (λ (r : ℕ × ℕ). leb r.1 t) ranges
 are_parted ranges t h = IsPartitionedBy-leb (λ (r : ℕ × ℕ). r.1) ranges t (ends_rise 0 ranges h)
 
 pub in_none : (ranges : List (ℕ × ℕ)) (t k : ℕ) →
@@ -83,7 +84,10 @@ pub in_one : (n : ℕ) (ranges : List (ℕ × ℕ)) (t k : ℕ) (d : ℕ × ℕ)
     k < length ranges → is_in ranges t ≡ nat_le (get_or ranges k d).0 t
 in_one n [] t k d h before at lt = absurd (omega arith)
 in_one n (r ∷ rs) t zero d h before at lt =
-    rw (not_in_before (r.1 + 1) t rs h.2 (let q : t < r.1 = above r.1 t at in omega arith), is_below t r.1 (above r.1 t at))
+    rw (
+      not_in_before (r.1 + 1) t rs h.2 (let q : t < r.1 = above r.1 t at in omega arith),
+      is_below t r.1 (above r.1 t at),
+    )
     (only (nat_le r.0 t))
   where
     only : (c : Bool) → ((c && true) || false) ≡ c

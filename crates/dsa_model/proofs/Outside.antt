@@ -24,7 +24,8 @@ pub walked_none : (b : Buffer) (rising : List (ℕ × ℕ)) → IsPermutation b.
 unfolding is_live
 walked_none b rising h = record {
   apart = λ to lt. (omega arith, lt, tt);
-  live = λ t. ap (λ c. nat_le b.lower t && nat_lt t b.upper && not c) (list_any-IsPermutation (is_within t) b.gaps rising h);
+  live = λ t. ap (λ c. nat_le b.lower t && nat_lt t b.upper && not c)
+      (list_any-IsPermutation (is_within t) b.gaps rising h);
 }
 
 -- a range may begin later, and behind one that ended before
@@ -95,16 +96,19 @@ walked_on b gap left from next ranges new some within up e f h =
     live : (t : ℕ) → (is_in ranges t || (nat_le from t && nat_lt t b.upper && not (is_in (gap ∷ left) t)))
         ≡ (is_in (ranges ++ range_of from gap.0) t || (nat_le next t && nat_lt t b.upper && not (is_in left t)))
     live t = rw (list_any-append (is_within t) ranges (range_of from gap.0), in_range_of from gap.0 t)
-        (joined (is_in ranges t) _ _ _ (step gap.0 gap.1 b.upper t (is_in left t) some within (none_earlier t gap left up) next e))
+        (joined (is_in ranges t) _ _ _ (step gap.0 gap.1 b.upper t (is_in left t) some within
+        (none_earlier t gap left up) next e))
 
 pub walked_all : (b : Buffer) (from : ℕ) (ranges new : List (ℕ × ℕ)) → new ≡ ranges ++ range_of from b.upper →
     IsWalked b [] from ranges → AreLiveRanges b new
-walked_all b from ranges new f h = rw f (record { apart = apart (below_or_from from b.upper); live = λ t. h.live t ∙ live t })
+walked_all b from ranges new f h = rw f
+    (record { apart = apart (below_or_from from b.upper); live = λ t. h.live t ∙ live t })
   where
     apart : (from < b.upper) ⊎ (b.upper ≤ from) → AreApartFrom 0 (ranges ++ range_of from b.upper)
     apart (inl lt) = rw (some_range from b.upper lt) (h.apart b.upper lt)
     apart (inr le) =
-        rw (no_range from b.upper le, append-nil) (fewer 0 ranges ((from, from + 1) ∷ []) (h.apart (from + 1) (omega arith)))
+        rw (no_range from b.upper le, append-nil)
+        (fewer 0 ranges ((from, from + 1) ∷ []) (h.apart (from + 1) (omega arith)))
 
     outside : (p q : Bool) → (p || (q && true)) ≡ (p || q)
     outside true q = refl
@@ -118,7 +122,8 @@ walked_all b from ranges new f h = rw f (record { apart = apart (below_or_from f
 
 -- ---- with the gaps in order and a place in them
 pub walked_more : (b : Buffer) (sorted : List (ℕ × ℕ)) (i from next : ℕ) (ranges new : List (ℕ × ℕ)) →
-    All (IsInside b.lower b.upper) b.gaps → IsPermutation b.gaps sorted → IsNonDecreasingBy (λ (g : ℕ × ℕ). g.0) sorted →
+    All (IsInside b.lower b.upper) b.gaps → IsPermutation b.gaps sorted →
+    IsNonDecreasingBy (λ (g : ℕ × ℕ). g.0) sorted →
     i < length sorted → next ≡ max from (get_or sorted i (0, 0)).1 →
     new ≡ ranges ++ range_of from (get_or sorted i (0, 0)).0 →
     IsWalked b (drop i sorted) from ranges → IsWalked b (drop (i + 1) sorted) next new

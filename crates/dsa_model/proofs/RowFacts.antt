@@ -68,7 +68,8 @@ noted_three b word small first second third = record { reaches = omega arith; no
     noted zero = first
     noted (suc zero) = second
     noted (suc (suc zero)) = third
-    noted (suc (suc (suc c))) = no_other_bit word _ small (omega arith) ∙ not_below (suc (suc (suc c))) 3 _ (omega arith)
+    noted (suc (suc (suc c))) = no_other_bit word _ small (omega arith)
+        ∙ not_below (suc (suc (suc c))) 3 _ (omega arith)
 
 -- the first shares a moment with the second, the second with all three
 first_tells : IsNoted three 0 (3 ∷ rest) 3

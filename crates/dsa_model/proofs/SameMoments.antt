@@ -52,7 +52,8 @@ same_ranges n (x ∷ xs) (y ∷ ys) h k e =
     ends : x.0 ≡ y.0 → (x.1 < y.1) ⊎ ((y.1 < x.1) ⊎ (x.1 ≡ y.1)) → x.1 ≡ y.1
     ends p (inl lt) =
         let a = h.0 in let b = h.1 in absurd
-        (true_not_false (in_first x.1 y ys (omega arith) lt) (not_in_at_end n x.1 x xs h refl) (sym (e x.1 (omega arith))))
+        (true_not_false (in_first x.1 y ys (omega arith) lt) (not_in_at_end n x.1 x xs h refl)
+        (sym (e x.1 (omega arith))))
     ends p (inr (inl lt)) =
         let a = k.0 in let b = k.1 in absurd
         (true_not_false (in_first y.1 x xs (omega arith) lt) (not_in_at_end n y.1 y ys k refl) (e y.1 (omega arith)))

@@ -134,7 +134,8 @@ unfolding buffer
 next_by_row rows next c row bit lt at is =
     subst (λ n. bit ≡ do_share (buffer (instance_of rows ++ next ∷ []) n) (buffer (instance_of rows ++ next ∷ []) c))
     count
-    (next_shares (instance_of rows) next c bit (rw count lt) (is ∙ ap (λ b. do_share b next) (ap (λ (r : Row). r.buffer) at
+    (next_shares (instance_of rows) next c bit (rw count lt)
+    (is ∙ ap (λ b. do_share b next) (ap (λ (r : Row). r.buffer) at
     ∙ sym (get_or-map (λ (r : Row). r.buffer) rows c row no_buffer lt))))
   where
     count : length (instance_of rows) ≡ length rows
@@ -206,7 +207,8 @@ pub pushed : (v : Vec Row) (rows given new : List Row) (I : Instance) (last : Ro
     given ≡ v.items → instance_of new ≡ instance_of given → AreRows new → let now = (with_items v new).items in
     (length now ≤ buffer_limit) × All IsBuffer (instance_of now) × AreRows now
 pushed v rows given new I last view few all sound is lent kept noted = rw written (
-  rw (← length-map new (λ (r : Row). r.buffer), buffers, length-append, length-map rows (λ (r : Row). r.buffer)) few_now,
+  rw (← length-map new (λ (r : Row). r.buffer), buffers, length-append, length-map rows (λ (r : Row). r.buffer))
+      few_now,
   rw buffers (All-push IsBuffer (instance_of rows) last.buffer all sound),
   noted,
 )
@@ -276,10 +278,12 @@ noted_in_turn I rows last n d e next bit h lt is same count value = record {
         (h.left n (omega arith) lt)
 
     told : bit ≡ do_share (buffer I n) (buffer I last)
-    told = is ∙ ap (λ w. is_set w n) (sym (words_at rows last own last_within (get_or_default rows last d own last_within)))
+    told = is ∙ ap (λ w. is_set w n) (sym
+        (words_at rows last own last_within (get_or_default rows last d own last_within)))
         ∙ h.own.noted n ∙ within n (last + 1) _ (omega (arith, lt)) ∙ shared_both (buffer I last) (buffer I n)
 
     step : (b : ℕ) → (b < n) ⊎ (b ≡ n) →
         IsNoted I b (slice_index_or (words_of (slice_set rows n next)) b []) (last + 1)
     step b (inl less) = rw (other b (omega (arith, less))) (h.done b less)
-    step b (inr q) = rw (q, here) (noted_next I n last row.shares.words.items next.shares.words.items bit old count value told)
+    step b (inr q) = rw (q, here) (noted_next I n last row.shares.words.items next.shares.words.items bit old count
+        value told)

@@ -42,7 +42,8 @@ impl Model for Buffer {
 
     ghost view = { λ b. buffer_of b.lower b.upper b.size b.alignment b.gaps.items b.lowest };
 
-    ghost invariant = { λ b. let value = buffer_of b.lower b.upper b.size b.alignment b.gaps.items b.lowest in
+    ghost invariant = { λ b. let value = buffer_of b.lower b.upper b.size b.alignment b.gaps.items
+        b.lowest in
         IsBuffer value × AreLiveRanges value b.live.items };
 }
 

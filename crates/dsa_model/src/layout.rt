@@ -181,13 +181,14 @@ fn layout_fault(instance: &Instance, capacity: u64, offsets: &[u64]) -> Option<L
     first_overlap(instance, offsets)
 }
 
-/// Whether the offsets, in bytes and by the buffers' numbers, are a layout at the capacity: as
-/// many as there are buffers, each a multiple of its buffer's alignment and at least its lowest,
-/// each buffer within the capacity, and any two buffers apart at each moment at which both are live.
+/// Whether the offsets, in bytes and by the buffers' numbers, are a layout at the capacity: as many
+/// as there are buffers, each a multiple of its buffer's alignment and at least its lowest, each
+/// buffer within the capacity, and any two buffers apart at each moment at which both are live.
 ///
 /// The answer is the first fault of: `WrongCount`; `Unaligned` of the least buffer; `TooLow` of the
-/// least buffer; `Above` of the least buffer; `Overlap` of the least pair, at its first common moment. Any capacity and any
-/// offsets may be given. No step goes through the moments of a lifetime.
+/// least buffer; `Above` of the least buffer; `Overlap` of the least pair, at its first common
+/// moment. Any capacity and any offsets may be given. No step goes through the moments of a
+/// lifetime.
 ///
 /// The question is that of Dynamic Storage Allocation (SR2, Garey and Johnson), with alignments,
 /// gaps and least offsets.

@@ -20,7 +20,8 @@ pub trait Files {
     /// nothing. Of the other names' numbers it tells that they did not fall. `NoMemory` leaves all
     /// as it was.
     fn read(&mut self, name: &str, most: u64) -> Result<Vec<u8>, FileFault>
-        ensures bytes { IfOk result (λ bytes. IsReadOf (seen self.old).held name.now most bytes.items) }
+        ensures bytes { IfOk result (λ bytes. IsReadOf
+            (seen self.old).held name.now most bytes.items) }
         ensures length { IfOk result (λ bytes. length bytes.items ≤ most) }
         ensures files { (seen self.new).held ≡ (seen self.old).held }
         ensures failed { IsErrOf result FileFault.Failed →
@@ -42,7 +43,8 @@ pub trait Files {
             ≡ without_file (seen self.old).held name.now }
         ensures failed { IsErrOf result FileFault.Failed →
             Rose ((seen self.old).faults name.now) ((seen self.new).faults name.now) }
-        ensures no_memory { IsErrOf result FileFault.NoMemory → (seen self.new).held ≡ (seen self.old).held }
+        ensures no_memory { IsErrOf result FileFault.NoMemory →
+            (seen self.new).held ≡ (seen self.old).held }
         ensures no_memory_counts { IsErrOf result FileFault.NoMemory →
             AllStay (seen self.old).faults (seen self.new).faults }
         ensures counts { NoneFell (seen self.old).faults (seen self.new).faults };

@@ -19,7 +19,8 @@ pub trait Sink {
     /// `Failed` comes only where the number of faults rose, and the sink has then taken some of the
     /// first bytes, or none. `NoMemory` leaves all as it was.
     fn put(&mut self, bytes: &[u8]) -> Result<(), SinkFault>
-        ensures put { OnOk result ((seen self.new).content ≡ with_text (seen self.old).content bytes.now) }
+        ensures put { OnOk result ((seen self.new).content
+            ≡ with_text (seen self.old).content bytes.now) }
         ensures prefix { IsErrOf result SinkFault.Failed →
             (count : ℕ) × ((seen self.new).content ≡ with_text (seen self.old).content (take count bytes.now)) }
         ensures failed { IsErrOf result SinkFault.Failed →

@@ -39,7 +39,8 @@ parts_are_layout I C seats h = record {
   apart = λ b c t lb lc ne p q. rw (offset_at I seats b lb, offset_at I seats c lc)
       (let same = sharing_is_one_part I b c t lb lc p q in
       (own b lb).apart (b, (buffer I b).lowest) (c, (buffer I c).lowest) t (in_own_part I b lb)
-      (subst (λ (t : ℕ). IsIn (c, (buffer I c).lowest) (whole I (members I t))) (sym same) (in_own_part I c lc)) ne p q);
+      (subst (λ (t : ℕ). IsIn (c, (buffer I c).lowest) (whole I (members I t))) (sym same) (in_own_part I c lc)) ne p
+      q);
 }
   where
     own : (b : ℕ) → b < length I → Places I C (whole I (members I (part_of I b))) (number_of seats)

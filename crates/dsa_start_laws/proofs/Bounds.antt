@@ -110,7 +110,11 @@ stack_grows I t s H G h = stack_within I t H s H G (record {
 -- ---- from the least floor of what is counted on the same is counted
 least_image : (f : ℕ → ℕ) (xs : List ℕ) → xs ≢ [] → (x : ℕ) × IsIn x xs × ((y : ℕ) → IsIn y xs → f x ≤ f y)
 least_image f [] n = absurd (n refl)
-least_image f (x ∷ []) n = (x, inl refl, λ y i. elim i [ inl q ↦ (let k : f y ≡ f x = ap f q in omega arith) | inr q ↦ absurd q ])
+least_image f (x ∷ []) n = (
+  x,
+  inl refl,
+  λ y i. elim i [ inl q ↦ (let k : f y ≡ f x = ap f q in omega arith) | inr q ↦ absurd q ],
+)
 least_image f (x ∷ y ∷ ys) n = go (least_image f (y ∷ ys) (λ e. cc))
   where
     cases : (m n : ℕ) → (m ≤ n) ⊎ (n < m)
@@ -156,7 +160,8 @@ pub at_grows : (I : Instance) (t s G : ℕ) →
 unfolding highest_at
 at_grows I t s G h =
     greatest_all (λ H. stack I t H G) (heights I G) (greatest (map (λ H. stack I s H G) (heights I G)))
-    (λ H i. let a = stack_grows I t s H G h in let b = in_greatest (λ H. stack I s H G) (heights I G) H i in omega arith)
+    (λ H i. let a = stack_grows I t s H G h in let b = in_greatest (λ H. stack I s H G) (heights I G) H i in
+    omega arith)
 
 -- a moment with a stack above 0 has a buffer
 stack_has : (I : Instance) (t H G : ℕ) → 1 ≤ stack I t H G → (b : ℕ) × (b < length I) × IsLive (buffer I b) t
@@ -348,4 +353,5 @@ load_is_stack I t = elim (nil_or_not (counted I t 0 1)) [
 
 pub load_under_bound : (I : Instance) (t : ℕ) → load I t ≤ lower_bound I
 unfolding moduli
-load_under_bound I t = let a = stack_under_bound I t 0 1 (inl refl) (zero_height I 1) in let e = load_is_stack I t in omega arith
+load_under_bound I t = let a = stack_under_bound I t 0 1 (inl refl) (zero_height I 1) in let e = load_is_stack I t in
+    omega arith

@@ -13,7 +13,8 @@ unfolding bound_moment bound_modulus least_of lower_bound highest_stack highest_
 overrun_moment = refl
 
 none_moment : bound_moment [] [] ≡ 0
-unfolding bound_moment bound_modulus least_of lower_bound highest_stack highest_at heights floor stack pile counted moduli
+unfolding bound_moment bound_modulus least_of lower_bound highest_stack highest_at heights floor stack pile counted
+    moduli
     moments
 none_moment = refl
 

@@ -52,7 +52,8 @@ into_counted I t H G b lt live high m =
     into_filter (λ b. is_live (buffer I b) t && nat_le H (floor (buffer I b)) && ((buffer I b).alignment % G == 0))
     (numbers (length I)) b (into_range (length I) 0 b (omega arith) (omega arith))
     (both_true (is_live (buffer I b) t && nat_le H (floor (buffer I b))) ((buffer I b).alignment % G == 0)
-    (both_true (is_live (buffer I b) t) (nat_le H (floor (buffer I b))) live (is_at_most H (floor (buffer I b)) high)) m)
+    (both_true (is_live (buffer I b) t) (nat_le H (floor (buffer I b))) live (is_at_most H (floor (buffer I b)) high))
+    m)
 
 -- ---- the claim that gives each of some buffers one bound
 abbrev pub all_at_bound : ℕ → List ℕ → Claim

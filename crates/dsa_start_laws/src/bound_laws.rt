@@ -51,7 +51,8 @@ pub fn sections_reach_the_bound()
         1 ≤ lower_bound I → IsIn (bound_height I sections) (heights I (bound_modulus I))
         × (stack I (bound_moment I sections) (bound_height I sections) (bound_modulus I)
         ≡ lower_bound I) }
-    ensures lowest { (I : Instance) (sections : List ℕ) (H : ℕ) → IsIn H (heights I (bound_modulus I)) →
+    ensures lowest { (I : Instance) (sections : List ℕ) (H : ℕ) →
+        IsIn H (heights I (bound_modulus I)) →
         stack I (bound_moment I sections) H (bound_modulus I) ≡ lower_bound I →
         bound_height I sections ≤ H }
 {}

@@ -16,7 +16,8 @@ pub fn first_place_is_least()
 {}
 
 /// Where best-fit puts a buffer it is aligned, at or above its lowest and apart from its
-/// neighbours. Its free ranges are the greatest that meet no neighbour, and of several it takes one that none is tighter than.
+/// neighbours. Its free ranges are the greatest that meet no neighbour, and of several it takes one
+/// that none is tighter than.
 pub fn best_place_is_tightest()
     ensures clear { (I : Instance) (b : ℕ) (placed : List Entry) → IsInstance I →
         IsClear I b placed (best_place I b placed) }

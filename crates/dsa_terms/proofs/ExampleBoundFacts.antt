@@ -37,7 +37,8 @@ unfolding lower_bound highest_stack highest_at heights floor stack pile counted 
 five_bound = refl
 
 five_modulus : bound_modulus five ≡ 1
-unfolding bound_modulus least_of lower_bound highest_stack highest_at heights floor stack pile counted rounded_size moduli
+unfolding bound_modulus least_of lower_bound highest_stack highest_at heights floor stack pile counted rounded_size
+    moduli
     moments is_live buffer
 five_modulus = refl
 
@@ -47,7 +48,8 @@ unfolding lower_bound highest_stack highest_at heights floor stack pile counted 
 two_of_four_bound = refl
 
 two_of_four_modulus : bound_modulus two_of_four ≡ 4
-unfolding bound_modulus least_of lower_bound highest_stack highest_at heights floor stack pile counted rounded_size moduli
+unfolding bound_modulus least_of lower_bound highest_stack highest_at heights floor stack pile counted rounded_size
+    moduli
     moments is_live buffer
 two_of_four_modulus = refl
 
@@ -57,7 +59,8 @@ unfolding lower_bound highest_stack highest_at heights floor stack pile counted 
 evens_bound = refl
 
 evens_modulus : bound_modulus evens ≡ 1
-unfolding bound_modulus least_of lower_bound highest_stack highest_at heights floor stack pile counted rounded_size moduli
+unfolding bound_modulus least_of lower_bound highest_stack highest_at heights floor stack pile counted rounded_size
+    moduli
     moments is_live buffer
 evens_modulus = refl
 
@@ -67,7 +70,8 @@ unfolding lower_bound highest_stack highest_at heights floor stack pile counted 
 filled_bound = refl
 
 filled_modulus : bound_modulus filled ≡ 1
-unfolding bound_modulus least_of lower_bound highest_stack highest_at heights floor stack pile counted rounded_size moduli
+unfolding bound_modulus least_of lower_bound highest_stack highest_at heights floor stack pile counted rounded_size
+    moduli
     moments is_live buffer
 filled_modulus = refl
 
@@ -77,7 +81,8 @@ unfolding lower_bound highest_stack highest_at heights floor stack pile counted 
 overrun_bound = refl
 
 overrun_modulus : bound_modulus overrun ≡ 1
-unfolding bound_modulus least_of lower_bound highest_stack highest_at heights floor stack pile counted rounded_size moduli
+unfolding bound_modulus least_of lower_bound highest_stack highest_at heights floor stack pile counted rounded_size
+    moduli
     moments is_live buffer
 overrun_modulus = refl
 
@@ -87,7 +92,8 @@ unfolding lower_bound highest_stack highest_at heights floor stack pile counted 
 two_parts_bound = refl
 
 two_parts_modulus : bound_modulus two_parts ≡ 1
-unfolding bound_modulus least_of lower_bound highest_stack highest_at heights floor stack pile counted rounded_size moduli
+unfolding bound_modulus least_of lower_bound highest_stack highest_at heights floor stack pile counted rounded_size
+    moduli
     moments is_live buffer
 two_parts_modulus = refl
 
@@ -97,7 +103,8 @@ unfolding lower_bound highest_stack highest_at heights floor stack pile counted 
 small_below_bound = refl
 
 small_below_modulus : bound_modulus small_below ≡ 1
-unfolding bound_modulus least_of lower_bound highest_stack highest_at heights floor stack pile counted rounded_size moduli
+unfolding bound_modulus least_of lower_bound highest_stack highest_at heights floor stack pile counted rounded_size
+    moduli
     moments is_live buffer
 small_below_modulus = refl
 
@@ -107,7 +114,8 @@ unfolding lower_bound highest_stack highest_at heights floor stack pile counted 
 made_bound = refl
 
 made_modulus : bound_modulus made ≡ 1
-unfolding bound_modulus least_of lower_bound highest_stack highest_at heights floor stack pile counted rounded_size moduli
+unfolding bound_modulus least_of lower_bound highest_stack highest_at heights floor stack pile counted rounded_size
+    moduli
     moments is_live buffer
 made_modulus = refl
 

@@ -197,7 +197,8 @@ unfolding lower_bound highest_stack highest_at heights floor stack pile counted 
 lifted_bound = refl
 
 -- 8 + 4 + 4 - 1 by the modulus 4, and 8 + 3 + 3 by 1
-fours_heights : map (heights high_fours) (1 ∷ 4 ∷ 3 ∷ []) ≡ (0 ∷ 8 ∷ 8 ∷ 0 ∷ []) ∷ (0 ∷ 8 ∷ 8 ∷ 0 ∷ []) ∷ (0 ∷ 0 ∷ []) ∷ []
+fours_heights : map (heights high_fours) (1 ∷ 4 ∷ 3 ∷ []) ≡ (0 ∷ 8 ∷ 8 ∷ 0 ∷ []) ∷ (0 ∷ 8 ∷ 8 ∷ 0 ∷ []) ∷ (0 ∷ 0 ∷ []) ∷
+    []
 unfolding heights floor
 fours_heights = refl
 

@@ -118,7 +118,8 @@ climbed I b placed seats k reach s are moved h left =
             subst (λ (t : Seat). IsBeside (first_place I b (neighbours I b placed)) (buffer I b).size t.span) (sym q.2)
             (clear.apart q.0 q.1)
 
-    apart : (e : Entry) → IsIn e (neighbours I b placed) → IsApart (buffer I b) (least_from I b reach) (buffer I e.0) e.1
+    apart : (e : Entry) → IsIn e (neighbours I b placed) →
+        IsApart (buffer I b) (least_from I b reach) (buffer I e.0) e.1
     apart e i = elim (below_or_from p.0 k) [
       | inl less ↦ inr (let z = h.past p.0 less (rw p.2 q.1) in let w = ap (λ (t : Seat). t.span.stop) p.2 in
           let m = (from_is_above I b reach).0 in omega arith)

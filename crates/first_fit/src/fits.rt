@@ -69,10 +69,10 @@ pub(crate) fn fitted(
     Ok(offsets)
 }
 
-/// First-fit: the buffers are placed in the order, each at its least aligned offset, at or above its
-/// lowest, at which it is apart from all placed buffers that share a moment with it. The offsets, by
-/// number, in bytes. The rule is that of storage allocation (Knuth, The Art of Computer Programming,
-/// volume 1, 2.5).
+/// First-fit: the buffers are placed in the order, each at its least aligned offset, at or above
+/// its lowest, at which it is apart from all placed buffers that share a moment with it. The
+/// offsets, by number, in bytes. The rule is that of storage allocation (Knuth, The Art of Computer
+/// Programming, volume 1, 2.5).
 ///
 /// The caller owes an order that has each buffer once.
 #[tactic(auto, unfolding(dsa_terms::specs::Fits::first_fit))]

@@ -60,9 +60,9 @@ fn narrowed(instance: &Instance, b: u32, best: Option<Span>, range: Span) -> Opt
     Some(range)
 }
 
-/// The least aligned offset, at or above its lowest, at which `b` meets none of the seats that share
-/// a moment with it: the least in the first range below the start of a seat that has room, or past
-/// all of them where none has.
+/// The least aligned offset, at or above its lowest, at which `b` meets none of the seats that
+/// share a moment with it: the least in the first range below the start of a seat that has room, or
+/// past all of them where none has.
 pub(crate) fn first_place(instance: &Instance, b: u32, seats: &[Seat]) -> u64
     requires sound { IsInstance instance.now }
     requires in_range { b < length instance.now }

@@ -76,7 +76,8 @@ touches u r s e le =
 apart_in : (I : Instance) (C : ℕ) (offsets : List ℕ) (r s : Rectangle) (k : ℕ) → IsLayout I C offsets →
     OfBuffer I offsets r → OfBuffer I offsets s → r.buffer ≢ s.buffer → HasColumn r k → HasColumn s k →
     (r.top ≤ s.place) ⊎ (s.top ≤ r.place)
-apart_in I C offsets r s k l o p ne h i = elim (l.apart r.buffer s.buffer (get_or (columns_of I) k 0) o.in_range p.in_range
+apart_in I C offsets r s k l o p ne h i =
+    elim (l.apart r.buffer s.buffer (get_or (columns_of I) k 0) o.in_range p.in_range
     ne (o.live k h) (p.live k i)) [
       | inl q ↦ inl (let a = o.top in let b = p.place in omega arith)
       | inr q ↦ inr (let a = o.place in let b = p.top in omega arith)

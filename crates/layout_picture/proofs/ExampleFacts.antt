@@ -180,7 +180,8 @@ a_title = refl
 the_second_colour : colour_text 1 ≡ codes "9ac4ff"
 the_second_colour = refl
 
-a_rectangle : rectangle_text twelve five (codes "b1" ∷ codes "b2" ∷ codes "b3" ∷ []) (0 ∷ 1 ∷ 2 ∷ []) (drawn 2 0 2 4 8) ≡
+a_rectangle : rectangle_text twelve five (codes "b1" ∷ codes "b2" ∷ codes "b3" ∷ []) (0 ∷ 1 ∷ 2 ∷ [])
+    (drawn 2 0 2 4 8) ≡
     codes "<path d='M200 224h800v200h-800z' fill='#db8a9e'><title>4 bytes at 4, live 0-9: b3</title></path>\n"
 unfolding rectangle_text area_of x_of y_of scaled buffer digits escaped encode
 a_rectangle = refl
@@ -205,7 +206,8 @@ a_step : load_step twelve (12 ∷ 12 ∷ 8 ∷ 0 ∷ []) 2 ≡ codes "H1000V224"
 unfolding digits load_step x_of y_of scaled
 a_step = refl
 
-a_mark : mark_text (codes "height ") 12 24 22 ≡ codes "<path stroke='#000' d='M194 24H200'/><text x='191' y='22'>height 12</text>\n"
+a_mark : mark_text (codes "height ") 12 24 22
+    ≡ codes "<path stroke='#000' d='M194 24H200'/><text x='191' y='22'>height 12</text>\n"
 unfolding digits
 a_mark = refl
 

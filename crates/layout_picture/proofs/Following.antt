@@ -27,7 +27,8 @@ touch_over : (I : Instance) (offsets : List ℕ) (b c : ℕ) →
     (((buffer I b).upper ≡ (buffer I c).lower) ⊎ ((buffer I c).upper ≡ (buffer I b).lower)) →
     get_or offsets b 0 < end_of I offsets c → get_or offsets c 0 < end_of I offsets b → touch I offsets b c ≡ true
 unfolding touch
-touch_over I offsets b c e x y = last (lie_upon I offsets b c) (follow I b c && overlap I offsets b c) (both (buffer I b).upper (buffer I c).lower
+touch_over I offsets b c e x y = last (lie_upon I offsets b c) (follow I b c && overlap I offsets b c)
+    (both (buffer I b).upper (buffer I c).lower
     (buffer I c).upper (buffer I b).lower _ _ e (is_below _ _ x) (is_below _ _ y))
   where
     either : (a : Bool) → (a || true) ≡ true
@@ -70,7 +71,8 @@ pub touch_following : (I : Instance) (offsets : List ℕ) (p : Pair) → p.earli
     (follow I p.earlier p.later && overlap I offsets p.earlier p.later) ≡ true →
     IsMet (map (right_side I offsets) (numbers (length I))) (map (left_side I offsets) (numbers (length I))) p
 touch_following I offsets p lt lc h =
-    let q = parts (buffer I p.earlier).upper (buffer I p.later).lower (buffer I p.later).upper (buffer I p.earlier).lower
+    let q = parts (buffer I p.earlier).upper (buffer I p.later).lower (buffer I p.later).upper
+    (buffer I p.earlier).lower
     (get_or offsets p.earlier 0) (end_of I offsets p.later) (get_or offsets p.later 0) (end_of I offsets p.earlier) h in
     elim q.0 [
       | inl e ↦ these p.earlier p.later (omega arith) lc (record { line = e; begun = q.1; not_ended = q.2 })

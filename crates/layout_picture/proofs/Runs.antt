@@ -21,7 +21,8 @@ pub numbers_more : (n : ℕ) → numbers (n + 1) ≡ numbers n ++ n ∷ []
 numbers_more n = let e : n + 1 ≡ suc n = omega arith in rw e (numbers_from n 0 n (omega arith))
 
 -- one more in front
-pub front_more : (flags : List Bool) (k : ℕ) → flag_at flags k ≡ true → front (drop k flags) ≡ suc (front (drop (suc k) flags))
+pub front_more : (flags : List Bool) (k : ℕ) → flag_at flags k ≡ true →
+    front (drop k flags) ≡ suc (front (drop (suc k) flags))
 front_more [] k t = absurd cc
 front_more (true ∷ flags) zero t = refl
 front_more (false ∷ flags) zero t = absurd cc
@@ -64,7 +65,8 @@ flat_more {X} f n start before more h m =
     ∙ ap (λ (xs : List ℕ). start ++ flat_map f xs) (sym (numbers_more n))
 
 -- one more item, and what belongs to it
-pub put_more : {X Y : Type 0} (f : X → List Y) (xs : List X) (i : ℕ) (d : X) (start text more : List Y) → i < length xs →
+pub put_more : {X Y : Type 0} (f : X → List Y) (xs : List X) (i : ℕ) (d : X) (start text more : List Y) →
+    i < length xs →
     text ≡ start ++ flat_map f (take i xs) → more ≡ text ++ f (get_or xs i d) →
     more ≡ start ++ flat_map f (take (i + 1) xs)
 put_more {X} {Y} f xs i d start text more lt h m =

@@ -65,7 +65,12 @@ pub record InRun (flags : List Bool) (k : ℕ) : Type 0 where
   pub to : k < run_end flags start
 
 pub in_run : (flags : List Bool) (k : ℕ) → flag_at flags k ≡ true → InRun flags k
-in_run flags zero t = record { start = 0; begins = first (flag_at flags 0) t; from = omega arith; to = run_begins flags 0 t }
+in_run flags zero t = record {
+  start = 0;
+  begins = first (flag_at flags 0) t;
+  from = omega arith;
+  to = run_begins flags 0 t;
+}
   where
     first : (b : Bool) → b ≡ true → (b && ((0 == 0) || not (flag_at flags (0 - 1)))) ≡ true
     first true e = refl
@@ -182,7 +187,8 @@ none_between ms t k u r c lt le i = elim (below_or_from k p.0) [
       | inr h ↦ (let z = rises_at ms i j 0 r h lt in omega arith)
     ]
 
-stays : (x : Buffer) (m d : ℕ) → ((u : ℕ) → m < u → u ≤ m + d → turns_at u x ≡ true → ⊥) → is_live x (m + d) ≡ is_live x m
+stays : (x : Buffer) (m d : ℕ) → ((u : ℕ) → m < u → u ≤ m + d → turns_at u x ≡ true → ⊥) →
+    is_live x (m + d) ≡ is_live x m
 unfolding turns_at was_live
 stays x m zero h = ap (is_live x) (let e : m + 0 ≡ m = omega arith in e)
 stays x m (suc d) h =
@@ -205,7 +211,8 @@ pub live_in_column : (I : Instance) (b t k : ℕ) → b < length I → IsInColum
     is_live (buffer I b) t ≡ is_live (buffer I b) (get_or (columns_of I) k 0)
 live_in_column I b t k lt c =
     let le = c.begun in
-    ap (is_live (buffer I b)) (let e : t ≡ get_or (columns_of I) k 0 + (t - get_or (columns_of I) k 0) = omega arith in e)
+    ap (is_live (buffer I b)) (let e : t ≡ get_or (columns_of I) k 0 + (t - get_or (columns_of I) k 0) = omega arith in
+    e)
     ∙ stays (buffer I b) (get_or (columns_of I) k 0) (t - get_or (columns_of I) k 0)
     (λ u h l q. none_between (columns_of I) t k u (columns_rise I) c h (omega arith) (in_columns I b u lt q))
 
@@ -246,7 +253,8 @@ of_buffer I offsets r i =
     (get_or offsets q.0 0 + (buffer I q.0).size))
     (filter (begins_at (flags_of I q.0)) (numbers (length (flags_of I q.0)))) r q.2 in
     let f = from_filter (begins_at (flags_of I q.0)) (numbers (length (flags_of I q.0))) m.0 m.1 in
-    subst (OfBuffer I offsets) (sym m.2) (made q.0 m.0 (below (length I) q.0 q.1) (first (flag_at (flags_of I q.0) m.0) _ f.1))
+    subst (OfBuffer I offsets) (sym m.2)
+    (made q.0 m.0 (below (length I) q.0 q.1) (first (flag_at (flags_of I q.0) m.0) _ f.1))
   where
     first : (p q : Bool) → (p && q) ≡ true → p ≡ true
     first true q e = refl

@@ -41,7 +41,8 @@ pub sorted_sides : (sides : List Side) → IsSortedByKey point_of pair_cmp sides
 sorted_sides sides up = record {
   rising = λ j k d le lt. not_before (get_or sides j d).line (get_or sides k d).line
       (get_or sides j d).from (get_or sides k d).from
-      (sorted_far (λ s t. is_lt (pair_cmp (point_of s) (point_of t))) (ranks_by pairs_total point_of) sides up j k d le lt);
+      (sorted_far (λ s t. is_lt (pair_cmp (point_of s) (point_of t)))
+      (ranks_by pairs_total point_of) sides up j k d le lt);
 }
 
 -- ---- what comes before a point comes first

@@ -19,7 +19,8 @@ use Rattle.layout_picture.specs.declared.touching.Pair.{Pair}
 use Rattle.layout_picture.proofs.Showing.{OfBuffer, columns_rise, none_between, of_buffer, shown}
 
 -- ---- rectangles have sides
-pub some_columns : (I : Instance) (offsets : List ℕ) (all : List Rectangle) (side : Rectangle → Side) (sides : List Side) →
+pub some_columns : (I : Instance) (offsets : List ℕ) (all : List Rectangle) (side : Rectangle → Side)
+    (sides : List Side) →
     all ≡ rectangles I offsets → sides ≡ map side all →
     ((r : Rectangle) → r.first < r.end → IsSide (side r)) → All IsSide sides
 some_columns I offsets all side sides e f h = rw f (all_from_in IsSide (map side all) (λ s i.
@@ -61,7 +62,8 @@ touch_upon : (I : Instance) (offsets : List ℕ) (b c : ℕ) →
     ((end_of I offsets b ≡ get_or offsets c 0) ⊎ (end_of I offsets c ≡ get_or offsets b 0)) →
     do_share (buffer I b) (buffer I c) ≡ true → touch I offsets b c ≡ true
 unfolding touch
-touch_upon I offsets b c e s = first (lie_upon I offsets b c) (follow I b c && overlap I offsets b c) (both (end_of I offsets b) (get_or offsets c 0)
+touch_upon I offsets b c e s = first (lie_upon I offsets b c) (follow I b c && overlap I offsets b c)
+    (both (end_of I offsets b) (get_or offsets c 0)
     (end_of I offsets c) (get_or offsets b 0) (do_share (buffer I b) (buffer I c)) e s)
   where
     both : (m n k l : ℕ) (s : Bool) → (m ≡ n) ⊎ (k ≡ l) → s ≡ true → (((m == n) || (k == l)) && s) ≡ true
@@ -84,10 +86,13 @@ stacked_touch I offsets all p good e m =
     let o = of_buffer I offsets u.0 (subst (IsIn u.0) e u.1) in
     let q = of_buffer I offsets l.0 (subst (IsIn l.0) e l.1) in
     subst (IsTouching I offsets)
-    (sym (m.is ∙ ap (λ (s : Side). pair_of s.buffer m.begin.buffer) u.2 ∙ ap (λ (s : Side). pair_of u.0.buffer s.buffer) l.2))
+    (sym (m.is ∙ ap (λ (s : Side). pair_of s.buffer m.begin.buffer) u.2
+    ∙ ap (λ (s : Side). pair_of u.0.buffer s.buffer) l.2))
     (these u.0 l.0 o q (sym (ap (λ (s : Side). s.line) u.2) ∙ m.meet.line ∙ ap (λ (s : Side). s.line) l.2)
-    (let a = m.meet.begun in let b = ap (λ (s : Side). s.from) u.2 in let c = ap (λ (s : Side). s.to) l.2 in omega arith)
-    (let a = m.meet.not_ended in let b = ap (λ (s : Side). s.from) l.2 in let c = ap (λ (s : Side). s.to) u.2 in omega arith))
+    (let a = m.meet.begun in let b = ap (λ (s : Side). s.from) u.2 in let c = ap (λ (s : Side). s.to) l.2 in
+    omega arith)
+    (let a = m.meet.not_ended in let b = ap (λ (s : Side). s.from) l.2 in let c = ap (λ (s : Side). s.to) u.2 in
+    omega arith))
   where
     these : (r s : Rectangle) → OfBuffer I offsets r → OfBuffer I offsets s → r.top ≡ s.place → r.first < s.end →
         s.first < r.end → IsTouching I offsets (pair_of r.buffer s.buffer)

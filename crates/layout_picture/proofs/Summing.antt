@@ -75,7 +75,8 @@ summed_more I columns loads lent more flags n size h e lt f s few c m = record {
   where
     own : (k : ℕ) → k < length columns →
         cond (get_or flags k false) size 0 ≡ added (is_live (buffer I n) (get_or columns k 0)) (buffer I n).size
-    own k kt = rw (f, s) (ap (λ (p : Bool). cond p (buffer I n).size 0) (get_or-map (is_live (buffer I n)) columns k 0 false kt))
+    own k kt = rw (f, s) (ap (λ (p : Bool). cond p (buffer I n).size 0)
+        (get_or-map (is_live (buffer I n)) columns k 0 false kt))
 
     at_most : (p : Bool) (size : ℕ) → cond p size 0 ≤ size
     at_most true size = omega arith

@@ -15,7 +15,8 @@ use Rattle.layout_picture.specs.declared.rectangle.Rectangle.{Rectangle}
 use Rattle.layout_picture.specs.declared.scale.Scale.{Scale}
 
 -- the pieces in order
-pub whole : (I : Instance) (ids : List (List ℕ)) (offsets columns loads again colours : List ℕ) (all : List Rectangle) (s : Scale)
+pub whole : (I : Instance) (ids : List (List ℕ)) (offsets columns loads again colours : List ℕ) (all : List Rectangle)
+    (s : Scale)
     (text : List ℕ) → columns ≡ columns_of I → loads ≡ map (load I) (columns_of I) → again ≡ loads →
     all ≡ rectangles I offsets → colours ≡ colours_of I offsets → s ≡ scale_of I offsets →
     text ≡ ((head_text s ++ plot_text s I ids colours loads all) ++ frame_text s columns again) ++ codes "</svg>\n" →
@@ -32,7 +33,8 @@ offsets_within I offsets h k d lt =
     let w = h.within k kt in omega arith
 
 -- loads are as many as the columns
-pub few_loads : (f : ℕ → ℕ) (columns items loads lent : List ℕ) → columns ≡ items → length items ≤ (2 + 2 * gap_limit) * buffer_limit →
+pub few_loads : (f : ℕ → ℕ) (columns items loads lent : List ℕ) → columns ≡ items →
+    length items ≤ (2 + 2 * gap_limit) * buffer_limit →
     loads ≡ map f columns → lent ≡ loads → length lent < 2 ^ 32
 few_loads f columns items loads lent c few l e =
     let k = ap (λ (xs : List ℕ). length xs) (e ∙ l) in
@@ -40,7 +42,8 @@ few_loads f columns items loads lent c few l e =
     let n = ap (λ (xs : List ℕ). length xs) c in omega arith
 
 -- a text has one instance
-pub one_instance : {F : Type 0} (I J : Instance) (parsed : Result (List Buffer) F) → parsed ≡ Ok I → parsed ≡ Ok J → I ≡ J
+pub one_instance : {F : Type 0} (I J : Instance) (parsed : Result (List Buffer) F) → parsed ≡ Ok I → parsed ≡ Ok J →
+    I ≡ J
 one_instance I J parsed e f = let h = sym e ∙ f in cc
 
 -- a scale by its two numbers

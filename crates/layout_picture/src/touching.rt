@@ -110,7 +110,8 @@ fn push_pairs(pairs: &mut Vec<Pair>, buffer: u32, sides: &[Side]) -> Result<(), 
 fn push_begun(pairs: &mut Vec<Pair>, sides: &[Side], others: &[Side]) -> Result<(), AllocError>
     requires some { All IsSide sides.now }
     requires order { AreInOrder others.now }
-    ensures { OnOk result (pairs.new.items ≡ pairs.old.items ++ flat_map (pairs_begun others.now) sides.now) }
+    ensures { OnOk result (pairs.new.items ≡ pairs.old.items
+        ++ flat_map (pairs_begun others.now) sides.now) }
 {
     for side in sides {
         push_pairs(pairs, side.buffer, begun_on(others, side))?;
@@ -122,7 +123,8 @@ fn push_begun(pairs: &mut Vec<Pair>, sides: &[Side], others: &[Side]) -> Result<
 fn push_meeting(pairs: &mut Vec<Pair>, mut sides: Facing) -> Result<(), AllocError>
     requires ends { All IsSide sides.ends.items }
     requires begins { All IsSide sides.begins.items }
-    ensures { OnOk result (AreMet sides.ends.items sides.begins.items pairs.old.items pairs.new.items) }
+    ensures { OnOk result (AreMet sides.ends.items sides.begins.items pairs.old.items
+        pairs.new.items) }
 {
     put_in_order(&mut sides.ends);
     put_in_order(&mut sides.begins);

@@ -18,8 +18,10 @@ use std::alloc::{AllocError, Global};
 /// The runs of moments in which the same buffers, at least one, are live, without those that say
 /// less than a neighbour.
 fn thin_runs(alloc: Global, instance: &Instance) -> Result<Vec<Section>, AllocError>
-    ensures runs { IfOk result (λ sections. AreThinRuns instance.now (map section_of sections.items)) }
-    ensures limit { IfOk result (λ sections. length sections.items ≤ (2 + 2 * gap_limit) * length instance.now) }
+    ensures runs { IfOk result (λ sections. AreThinRuns instance.now
+        (map section_of sections.items)) }
+    ensures limit { IfOk result (λ sections. length sections.items ≤
+        (2 + 2 * gap_limit) * length instance.now) }
 {
     let edges = edges(alloc, instance)?;
     Ok(thinned_runs(alloc, instance, &edges)?.into_sections())

@@ -81,7 +81,8 @@ impl Model for Thinned {
 
     ghost view = { λ t. map section_of t.kept.items };
 
-    ghost invariant = { λ t. All (λ (x : SectionTerm). Rises x.members) (map section_of t.kept.items) };
+    ghost invariant = { λ t. All (λ (x : SectionTerm). Rises x.members)
+        (map section_of t.kept.items) };
 }
 
 impl Thinned {

@@ -73,7 +73,8 @@ same_buffer test l n c le h t = elim (fits c) [
 ]
 
 -- ---- cites
-same_cite_reason : (I : Instance) (earlier : List Line) (l : Claim) (e : Entry) (cite : RawCite) → length I ≤ buffer_limit →
+same_cite_reason : (I : Instance) (earlier : List Line) (l : Claim) (e : Entry) (cite : RawCite) →
+    length I ≤ buffer_limit →
     IsBelow (length I) l →
     cite_reason I earlier l e (cite_value (narrow_cite cite)) ≡ cite_reason I earlier l e (cite_of cite)
 same_cite_reason I earlier l e (raw_cite.Line k) n h = refl
@@ -117,7 +118,8 @@ same_cite I earlier l e (raw_cite.Twin c) n h q =
     ap Twin (same_buffer (λ f. is_twin I f e) l (length I) c n h
     (so (list_any (λ (f : Entry). (f.0 == min c (2 ^ 32 - 1)) && is_twin I f e) l) (reason.NotTwin e.0) q))
 
-same_cites : (I : Instance) (earlier : List Line) (l es : Claim) (cites : List (ℕ × RawCite)) → length I ≤ buffer_limit →
+same_cites : (I : Instance) (earlier : List Line) (l es : Claim) (cites : List (ℕ × RawCite)) →
+    length I ≤ buffer_limit →
     IsBelow (length I) l → length (map cite_value (map (λ p. narrow_cite p.1) cites)) ≡ length es →
     cites_reason I earlier l es (map cite_value (map (λ p. narrow_cite p.1) cites)) ≡ None →
     map cite_value (map (λ p. narrow_cite p.1) cites) ≡ map (λ p. cite_of p.1) cites

@@ -40,24 +40,28 @@ line_0_says_it_too : claim_said growing (From 0 (Puts (1, 0) ∷ [])) ≡ claim_
 line_0_says_it_too = refl
 
 -- the line that is named, and not the one before
-the_line_that_is_named : claim_said (raw_line.Over 0 0 1 one ∷ raw_line.Over 0 0 1 ((0, 0) ∷ []) ∷ []) (From 0 (Puts (1, 0) ∷ []))
+the_line_that_is_named : claim_said (raw_line.Over 0 0 1 one ∷ raw_line.Over 0 0 1 ((0, 0) ∷ []) ∷ [])
+    (From 0 (Puts (1, 0) ∷ []))
     ≡ two
 the_line_that_is_named = refl
 
-in_as_many_bytes : length (spelling_text (From 0 (Puts (1, 0) ∷ []))) ≡ length (spelling_text (From 1 (Puts (1, 0) ∷ [])))
+in_as_many_bytes : length (spelling_text (From 0 (Puts (1, 0) ∷ [])))
+    ≡ length (spelling_text (From 1 (Puts (1, 0) ∷ [])))
 unfolding numeral
 in_as_many_bytes = refl
 
 -- ---- a claim that comes back: the line before is its base, though the first has it whole
 the_line_before_though_another_is_shorter :
     spelled_lines (raw_line.Over 0 0 1 one ∷ raw_line.Over 0 0 1 ((0, 0) ∷ []) ∷ raw_line.Over 0 0 1 one ∷ []) ≡
-    OverAs 0 0 1 (Full one) ∷ OverAs 0 0 1 (Full ((0, 0) ∷ [])) ∷ OverAs 0 0 1 (From 1 (Puts (2, 0) ∷ Puts (4, 0) ∷ [])) ∷ []
+    OverAs 0 0 1 (Full one) ∷ OverAs 0 0 1 (Full ((0, 0) ∷ [])) ∷
+    OverAs 0 0 1 (From 1 (Puts (2, 0) ∷ Puts (4, 0) ∷ [])) ∷ []
 unfolding numeral
 the_line_before_though_another_is_shorter = refl
 
 -- ---- a difference as short as the claim in full
 abbrev falling : List RawLine
-falling = raw_line.Over 0 0 1 ((2, 0) ∷ (10, 10) ∷ []) ∷ raw_line.Over 0 0 1 ((10, 10) ∷ []) ∷ raw_line.Over 0 0 1 ((0, 0) ∷ []) ∷ []
+falling = raw_line.Over 0 0 1 ((2, 0) ∷ (10, 10) ∷ []) ∷ raw_line.Over 0 0 1 ((10, 10) ∷ []) ∷
+    raw_line.Over 0 0 1 ((0, 0) ∷ []) ∷ []
 
 as_long : length (spelling_text (From 0 (difference ((2, 0) ∷ (10, 10) ∷ []) ((10, 10) ∷ []))))
     ≡ length (spelling_text (Full ((10, 10) ∷ [])))
@@ -88,6 +92,7 @@ as_long_is_in_full k l m h = ap (λ (t : Bool). cond t (From k (difference l m))
     (not_below (length (spelling_text (From k (difference l m)))) (length (spelling_text (Full m))) h)
 
 shorter_is_a_difference : (k : ℕ) (l m : Claim) →
-    length (spelling_text (From k (difference l m))) < length (spelling_text (Full m)) → shorter k l m ≡ From k (difference l m)
+    length (spelling_text (From k (difference l m))) < length (spelling_text (Full m)) →
+    shorter k l m ≡ From k (difference l m)
 shorter_is_a_difference k l m h = ap (λ (t : Bool). cond t (From k (difference l m)) (Full m))
     (is_below (length (spelling_text (From k (difference l m)))) (length (spelling_text (Full m))) h)

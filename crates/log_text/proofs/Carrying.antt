@@ -8,7 +8,8 @@ use Rattle.log_text.proofs.Differences.{IsAbove, above_all, above_less, below_mo
 use Rattle.log_text.proofs.Saying.{all_in, in_all}
 
 -- ---- what is left from a place on
-pub drop_index : {X : Type 0} (xs : List X) (k : ℕ) (d : X) → k < length xs → drop k xs ≡ get_or xs k d ∷ drop (k + 1) xs
+pub drop_index : {X : Type 0} (xs : List X) (k : ℕ) (d : X) → k < length xs →
+    drop k xs ≡ get_or xs k d ∷ drop (k + 1) xs
 drop_index {X = X} xs k d lt = rw (add_one k) (go xs k lt)
   where
     add_one : (n : ℕ) → n + 1 ≡ suc n
@@ -49,7 +50,8 @@ at_least b e l h = elim (below_or_from e.0 b) [
 ]
 
 pub past_it : (b : ℕ) (e : Entry) (l : Claim) → Rises (buffers_of (e ∷ l)) → e.0 ≡ b → l ≡ above b (e ∷ l)
-past_it b e l r q = sym (above_less b e l (omega arith) ∙ above_all b l (λ f i. let k : e.0 < f.0 = head_above e l r f i in omega arith))
+past_it b e l r q = sym (above_less b e l (omega arith)
+    ∙ above_all b l (λ f i. let k : e.0 < f.0 = head_above e l r f i in omega arith))
 
 pub not_past_it : (b : ℕ) (e : Entry) (l : Claim) → Rises (buffers_of (e ∷ l)) → below b (e ∷ l) ≡ [] → e.0 ≢ b →
     e ∷ l ≡ above b (e ∷ l)
@@ -78,11 +80,17 @@ into_above b l e i h = into_filter (λ f. nat_lt b f.0) l e i (is_below b e.0 h)
 -- the first entry alone decides whether the change changes what is left
 pub one_decides : (c : Change) (e : Entry) (l : Claim) → Rises (buffers_of (e ∷ l)) → below (buffer_of c) (e ∷ l) ≡ [] →
     DoesChange (e ∷ []) c ↔ DoesChange (e ∷ l) c
-one_decides (Puts f) e l r h = (λ n i. elim i [ inl q ↦ n (inl q) | inr j ↦ later j ], λ n i. elim i [ inl q ↦ n (inl q) | inr j ↦ absurd j ])
+one_decides (Puts f) e l r h = (
+  λ n i. elim i [ inl q ↦ n (inl q) | inr j ↦ later j ],
+  λ n i. elim i [ inl q ↦ n (inl q) | inr j ↦ absurd j ],
+)
   where
     later : IsIn f l → ⊥
     later j = let k : e.0 < f.0 = head_above e l r f j in let m : f.0 ≤ e.0 = at_least f.0 e l h in omega arith
-one_decides (Drops b) e l r h = (λ i. elim i [ inl q ↦ inl q | inr j ↦ absurd j ], λ i. elim i [ inl q ↦ inl q | inr j ↦ absurd (later j) ])
+one_decides (Drops b) e l r h = (
+  λ i. elim i [ inl q ↦ inl q | inr j ↦ absurd j ],
+  λ i. elim i [ inl q ↦ inl q | inr j ↦ absurd (later j) ],
+)
   where
     later : IsIn b (buffers_of l) → ⊥
     later j = let q = from_map (λ (g : Entry). g.0) l b j in let k : e.0 < q.0.0 = head_above e l r q.0 q.1 in
@@ -125,7 +133,8 @@ pub carry_start : (base : Claim) (cs : List Change) → IsCarried base cs base c
 carry_start base cs = record { same = refl; onward = λ a. a; back = λ a. a }
 
 -- the changes after the first are of higher buffers
-later_changes : (c : Change) (ds : List Change) → Rises (map buffer_of (c ∷ ds)) → (d : Change) → IsIn d ds → buffer_of c < buffer_of d
+later_changes : (c : Change) (ds : List Change) → Rises (map buffer_of (c ∷ ds)) → (d : Change) → IsIn d ds →
+    buffer_of c < buffer_of d
 later_changes c ds r d i = r.0 (buffer_of d) (into_map buffer_of ds d i)
 
 all_after : (a : ℕ) (c : Change) (ds : List Change) → a < buffer_of c → Rises (map buffer_of (c ∷ ds)) → (d : Change) →
@@ -164,7 +173,8 @@ carry_change base cs l c ds out more rest r h n p q e =
   where
     both : All (DoesChange (above (buffer_of c) l)) ds → (d : Change) → IsIn d (c ∷ ds) → DoesChange l d
     both a d (inl q) = subst (λ (u : Change). DoesChange l u) (sym q) n
-    both a d (inr i) = of_above (buffer_of c) l d (later_changes c ds r d i) (in_all (DoesChange (above (buffer_of c) l)) ds a d i)
+    both a d (inr i) = of_above (buffer_of c) l d (later_changes c ds r d i)
+        (in_all (DoesChange (above (buffer_of c) l)) ds a d i)
 
 -- the first change changes nothing
 pub carry_bad : (base : Claim) (cs : List Change) (l : Claim) (c : Change) (ds : List Change) (out : Claim) →
@@ -214,7 +224,8 @@ reached base k b r h m f =
 
 pub decided : (base : Claim) (k : ℕ) (c : Change) (r : Bool) → Rises (buffers_of base) → k ≤ length base →
     k ≢ length base → below (buffer_of c) (drop k base) ≡ [] →
-    IsTrue r ↔ DoesChange (((get_or base k (0, 0)).0, (get_or base k (0, 0)).1) ∷ []) c → IsTrue r ↔ DoesChange (drop k base) c
+    IsTrue r ↔ DoesChange (((get_or base k (0, 0)).0, (get_or base k (0, 0)).1) ∷ []) c →
+    IsTrue r ↔ DoesChange (drop k base) c
 decided base k c r s h m e t =
     let lt = in_range k (length base) h m in
     let d = drop_index base k (0, 0) lt in
@@ -238,10 +249,12 @@ drop_changes {X = X} f xs k d lt = rw (add_one k) (go xs k lt)
     go (x ∷ xs) zero lt = ap (λ (u : List Change). f x ∷ u) (sym (drop_none (map f xs)))
     go (x ∷ xs) (suc k) lt = go xs k (omega arith)
 
-pub loop_stays : {X : Type 0} (f : X → Change) (base : Claim) (xs : List X) (place next b : ℕ) (d : X) (out more : Claim) →
+pub loop_stays : {X : Type 0} (f : X → Change) (base : Claim) (xs : List X) (place next b : ℕ) (d : X)
+    (out more : Claim) →
     Rises (map buffer_of (map f xs)) → next < length xs → place < length base → (get_or base place (0, 0)).0 < b →
     b ≡ buffer_of (f (get_or xs next d)) →
-    IsCarried base (map f xs) (drop place base) (drop next (map f xs)) out → more ≡ out ++ get_or base place (0, 0) ∷ [] →
+    IsCarried base (map f xs) (drop place base) (drop next (map f xs)) out →
+    more ≡ out ++ get_or base place (0, 0) ∷ [] →
     IsCarried base (map f xs) (drop (place + 1) base) (drop next (map f xs)) more
 loop_stays f base xs place next b d out more r n p h q c e =
     let k = drop_changes f xs next d n in
@@ -250,12 +263,15 @@ loop_stays f base xs place next b d out more r n p h q c e =
     (drop (next + 1) (map f xs)) out more (omega arith)
     (subst (λ (u : List Change). Rises (map buffer_of u)) k (rises_drop buffer_of (map f xs) next r))
     (subst (λ (u : List Change). IsCarried base (map f xs) (get_or base place (0, 0) ∷ drop (place + 1) base) u out) k
-    (subst (λ (u : Claim). IsCarried base (map f xs) u (drop next (map f xs)) out) (drop_index base place (0, 0) p) c)) e)
+    (subst (λ (u : Claim). IsCarried base (map f xs) u (drop next (map f xs)) out) (drop_index base place (0, 0) p) c))
+    e)
 
-pub loop_changes : {X : Type 0} (f : X → Change) (base : Claim) (xs : List X) (place next b : ℕ) (d : X) (out more rest : Claim) →
+pub loop_changes : {X : Type 0} (f : X → Change) (base : Claim) (xs : List X) (place next b : ℕ) (d : X)
+    (out more rest : Claim) →
     Rises (map buffer_of (map f xs)) → next < length xs → b ≡ buffer_of (f (get_or xs next d)) →
     below b (drop place base) ≡ [] → DoesChange (drop place base) (f (get_or xs next d)) →
-    IsCarried base (map f xs) (drop place base) (drop next (map f xs)) out → more ≡ out ++ left_by (f (get_or xs next d)) →
+    IsCarried base (map f xs) (drop place base) (drop next (map f xs)) out →
+    more ≡ out ++ left_by (f (get_or xs next d)) →
     rest ≡ above b (drop place base) →
     IsCarried base (map f xs) rest (drop (next + 1) (map f xs)) more
 loop_changes f base xs place next b d out more rest r n o e s c q t =
@@ -275,10 +291,21 @@ loop_bad f base xs place next d out n s c = carry_bad base (map f xs) (drop plac
 
 -- pairs
 pub one_pair : (b x c y : ℕ) → (IsIn {X = Entry} (c, y) ((b, x) ∷ []) → ⊥) ↔ ((b ≢ c) ⊎ (x ≢ y))
-one_pair b x c y = (λ n. go n (true_or_false (b == c)), λ h i. elim i [ inl q ↦ elim h [ inl m ↦ m (sym (ap (λ (e : Entry). e.0) q)) | inr m ↦ m (sym (ap (λ (e : Entry). e.1) q)) ] | inr j ↦ j ])
+one_pair b x c y = (
+  λ n. go n (true_or_false (b == c)),
+  λ h i. elim i [
+    | inl q ↦ elim h [
+      | inl m ↦ m (sym (ap (λ (e : Entry). e.0) q))
+      | inr m ↦ m
+          (sym (ap (λ (e : Entry). e.1) q))
+    ]
+    | inr j ↦ j
+  ],
+)
   where
     same_pair : b ≡ c → x ≡ y → IsIn {X = Entry} (c, y) ((b, x) ∷ [])
-    same_pair p q = inl (ap (λ (a : ℕ). let e : Entry = (a, y) in e) (sym p) ∙ ap (λ (a : ℕ). let e : Entry = (b, a) in e) (sym q))
+    same_pair p q = inl (ap (λ (a : ℕ). let e : Entry = (a, y) in e) (sym p)
+        ∙ ap (λ (a : ℕ). let e : Entry = (b, a) in e) (sym q))
 
     go : (IsIn {X = Entry} (c, y) ((b, x) ∷ []) → ⊥) → ((b == c) ≡ true) ⊎ ((b == c) ≡ false) → (b ≢ c) ⊎ (x ≢ y)
     go n (inl h) = inr (λ q. n (same_pair (equal b c h) q))

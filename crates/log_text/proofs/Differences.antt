@@ -88,11 +88,12 @@ rises_joined (x ∷ xs) ys r s h = (first, rises_joined xs ys r.1 s (λ a b i j.
 pub in_carried : (l : Claim) (cs : List Change) (e : Entry) → IsIn e (carried_out l cs) →
     IsIn e l ⊎ IsIn (Puts e) cs
 in_carried l [] e i = inl i
-in_carried l (c ∷ cs) e i = elim (from_append (below (buffer_of c) l) (left_by c ++ carried_out (above (buffer_of c) l) cs) e i) [
-  | inl j ↦ inl (in_below (buffer_of c) l e j).0
-  | inr j ↦ after (in_carried (above (buffer_of c) l) cs e)
-      (from_append (left_by c) (carried_out (above (buffer_of c) l) cs) e j)
-]
+in_carried l (c ∷ cs) e i = elim (from_append (below (buffer_of c) l)
+    (left_by c ++ carried_out (above (buffer_of c) l) cs) e i) [
+      | inl j ↦ inl (in_below (buffer_of c) l e j).0
+      | inr j ↦ after (in_carried (above (buffer_of c) l) cs e)
+          (from_append (left_by c) (carried_out (above (buffer_of c) l) cs) e j)
+    ]
   where
     here : (d : Change) → IsIn e (left_by d) → Puts e ≡ d
     here (Puts f) (inl q) = ap Puts q
@@ -121,12 +122,14 @@ pub rises_carried : (l : Claim) (cs : List Change) → Rises (buffers_of l) → 
 rises_carried l [] r s = r
 rises_carried l (c ∷ cs) r s =
     subst Rises (sym (buffers-append (below (buffer_of c) l) (left_by c ++ carried_out (above (buffer_of c) l) cs)))
-    (rises_joined (buffers_of (below (buffer_of c) l)) (buffers_of (left_by c ++ carried_out (above (buffer_of c) l) cs))
+    (rises_joined (buffers_of (below (buffer_of c) l))
+    (buffers_of (left_by c ++ carried_out (above (buffer_of c) l) cs))
     (rises_filtered (λ e. nat_lt e.0 (buffer_of c)) l r)
     (tail c (carried_out (above (buffer_of c) l) cs) (rest_is_above (buffer_of c) l cs s.0)
     (rises_carried (above (buffer_of c) l) cs (rises_filtered (λ e. nat_lt (buffer_of c) e.0) l r) s.1))
     (λ x y i j. let k : x < buffer_of c = low (buffer_of c) l x i in
-    let m : buffer_of c ≤ y = high c (carried_out (above (buffer_of c) l) cs) y (rest_is_above (buffer_of c) l cs s.0) j in
+    let m : buffer_of c ≤ y = high c (carried_out (above (buffer_of c) l) cs) y
+    (rest_is_above (buffer_of c) l cs s.0) j in
     omega arith))
   where
     tail : (c : Change) (rest : Claim) → IsAbove (buffer_of c) rest → Rises (buffers_of rest) →
@@ -152,11 +155,21 @@ dropped l = map (λ e. Drops e.0) l
 -- an entry above the first changed buffer ..
 first_goes : (e : Entry) (l : Claim) (cs : List Change) → IsAbove e.0 l →
     carried_out (e ∷ l) (Drops e.0 ∷ cs) ≡ carried_out l cs
-first_goes e l cs h = rw (below_same e.0 e l (omega arith), below_none e.0 l h, above_less e.0 e l (omega arith), above_all e.0 l h) refl
+first_goes e l cs h = rw (
+  below_same e.0 e l (omega arith),
+  below_none e.0 l h,
+  above_less e.0 e l (omega arith),
+  above_all e.0 l h,
+) refl
 
 first_changes : (e f : Entry) (l : Claim) (cs : List Change) → e.0 ≡ f.0 → IsAbove f.0 l →
     carried_out (e ∷ l) (Puts f ∷ cs) ≡ f ∷ carried_out l cs
-first_changes e f l cs q h = rw (below_same f.0 e l (omega arith), below_none f.0 l h, above_less f.0 e l (omega arith), above_all f.0 l h) refl
+first_changes e f l cs q h = rw (
+  below_same f.0 e l (omega arith),
+  below_none f.0 l h,
+  above_less f.0 e l (omega arith),
+  above_all f.0 l h,
+) refl
 
 one_comes_first : (f : Entry) (l : Claim) (cs : List Change) → IsAbove f.0 l →
     carried_out l (Puts f ∷ cs) ≡ f ∷ carried_out l cs
@@ -198,7 +211,12 @@ parted b (e ∷ l) r = elim (below_or_from e.0 b) [
         past f (inr i) = let m : e.0 < f.0 = head_above e l r f i in omega arith
 
     here : e.0 ≡ b → e ∷ l ≡ below b (e ∷ l) ++ ((b, e.1) ∷ above b (e ∷ l))
-    here q = rw (below_same b e l (omega arith), below_none b l past, above_less b e l (omega arith), above_all b l past)
+    here q = rw (
+      below_same b e l (omega arith),
+      below_none b l past,
+      above_less b e l (omega arith),
+      above_all b l past,
+    )
         (ap (λ (n : ℕ). let f : Entry = (n, e.1) in f ∷ l) q)
       where
         past : IsAbove b l
@@ -210,7 +228,8 @@ same_both e f h = let t = and_true (f.0 == e.0) (f.1 == e.1) h in
     pair_of (equal f.0 e.0 t.0) (equal f.1 e.1 t.1)
   where
     pair_of : f.0 ≡ e.0 → f.1 ≡ e.1 → e ≡ f
-    pair_of p q = ap (λ (a : ℕ). let g : Entry = (a, e.1) in g) (sym p) ∙ ap (λ (a : ℕ). let g : Entry = (f.0, a) in g) (sym q)
+    pair_of p q = ap (λ (a : ℕ). let g : Entry = (a, e.1) in g) (sym p)
+        ∙ ap (λ (a : ℕ). let g : Entry = (f.0, a) in g) (sym q)
 
 pub has_in : (e : Entry) (l : Claim) → has_entry e l ≡ true → IsIn e l
 has_in e l h = let t = any_gives (λ f. (f.0 == e.0) && (f.1 == e.1)) l h in
@@ -262,7 +281,8 @@ difference_above b l m r h k c i = elim (in_difference l m c r i) [
     at c n q h = omega arith
 
 -- the buffers of a difference rise
-pub rises_difference : (l m : Claim) → Rises (buffers_of l) → Rises (buffers_of m) → Rises (map buffer_of (difference l m))
+pub rises_difference : (l m : Claim) → Rises (buffers_of l) → Rises (buffers_of m) →
+    Rises (map buffer_of (difference l m))
 rises_difference l [] r s = subst Rises (sym (drops_buffers l)) r
   where
     drops_buffers : (l : Claim) → map buffer_of (dropped l) ≡ buffers_of l
@@ -270,7 +290,8 @@ rises_difference l [] r s = subst Rises (sym (drops_buffers l)) r
     drops_buffers (e ∷ l) = ap (λ (u : List ℕ). e.0 ∷ u) (drops_buffers l)
 rises_difference l (f ∷ m) r s =
     subst Rises (sym (split (below f.0 l) (cond (has_entry f l) [] (Puts f ∷ []) ++ difference (above f.0 l) m)))
-    (rises_joined (buffers_of (below f.0 l)) (map buffer_of (cond (has_entry f l) [] (Puts f ∷ []) ++ difference (above f.0 l) m))
+    (rises_joined (buffers_of (below f.0 l))
+    (map buffer_of (cond (has_entry f l) [] (Puts f ∷ []) ++ difference (above f.0 l) m))
     (rises_filtered (λ e. nat_lt e.0 f.0) l r)
     (with_head (rises_difference (above f.0 l) m (rises_filtered (λ e. nat_lt f.0 e.0) l r) s.1) (has_entry f l))
     (λ x y i j. let k : x < f.0 = low x i in let n : f.0 ≤ y = high (has_entry f l) y j in omega arith))
@@ -328,16 +349,18 @@ carried_difference l (f ∷ m) r s =
         (l ≡ below f.0 l ++ above f.0 l) ⊎ ((x : ℕ) × (l ≡ below f.0 l ++ ((f.0, x) ∷ above f.0 l))) →
         (t : Bool) → has_entry f l ≡ t →
         carried_out l (dropped (below f.0 l) ++ (cond t [] (Puts f ∷ []) ++ difference (above f.0 l) m)) ≡ f ∷ m
-    go ih (inl q) true h = absurd (elim (from_append (below f.0 l) (above f.0 l) f (subst (λ (k : Claim). IsIn f k) q (has_in f l h))) [
-      | inl j ↦ (let k = (in_below f.0 l f j).1 in omega arith)
-      | inr j ↦ (let k = (in_above f.0 l f j).1 in omega arith)
-    ])
+    go ih (inl q) true h = absurd (elim (from_append (below f.0 l) (above f.0 l) f
+        (subst (λ (k : Claim). IsIn f k) q (has_in f l h))) [
+          | inl j ↦ (let k = (in_below f.0 l f j).1 in omega arith)
+          | inr j ↦ (let k = (in_above f.0 l f j).1 in omega arith)
+        ])
     go ih (inl q) false h = start (above f.0 l) _ q
         ∙ (one_comes_first f (above f.0 l) (difference (above f.0 l) m) (above_is_above f.0 l)
         ∙ ap (λ (k : Claim). f ∷ k) ih)
     go ih (inr (x, q)) true h = start ((f.0, x) ∷ above f.0 l) _ q
         ∙ (first_stays (f.0, x) (above f.0 l) (difference (above f.0 l) m) past
-        ∙ (ap (λ (e : Entry). e ∷ carried_out (above f.0 l) (difference (above f.0 l) m)) (sym (its_bound x q (has_in f l h)))
+        ∙ (ap (λ (e : Entry). e ∷ carried_out (above f.0 l) (difference (above f.0 l) m))
+        (sym (its_bound x q (has_in f l h)))
         ∙ ap (λ (k : Claim). f ∷ k) ih))
     go ih (inr (x, q)) false h = start ((f.0, x) ∷ above f.0 l) _ q
         ∙ (first_changes (f.0, x) f (above f.0 l) (difference (above f.0 l) m) refl (above_is_above f.0 l)
@@ -363,10 +386,12 @@ entry_stays l (c ∷ cs) e i n = elim (below_or_from e.0 (buffer_of c)) [
 -- an entry that is put there is there
 entry_put : (l : Claim) (cs : List Change) (e : Entry) → IsIn (Puts e) cs → IsIn e (carried_out l cs)
 entry_put l [] e i = absurd i
-entry_put l (c ∷ cs) e (inl q) = right_append (below (buffer_of c) l) (left_by c ++ carried_out (above (buffer_of c) l) cs) e
+entry_put l (c ∷ cs) e (inl q) = right_append (below (buffer_of c) l)
+    (left_by c ++ carried_out (above (buffer_of c) l) cs) e
     (left_append (left_by c) (carried_out (above (buffer_of c) l) cs) e
     (subst (λ (d : Change). IsIn e (left_by d)) q (inl refl)))
-entry_put l (c ∷ cs) e (inr i) = right_append (below (buffer_of c) l) (left_by c ++ carried_out (above (buffer_of c) l) cs) e
+entry_put l (c ∷ cs) e (inr i) = right_append (below (buffer_of c) l)
+    (left_by c ++ carried_out (above (buffer_of c) l) cs) e
     (right_append (left_by c) (carried_out (above (buffer_of c) l) cs) e (entry_put (above (buffer_of c) l) cs e i))
 
 -- an entry that is there was put there, or no change is of its buffer
@@ -378,7 +403,8 @@ entry_from l (c ∷ cs) e r s i =
       | inl j ↦ (let k = in_below (buffer_of c) l e j in inr (k.0, low k.1))
       | inr j ↦ elim (from_append (left_by c) (carried_out (above (buffer_of c) l) cs) e j) [
         | inl k ↦ inl (inl (here c k))
-        | inr k ↦ later (entry_from (above (buffer_of c) l) cs e (rises_filtered (λ f. nat_lt (buffer_of c) f.0) l r) s.1 k)
+        | inr k ↦ later (entry_from (above (buffer_of c) l) cs e
+            (rises_filtered (λ f. nat_lt (buffer_of c) f.0) l r) s.1 k)
       ]
     ]
   where

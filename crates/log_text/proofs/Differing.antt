@@ -34,7 +34,8 @@ drops_first e f l m h = pieces (below_more f.0 e l h) (has_entry f (e ∷ l)) (h
 
     pieces : {low : Claim} → low ≡ e ∷ below f.0 l → (s t : Bool) → s ≡ t → {high : Claim} → high ≡ above f.0 l →
         map (λ (g : Entry). Drops g.0) low ++ (cond s [] (Puts f ∷ []) ++ difference high m)
-        ≡ Drops e.0 ∷ (map (λ (g : Entry). Drops g.0) (below f.0 l) ++ (cond t [] (Puts f ∷ []) ++ difference (above f.0 l) m))
+        ≡ Drops e.0 ∷ (map (λ (g : Entry). Drops g.0) (below f.0 l)
+        ++ (cond t [] (Puts f ∷ []) ++ difference (above f.0 l) m))
     pieces p s t q r = rw (p, q, r) refl
 
 pub drop_found : (base claim : Claim) (found more : List Change) (place next b : ℕ) → place < length base →
@@ -44,47 +45,60 @@ pub drop_found : (base claim : Claim) (found more : List Change) (place next b :
     IsDiffering base claim more (drop (place + 1) base) (drop next claim)
 drop_found base claim found more place next b lt ln h e p q = record {
   same = ap (λ (cs : List Change). cs ++ difference (drop (place + 1) base) (drop next claim)) q
-      ∙ (append_assoc found (Drops (get_or base place (0, 0)).0 ∷ []) (difference (drop (place + 1) base) (drop next claim))
+      ∙ (append_assoc found (Drops (get_or base place (0, 0)).0 ∷ [])
+      (difference (drop (place + 1) base) (drop next claim))
       ∙ (ap (λ (cs : List Change). found ++ cs) (sym one) ∙ p.same));
 }
   where
     one : difference (drop place base) (drop next claim)
         ≡ Drops (get_or base place (0, 0)).0 ∷ difference (drop (place + 1) base) (drop next claim)
     one = ap (λ (l : Claim). difference l (drop next claim)) (drop_index base place (0, 0) lt)
-        ∙ (ap (λ (m : Claim). difference (get_or base place (0, 0) ∷ drop (place + 1) base) m) (drop_index claim next (0, 0) ln)
-        ∙ (drops_first (get_or base place (0, 0)) (get_or claim next (0, 0)) (drop (place + 1) base) (drop (next + 1) claim)
+        ∙ (ap (λ (m : Claim). difference (get_or base place (0, 0) ∷ drop (place + 1) base) m)
+        (drop_index claim next (0, 0) ln)
+        ∙ (drops_first (get_or base place (0, 0)) (get_or claim next (0, 0)) (drop (place + 1) base)
+        (drop (next + 1) claim)
         (let k : (get_or base place (0, 0)).0 < b = h in omega arith)
         ∙ ap (λ (m : Claim). Drops (get_or base place (0, 0)).0 ∷ difference (drop (place + 1) base) m)
         (sym (drop_index claim next (0, 0) ln))))
 
 -- where nothing of the claim is below the first entry of the other one, that one decides
-pub pair_found : (base claim : Claim) (found more : List Change) (place next : ℕ) (rest : Claim) (f : Entry) (r : Bool) →
-    next < length claim → get_or claim next (0, 0) ≡ f → below f.0 (drop place base) ≡ [] → rest ≡ above f.0 (drop place base) →
+pub pair_found : (base claim : Claim) (found more : List Change) (place next : ℕ) (rest : Claim) (f : Entry)
+    (r : Bool) →
+    next < length claim → get_or claim next (0, 0) ≡ f → below f.0 (drop place base) ≡ [] →
+    rest ≡ above f.0 (drop place base) →
     IsTrue r ↔ DoesChange (drop place base) (Puts f) → more ≡ cond r (found ++ Puts f ∷ []) found →
     IsDiffering base claim found (drop place base) (drop next claim) →
     IsDiffering base claim more rest (drop (next + 1) claim)
 pair_found base claim found more place next rest f r ln at none past h q p = record {
   same = ap (λ (l : Claim). more ++ difference l (drop (next + 1) claim)) past
-      ∙ (decided r h q (true_or_false (has_entry f (drop place base))) ∙ (ap (λ (cs : List Change). found ++ cs) (sym one) ∙ p.same));
+      ∙ (decided r h q (true_or_false (has_entry f (drop place base)))
+      ∙ (ap (λ (cs : List Change). found ++ cs) (sym one) ∙ p.same));
 }
   where
     one : difference (drop place base) (drop next claim)
-        ≡ cond (has_entry f (drop place base)) [] (Puts f ∷ []) ++ difference (above f.0 (drop place base)) (drop (next + 1) claim)
+        ≡ cond (has_entry f (drop place base)) [] (Puts f ∷ [])
+        ++ difference (above f.0 (drop place base)) (drop (next + 1) claim)
     one = ap (λ (m : Claim). difference (drop place base) m)
         (drop_index claim next (0, 0) ln ∙ ap (λ (e : Entry). e ∷ drop (next + 1) claim) at)
         ∙ ap (λ (l : Claim). map (λ (e : Entry). Drops e.0) l ++ (cond (has_entry f (drop place base)) [] (Puts f ∷ [])
         ++ difference (above f.0 (drop place base)) (drop (next + 1) claim))) none
 
-    decided : (r : Bool) → IsTrue r ↔ DoesChange (drop place base) (Puts f) → more ≡ cond r (found ++ Puts f ∷ []) found →
+    decided : (r : Bool) → IsTrue r ↔ DoesChange (drop place base) (Puts f) →
+        more ≡ cond r (found ++ Puts f ∷ []) found →
         (has_entry f (drop place base) ≡ true) ⊎ (has_entry f (drop place base) ≡ false) →
         more ++ difference (above f.0 (drop place base)) (drop (next + 1) claim) ≡ found
-        ++ (cond (has_entry f (drop place base)) [] (Puts f ∷ []) ++ difference (above f.0 (drop place base)) (drop (next + 1) claim))
+        ++ (cond (has_entry f (drop place base)) [] (Puts f ∷ [])
+        ++ difference (above f.0 (drop place base)) (drop (next + 1) claim))
     decided true h q (inl e) = absurd (h.0 refl (has_in f (drop place base) e))
-    decided true h q (inr e) = ap (λ (cs : List Change). cs ++ difference (above f.0 (drop place base)) (drop (next + 1) claim)) q
+    decided true h q (inr e) = ap (λ (cs : List Change). cs
+        ++ difference (above f.0 (drop place base)) (drop (next + 1) claim)) q
         ∙ (append_assoc found (Puts f ∷ []) (difference (above f.0 (drop place base)) (drop (next + 1) claim))
-        ∙ ap (λ (t : Bool). found ++ (cond t [] (Puts f ∷ []) ++ difference (above f.0 (drop place base)) (drop (next + 1) claim))) (sym e))
-    decided false h q (inl e) = ap (λ (cs : List Change). cs ++ difference (above f.0 (drop place base)) (drop (next + 1) claim)) q
-        ∙ ap (λ (t : Bool). found ++ (cond t [] (Puts f ∷ []) ++ difference (above f.0 (drop place base)) (drop (next + 1) claim))) (sym e)
+        ∙ ap (λ (t : Bool). found ++ (cond t [] (Puts f ∷ [])
+        ++ difference (above f.0 (drop place base)) (drop (next + 1) claim))) (sym e))
+    decided false h q (inl e) = ap (λ (cs : List Change). cs
+        ++ difference (above f.0 (drop place base)) (drop (next + 1) claim)) q
+        ∙ ap (λ (t : Bool). found ++ (cond t [] (Puts f ∷ [])
+        ++ difference (above f.0 (drop place base)) (drop (next + 1) claim))) (sym e)
     decided false h q (inr e) = absurd (let t : false ≡ true = h.1 (has_not f (drop place base) e) in cc)
 
 -- the other claim is at its end

@@ -171,14 +171,16 @@ twice_the_same_buffer = fault.falls [] (LineRow (OverAs 0 3 1 (Full twice))) []
 abbrev late : ℕ → Claim → Spelled
 late T l = OverAs T 3 1 (Full l)
 
-a_moment_of_63_bits : (T : ℕ) → 2 ^ 62 ≤ T → IsFirstFault (codes "dsalog 1 3 4\n" ++ spelled_text (late T ((2, 3) ∷ [])))
+a_moment_of_63_bits : (T : ℕ) → 2 ^ 62 ≤ T →
+    IsFirstFault (codes "dsalog 1 3 4\n" ++ spelled_text (late T ((2, 3) ∷ [])))
     (NumberTooLarge 0)
 a_moment_of_63_bits T h = fault.too_large [] (LineRow (late T ((2, 3) ∷ []))) []
     (met_first (spelled_text (late T ((2, 3) ∷ []))) _ [] (sym (append-nil (spelled_text (late T ((2, 3) ∷ [])))))
     (λ e. cc, tt)) (λ w. let k : T < 2 ^ 62 = w.0 in omega arith)
 
 -- numbers come before their order
-too_large_and_falling : IsFirstFault (codes "dsalog 1 3 4\n" ++ spelled_text (late 4611686018427387904 twice)) (NumberTooLarge 0)
+too_large_and_falling : IsFirstFault (codes "dsalog 1 3 4\n" ++ spelled_text (late 4611686018427387904 twice))
+    (NumberTooLarge 0)
 too_large_and_falling = fault.too_large [] (LineRow (late 4611686018427387904 twice)) []
     (met_first (spelled_text (late 4611686018427387904 twice)) _ []
     (sym (append-nil (spelled_text (late 4611686018427387904 twice)))) (λ e. cc, tt))

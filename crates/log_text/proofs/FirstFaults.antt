@@ -183,7 +183,8 @@ lines_no_fault v earlier (x ∷ xs) (y ∷ ys) r e f a b p w q =
 -- ---- the three ways in which bytes say no log
 data Way (bytes : List ℕ) : TextFault → Type 0 where
   header_missing : ((v n c : ℕ) (rest : List ℕ) → HasHeader bytes v n c rest → ⊥) → Way bytes NotLog
-  unknown_version : (v n c : ℕ) (rest : List ℕ) → HasHeader bytes v n c rest → (IsVersion v → ⊥) → Way bytes (BadVersion v)
+  unknown_version : (v n c : ℕ) (rest : List ℕ) → HasHeader bytes v n c rest → (IsVersion v → ⊥) →
+      Way bytes (BadVersion v)
   row_at_fault : (v : ℕ) (lines : List RawLine) (rest : List ℕ) (f : TextFault) → GoesOn v bytes lines rest →
       FaultAt v lines rest f → Way bytes f
 
@@ -236,27 +237,31 @@ at_same {v} {w} xs ys {r} {s} f o p q a = subst (λ (u : ℕ). FaultAt u (lines_
 pub first_fault_unique : (bytes : List ℕ) (f g : TextFault) → IsFirstFault bytes f → IsFirstFault bytes g → f ≡ g
 first_fault_unique bytes f g a b = both f g (way bytes f a) (way bytes g b)
   where
-    rows : (f g : TextFault) (v w : ℕ) (xs ys : List RawLine) (r s : List ℕ) → GoesOn v bytes xs r → GoesOn w bytes ys s →
+    rows : (f g : TextFault) (v w : ℕ) (xs ys : List RawLine) (r s : List ℕ) → GoesOn v bytes xs r →
+        GoesOn w bytes ys s →
         FaultAt v xs r f → FaultAt w ys s g → f ≡ g
     rows f g v w xs ys r s p q a b =
         let h = headers_same bytes v p.count p.capacity w q.count q.capacity _ _ (header_of v bytes xs r p)
         (header_of w bytes ys s q) in
         let c = at_same p.spelled p.spelled f h.0 refl refl (at_said v bytes xs r f p a) in
         let d = at_said w bytes ys s g q b in
-        let e = lines_same w [] p.spelled q.spelled r s f g (subst (λ (u : ℕ). AreGood u [] p.spelled) h.0 p.good) q.good
+        let e = lines_same w [] p.spelled q.spelled r s f g
+        (subst (λ (u : ℕ). AreGood u [] p.spelled) h.0 p.good) q.good
         c d h.3 in
         fault_at_unique w (lines_said [] q.spelled) s f g (at_same p.spelled q.spelled f refl e.0 e.1 c) d
 
     both : (f g : TextFault) → Way bytes f → Way bytes g → f ≡ g
     both f g (header_missing n) (header_missing m) = refl
     both f g (header_missing n) (unknown_version v m c r h u) = absurd (n v m c r h)
-    both f g (header_missing n) (row_at_fault v xs r h p a) = absurd (n v p.count p.capacity _ (header_of v bytes xs r p))
+    both f g (header_missing n) (row_at_fault v xs r h p a) =
+        absurd (n v p.count p.capacity _ (header_of v bytes xs r p))
     both f g (unknown_version v m c r h u) (header_missing n) = absurd (n v m c r h)
     both f g (unknown_version v m c r h u) (unknown_version w n d s i t) =
         ap BadVersion (headers_same bytes v m c w n d r s h i).0
     both f g (unknown_version v m c r h u) (row_at_fault w xs s i p a) = absurd (u (subst IsVersion (sym
         (headers_same bytes v m c w p.count p.capacity r _ h (header_of w bytes xs s p)).0) p.known))
-    both f g (row_at_fault v xs r h p a) (header_missing n) = absurd (n v p.count p.capacity _ (header_of v bytes xs r p))
+    both f g (row_at_fault v xs r h p a) (header_missing n) =
+        absurd (n v p.count p.capacity _ (header_of v bytes xs r p))
     both f g (row_at_fault w xs s i p a) (unknown_version v m c r h u) = absurd (u (subst IsVersion (sym
         (headers_same bytes v m c w p.count p.capacity r _ h (header_of w bytes xs s p)).0) p.known))
     both f g (row_at_fault v xs r h p a) (row_at_fault w ys s i q b) = rows h i v w xs ys r s p q a b
@@ -290,7 +295,8 @@ says_no_fault v bytes f raw i a t = none f (way bytes f a)
     none f (row_at_fault w xs r g p a) =
         let h = headers_same bytes w p.count p.capacity v raw.count raw.capacity _ _ (header_of w bytes xs r p)
         (its_header v bytes raw i t) in
-        lines_no_fault v [] p.spelled t.spelled r raw.end g (subst (λ (u : ℕ). AreGood u [] p.spelled) h.0 p.good) t.good
+        lines_no_fault v [] p.spelled t.spelled r raw.end g
+        (subst (λ (u : ℕ). AreGood u [] p.spelled) h.0 p.good) t.good
         (at_same p.spelled p.spelled g h.0 refl refl (at_said w bytes xs r g p a)) t.end_limit h.3
 
 pub same_log : (g h : RawLog) → g.count ≡ h.count → g.capacity ≡ h.capacity → g.lines ≡ h.lines → g.end ≡ h.end → g ≡ h

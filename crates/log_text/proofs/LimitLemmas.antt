@@ -15,14 +15,16 @@ all_unmap P f [] a = All-nil (λ x. P (f x))
 all_unmap P f (x ∷ xs) a = All-cons (λ x. P (f x)) x xs (All-head P (f x) (map f xs) a)
     (all_unmap P f xs (All-tail P (f x) (map f xs) a))
 
-pub difference_within : (r : Bool) (s : Spelling) (base : ℕ) (items : List Edit) → s ≡ From base (map change_value items) →
+pub difference_within : (r : Bool) (s : Spelling) (base : ℕ) (items : List Edit) →
+    s ≡ From base (map change_value items) →
     base ≤ 2 ^ 60 → IsTrue r ↔ All (λ e. IsChangeWithin (change_value e)) items → IsTrue r ↔ IsSpellingWithin s
 difference_within r s base items q b h = subst (λ (x : Spelling). IsTrue r ↔ IsSpellingWithin x) (sym q) (
   λ t. (b, All-map IsChangeWithin change_value items (h.0 t)),
   λ w. h.1 (all_unmap IsChangeWithin change_value items w.1),
 )
 
-pub difference_rises : (r : Bool) (s : Spelling) (base : ℕ) (items : List Edit) → s ≡ From base (map change_value items) →
+pub difference_rises : (r : Bool) (s : Spelling) (base : ℕ) (items : List Edit) →
+    s ≡ From base (map change_value items) →
     IsTrue r ↔ Rises (map (λ e. buffer_of (change_value e)) items) → IsTrue r ↔ IsSpellingRising s
 difference_rises r s base items q h = subst (λ (x : Spelling). IsTrue r ↔ IsSpellingRising x) (sym q) (
   λ t. subst Rises (sym (map_map buffer_of change_value items)) (h.0 t),

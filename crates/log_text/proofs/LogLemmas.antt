@@ -91,7 +91,8 @@ other_version old x y z a b d new p e f g l m h k =
 
 pub is_started : (old : List ℕ) (x y z : Option ℕ) (a b d : ℕ) (new : List ℕ) → IsHeaderRead old x y z new →
     x ≡ Some a → y ≡ Some b → z ≡ Some d → b ≤ 2 ^ 60 → d ≤ 2 ^ 60 → IsVersion a → IsStarted old a b d new
-is_started old x y z a b d new p e f g l m h = record { header = header_read old x y z a b d new p e f g l m; known = h }
+is_started old x y z a b d new p e f g l m h =
+    record { header = header_read old x y z a b d new p e f g l m; known = h }
 
 -- ---- rows
 -- a header with these numbers and these lines were read
@@ -197,7 +198,8 @@ goes_past version bytes count capacity lines mid k new p q n = go q.row q.good q
         IsFirstFault bytes AfterEnd
     go (LineRow s) g t w = absurd cc
     go (EndRow j) g t w = fault.after_end lines j new
-        (record { version = version; rest = mid; goes_on = p.goes_on; has_row = record { formed = tt; text = t } }) g.within n
+        (record { version = version; rest = mid; goes_on = p.goes_on; has_row = record { formed = tt; text = t } })
+        g.within n
 
 -- ---- what the answer is
 pub is_complete : (bytes : List ℕ) (r : Result RawLog (Fail TextFault)) →

@@ -26,11 +26,13 @@ none_so_far old s = record { items = []; text = refl; stops = s; values_are = re
 
 -- one more
 pub change_more : (old : List ℕ) (edits : List Edit) (mid y : List ℕ) (v : Edit) (more : List Edit) (new : List ℕ) →
-    IsChangesSoFar old (map change_value edits) mid → mid ≡ 32 ∷ y → IsItemRead change_text capped_change y (change_value v) new →
+    IsChangesSoFar old (map change_value edits) mid → mid ≡ 32 ∷ y →
+    IsItemRead change_text capped_change y (change_value v) new →
     more ≡ edits ++ v ∷ [] → IsChangesSoFar old (map change_value more) new
 change_more old edits mid y v more new p q s e = record {
   items = p.items ++ s.item ∷ [];
-  text = p.text ∙ (ap (λ u. changes_text p.items ++ u) (q ∙ ap (λ u. 32 ∷ u) s.text) ∙ sym (one_text p.items s.item new));
+  text = p.text ∙ (ap (λ u. changes_text p.items ++ u) (q ∙ ap (λ u. 32 ∷ u) s.text)
+      ∙ sym (one_text p.items s.item new));
   stops = s.stops;
   values_are = ap (λ (u : List Edit). map change_value u) e
       ∙ (values_more edits v ∙ (joined p.values_are s.value_is ∙ sym (capped_more p.items s.item)));
@@ -44,11 +46,13 @@ change_more old edits mid y v more new p q s e = record {
         regroup : (a b r : List ℕ) → (a ++ ((32 ∷ b) ++ [])) ++ r ≡ a ++ (32 ∷ (b ++ r))
         regroup a b r = ap (λ u. (a ++ u) ++ r) (append-nil (32 ∷ b)) ∙ append_assoc a (32 ∷ b) r
 
-    values_more : (xs : List Edit) (x : Edit) → map change_value (xs ++ x ∷ []) ≡ map change_value xs ++ change_value x ∷ []
+    values_more : (xs : List Edit) (x : Edit) →
+        map change_value (xs ++ x ∷ []) ≡ map change_value xs ++ change_value x ∷ []
     values_more [] x = refl
     values_more (y ∷ ys) x = ap (λ (u : List Change). change_value y ∷ u) (values_more ys x)
 
-    capped_more : (xs : List Change) (x : Change) → map capped_change (xs ++ x ∷ []) ≡ map capped_change xs ++ capped_change x ∷ []
+    capped_more : (xs : List Change) (x : Change) →
+        map capped_change (xs ++ x ∷ []) ≡ map capped_change xs ++ capped_change x ∷ []
     capped_more [] x = refl
     capped_more (y ∷ ys) x = ap (λ (u : List Change). capped_change y ∷ u) (capped_more ys x)
 
@@ -65,14 +69,16 @@ changes_read end old values mid new p e = record {
 }
 
 -- neither the end nor a further change stands there
-pub no_changes : (end old : List ℕ) (values : List Change) (mid : List ℕ) → EndsChanges end → IsChangesSoFar old values mid →
+pub no_changes : (end old : List ℕ) (values : List Change) (mid : List ℕ) → EndsChanges end →
+    IsChangesSoFar old values mid →
     ((r : List ℕ) → mid ≡ end ++ r → ⊥) →
     ((c : Change) (more : List ℕ) → Stops more → mid ≡ 32 ∷ (change_text c ++ more) → ⊥) → HasNoChanges end old
 no_changes end old values mid l p n h = λ xs r e. go p.items xs r (sym p.text ∙ e)
   where
     go : (items xs : List Change) (r : List ℕ) → changes_text items ++ mid ≡ changes_text xs ++ (end ++ r) → ⊥
     go [] [] r e = n r e
-    go [] (x ∷ xs) r e = h x (changes_text xs ++ (end ++ r)) (changes_stop xs (end ++ r) (ends_stop (end ++ r) (l r).ends))
+    go [] (x ∷ xs) r e = h x (changes_text xs ++ (end ++ r))
+        (changes_stop xs (end ++ r) (ends_stop (end ++ r) (l r).ends))
         (e ∙ ap (λ u. 32 ∷ u) (append_assoc (change_text x) (changes_text xs) (end ++ r)))
     go (x ∷ items) [] r e = (l r).no_change x (changes_text items ++ mid)
         (sym e ∙ ap (λ u. 32 ∷ u) (append_assoc (change_text x) (changes_text items) mid))
@@ -83,11 +89,13 @@ no_changes end old values mid l p n h = λ xs r e. go p.items xs r (sym p.text �
         (changes_stop ys (end ++ r) (ends_stop (end ++ r) (l r).ends)) g in
         go items ys r one.1
 
-pub no_space : (end old : List ℕ) (values : List Change) (mid : List ℕ) → EndsChanges end → IsChangesSoFar old values mid →
+pub no_space : (end old : List ℕ) (values : List Change) (mid : List ℕ) → EndsChanges end →
+    IsChangesSoFar old values mid →
     ((r : List ℕ) → mid ≡ end ++ r → ⊥) → ((r : List ℕ) → mid ≡ 32 ∷ r → ⊥) → HasNoChanges end old
 no_space end old values mid l p n h = no_changes end old values mid l p n (λ c more s e. h _ e)
 
-pub no_change : (end old : List ℕ) (values : List Change) (mid y : List ℕ) → EndsChanges end → IsChangesSoFar old values mid →
+pub no_change : (end old : List ℕ) (values : List Change) (mid y : List ℕ) → EndsChanges end →
+    IsChangesSoFar old values mid →
     ((r : List ℕ) → mid ≡ end ++ r → ⊥) → mid ≡ 32 ∷ y → HasNoItem change_text y → HasNoChanges end old
 no_change end old values mid y l p n q h = no_changes end old values mid l p n
     (λ c more s e. h c more s (tail_of 32 32 _ _ (sym q ∙ e)))

@@ -171,9 +171,15 @@ claim_there : IsSpellingRead 1 (codes "\n") (codes "2=3\nx") (Full ((2, 3) ∷ [
 unfolding numeral
 claim_there = record { spelling = Full ((2, 3) ∷ []); formed = λ e. cc; text = refl; value_is = refl }
 
-difference_there : IsSpellingRead 2 (codes "\n") (codes "@0 1=2 -2\nx") (From 0 (Puts (1, 2) ∷ Drops 2 ∷ [])) (codes "x")
+difference_there : IsSpellingRead 2 (codes "\n") (codes "@0 1=2 -2\nx") (From 0 (Puts (1, 2) ∷ Drops 2 ∷ []))
+    (codes "x")
 unfolding numeral
-difference_there = record { spelling = From 0 (Puts (1, 2) ∷ Drops 2 ∷ []); formed = refl; text = refl; value_is = refl }
+difference_there = record {
+  spelling = From 0 (Puts (1, 2) ∷ Drops 2 ∷ []);
+  formed = refl;
+  text = refl;
+  value_is = refl;
+}
 
 it_is_there : HasNoSpelling 2 (codes "\n") (codes "@0 1=2 -2\nx") → ⊥
 unfolding numeral
@@ -241,7 +247,8 @@ not_at_an_end : HasRow 1 (codes "end 0\n") (LineRow in_full) [] → ⊥
 unfolding numeral
 not_at_an_end h = let e = h.text in absurd cc
 
-row_read : IsRowRead 1 (codes "over 0 3 1 : 2=3\nend 0\n") (read.Line (read_line.Over 0 3 1 (read_claim.Full ((2, 3) ∷ []))))
+row_read : IsRowRead 1 (codes "over 0 3 1 : 2=3\nend 0\n")
+    (read.Line (read_line.Over 0 3 1 (read_claim.Full ((2, 3) ∷ []))))
     (codes "end 0\n")
 row_read = record { row = LineRow in_full; is_row = line_row; value_is = refl }
 

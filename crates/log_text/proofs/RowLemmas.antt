@@ -190,7 +190,8 @@ none_read end old mid v l e h = λ s r f q. go s r q
         ∙ append_assoc (numeral base) (changes_text changes) (end ++ r))
 
 -- what is read after the first byte is read with it
-pub with_first_byte : (end old mid new : List ℕ) (v : ℕ) (r : Result ReadClaim (Fail NoForm)) → EndsChanges end → v ≡ 2 →
+pub with_first_byte : (end old mid new : List ℕ) (v : ℕ) (r : Result ReadClaim (Fail NoForm)) → EndsChanges end →
+    v ≡ 2 →
     old ≡ 64 ∷ mid →
     UnlessNoMemory r (λ c. IsDifferenceRead end mid (spelling_value c) new) (λ _. HasNoDifference end mid) →
     UnlessNoMemory r (λ c. IsSpellingRead v end old (spelling_value c) new) (λ _. HasNoSpelling v end old)
@@ -302,7 +303,8 @@ row_falls v lines old value new k q p w h = λ bytes g.
     (λ r. h (subst IsRising (sym e) r)))
 
 -- a line with a difference of no earlier line
-pub row_no_base : (v : ℕ) (lines : List RawLine) (old : List ℕ) (value : Read) (new : List ℕ) (k : ℕ) (line : ReadLine) →
+pub row_no_base : (v : ℕ) (lines : List RawLine) (old : List ℕ) (value : Read) (new : List ℕ) (k : ℕ)
+    (line : ReadLine) →
     k ≡ length lines → IsRowRead v old value new → IsWithin (row_value value) → IsRising (row_value value) →
     value ≡ read.Line line → IsUnsaid lines (spelling_of (spelled_value line)) unsaid.NoBase →
     IsFaultAfter v lines old (BadBase k)

@@ -35,7 +35,8 @@ pub no_change_said : (lines : List RawLine) (s : Spelling) (k : ℕ) (l : Claim)
     IsUnsaid lines s unsaid.NoChange
 no_change_said lines s k l changes q h e n = (
   subst (λ (x : Spelling). HasSpellingBase lines x) (sym q) h,
-  λ c. n (subst (λ (x : Claim). AreChanges x changes) (sym e) (subst (λ (x : Spelling). HasSpellingChanges lines x) q c)),
+  λ c. n (subst (λ (x : Claim). AreChanges x changes) (sym e)
+      (subst (λ (x : Spelling). HasSpellingChanges lines x) q c)),
 )
 
 pub is_claim_said : (lines : List RawLine) (s : Spelling) (k : ℕ) (l m : Claim) (changes : List Change) →

@@ -9,7 +9,8 @@ use Rattle.log_text.proofs.Saying.{in_all}
 
 -- ---- lists that rise by a number of each item
 -- what comes later has a greater number
-later_is_more : {X : Type 0} (f : X → ℕ) (x : X) (xs : List X) → Rises (map f (x ∷ xs)) → (y : X) → IsIn y xs → f x < f y
+later_is_more : {X : Type 0} (f : X → ℕ) (x : X) (xs : List X) → Rises (map f (x ∷ xs)) → (y : X) → IsIn y xs →
+    f x < f y
 later_is_more f x xs r y i = r.0 (f y) (into_map f xs y i)
 
 -- two such lists with the same items are equal

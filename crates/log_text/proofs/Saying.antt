@@ -166,7 +166,8 @@ spelling_kept v earlier (From base changes) a g = let k = claim_at_kept earlier 
     either e (inl i) b c = in_all IsPairWithin (claim_at earlier base) b e i
     either e (inr i) b c = in_all IsChangeWithin changes c (Puts e) i
 
-pub line_kept : (v : ℕ) (earlier : List RawLine) (s : Spelled) → All IsRawLineKept earlier → IsGood v earlier (LineRow s) →
+pub line_kept : (v : ℕ) (earlier : List RawLine) (s : Spelled) → All IsRawLineKept earlier →
+    IsGood v earlier (LineRow s) →
     IsRawLineKept (line_said earlier s) × HasCite (line_said earlier s)
 line_kept v earlier (OverAs T H G s) a g = let k = spelling_kept v earlier s a (record {
   formed = g.formed.0;
@@ -272,8 +273,10 @@ difference_good earlier before line lim a b = go (claim_kept before a) (claim_ke
     changes_one c (inr (e, i, n, q)) = subst (λ (d : Change). DoesChange (raw_claim_of before) d) (sym q) n
 
     go : IsClaimKept (raw_claim_of before) → IsClaimKept (raw_claim_of line) →
-        IsSpellingGood 2 (earlier ++ before ∷ []) (From (length earlier) (difference (raw_claim_of before) (raw_claim_of line)))
-        × (claim_said (earlier ++ before ∷ []) (From (length earlier) (difference (raw_claim_of before) (raw_claim_of line))) ≡ raw_claim_of line)
+        IsSpellingGood 2 (earlier ++ before ∷ [])
+        (From (length earlier) (difference (raw_claim_of before) (raw_claim_of line)))
+        × (claim_said (earlier ++ before ∷ [])
+        (From (length earlier) (difference (raw_claim_of before) (raw_claim_of line))) ≡ raw_claim_of line)
     go p r =
         let w = carried_difference (raw_claim_of before) (raw_claim_of line) p.rising r.rising in
         let at = last_claim earlier before in (
@@ -282,13 +285,16 @@ difference_good earlier before line lim a b = go (claim_kept before a) (claim_ke
             within = (
               lim,
               all_in IsChangeWithin (difference (raw_claim_of before) (raw_claim_of line))
-                  (λ c i. within_one c (in_difference (raw_claim_of before) (raw_claim_of line) c r.rising i) p.within r.within),
+                  (λ c i. within_one c (in_difference (raw_claim_of before) (raw_claim_of line) c r.rising i) p.within
+                  r.within),
             );
             rising = rises_difference (raw_claim_of before) (raw_claim_of line) p.rising r.rising;
             base = let k = length-append earlier (before ∷ []) in omega arith;
-            changes = subst (λ (l : Claim). AreChanges l (difference (raw_claim_of before) (raw_claim_of line))) (sym at)
+            changes = subst (λ (l : Claim). AreChanges l (difference (raw_claim_of before) (raw_claim_of line)))
+                (sym at)
                 (record {
-                  each = all_in (DoesChange (raw_claim_of before)) (difference (raw_claim_of before) (raw_claim_of line))
+                  each = all_in (DoesChange (raw_claim_of before))
+                      (difference (raw_claim_of before) (raw_claim_of line))
                       (λ c i. changes_one c (in_difference (raw_claim_of before) (raw_claim_of line) c r.rising i));
                   some = subst (λ (l : Claim). l ≢ []) (sym w) r.not_empty;
                 });
@@ -342,8 +348,10 @@ after_good earlier k before (line ∷ lines) q lim a b c =
     step s g ih =
         let e = said_as (earlier ++ before ∷ []) line s g.1 in (
           (
-            good_as 2 (earlier ++ before ∷ []) line s (All-head IsRawLineKept line lines b) (All-head HasCite line lines c) g.0,
-            subst (λ (x : RawLine). AreGood 2 ((earlier ++ before ∷ []) ++ x ∷ []) (spelled_after (k + 1) line lines)) (sym e) ih.0,
+            good_as 2 (earlier ++ before ∷ []) line s (All-head IsRawLineKept line lines b)
+                (All-head HasCite line lines c) g.0,
+            subst (λ (x : RawLine). AreGood 2 ((earlier ++ before ∷ []) ++ x ∷ []) (spelled_after (k + 1) line lines))
+                (sym e) ih.0,
           ),
           ap (λ (x : RawLine). lines_said ((earlier ++ before ∷ []) ++ x ∷ []) (spelled_after (k + 1) line lines)) e
               ∙ (ih.1 ∙ one_more (earlier ++ before ∷ []) line lines),

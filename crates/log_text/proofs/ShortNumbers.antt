@@ -76,7 +76,8 @@ pub one_digit : (ds : List ℕ) → 1 < length ds → is_digit (get_or ds 0 0) �
     IsShortNumber ds 1 (get_or ds 0 0 - 48)
 one_digit ds n d e =
     let t = next_short ds 0 0 refl (omega arith) d refl (omega arith) in
-    short_ends ds 1 (get_or ds 0 0 - 48) t.0 n e (value t.1.0) (digit_small (get_or ds 0 0) d) (omega arith) (omega arith)
+    short_ends ds 1 (get_or ds 0 0 - 48) t.0 n e (value t.1.0) (digit_small (get_or ds 0 0) d) (omega arith)
+    (omega arith)
     (λ _. refl)
   where
     value : {x v : ℕ} → 0 * 10 + x ≡ v → x ≡ v
@@ -88,7 +89,8 @@ pub two_digits : (ds : List ℕ) → 2 < length ds → is_digit (get_or ds 0 0) 
 two_digits ds n d e f z =
     let one = next_short ds 0 0 refl (omega arith) d refl (omega arith) in
     let two = next_short ds 1 (0 * 10 + (get_or ds 0 0 - 48)) one.0 (omega arith) e one.1.0 one.1.1 in
-    short_ends ds 2 ((get_or ds 0 0 - 48) * 10 + (get_or ds 1 0 - 48)) two.0 n f (value (get_or ds 0 0 - 48) (get_or ds 1 0 - 48) _ two.1.0)
+    short_ends ds 2 ((get_or ds 0 0 - 48) * 10 + (get_or ds 1 0 - 48)) two.0 n f
+    (value (get_or ds 0 0 - 48) (get_or ds 1 0 - 48) _ two.1.0)
     (bound (get_or ds 0 0 - 48) (get_or ds 1 0 - 48) _ two.1.1)
     (omega arith) (omega arith) (λ q. absurd (z q))
   where

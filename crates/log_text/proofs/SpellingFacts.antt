@@ -19,7 +19,8 @@ use Rattle.log_text.specs.declared.raw.RawLog.{RawLog}
 use Rattle.log_text.proofs.Splits.{row_split}
 
 -- ---- changes
-two_get_bounds_and_one_goes : carried_out ((1, 1) ∷ (2, 1) ∷ []) (Puts (0, 2) ∷ Puts (1, 2) ∷ Drops 2 ∷ []) ≡ (0, 2) ∷ (1, 2) ∷ []
+two_get_bounds_and_one_goes : carried_out ((1, 1) ∷ (2, 1) ∷ []) (Puts (0, 2) ∷ Puts (1, 2) ∷ Drops 2 ∷ []) ≡ (0, 2) ∷
+    (1, 2) ∷ []
 two_get_bounds_and_one_goes = refl
 
 one_comes_between : carried_out ((1, 1) ∷ (5, 1) ∷ []) (Puts (3, 7) ∷ []) ≡ (1, 1) ∷ (3, 7) ∷ (5, 1) ∷ []
@@ -31,7 +32,8 @@ without_changes = refl
 all_go : carried_out ((0, 0) ∷ (2, 0) ∷ []) (Drops 0 ∷ Drops 2 ∷ []) ≡ []
 all_go = refl
 
-what_differs : difference ((1, 1) ∷ (2, 1) ∷ (4, 5) ∷ []) ((0, 2) ∷ (1, 2) ∷ (4, 5) ∷ []) ≡ Puts (0, 2) ∷ Puts (1, 2) ∷ Drops 2 ∷ []
+what_differs : difference ((1, 1) ∷ (2, 1) ∷ (4, 5) ∷ []) ((0, 2) ∷ (1, 2) ∷ (4, 5) ∷ []) ≡ Puts (0, 2) ∷ Puts (1, 2) ∷
+    Drops 2 ∷ []
 what_differs = refl
 
 nothing_differs : difference ((1, 1) ∷ (4, 5) ∷ []) ((1, 1) ∷ (4, 5) ∷ []) ≡ []
@@ -181,13 +183,15 @@ unfolding second
 bad_change changes text e w r n = fault.no_change (raw_line.Over 0 0 1 three ∷ []) (LineRow (second 0 changes))
     (codes "end 1\n") (met text 0 changes e) (second_within 0 changes (lit≤ tt) w) r (lit< tt) n
 
-the_bound_that_it_has : IsFirstFault (codes "dsalog 2 5 11\nover 0 0 1 : 0=0 2=0 4=0\nover 0 0 1 : @0 0=0\nend 1\n") (BadChange 1)
+the_bound_that_it_has : IsFirstFault (codes "dsalog 2 5 11\nover 0 0 1 : 0=0 2=0 4=0\nover 0 0 1 : @0 0=0\nend 1\n")
+    (BadChange 1)
 unfolding numeral three second
 the_bound_that_it_has = bad_change (Puts (0, 0) ∷ []) _ refl
     (All-cons IsChangeWithin (Puts (0, 0)) [] (lit≤ tt, lit≤ tt) (All-nil IsChangeWithin)) ((λ y i. absurd i), tt)
     (λ c. All-head (DoesChange ((0, 0) ∷ (2, 0) ∷ (4, 0) ∷ [])) (Puts (0, 0)) [] c.each (inl refl))
 
-a_buffer_that_is_not_there : IsFirstFault (codes "dsalog 2 5 11\nover 0 0 1 : 0=0 2=0 4=0\nover 0 0 1 : @0 -1\nend 1\n") (BadChange 1)
+a_buffer_that_is_not_there : IsFirstFault (codes "dsalog 2 5 11\nover 0 0 1 : 0=0 2=0 4=0\nover 0 0 1 : @0 -1\nend 1\n")
+    (BadChange 1)
 unfolding numeral three second
 a_buffer_that_is_not_there = bad_change (Drops 1 ∷ []) _ refl
     (All-cons IsChangeWithin (Drops 1) [] (lit≤ tt) (All-nil IsChangeWithin)) ((λ y i. absurd i), tt)
@@ -199,7 +203,8 @@ a_buffer_that_is_not_there = bad_change (Drops 1 ∷ []) _ refl
     not_there (inr (inr (inl e))) = omega arith
     not_there (inr (inr (inr i))) = absurd i
 
-no_buffer_is_left : IsFirstFault (codes "dsalog 2 5 11\nover 0 0 1 : 0=0 2=0 4=0\nover 0 0 1 : @0 -0 -2 -4\nend 1\n") (BadChange 1)
+no_buffer_is_left : IsFirstFault (codes "dsalog 2 5 11\nover 0 0 1 : 0=0 2=0 4=0\nover 0 0 1 : @0 -0 -2 -4\nend 1\n")
+    (BadChange 1)
 unfolding numeral three second
 no_buffer_is_left = bad_change (Drops 0 ∷ Drops 2 ∷ Drops 4 ∷ []) _ refl
     (All-cons IsChangeWithin (Drops 0) (Drops 2 ∷ Drops 4 ∷ []) (lit≤ tt)
@@ -243,7 +248,8 @@ one_more_rises b c bs h r = (
 
 cites_within : (b k c m : ℕ) → b ≤ 4 → k ≤ 4 → c ≤ 4 → m ≤ 4 →
     All IsRawCiteWithin ((b, raw_cite.Line k) ∷ (c, raw_cite.Line m) ∷ [])
-cites_within b k c m h i j l = All-cons IsRawCiteWithin (b, raw_cite.Line k) ((c, raw_cite.Line m) ∷ []) (omega arith, omega arith)
+cites_within b k c m h i j l = All-cons IsRawCiteWithin (b, raw_cite.Line k) ((c, raw_cite.Line m) ∷ [])
+    (omega arith, omega arith)
     (All-cons IsRawCiteWithin (c, raw_cite.Line m) [] (omega arith, omega arith) (All-nil IsRawCiteWithin))
 
 over_good : (H G : ℕ) (l : Claim) (earlier : List RawLine) → H ≤ 4 → G ≤ 4 → l ≢ [] → All IsPairWithin l →
@@ -291,7 +297,8 @@ sample_good = (
           changes = record {
             each = All-cons (DoesChange ((1, 1) ∷ (2, 1) ∷ [])) (Puts (0, 2)) (Puts (1, 2) ∷ Drops 2 ∷ []) no_0
                 (All-cons (DoesChange ((1, 1) ∷ (2, 1) ∷ [])) (Puts (1, 2)) (Drops 2 ∷ []) no_1
-                (All-cons (DoesChange ((1, 1) ∷ (2, 1) ∷ [])) (Drops 2) [] (inr (inl refl)) (All-nil (DoesChange ((1, 1) ∷ (2, 1) ∷ [])))));
+                (All-cons (DoesChange ((1, 1) ∷ (2, 1) ∷ [])) (Drops 2) [] (inr (inl refl))
+                (All-nil (DoesChange ((1, 1) ∷ (2, 1) ∷ [])))));
             some = λ e. cc;
           };
         },
@@ -301,7 +308,8 @@ sample_good = (
             within = (
               All-cons IsPairWithin (0, 0) ((1, 0) ∷ (2, 0) ∷ []) (lit≤ tt, lit≤ tt)
                   (All-cons IsPairWithin (1, 0) ((2, 0) ∷ []) (lit≤ tt, lit≤ tt) (one_pair 2 0 (lit≤ tt) (lit≤ tt))),
-              All-cons IsRawCiteWithin (0, raw_cite.Line 2) ((1, raw_cite.Twin 0) ∷ (2, raw_cite.Line 3) ∷ []) (lit≤ tt, lit≤ tt)
+              All-cons IsRawCiteWithin (0, raw_cite.Line 2) ((1, raw_cite.Twin 0) ∷ (2, raw_cite.Line 3) ∷ [])
+                  (lit≤ tt, lit≤ tt)
                   (All-cons IsRawCiteWithin (1, raw_cite.Twin 0) ((2, raw_cite.Line 3) ∷ []) (lit≤ tt, lit≤ tt)
                   (All-cons IsRawCiteWithin (2, raw_cite.Line 3) [] (lit≤ tt, lit≤ tt) (All-nil IsRawCiteWithin))),
             );

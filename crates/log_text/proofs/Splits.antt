@@ -28,7 +28,8 @@ change_split (Puts e) (Drops b) r s p q h = absurd (let t = pairs_are_items.begi
     digit_clash t.0 45 t.3 refl (head_of _ _ _ _ (sym (ap (λ u. u ++ r) t.2) ∙ h)))
 change_split (Drops b) (Puts f) r s p q h = absurd (let t = pairs_are_items.begins f in
     digit_clash t.0 45 t.3 refl (head_of _ _ _ _ (sym (ap (λ u. u ++ s) t.2) ∙ sym h)))
-change_split (Drops a) (Drops b) r s p q h = let t = number_split a b r s p q (tail_of 45 45 _ _ h) in (ap Drops t.0, t.1)
+change_split (Drops a) (Drops b) r s p q h = let t = number_split a b r s p q (tail_of 45 45 _ _ h) in
+    (ap Drops t.0, t.1)
 
 pub newline_ends_spelling : (r : List ℕ) → EndsSpelling (10 ∷ r)
 newline_ends_spelling r = record {
@@ -64,7 +65,8 @@ changes_split (x ∷ xs) [] r s p q e = absurd (q.no_change x _
 changes_split (x ∷ xs) (y ∷ ys) r s p q e =
     let g = sym (append_assoc (change_text x) (changes_text xs) r)
     ∙ (tail_of 32 32 _ _ e ∙ append_assoc (change_text y) (changes_text ys) s) in
-    let one = change_split x y _ _ (changes_stop xs r (ends_stop r p.ends)) (changes_stop ys s (ends_stop s q.ends)) g in
+    let one = change_split x y _ _ (changes_stop xs r (ends_stop r p.ends))
+    (changes_stop ys s (ends_stop s q.ends)) g in
     let two = changes_split xs ys r s p q one.1 in
     (longer one.0 two.0, two.1)
   where

@@ -52,7 +52,8 @@ after_there n (suc j) first (x ∷ xs) before line p q = after_there (n + 1) j x
     ∙ ap (λ (k : ℕ). Some (spelled_as line (shorter k (raw_claim_of before) (raw_claim_of line)))) (omega arith)
 
 -- each other line is spelled after the one before it
-pub next_there : (lines : List RawLine) (j k : ℕ) (before line : RawLine) → k ≡ j + 1 → slice_get lines j ≡ Some before →
+pub next_there : (lines : List RawLine) (j k : ℕ) (before line : RawLine) → k ≡ j + 1 →
+    slice_get lines j ≡ Some before →
     slice_get lines k ≡ Some line →
     slice_get (spelled_lines lines) k ≡ Some (spelled_as line (shorter j (raw_claim_of before) (raw_claim_of line)))
 next_there [] j k before line e p q = absurd cc
@@ -62,10 +63,12 @@ next_there (x ∷ xs) j k before line e p q = at_next k (e ∙ add_one j) q
     add_one n = omega arith
 
     at_next : (k : ℕ) → k ≡ suc j → slice_get (x ∷ xs) k ≡ Some line →
-        slice_get (spelled_lines (x ∷ xs)) k ≡ Some (spelled_as line (shorter j (raw_claim_of before) (raw_claim_of line)))
+        slice_get (spelled_lines (x ∷ xs)) k
+        ≡ Some (spelled_as line (shorter j (raw_claim_of before) (raw_claim_of line)))
     at_next zero e q = absurd (omega arith)
     at_next (suc i) e q = let same : i ≡ j = omega arith in
-        subst (λ (n : ℕ). slice_get (spelled_after 0 x xs) n ≡ Some (spelled_as line (shorter j (raw_claim_of before) (raw_claim_of line))))
+        subst (λ (n : ℕ). slice_get (spelled_after 0 x xs) n
+        ≡ Some (spelled_as line (shorter j (raw_claim_of before) (raw_claim_of line))))
         (sym same)
         (after_there 0 j x xs before line p (subst (λ (n : ℕ). slice_get xs n ≡ Some line) same q)
         ∙ ap (λ (n : ℕ). Some (spelled_as line (shorter n (raw_claim_of before) (raw_claim_of line)))) (omega arith))
@@ -79,7 +82,8 @@ if_put : {E : Type 0} {P Q : Type 0} (r : Result (Unit {0}) E) → (P → Q) →
 if_put (Ok u) f h = f h
 if_put (Err e) f h = tt
 
-pub first_put : {E : Type 0} (lines : List Line) (k : ℕ) (line : Line) (old new : List ℕ) (r : Result (Unit {0}) E) → k ≡ 0 →
+pub first_put : {E : Type 0} (lines : List Line) (k : ℕ) (line : Line) (old new : List ℕ) (r : Result (Unit {0}) E) →
+    k ≡ 0 →
     slice_get lines k ≡ Some line → OnOk r (new ≡ old ++ line_text (raw_line_of line)) → OnOk r (IsPut lines k old new)
 first_put lines k line old new r z p h = if_put r (λ e. (
   spelled_as (raw_line_of line) (Full (raw_claim_of (raw_line_of line))),
@@ -90,7 +94,8 @@ first_put lines k line old new r z p h = if_put r (λ e. (
   e ∙ ap (λ (t : List ℕ). old ++ t) (full_line (raw_line_of line)),
 )) h
 
-pub next_put : {E : Type 0} (lines : List Line) (j k : ℕ) (before line : Line) (old new : List ℕ) (r : Result (Unit {0}) E)
+pub next_put : {E : Type 0} (lines : List Line) (j k : ℕ) (before line : Line) (old new : List ℕ)
+    (r : Result (Unit {0}) E)
     (l m : Claim) (bytes : List ℕ) → k ≡ j + 1 → slice_get lines j ≡ Some before → slice_get lines k ≡ Some line →
     l ≡ claim_of before → m ≡ claim_of line → bytes ≡ spelling_text (shorter j l m) →
     ((s : Spelling) → bytes ≡ spelling_text s → OnOk r (new ≡ old ++ spelled_text (spelled_as (raw_line_of line) s))) →

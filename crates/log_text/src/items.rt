@@ -46,7 +46,8 @@ fn read_cite(cursor: &mut Cursor) -> Option<(u64, RawCite)>
     }
 }
 
-/// Reads a claim and these bytes after it, in that room. Its numbers are of 64 bits, as `cap` gives them.
+/// Reads a claim and these bytes after it, in that room. Its numbers are of 64 bits, as `cap` gives
+/// them.
 pub(crate) fn read_claim(
     alloc: Global,
     room: &mut Vec<(u64, u64)>,
@@ -76,7 +77,8 @@ pub(crate) fn read_claim(
     Ok(RawClaim::from_vec(pairs))
 }
 
-/// Reads cites and these bytes after them, in that room. Their numbers are of 64 bits, as `cap` gives them.
+/// Reads cites and these bytes after them, in that room. Their numbers are of 64 bits, as `cap`
+/// gives them.
 pub(crate) fn read_cites(
     alloc: Global,
     room: &mut Vec<(u64, RawCite)>,

@@ -118,7 +118,8 @@ fn put_over_as(
     modulus: u64,
 ) -> Result<(), AllocError>
     ensures { (s : Spelling) → claim.now ≡ spelling_text s →
-        OnOk result (text.new.items ≡ text.old.items ++ spelled_text (OverAs moment height modulus s)) }
+        OnOk result (text.new.items ≡ text.old.items
+        ++ spelled_text (OverAs moment height modulus s)) }
 {
     put_over_start(text, moment, height, modulus)?;
     put(text, claim)?;

@@ -222,7 +222,8 @@ pub first_section : (I : Instance) (S : SectionList) → AreSections I S → 1 �
     IsBoundMoment I (bound_moment I (starts_of S.sections))
 first_section I S a pos =
     let found = bound_moment_reaches I (starts_of S.sections) (sections_are_all I S a.sections) pos in
-    let first = first_with (λ u. highest_at I u (bound_modulus I) == lower_bound I) (bound_moment I (starts_of S.sections))
+    let first = first_with (λ u. highest_at I u (bound_modulus I) == lower_bound I)
+    (bound_moment I (starts_of S.sections))
     (same (highest_at I (bound_moment I (starts_of S.sections)) (bound_modulus I)) (lower_bound I) found.1) in
     go first.0 (equal (highest_at I first.0 (bound_modulus I)) (lower_bound I) first.2) (λ u lt e.
     let k = first.3 u lt in let m = same (highest_at I u (bound_modulus I)) (lower_bound I) e in cc)

@@ -156,7 +156,8 @@ pile_limit I t H G h few m =
     let n = few_counted I t H G in
     omega arith
 
-pub capacity_limit : (I : Instance) (b : Bound) (C : ℕ) → IsAbove I b C → All IsBuffer I → length I ≤ buffer_limit → C ≤ 2 ^ 60
+pub capacity_limit : (I : Instance) (b : Bound) (C : ℕ) → IsAbove I b C → All IsBuffer I → length I ≤ buffer_limit →
+    C ≤ 2 ^ 60
 capacity_limit I b C a h few =
     let m = modulus_limit I b.moment b.height b.modulus a.member h a.modulus a.counts in
     let p = pile_limit I b.moment b.height b.modulus h few m in

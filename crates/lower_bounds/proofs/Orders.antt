@@ -31,7 +31,8 @@ from_take [] zero x i = absurd i
 from_take [] (suc k) x i = absurd i
 from_take (y ∷ ys) zero x i = absurd i
 from_take (y ∷ ys) (suc k) x (inl q) = (0, omega arith, omega arith, sym q)
-from_take (y ∷ ys) (suc k) x (inr i) = let r = from_take ys k x i in (suc r.0, omega (arith, r.1), omega (arith, r.2), r.3)
+from_take (y ∷ ys) (suc k) x (inr i) = let r = from_take ys k x i in
+    (suc r.0, omega (arith, r.1), omega (arith, r.2), r.3)
 
 pub in_take : (xs : List ℕ) (k x : ℕ) → IsIn x (take k xs) → IsIn x xs
 in_take xs k x i = let r = from_take xs k x i in rw (← r.3) (in_at xs r.0 0 r.2)

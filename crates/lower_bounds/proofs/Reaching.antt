@@ -133,7 +133,8 @@ module _ (I : Instance) (S : SectionList) (candidates : List ℕ) (b : Bound) (l
   modulus_none : b ≡ no_bound → b.modulus ≡ bound_modulus I
   modulus_none e =
       let m : b.modulus ≡ 1 = ap (λ (b : Bound). b.modulus) e in
-      let h : highest_stack I 1 ≡ 0 = sym (highest_is 1) ∙ ap (λ xs. greatest (map (λ s. highest_at I s 1) (starts_of xs)))
+      let h : highest_stack I 1 ≡ 0 = sym (highest_is 1)
+      ∙ ap (λ xs. greatest (map (λ s. highest_at I s 1) (starts_of xs)))
       (no_sections e) in
       let z : lower_bound I ≡ 0 = sym capacity ∙ ap (λ (b : Bound). b.capacity) e in
       let k = laws.least 1 (one_is_modulus I) (h ∙ sym z) in
@@ -150,7 +151,8 @@ module _ (I : Instance) (S : SectionList) (candidates : List ℕ) (b : Bound) (l
       at_least =
           let a = highest_at_most b.modulus among in let c = capacity in
           let e = highest_is b.modulus in
-          let f : stack_at I S b.modulus first.place ≤ greatest (map (λ s. highest_at I s b.modulus) (starts_of S.sections))
+          let f : stack_at I S b.modulus first.place ≤ greatest
+          (map (λ s. highest_at I s b.modulus) (starts_of S.sections))
           =
           under (map (λ s. highest_at I s b.modulus) (starts_of S.sections)) (stack_at I S b.modulus first.place)
           (into_map (λ s. highest_at I s b.modulus) (starts_of S.sections) (start_of S first.place)
@@ -217,7 +219,8 @@ module _ (I : Instance) (S : SectionList) (candidates : List ℕ) (b : Bound) (l
   moment_none : b ≡ no_bound → b.moment ≡ bound_moment I (starts_of S.sections)
   unfolding bound_moment
   moment_none e = ap (λ (b : Bound). b.moment) e ∙ sym
-      (ap (λ xs. unwrap_or (find (λ t. highest_at I t (bound_modulus I) == lower_bound I) (starts_of xs)) 0) (no_sections e))
+      (ap (λ xs. unwrap_or (find (λ t. highest_at I t (bound_modulus I) == lower_bound I) (starts_of xs)) 0)
+      (no_sections e))
 
   pub moment : b.moment ≡ bound_moment I (starts_of S.sections)
   moment = elim best.found [ inl e ↦ moment_none e | inr r ↦ moment_found r.2 ]

@@ -69,7 +69,8 @@ fn raised(
     requires order { IsFalling instance.now order.now }
     requires modulus { IsModulus modulus }
     requires count { length tallies.old ≡ count_of sections.now }
-    ensures raised { IsRaised instance.now sections.now modulus (count_of sections.now) bound result }
+    ensures raised { IsRaised instance.now sections.now modulus
+        (count_of sections.now) bound result }
     ensures count { length tallies.new ≡ count_of sections.now }
 {
     if crude(instance, modulus) <= bound.capacity {

@@ -36,7 +36,8 @@ fn lifted(
     height: u64,
 ) -> Result<Vec<(u32, u64)>, AllocError>
     requires { 1 ≤ bound.modulus }
-    ensures value { let b = bound in let members = counted instance.now b.moment b.height b.modulus in
+    ensures value { let b = bound in let members = counted instance.now b.moment b.height b.modulus
+        in
         IfOk result (λ pairs. pairs.items ≡ map (λ c. (c, height)) members) }
     ensures buffers { OnOk result (All IsBuffer instance.now) }
     ensures limit { OnOk result (length instance.now ≤ buffer_limit) }

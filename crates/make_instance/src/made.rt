@@ -36,7 +36,8 @@ const HEADER: &str = "id,lower,upper,size,alignment,gaps\n";
 pub fn make(alloc: Global, seed: u64, count: u64) -> Result<Vec<u8>, Fail<MakeFault>>
     ensures value { UnlessNoMemory result (λ text. text.items ≡ made_text seed count)
         (λ fault. fault ≡ MakeFault.CountTooLarge count) }
-    ensures refused { (result ≡ Err (Fail.Fault (MakeFault.CountTooLarge count))) ↔ (buffer_limit < count) }
+    ensures refused { (result ≡ Err (Fail.Fault (MakeFault.CountTooLarge count))) ↔
+        (buffer_limit < count) }
     ensures short { IfOk result (λ text. length text.items ≤ 67108864) }
     ensures parsed { IfOk result (λ text. (I : List Buffer)
         × (parse (table_of text.items) ≡ Ok I) × (length I ≡ count)) }

@@ -114,9 +114,11 @@ module _ (b : Bracket) where
 -- ---- least capacities
 below_work : work_of_least small_below ≡ 4
 unfolding hunted hunt whole_work work planned plan layout_height starts orders falls_by rises_by first_fit best_fit
-    neighbours first_place floor first_passing best_place free_ranges stretches holds least_from is_tighter is_free highest top do_share
+    neighbours first_place floor first_passing best_place free_ranges stretches holds least_from is_tighter is_free
+    highest top do_share
     some_before is_live buffer searched parts part_of is_cut last_cut first is_tall comes_before ends_below is_twin
-    child up step have_same_moments lower_bound highest_stack highest_at heights moduli moments stack pile counted rounded_size best_start
+    child up step have_same_moments lower_bound highest_stack highest_at heights moduli moments stack pile counted
+    rounded_size best_start
     lowest_place
 below_work = refl
 

@@ -18,11 +18,13 @@ use Rattle.planner.proofs.ExampleLeastFacts.{below_best, below_bound, below_log,
 
 -- ---- the lower bound with its modulus
 two_bound : lower_bound two_of_four ≡ 7
-unfolding lower_bound highest_stack highest_at heights moduli moments stack pile counted floor rounded_size is_live buffer
+unfolding lower_bound highest_stack highest_at heights moduli moments stack pile counted floor rounded_size is_live
+    buffer
 two_bound = refl
 
 two_modulus : bound_modulus two_of_four ≡ 4
-unfolding bound_modulus least_of lower_bound highest_stack highest_at heights moduli moments stack pile counted floor rounded_size is_live buffer
+unfolding bound_modulus least_of lower_bound highest_stack highest_at heights moduli moments stack pile counted floor
+    rounded_size is_live buffer
 two_modulus = refl
 
 abbrev bound_at : ℕ → ℕ → ℕ → Bound

@@ -39,7 +39,8 @@ abbrev pub one_line : Log
 one_line = record { count = 2; capacity = 6; lines = Over ((0, 0) ∷ (1, 0) ∷ []) 0 0 4 ∷ []; final = 0 }
 
 pub bound_log : IsBoundLog two_of_four 6 one_line
-unfolding stack pile stack_log stack_line line_height counted floor rounded_size bound_modulus least_of lower_bound highest_stack highest_at heights moduli moments is_live buffer
+unfolding stack pile stack_log stack_line line_height counted floor rounded_size bound_modulus least_of lower_bound
+    highest_stack highest_at heights moduli moments is_live buffer
 bound_log = record {
   moment = 0;
   height = 0;
@@ -55,7 +56,8 @@ abbrev pub no_facts : Facts
 no_facts = record { buffers = 0; peak = None; parts = 0; bound = 0; modulus = 1; best = 0 }
 
 pub facts_of_none : AreFactsOf [] no_facts
-unfolding parts part_of last_cut is_cut bound_modulus least_of lower_bound highest_stack highest_at heights moduli moments stack pile counted floor
+unfolding parts part_of last_cut is_cut bound_modulus least_of lower_bound highest_stack highest_at heights moduli
+    moments stack pile counted floor
     layout_height best_start lowest_place starts orders first_fit best_fit
 facts_of_none = record { buffers = refl; peak = refl; parts = refl; bound = refl; modulus = refl; best = refl }
 

@@ -29,9 +29,11 @@ use Rattle.planner.specs.Openings.{AreTooFew, StaysOpen, IsSpentAt}
 -- five steps are too few for three buffers, six are enough, and without a number there are never too few
 evens_work : work_of_least evens ≡ 6
 unfolding hunted hunt whole_work work planned plan layout_height starts orders falls_by rises_by first_fit best_fit
-    neighbours first_place floor first_passing best_place free_ranges stretches holds least_from is_tighter is_free highest top do_share
+    neighbours first_place floor first_passing best_place free_ranges stretches holds least_from is_tighter is_free
+    highest top do_share
     some_before is_live buffer searched parts part_of is_cut last_cut first is_tall comes_before ends_below is_twin
-    child up step have_same_moments lower_bound highest_stack highest_at heights moduli moments stack pile counted rounded_size best_start
+    child up step have_same_moments lower_bound highest_stack highest_at heights moduli moments stack pile counted
+    rounded_size best_start
     lowest_place
 evens_work = refl
 
@@ -47,7 +49,8 @@ no_number work h = let g = h.given in cc
 -- the start's ends are left only where its halving is not done
 halving_evens : hunted evens 4 5 ≡ 6
 unfolding hunted hunt whole_work work planned plan layout_height starts orders falls_by rises_by first_fit best_fit
-    neighbours first_place floor first_passing best_place free_ranges stretches holds least_from is_tighter is_free highest top do_share
+    neighbours first_place floor first_passing best_place free_ranges stretches holds least_from is_tighter is_free
+    highest top do_share
     some_before is_live buffer searched parts part_of is_cut last_cut first is_tall comes_before ends_below is_twin
     child up step have_same_moments
 halving_evens = refl
@@ -123,7 +126,8 @@ seven_is_exact b low high layout log = record {
 -- no buffers need no bytes and have no log, and some buffers need some
 nothing_planned : planned [] 0 ≡ Some []
 unfolding planned plan layout_height starts orders falls_by rises_by first_fit best_fit neighbours first_place floor
-    first_passing best_place free_ranges stretches holds least_from is_tighter is_free highest top do_share some_before is_live
+    first_passing best_place free_ranges stretches holds least_from is_tighter is_free highest top do_share some_before
+    is_live
     buffer searched parts part_of is_cut last_cut first is_tall comes_before ends_below is_twin child up step
     have_same_moments
 nothing_planned = refl
@@ -171,16 +175,19 @@ unfolding whole_work work parts part_of is_cut last_cut first is_tall comes_befo
 four_steps = refl
 
 pub below_bound : lower_bound small_below ≡ 4
-unfolding lower_bound highest_stack highest_at heights moduli moments stack pile counted floor rounded_size is_live buffer
+unfolding lower_bound highest_stack highest_at heights moduli moments stack pile counted floor rounded_size is_live
+    buffer
 below_bound = refl
 
 pub below_modulus : bound_modulus small_below ≡ 1
-unfolding bound_modulus least_of lower_bound highest_stack highest_at heights moduli moments stack pile counted floor rounded_size is_live buffer
+unfolding bound_modulus least_of lower_bound highest_stack highest_at heights moduli moments stack pile counted floor
+    rounded_size is_live buffer
 below_modulus = refl
 
 pub below_best : best_start small_below ≡ 0 ∷ 4 ∷ []
 unfolding best_start lowest_place layout_height starts orders falls_by rises_by first_fit best_fit neighbours
-    first_place floor first_passing best_place free_ranges stretches holds least_from is_tighter is_free highest top do_share
+    first_place floor first_passing best_place free_ranges stretches holds least_from is_tighter is_free highest top
+    do_share
     some_before is_live buffer
 below_best = refl
 

@@ -16,7 +16,8 @@ use Rattle.planner.proofs.ExampleLeastFacts.{below_best, below_sound, four_is_op
 
 pub none_within_4 : start_within small_below 4 ≡ None
 unfolding starts orders falls_by rises_by first_fit best_fit neighbours first_place floor first_passing best_place
-    free_ranges stretches holds least_from is_tighter is_free highest top do_share some_before is_live buffer layout_height
+    free_ranges stretches holds least_from is_tighter is_free highest top do_share some_before is_live buffer
+    layout_height
 none_within_4 = refl
 
 pub best_at_5 : layout_height small_below (best_start small_below) ≡ 5
@@ -39,5 +40,6 @@ refuted_at_3 = line_refutes small_below 0 0 1 3 below_sound (lit≤ tt) refl (le
 -- the best start itself is within 5
 start_within_5 : start_within small_below 5 ≡ Some (0 ∷ 4 ∷ [])
 unfolding starts orders falls_by rises_by first_fit best_fit neighbours first_place floor first_passing best_place
-    free_ranges stretches holds least_from is_tighter is_free highest top do_share some_before is_live buffer layout_height
+    free_ranges stretches holds least_from is_tighter is_free highest top do_share some_before is_live buffer
+    layout_height
 start_within_5 = refl

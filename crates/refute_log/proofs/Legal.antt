@@ -212,7 +212,8 @@ pub all_kept_pushed : {X : Type 0} (f : X → Line) (items new : List X) (x : X)
 all_kept_pushed f items new x q h k = rw (q, map-append f items (x ∷ [])) (All-push IsLineKept (map f items) (f x) h k)
 
 -- a legal line keeps what lines keep
-pub legal_is_kept : (I : Instance) (C : ℕ) (earlier : List Line) (line : Line) → length I ≤ buffer_limit → IsWithin line →
+pub legal_is_kept : (I : Instance) (C : ℕ) (earlier : List Line) (line : Line) → length I ≤ buffer_limit →
+    IsWithin line →
     IsLegal I C earlier line → IsLineKept line
 legal_is_kept I C earlier line n w h = record {
   within = w;

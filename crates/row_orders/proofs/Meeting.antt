@@ -35,7 +35,8 @@ unfolding met
 met_limit I b all few =
     let k = sum_under (do_share b) I (λ x i. (in_from_all IsBuffer I all x i).within_size) in omega arith
 
-pub measure_limit : (order : Order) (I : Instance) (b : Buffer) → All IsBuffer I → length I ≤ buffer_limit → IsBuffer b →
+pub measure_limit : (order : Order) (I : Instance) (b : Buffer) → All IsBuffer I → length I ≤ buffer_limit →
+    IsBuffer b →
     measure order I b ≤ 2 ^ 102
 measure_limit File I b all few h = omega arith
 measure_limit Area I b all few h = area_limit b h

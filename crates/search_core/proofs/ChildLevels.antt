@@ -164,7 +164,8 @@ low_child I f levels b l u q e low = record {
   above = u.above;
   are = subst (AreLevels I u.above) (sym q) u.levels;
   has = subst (λ (b : ℕ). HasBuffer u.above b) (sym e) u.has;
-  low = subst (IsBoundedBy (2 ^ 54)) (u.standing.is_child ∙ ap (λ (b : ℕ). child I u.above (entry_of u.above b)) (sym e)) low;
+  low = subst (IsBoundedBy (2 ^ 54)) (u.standing.is_child
+      ∙ ap (λ (b : ℕ). child I u.above (entry_of u.above b)) (sym e)) low;
 }
 
 pub child_under : (I : Instance) (f : Tried) (levels numbers : List ℕ) (b : ℕ) (l : Claim) → IsUnder I f l →

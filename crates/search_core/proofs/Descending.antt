@@ -128,7 +128,8 @@ module _ (I : Instance) (C : ℕ) where
           let last : length frames - 1 < length frames = omega arith in
           let same : length frames - 1 ≡ length frames - 1 - 0 = omega arith in
           let head : slice_index_or frames (length frames - 1) f ≡ f =
-          ap (λ (n : ℕ). slice_index_or frames n f) same ∙ sym (get_or-reverse frames 0 f lt) ∙ ap (λ (xs : List Tried). slice_index_or xs 0 f) q in
+          ap (λ (n : ℕ). slice_index_or frames n f) same ∙ sym (get_or-reverse frames 0 f lt)
+          ∙ ap (λ (xs : List Tried). slice_index_or xs 0 f) q in
           let got : slice_get frames (length frames - 1) ≡ Some f =
           slice_get-get_or frames (length frames - 1) f last ∙ ap (λ (x : Tried). Some x) head in
           subst (λ (o : Option Tried). IfSome o (λ (f : Tried). IsUnder I f l)) (sym got)

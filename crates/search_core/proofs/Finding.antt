@@ -36,7 +36,8 @@ module _ (lines : List Line) (before now buffers : List ℕ) where
     | inr f ↦ inr (fail_still lines now old new b (slice_index before b) moved f)
   ]
 
-  -- where none is left and these are the buffers that rose, the watches of all fail: none of another buffer is below the
+  -- where none is left and these are the buffers that rose, the watches of all fail: none of another buffer is below
+  -- the
   -- level now and not below the one before
   pub fail_at_all : (watches : List Entry) (left : List ℕ) → left ≡ [] → AreTheRaised before now buffers →
       FailBut lines before now watches buffers left → (b : ℕ) → FailAt lines watches now b (slice_index before b)

@@ -72,7 +72,8 @@ module _ (I : Instance) (C : ℕ) (lines : List Line) where
           (seats_by (slice_set offsets b low) l) back.trying back.standing.is_left
           (subst (λ (m : Claim). first I C m ≡ Some (seats_by offsets m)) back.standing.is_child g.found)
           (subst (λ (c : ℕ). seated I l (entry_of l c) (Some (seats_by offsets (child I l (entry_of l c))))
-          ≡ Some (seats_by (slice_set offsets b low) l)) h.chosen (seated_by I l offsets b low (gathering_within s) low_is));
+          ≡ Some (seats_by (slice_set offsets b low) l)) h.chosen
+          (seated_by I l offsets b low (gathering_within s) low_is));
     }
       where
         l : Claim

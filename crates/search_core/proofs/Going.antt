@@ -28,7 +28,8 @@ down_from : (I : Instance) (claims : List Claim) (kept : List Kept) (f : Tried) 
     AreKeptAlong I claims kept → f ≡ tried_by b n → x ≡ chosen_of f → IsLeft f → AreBranches I (last_claim claims) b →
     (after : Sky) → after.instance ≡ I →
     after.claims ≡ claims ++ child I (last_claim claims) (entry_of (last_claim claims) (chosen_of f)) ∷ [] →
-    IsWayTo after (kept ++ record { notes = n; chosen = x; branches = Some b } ∷ []) (tries_of I claims (notes_of kept) ++ f ∷ [])
+    IsWayTo after (kept ++ record { notes = n; chosen = x; branches = Some b } ∷ [])
+    (tries_of I claims (notes_of kept) ++ f ∷ [])
 down_from I claims kept f b n x h e taken left br after i q = record {
   along = rw (i, q) (push_kept I claims kept c k h
       (record { branches = br; standing = standing; chosen = taken ∙ ap chosen_of is }));
@@ -59,14 +60,16 @@ pub down : (before : Way) (sky after : Sky) (kept items : List Kept) (f : Tried)
     AreLevels before.sky.instance (last_claim before.sky.claims) f.levels → after.instance ≡ sky.instance →
     after.claims ≡ sky.claims
     ++ child sky.instance (last_claim sky.claims) (entry_of (last_claim sky.claims) c) ∷ [] →
-    items ≡ kept ++ record { notes = n; chosen = c; branches = Some b } ∷ [] → IsWayTo after items (before.frames ++ f ∷ [])
+    items ≡ kept ++ record { notes = n; chosen = c; branches = Some b } ∷ [] →
+    IsWayTo after items (before.frames ++ f ∷ [])
 down before sky after kept items f b n c w h e chosen left order levels i q p =
     let br = branches_from before.sky.instance (last_claim before.sky.claims) f b n e order levels in
     let br : AreBranches sky.instance (last_claim sky.claims) b =
     subst (λ (w : Way). AreBranches w.sky.instance (last_claim w.sky.claims) b) (sym w) br in
     let r = down_from sky.instance sky.claims kept f b n c h e chosen left br after i (rw chosen at q) in
     subst (λ (items : List Kept). IsWayTo after items (before.frames ++ f ∷ [])) (sym p)
-    (subst (λ (w : Way). IsWayTo after (kept ++ record { notes = n; chosen = c; branches = Some b } ∷ []) (w.frames ++ f ∷ [])) w r)
+    (subst (λ (w : Way). IsWayTo after (kept ++ record { notes = n; chosen = c; branches = Some b } ∷ [])
+    (w.frames ++ f ∷ [])) w r)
 
 -- what is kept once a claim is popped, and what was kept of the claim above it
 pub record IsPopped (sky after : Sky) (kept rest : List Kept) (k : Kept) : Type 0 where

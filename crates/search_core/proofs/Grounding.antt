@@ -233,7 +233,8 @@ grounded_next levels before after left rest x v lt s g some none =
           (none (omega (arith, zero)))
     ]
 
-pub grounded_all : (levels : List ℕ) (k left : Claim) → left ≡ [] → IsGrounded levels k left → length levels ≤ buffer_limit →
+pub grounded_all : (levels : List ℕ) (k left : Claim) → left ≡ [] → IsGrounded levels k left →
+    length levels ≤ buffer_limit →
     All (λ level. level ≤ 2 ^ 55) levels → AreKept levels k
 grounded_all levels k left q g few low = record {
   few = few;

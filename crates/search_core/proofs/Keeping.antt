@@ -112,7 +112,8 @@ notes_count (x ∷ xs) = let e = notes_count xs in omega (arith, e)
 -- the tries of one claim
 pub tries_get : (I : Instance) (claims : List Claim) (kept : List Kept) (i : ℕ) (d : Kept) → i < length kept →
     length kept < length claims →
-    slice_get (tries_of I claims (notes_of kept)) i ≡ Some (tried_of I (claim_no claims i) (slice_index_or kept i d).notes)
+    slice_get (tries_of I claims (notes_of kept)) i
+    ≡ Some (tried_of I (claim_no claims i) (slice_index_or kept i d).notes)
 tries_get I [] ks i d lt few = absurd (omega arith)
 tries_get I (l ∷ ls) [] i d lt few = absurd (omega arith)
 tries_get I (l ∷ ls) (k ∷ ks) zero d lt few = refl
@@ -132,7 +133,8 @@ module _ (I : Instance) (claims : List Claim) (kept : List Kept) (c : Claim) (k 
   pub push_kept : AreKeptAlong I claims kept → IsKeptOf I (last_claim claims) c k →
       AreKeptAlong I (claims ++ c ∷ []) (kept ++ k ∷ [])
   push_kept h last = record {
-    count = let m = length-append kept (k ∷ []) in let n = length-append claims (c ∷ []) in let e = h.count in omega arith;
+    count = let m = length-append kept (k ∷ []) in let n = length-append claims (c ∷ []) in let e = h.count in
+        omega arith;
     each = each;
   }
     where
@@ -198,7 +200,8 @@ module _ (I : Instance) (claims : List Claim) (kept : List Kept) (c : Claim) (k 
 
 -- other branches at one place
 pub set_kept : (I : Instance) (claims : List Claim) (kept : List Kept) (i : ℕ) (k old : Kept) → i < length kept →
-    old ≡ slice_index_or kept i old → k.notes ≡ old.notes → k.chosen ≡ old.chosen → IfSome k.branches (AreBranches I (claim_no claims i)) →
+    old ≡ slice_index_or kept i old → k.notes ≡ old.notes → k.chosen ≡ old.chosen →
+    IfSome k.branches (AreBranches I (claim_no claims i)) →
     AreKeptAlong I claims kept → AreKeptAlong I claims (slice_set kept i k)
 set_kept I claims kept i k old lt is same_notes same_choice b h = record {
   count = let n : length (slice_set kept i k) ≡ length kept = length-set kept i k in let e = h.count in omega arith;
@@ -215,7 +218,8 @@ set_kept I claims kept i k old lt is same_notes same_choice b h = record {
               chosen = same_choice ∙ (rw same_notes o.chosen);
             })
         | inr ne ↦
-            let r : slice_index_or (slice_set kept i k) j d ≡ slice_index_or kept j d = get_or-set_other kept i j k d ne in
+            let r : slice_index_or (slice_set kept i k) j d
+            ≡ slice_index_or kept j d = get_or-set_other kept i j k d ne in
             rw r (h.each j d (omega arith))
       ];
 }

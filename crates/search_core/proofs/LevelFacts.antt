@@ -113,5 +113,6 @@ its_child = record { above = root; are = root_levels; has = inl refl; low = low 
     low e (inr z) = absurd z
 
 not_without_it : HasLowChild small_below (0 ∷ 5 ∷ []) 0 → ⊥
-not_without_it h = let k = (h.are.each 0 (h.are.claim.in_range (entry_of h.above 0) (entry_in h.above 0 h.has))).inside h.has in
+not_without_it h = let k = (h.are.each 0 (h.are.claim.in_range (entry_of h.above 0) (entry_in h.above 0 h.has))).inside
+    h.has in
     omega (arith, k)

@@ -32,12 +32,14 @@ module _ (I : Instance) (l m : Claim) (b : Branches) (n : Notes) (h : IsBelow I 
   }
 
   -- the choice that was read
-  chosen_by : (k c : ℕ) → k ≡ length n.refuted.items → c ≡ slice_index_or b.order.items k c → c ≡ chosen_of (tried_by b n)
+  chosen_by : (k c : ℕ) → k ≡ length n.refuted.items → c ≡ slice_index_or b.order.items k c →
+      c ≡ chosen_of (tried_by b n)
   chosen_by k c e q =
       let lt = standing_by.is_left in
       q ∙ get_or_default_zero b.order.items k c (omega arith) ∙ ap (λ (k : ℕ). slice_index_or b.order.items k 0) e
 
-  pub low_below : (k c : ℕ) → k ≡ length n.refuted.items → c ≡ slice_index_or b.order.items k c → HasLowChild I b.levels c
+  pub low_below : (k c : ℕ) → k ≡ length n.refuted.items → c ≡ slice_index_or b.order.items k c →
+      HasLowChild I b.levels c
   low_below k c e q = low_child I (tried_by b n) b.levels c m under_by refl (chosen_by k c e q) h.low
 
   pub child_below : (k c : ℕ) → k ≡ length n.refuted.items → c ≡ slice_index_or b.order.items k c →
@@ -93,7 +95,8 @@ module _ (I J : Instance) (claims : List Claim) (kept : List Kept) (same : I ≡
   pub below_made : (i : ℕ) (b : Branches) (d : Kept) → i < length kept → AreBranches I (claim_no claims i) b →
       IsBelow J (claim_no claims i) (claim_no claims (i + 1)) b (slice_index_or kept i d).notes
   below_made i b d lt br =
-      subst (λ (I : Instance). IsBelow I (claim_no claims i) (claim_no claims (i + 1)) b (slice_index_or kept i d).notes)
+      subst (λ (I : Instance). IsBelow I (claim_no claims i) (claim_no claims (i + 1)) b
+      (slice_index_or kept i d).notes)
       same (below_no i b d lt br)
 
   -- and so are those that are kept
@@ -111,7 +114,8 @@ pub record IsMakingAgain (I : Instance) (claims : List Claim) (before kept : Lis
     pub within : i < length before + 1
     pub branches : AreBranches I (claim_no claims i) b
 
-pub next_made : (I : Instance) (claims : List Claim) (before kept : List Kept) (i : ℕ) (b next : Branches) (k old : Kept) →
+pub next_made : (I : Instance) (claims : List Claim) (before kept : List Kept) (i : ℕ) (b next : Branches)
+    (k old : Kept) →
     IsMakingAgain I claims before kept i b → length kept ≡ length before → i < length kept →
     old ≡ slice_index_or kept i old → k ≡ record { notes = old.notes; chosen = old.chosen; branches = Some b } →
     AreBranches I (claim_no claims (i + 1)) next →

@@ -23,7 +23,8 @@ mark_of k bound = record { bound = bound; line = k }
 -- there is a row for each number that a buffer may have, and each watch of such a number is in its row
 pub record AreFiled (watches : List Entry) (rows : List (List Mark)) : Type 0 where
   pub count : length rows ≡ buffer_limit
-  pub filed : (k : ℕ) (e : Entry) → slice_get watches k ≡ Some e → e.0 < buffer_limit → IsIn (mark_of k e.1) (row_at rows e.0)
+  pub filed : (k : ℕ) (e : Entry) → slice_get watches k ≡ Some e → e.0 < buffer_limit →
+      IsIn (mark_of k e.1) (row_at rows e.0)
 
 -- each row is as it was, with some marks behind it
 abbrev pub AreAppended : List (List Mark) → List (List Mark) → Type 0

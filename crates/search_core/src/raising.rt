@@ -34,7 +34,8 @@ impl Raising {
     /// Takes the level of the buffer in the child, beside that in the claim.
     pub(crate) fn put(&mut self, b: u32, before: u64, level: u64) -> Result<(), NoMemory>
         requires { b < length self.old.numbers.items }
-        ensures numbers { OnOk result (self.new.numbers.items ≡ slice_set self.old.numbers.items b level) }
+        ensures numbers { OnOk result (self.new.numbers.items
+            ≡ slice_set self.old.numbers.items b level) }
         ensures some { 0 < level →
             OnOk result (self.new.pairs.items ≡ self.old.pairs.items ++ (b, level - 1) ∷ []) }
         ensures none { level ≡ 0 → OnOk result (self.new.pairs.items ≡ self.old.pairs.items) }

@@ -206,8 +206,8 @@ impl Watches {
 
     /// A line that covers the claim of the levels `now`, looked for at the raised buffers. If none
     /// is found, these are all whose levels are above those of `before`, and all lines are watched
-    /// there, then all are watched at the claim. As many first lines as are watched at a claim above
-    /// stay watched there.
+    /// there, then all are watched at the claim. As many first lines as are watched at a claim
+    /// above stay watched there.
     pub(crate) fn find(
         &mut self,
         log: &Log,

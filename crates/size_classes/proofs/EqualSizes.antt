@@ -54,7 +54,8 @@ live_are_counted : (I : Instance) (k t : ℕ) → length (live_among I (in_class
 unfolding live_among in_class counted
 live_are_counted I k t =
     fewer_of (λ b. class_of (buffer I b).size == k) (λ b. is_live (buffer I b) t)
-    (λ b. is_live (buffer I b) t && nat_le 0 (floor (buffer I b)) && ((buffer I b).alignment % 1 == 0)) (numbers (length I))
+    (λ b. is_live (buffer I b) t && nat_le 0 (floor (buffer I b)) && ((buffer I b).alignment % 1 == 0))
+    (numbers (length I))
     (λ b l. both_true (is_live (buffer I b) t && nat_le 0 (floor (buffer I b))) ((buffer I b).alignment % 1 == 0)
     (both_true (is_live (buffer I b) t) (nat_le 0 (floor (buffer I b))) l (from_zero (floor (buffer I b))))
     (one (buffer I b).alignment))
@@ -131,7 +132,8 @@ one_is_load I size h = go (greatest_is (map (λ t. length (live_among I (in_clas
         (count I (class_of size)) i in
         let e = r.2 in
         let few = live_are_counted I (class_of size) r.0 in
-        let m : width I (class_of size) * count I (class_of size) ≤ width I (class_of size) * length (counted I r.0 0 1) =
+        let m : width I (class_of size) * count I (class_of size) ≤ width I (class_of size) * length
+        (counted I r.0 0 1) =
         mul-le-mul_left (width I (class_of size)) (omega arith) in
         let w : width I (class_of size) * length (counted I r.0 0 1) ≤ size * length (counted I r.0 0 1) =
         mul-le-mul_right (length (counted I r.0 0 1)) (width_is_size I size (class_of size) h) in

@@ -165,7 +165,8 @@ unfolding first_rough
 two_of_four_is_rough = refl
 
 -- a buffer that may not be at 0
-lowered_is_rough : first_rough (plain 0 2 3 1 ∷ record { lower = 0; upper = 2; size = 3; alignment = 1; gaps = []; lowest = 1 } ∷ [])
+lowered_is_rough : first_rough (plain 0 2 3 1 ∷
+    record { lower = 0; upper = 2; size = 3; alignment = 1; gaps = []; lowest = 1 } ∷ [])
     ≡ Some 1
 unfolding first_rough
 lowered_is_rough = refl

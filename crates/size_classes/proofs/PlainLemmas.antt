@@ -50,7 +50,8 @@ plain_from I h b lt =
 is_not_smooth : (gaps : List (ℕ × ℕ)) (alignment lowest : ℕ) →
     (not (is_empty gaps) || nat_lt 1 alignment || nat_lt 0 lowest) ≡ true →
     gaps ≡ [] → alignment ≤ 1 → lowest ≡ 0 → ⊥
-is_not_smooth [] alignment lowest h is few none = absurd (no _ _ (not_below 1 alignment few) (not_below 0 lowest (omega arith)) h)
+is_not_smooth [] alignment lowest h is few none =
+    absurd (no _ _ (not_below 1 alignment few) (not_below 0 lowest (omega arith)) h)
   where
     no : (a b : Bool) → a ≡ false → b ≡ false → (a || b) ≡ true → ⊥
     no a b e f h = absurd cc

@@ -39,7 +39,8 @@ bound_low I members bs e buffers count range rise stack i =
     let q = members_few I members range rise count in
     omega arith
 
-all_low : (I : Instance) (members bs : List ℕ) → All IsBuffer I → length I ≤ buffer_limit → All (λ b. b < length I) members →
+all_low : (I : Instance) (members bs : List ℕ) → All IsBuffer I → length I ≤ buffer_limit →
+    All (λ b. b < length I) members →
     Rises members → IsStack I (whole I members) bs → AreLow (claims_of I (whole I members) bs)
 all_low I members [] buffers count range rise stack l e (inl q) i =
     bound_low I members [] e buffers count range rise stack (subst (λ (l : Claim). IsIn e l) q i)

@@ -118,9 +118,11 @@ pub low_is : (I : Instance) (S : SectionList) (members bs ys hs : List ℕ) (row
     ≡ next_multiple_of (max (buffer I b).lowest (max (greatest (at_places hs (sections_of S b))) (ledge_at bs ys b)))
     (buffer I b).alignment
 low_is I S members bs ys hs rows flags b h i =
-    up_is_over_tops I (whole I members) bs (entry_of (claim_after I (whole I members) bs) b) (sound_instance I h.buffers)
+    up_is_over_tops I (whole I members) bs (entry_of (claim_after I (whole I members) bs) b)
+    (sound_instance I h.buffers)
     (has_lowests I members) h.stands (entry_in (claim_after I (whole I members) bs) b i)
-    ∙ ap (λ t. next_multiple_of (max (buffer I b).lowest (max t (ledge I (whole I members) bs b))) (buffer I b).alignment)
+    ∙ ap (λ t. next_multiple_of (max (buffer I b).lowest (max t (ledge I (whole I members) bs b)))
+    (buffer I b).alignment)
     (sym (heights_are_tops I S (whole I members) bs b (sound_instance I h.buffers) h.belongs (has_lowests I members)
     h.stands (stack_in_range I members bs h.in_range h.stands) (member_in_range I members bs b h.in_range i))
     ∙ ap (λ x. greatest (at_places x (sections_of S b))) (sym h.heights))
@@ -200,7 +202,8 @@ pushed I S members bs ys hs rows flags b y hs' row h i at heights saved = record
         (claim_after I (whole I members) (b ∷ bs)) c
     free c l = (there, back)
       where
-        there : slice_index_or (set flags b false) c false ≡ true → HasBuffer (claim_after I (whole I members) (b ∷ bs)) c
+        there : slice_index_or (set flags b false) c false ≡ true →
+            HasBuffer (claim_after I (whole I members) (b ∷ bs)) c
         there q = go (same_or_not c b)
           where
             go : (c ≡ b) ⊎ (c ≢ b) → HasBuffer (claim_after I (whole I members) (b ∷ bs)) c
@@ -210,7 +213,8 @@ pushed I S members bs ys hs rows flags b y hs' row h i at heights saved = record
             go (inr ne) = in_child_by I (claim_after I (whole I members) bs) b c
                 ((h.free c l).0 (sym (get_or-set_other flags b c false false ne) ∙ q)) ne
 
-        back : HasBuffer (claim_after I (whole I members) (b ∷ bs)) c → slice_index_or (set flags b false) c false ≡ true
+        back : HasBuffer (claim_after I (whole I members) (b ∷ bs)) c →
+            slice_index_or (set flags b false) c false ≡ true
         back j = let r = from_child I (claim_after I (whole I members) bs) b c j in
             get_or-set_other flags b c false false r.1 ∙ (h.free c l).1 r.0
 

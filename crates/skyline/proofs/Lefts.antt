@@ -52,7 +52,8 @@ pub record LowFacts (I : Instance) (S : SectionList) (members : List ℕ) (n : �
 
 -- the standing buffers' offsets are limited
 first_limited : (I : Instance) (members bs ys : List ℕ) (hs : List ℕ) (S : SectionList) (rows : List (List ℕ))
-    (flags : List Bool) → Carries I S members bs ys hs rows flags → slice_index ys 0 ≤ buffer_limit * 1103806595072 + 2 ^ 32
+    (flags : List Bool) → Carries I S members bs ys hs rows flags →
+    slice_index ys 0 ≤ buffer_limit * 1103806595072 + 2 ^ 32
 first_limited I members [] ys hs S rows flags h = let e = ap (λ zs. slice_index zs 0) h.offsets in omega arith
 first_limited I members (d ∷ ds) ys hs S rows flags h =
     let e : slice_index ys 0 ≡ offset_after I (whole I members) ds d = ap (λ zs. slice_index zs 0) h.offsets in

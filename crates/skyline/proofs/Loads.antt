@@ -196,7 +196,8 @@ load_limited I S l s h n p ls =
 pub first_has_loads : (I : Instance) (S : SectionList) (members ls : List ℕ) (flags : List Bool) → AreSectionsOf I S →
     length ls ≡ count_of S → ((s : ℕ) → s < count_of S → slice_index ls s ≡ sum_by (λ b. (buffer I b).size)
     (filter (λ b. slice_index_or flags b false) (members_of S s))) →
-    ((c : ℕ) → c < length I → (slice_index_or flags c false ≡ true) ↔ IsIn c members) → HasLoads I S (whole I members) ls
+    ((c : ℕ) → c < length I → (slice_index_or flags c false ≡ true) ↔ IsIn c members) →
+    HasLoads I S (whole I members) ls
 unfolding free_load
 first_has_loads I S members ls flags p count each marks = record {
   count = count;

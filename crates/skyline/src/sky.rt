@@ -59,9 +59,9 @@ impl<'a> Model for Skyline<'a> {
 }
 
 impl<'a> Skyline<'a> {
-    /// The whole claim of the members alone, in which the bound of each is its lowest, with the room
-    /// for all later calls. The caller owes the sections of the instance, and members that rise and
-    /// are in range.
+    /// The whole claim of the members alone, in which the bound of each is its lowest, with the
+    /// room for all later calls. The caller owes the sections of the instance, and members that
+    /// rise and are in range.
     pub fn new(
         alloc: Global,
         instance: &'a Instance,
@@ -208,8 +208,8 @@ impl<'a> Skyline<'a> {
         self.free[b as usize]
     }
 
-    /// The low of the buffer: the least multiple of its alignment at or above its lowest, the heights
-    /// of its sections and the ledge.
+    /// The low of the buffer: the least multiple of its alignment at or above its lowest, the
+    /// heights of its sections and the ledge.
     pub(crate) fn least_offset(&self, b: u32) -> u64
         requires { HasBuffer (last_claim self.now.claims) b }
         ensures value { result ≡ up self.now.instance (entry_of (last_claim self.now.claims) b) }

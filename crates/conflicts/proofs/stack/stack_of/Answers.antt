@@ -16,7 +16,8 @@ stacks-requires-clause-bound_limit c = (c.requires.stands).bounds _
 
 pub overflow_add-sum : goal.overflow_add-sum
 overflow_add-sum c =
-    let n : length c.pairs-pair-items.result.now ≤ buffer_limit = few _ _ _ c.requires.stands c.pairs-pair-items.ensures.value in
+    let n : length c.pairs-pair-items.result.now ≤ buffer_limit = few _ _ _ c.requires.stands
+    c.pairs-pair-items.ensures.value in
     let r : c.next_multiple_of-rounded.result ≤ 2 ^ 41 =
     rounded_limit _ _ _ _ _ _ c.buffer-buffer.ensures.buffer c.requires.some_modulus
     (sym c.stacks.ensures ∙ c.if-stacks.true) (rw (← c.size.ensures.value) c.next_multiple_of-rounded.ensures.value) in

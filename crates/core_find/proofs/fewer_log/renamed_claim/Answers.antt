@@ -6,7 +6,8 @@ use Rattle.core_find.proofs.fewer_log.renamed_claim.Goals as goal
 all : (c : goal.After-loop-pair) →
     c.loop-pair.pairs.items ≡ renamed_claim (slice_index c.args.numbers.now) c.args.claim.now
 all c = all_renamed (slice_index c.args.numbers.now) c.loop-pair.pairs.items c.pairs-pair-items.result.now
-    c.args.claim.now c.loop-pair.pair-index c.loop-pair.invariant c.loop-pair-test.false c.pairs-pair-items.ensures.value
+    c.args.claim.now c.loop-pair.pair-index c.loop-pair.invariant c.loop-pair-test.false
+    c.pairs-pair-items.ensures.value
 
 pub from_vec-requires-clause-rises : goal.from_vec-requires-clause-rises
 from_vec-requires-clause-rises c = rw (all c) c.requires.rises
@@ -24,4 +25,5 @@ pub returns : goal.returns
 returns c =
     c.from_vec.ensures
     ∙ all_renamed (slice_index c.args.numbers.now) c.loop-pair.pairs.items c.pairs-pair-items.result.now
-    c.args.claim.now c.loop-pair.pair-index c.loop-pair.invariant c.loop-pair-test.false c.pairs-pair-items.ensures.value
+    c.args.claim.now c.loop-pair.pair-index c.loop-pair.invariant c.loop-pair-test.false
+    c.pairs-pair-items.ensures.value

@@ -23,7 +23,8 @@ returns-clause-looking c =
     let found = found_names I I c.args.log.capacity members _ c.in_ok-named.named.items c.args.log
     (sym (ap (some_of I) c.in_ok-members.ensures ∙ some_of_all I)) c.deref.ensures.value rises
     c.len-count.ensures.buffers c.requires refl c.in_ok-named.ensures in
-    let looked = at_first I c.args.log.capacity members c.new.result.items c.in_ok-members.ensures c.new.ensures.items in
+    let looked = at_first I c.args.log.capacity members c.new.result.items c.in_ok-members.ensures c.new.ensures.items
+    in
     record {
       looked = looked;
       names = found.0;

@@ -21,6 +21,7 @@ unreachable-requires c =
 
 pub returns-clause-log : goal.returns-clause-log
 returns-clause-log c =
-    over_by_few c.args.instance.now c.args.capacity _ c.args.moment c.args.height c.args.modulus c.args.few.now c.in_ok-claim.claim
+    over_by_few c.args.instance.now c.args.capacity _ c.args.moment c.args.height c.args.modulus c.args.few.now
+    c.in_ok-claim.claim
     c.new-log.result c.push.new.self c.in-Ok-close.closed c.new-log.ensures.value c.in-Ok.ensures.appended
     c.in_ok-claim.ensures c.in-Ok-close.ensures.closed c.in-Ok-close.ensures.accepted

@@ -14,7 +14,8 @@ returns-then-first-min c =
 pub loop-m-preserved-then-end-other_end : goal.loop-m-preserved-then-end-other_end
 loop-m-preserved-then-end-other_end c =
     let s = starts_before c.args.mine.now c.loop-m.m c.loop-m-test.true c.loop-m.invariant.apart in
-    more_mine c.args.mine.now c.args.theirs.now c.loop-m.m c.loop-m.n c.loop-m-test.true c.if-n-theirs.true (omega arith)
+    more_mine c.args.mine.now c.args.theirs.now c.loop-m.m c.loop-m.n c.loop-m-test.true c.if-n-theirs.true
+    (omega arith)
     c.loop-m.invariant
 
 pub loop-m-smaller : goal.loop-m-smaller

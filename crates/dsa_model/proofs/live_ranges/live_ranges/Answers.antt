@@ -12,7 +12,8 @@ pub returns-then-is_empty : goal.returns-then-is_empty
 returns-then-is_empty c =
     let b = lasting c.args.lower c.args.upper c.args.gaps.now in
     never_live b (sym c.gap_list_fault.ensures ∙ c.in_default.is)
-    (never_within b c.in_ok-ranges.ranges.items c.in_ok-ranges.ensures (rw c.in_ok-ranges.ranges.ok.0 at (sym c.is_empty.ensures ∙ c.if-is_empty.true)))
+    (never_within b c.in_ok-ranges.ranges.items c.in_ok-ranges.ensures
+    (rw c.in_ok-ranges.ranges.ok.0 at (sym c.is_empty.ensures ∙ c.if-is_empty.true)))
 
 pub returns : goal.returns
 returns c =

@@ -10,7 +10,8 @@ loop-b-init c = no_colours _ _ _ (search rules)
 pub colour_left-requires-clause-few : goal.colour_left-requires-clause-few
 colour_left-requires-clause-few c = fewer c.args.instance.now c.args.offsets.now c.loop-b.colours.items
     c.deref.result.now c.loop-b.b buffer_limit c.loop-b.invariant c.deref.ensures.value
-    (let k = c.len-b-end.ensures.limit in let e = c.len-b-end.ensures.value in let t = c.loop-b-test.true in omega arith)
+    (let k = c.len-b-end.ensures.limit in let e = c.len-b-end.ensures.value in let t = c.loop-b-test.true in
+    omega arith)
 
 pub colour_left-requires-clause-earlier : goal.colour_left-requires-clause-earlier
 colour_left-requires-clause-earlier c = earlier_are c.args.instance.now c.args.offsets.now c.in_ok-pairs.pairs.items

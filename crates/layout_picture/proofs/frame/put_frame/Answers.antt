@@ -16,7 +16,8 @@ returns c =
     c.in_ok-put.ensures
     c.in_ok-put_axes.ensures)
     c.in_ok-put-2.ensures)
-    (put_same c.put-2.new.text.items c.put_marks.new.text.items (marks_text c.args.scale.now) _ _ c.greatest.ensures c.in_ok-put_marks.ensures))
+    (put_same c.put-2.new.text.items c.put_marks.new.text.items
+    (marks_text c.args.scale.now) _ _ c.greatest.ensures c.in_ok-put_marks.ensures))
     c.in_ok-put-3.ensures)
     c.in_ok-put_moments.ensures)
     c.in_ok-put-4.ensures)

@@ -22,5 +22,6 @@ returns c = put_if c.args.text.now.items c.put-4.new.text.items _ (is_marked c.a
 
 pub returns-then-not-is_marked : goal.returns-then-not-is_marked
 unfolding moment_text
-returns-then-not-is_marked c = put_not c.args.text.now.items c.args.text.now.items _ (is_marked c.args.scale.now c.args.k)
+returns-then-not-is_marked c = put_not c.args.text.now.items c.args.text.now.items _
+    (is_marked c.args.scale.now c.args.k)
     (sym c.is_marked.ensures ∙ c.if-not-is_marked.true) refl

@@ -9,7 +9,8 @@ pub loop-b-init : goal.loop-b-init
 loop-b-init c = summed_none c.args.instance.now c.args.columns.now c.in_ok-loads.loads.items (search rules)
 
 pub add_live-requires-clause-count : goal.add_live-requires-clause-count
-add_live-requires-clause-count c = as_many c.args.instance.now c.args.columns.now c.loop-b.loads.items _ _ _ _ c.loop-b.b
+add_live-requires-clause-count c = as_many c.args.instance.now c.args.columns.now c.loop-b.loads.items _ _ _ _
+    c.loop-b.b
     c.loop-b.invariant c.deref_mut.ensures.value c.deref.ensures.value c.in_ok-flags.ensures
 
 pub add_live-requires-clause-room : goal.add_live-requires-clause-room

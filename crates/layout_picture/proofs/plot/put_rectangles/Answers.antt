@@ -18,12 +18,14 @@ loop-rectangle-init c = sym (append-nil c.args.text.now.items)
 
 pub loop-rectangle-preserved : goal.loop-rectangle-preserved
 loop-rectangle-preserved c =
-    put_more (rectangle_text c.args.scale.now c.args.instance.now (ids_of c.args.table.now) c.args.colours.now) c.args.rectangles.now
+    put_more (rectangle_text c.args.scale.now c.args.instance.now (ids_of c.args.table.now) c.args.colours.now)
+    c.args.rectangles.now
     c.loop-rectangle.rectangle-index no_rectangle c.args.text.now.items c.loop-rectangle.text.items
     c.put_rectangle.new.text.items c.loop-rectangle-test.true c.loop-rectangle.invariant c.in_ok-put_rectangle.ensures
 
 pub returns : goal.returns
 returns c =
-    put_all (rectangle_text c.args.scale.now c.args.instance.now (ids_of c.args.table.now) c.args.colours.now) c.args.rectangles.now
+    put_all (rectangle_text c.args.scale.now c.args.instance.now (ids_of c.args.table.now) c.args.colours.now)
+    c.args.rectangles.now
     c.loop-rectangle.rectangle-index c.args.text.now.items c.loop-rectangle.text.items
     c.loop-rectangle-test.false c.loop-rectangle.invariant

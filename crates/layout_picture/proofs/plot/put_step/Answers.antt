@@ -10,6 +10,8 @@ returns c =
     (then_put c.args.text.now.items c.put_number.new.text.items c.put-2.new.text.items _ _
     (then_put c.args.text.now.items c.put.new.text.items c.put_number.new.text.items _ _
     c.in_ok-put.ensures
-    (put_same c.put.new.text.items c.put_number.new.text.items decimal _ _ c.x.ensures.value c.in_ok-put_number.ensures))
+    (put_same c.put.new.text.items c.put_number.new.text.items decimal _ _ c.x.ensures.value
+    c.in_ok-put_number.ensures))
     c.in_ok-put-2.ensures)
-    (put_same c.put-2.new.text.items c.put_number-2.new.text.items decimal _ _ c.y.ensures.value c.in_ok-put_number-2.ensures)
+    (put_same c.put-2.new.text.items c.put_number-2.new.text.items decimal _ _ c.y.ensures.value
+    c.in_ok-put_number-2.ensures)

@@ -7,7 +7,8 @@ use Rattle.layout_picture.proofs.SideLists.{still_sides}
 use Rattle.layout_picture.proofs.touching.push_meeting.Goals as goal
 
 pub push_begun-requires-clause-some : goal.push_begun-requires-clause-some
-push_begun-requires-clause-some c = still_sides c.args.sides.ends.items c.put_in_order.new.sides.items c.deref.result.now
+push_begun-requires-clause-some c = still_sides c.args.sides.ends.items c.put_in_order.new.sides.items
+    c.deref.result.now
     c.requires.ends c.put_in_order.ensures.same c.deref.ensures.value
 
 pub push_begun-requires-2-clause-some : goal.push_begun-requires-2-clause-some

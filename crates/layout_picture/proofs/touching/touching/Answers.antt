@@ -9,7 +9,8 @@ use Rattle.layout_picture.proofs.Stacking.{some_columns}
 use Rattle.layout_picture.proofs.touching.touching.Goals as goal
 
 pub push_meeting-requires-clause-ends : goal.push_meeting-requires-clause-ends
-push_meeting-requires-clause-ends c = some_columns c.args.instance.now c.args.offsets.now c.args.rectangles.now upper_side
+push_meeting-requires-clause-ends c =
+    some_columns c.args.instance.now c.args.offsets.now c.args.rectangles.now upper_side
     c.in_ok-stacked.field-0.ends.items c.requires.rectangles c.in_ok-stacked.ensures.ends (λ r lt. lt)
 
 pub push_meeting-requires-clause-begins : goal.push_meeting-requires-clause-begins

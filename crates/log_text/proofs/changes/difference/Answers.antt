@@ -11,7 +11,8 @@ loop-next-init c = (omega arith, none_found _ _ _ (ap (map change_value) c.new-c
 pub loop-next-preserved-then-stays : goal.loop-next-preserved-then-stays
 loop-next-preserved-then-stays c = let s = c.stays.ensures.stays c.if-stays.true in (
   omega arith,
-  drop_found c.args.base.now c.args.claim.now _ _ c.loop-next.place c.loop-next.next _ s.0 c.loop-next-test.true s.1 refl
+  drop_found c.args.base.now c.args.claim.now _ _ c.loop-next.place c.loop-next.next _ s.0 c.loop-next-test.true s.1
+      refl
       c.loop-next.invariant.1 (values_more change_value _ _ _ c.in_ok-push.ensures.items),
 )
 

@@ -24,14 +24,16 @@ returns-in-Ok-line_said c = line_good _ _ _ _ _ _ _ c.in-Ok.ensures (c.if-not-is
 pub returns-in-Err-Fault-NoBase : goal.returns-in-Err-Fault-NoBase
 returns-in-Err-Fault-NoBase c = row_no_base _ _ _ _ _ _ _ refl c.in-Ok.ensures (c.if-not-is_within.ensures.0 refl)
     (c.if-not-is_rising.ensures.0 refl) c.in-Line.is
-    (subst (IsUnsaid c.args.lines.now (spelling_of (spelled_value c.in-Line.spelled))) c.in-Err-Fault-NoBase.field-0-0-is
+    (subst (IsUnsaid c.args.lines.now (spelling_of (spelled_value c.in-Line.spelled)))
+    c.in-Err-Fault-NoBase.field-0-0-is
     (fault_is (IsUnsaid c.args.lines.now (spelling_of (spelled_value c.in-Line.spelled))) _ _
     c.in-Err-Fault-NoBase.field-0-is c.in-Err-Fault-NoBase.ensures))
 
 pub returns-in-Err-Fault-NoChange : goal.returns-in-Err-Fault-NoChange
 returns-in-Err-Fault-NoChange c = row_no_change _ _ _ _ _ _ _ refl c.in-Ok.ensures (c.if-not-is_within.ensures.0 refl)
     (c.if-not-is_rising.ensures.0 refl) c.in-Line.is
-    (subst (IsUnsaid c.args.lines.now (spelling_of (spelled_value c.in-Line.spelled))) c.in-Err-Fault-NoChange.field-0-0-is
+    (subst (IsUnsaid c.args.lines.now (spelling_of (spelled_value c.in-Line.spelled)))
+    c.in-Err-Fault-NoChange.field-0-0-is
     (fault_is (IsUnsaid c.args.lines.now (spelling_of (spelled_value c.in-Line.spelled))) _ _
     c.in-Err-Fault-NoChange.field-0-is c.in-Err-Fault-NoChange.ensures))
 

@@ -28,4 +28,5 @@ pub returns : goal.returns
 returns c = is_started _ _ _ _ c.in-Some-version.version c.in-Some-within_limit.count c.in-Some-within_limit-2.capacity
     _ c.in-Some.ensures.some c.in-Some-version.is
     c.in-Some-within_limit.ensures.some.0 c.in-Some-within_limit-2.ensures.some.0
-    c.in-Some-within_limit.ensures.some.1 c.in-Some-within_limit-2.ensures.some.1 (elim c.else-version-ne1.either [ inl e ↦ inr e.1 | inr e ↦ inl e ])
+    c.in-Some-within_limit.ensures.some.1 c.in-Some-within_limit-2.ensures.some.1
+    (elim c.else-version-ne1.either [ inl e ↦ inr e.1 | inr e ↦ inl e ])

@@ -8,5 +8,6 @@ use Rattle.log_text.proofs.write_second.put_changes.Goals as goal
 pub loop-change-preserved : goal.loop-change-preserved
 loop-change-preserved c =
     put_next (λ (x : Change). 32 ∷ change_text x) _ c.loop-change.change-index _ c.loop-change.text.items
-    c.put_change.new.text.items _ (map_at change_value c.args.changes.now c.loop-change.change-index _ c.loop-change-test.true)
+    c.put_change.new.text.items _ (map_at change_value c.args.changes.now c.loop-change.change-index _
+    c.loop-change-test.true)
     c.in_ok-put_change.ensures c.loop-change.invariant

@@ -7,6 +7,7 @@ returns-then-k-eq0 c = first_put c.args.log.now.lines c.args.k _ _ _ _ c.if-k-eq
     c.put_line.ensures
 
 pub returns : goal.returns
-returns c = next_put c.args.log.now.lines (c.args.k - 1) c.args.k _ _ _ _ _ c.claim.result.now c.claim-2.result.now _ (omega arith) c.line.ensures.value
+returns c = next_put c.args.log.now.lines (c.args.k - 1) c.args.k _ _ _ _ _ c.claim.result.now c.claim-2.result.now _
+    (omega arith) c.line.ensures.value
     c.line-line.ensures.value c.claim.ensures c.claim-2.ensures
     (c.as_slice.ensures.value ∙ c.in_ok-bytes.ensures) c.put_line_as.ensures

@@ -14,5 +14,6 @@ returns-clause-value c = whole_put c.args.log.now c.loop-k.k _ _ _ (omega arith)
 
 pub returns-clause-read_back : goal.returns-clause-read_back
 returns-clause-read_back c = says_back _ c.args.log.now
-    (whole_put c.args.log.now c.loop-k.k _ _ _ (omega arith) c.loop-k.invariant c.in_ok-put_end.ensures c.end.ensures.value)
+    (whole_put c.args.log.now c.loop-k.k _ _ _
+    (omega arith) c.loop-k.invariant c.in_ok-put_end.ensures c.end.ensures.value)
     (omega arith) (omega arith) c.end.ensures.kept (omega arith)

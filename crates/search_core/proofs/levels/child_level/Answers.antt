@@ -22,7 +22,8 @@ step-requires-clause-b_in c =
     c.requires.low.has
 
 -- how high the other buffer is raised
-raised : (instance : Instance) (levels : List ℕ) (b c first low up : ℕ) → first ≡ slice_index levels b → low ≡ first - 1 →
+raised : (instance : Instance) (levels : List ℕ) (b c first low up : ℕ) → first ≡ slice_index levels b →
+    low ≡ first - 1 →
     up ≡ step instance b c → low + up ≡ slice_index levels b - 1 + step instance b c
 raised instance levels b c first low up p q r = omega arith
 
@@ -38,7 +39,8 @@ returns-then-least-level-clause-level c = λ l h.
     subst (IsLevel I (child I l (entry_of l b)) c.args.c) (sym e)
     (level_stays I l levels b h c.args.c (c.saturating_sub.result + c.step.result)
     (λ k d i. (c.len-count.ensures.buffers k d i).sound)
-    (has_level I l levels h b (omega (arith, first))) (let e = c.requires.level in let p = c.requires.c_in in omega arith) c.if-c-b.false q
+    (has_level I l levels h b (omega (arith, first)))
+    (let e = c.requires.level in let p = c.requires.c_in in omega arith) c.if-c-b.false q
     (let t = c.if-least-level.true in omega (arith, t, e)))
 
 pub returns-else-least-level-clause-level : goal.returns-else-least-level-clause-level
@@ -52,7 +54,8 @@ returns-else-least-level-clause-level c = λ l h.
     let e : c.args.level ≡ slice_index levels c.args.c = c.requires.level in
     let least = c.saturating_sub.result + c.step.result in
     level_rises I l levels b h c.args.c least c.least_offset.result
-    (has_level I l levels h b (omega (arith, first))) (let e = c.requires.level in let p = c.requires.c_in in omega arith) c.if-c-b.false q
+    (has_level I l levels h b (omega (arith, first)))
+    (let e = c.requires.level in let p = c.requires.c_in in omega arith) c.if-c-b.false q
     (let t = c.if-least-level.false in omega (arith, t, e))
     (c.least_offset.ensures ∙ ap (λ (b : Buffer). next_multiple_of least b.alignment) c.buffer.ensures.value)
 
@@ -67,9 +70,11 @@ returns-else-least-level-clause-limit c =
     c.saturating_sub.ensures c.step.ensures.value in
     let e : c.args.level ≡ slice_index levels c.args.c = c.requires.level in
     let least = c.saturating_sub.result + c.step.result in
-    let low = low_rises I l levels b h c.args.c least c.least_offset.result c.requires.low.has (let e = c.requires.level in let p = c.requires.c_in in omega arith)
+    let low = low_rises I l levels b h c.args.c least c.least_offset.result c.requires.low.has
+    (let e = c.requires.level in let p = c.requires.c_in in omega arith)
     c.if-c-b.false q (let t = c.if-least-level.false in omega (arith, t, e))
     (c.least_offset.ensures ∙ ap (λ (b : Buffer). next_multiple_of least b.alignment) c.buffer.ensures.value) in
     child_low I (child I l (entry_of l b)) c.args.c c.least_offset.result c.len-count.ensures.buffers
     c.len-count.ensures.limit (claim-child I l (entry_of l b) h.claim) c.requires.low.low
-    (in_child_by I l b c.args.c (has_level I l levels h c.args.c (let e = c.requires.level in let p = c.requires.c_in in omega arith)) c.if-c-b.false) low
+    (in_child_by I l b c.args.c (has_level I l levels h c.args.c
+    (let e = c.requires.level in let p = c.requires.c_in in omega arith)) c.if-c-b.false) low

@@ -33,7 +33,8 @@ under c =
     child_under I a.f _ _ _ l u a.levels a.chosen c.in_ok-child-in-Some.ensures.levels
 
 pub returns-in_ok-line-in-Some-clause-levels : goal.returns-in_ok-line-in-Some-clause-levels
-returns-in_ok-line-in-Some-clause-levels c = under (goal.at.returns-in_ok-line-in-Some-clause-levels c).In_ok-line-in-Some
+returns-in_ok-line-in-Some-clause-levels c =
+    under (goal.at.returns-in_ok-line-in-Some-clause-levels c).In_ok-line-in-Some
 
 pub returns-in_ok-line-in-Some-clause-none : goal.returns-in_ok-line-in-Some-clause-none
 returns-in_ok-line-in-Some-clause-none c =
@@ -61,5 +62,6 @@ pub returns-in_ok-line-in-None-clause-watched : goal.returns-in_ok-line-in-None-
 returns-in_ok-line-in-None-clause-watched c =
     all_watched_still c.args.log.now.lines c.args.watches.now c.ask.new.self c.in_ok-levels-in-None.levels
     c.args.path.now.frames
-    (c.requires.raised c.in_ok-levels-in-None.levels (rw (c.sky-in-None.ensures, c.requires.subject) at c.in_ok-levels-in-None.ensures))
+    (c.requires.raised c.in_ok-levels-in-None.levels
+    (rw (c.sky-in-None.ensures, c.requires.subject) at c.in_ok-levels-in-None.ensures))
     c.in_ok-line-in-None.ensures.kept c.requires.watched

@@ -5,7 +5,8 @@ use Rattle.search_core.proofs.Tall.{first_is_tall, first_is_not}
 use Rattle.search_core.proofs.over.tall.Goals as goal
 
 pub is_tall-requires-clause-pair_in : goal.is_tall-requires-clause-pair_in
-is_tall-requires-clause-pair_in c = place_in c.args.view.now.claim.now c.pairs-pair-items.result.now c.loop-pair.pair-index
+is_tall-requires-clause-pair_in c = place_in c.args.view.now.claim.now c.pairs-pair-items.result.now
+    c.loop-pair.pair-index
     c.pairs-pair-items.ensures.value c.loop-pair-test.true
 
 pub returns-then-is_tall : goal.returns-then-is_tall

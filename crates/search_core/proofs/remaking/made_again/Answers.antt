@@ -36,7 +36,8 @@ loop-i-preserved c =
     c.in_ok-child-in-Some.child c.remember.new.self c.index-kept-i-in-loop-i.result c.loop-i.invariant n lt
     c.index-kept-i-in-loop-i.is
     (c.remember.ensures
-    ∙ ap (λ (k : Kept). let r : Kept = record { notes = k.notes; chosen = k.chosen; branches = Some c.loop-i.branches } in
+    ∙ ap (λ (k : Kept). let r : Kept = record { notes = k.notes; chosen = k.chosen; branches = Some c.loop-i.branches }
+    in
     r)
     (sym c.index-kept-i-in-loop-i.is))
     (rw c.requires.subject (c.in_ok-child-in-Some.ensures (claim_no claims i) (claim_no claims (i + 1))

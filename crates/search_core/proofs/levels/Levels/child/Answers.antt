@@ -19,7 +19,8 @@ loop-pair-init c =
     let q = c.pairs-pairs.ensures.value in
     record {
       count = ap length same;
-      low = λ b. all_low c.self.inside.numbers.items made.numbers.items c.self.invariant.low (c.self.view_is ∙ sym same) b;
+      low = λ b. all_low c.self.inside.numbers.items made.numbers.items c.self.invariant.low
+          (c.self.view_is ∙ sym same) b;
       outside = λ b z. ap (λ (xs : List ℕ). slice_index xs b) same ∙ z;
       inside = λ e i. inl i;
       ground = grounded_none made.numbers.items made.pairs.items c.pairs-pairs.result.now c.in_ok-raising.ensures.pairs
@@ -92,7 +93,8 @@ loop-pair-preserved c =
       outside = outside_next I levels c.args.b old.numbers.items x v lt more inside.outside;
       inside = lowered_next I levels c.args.b old.numbers.items x v lt items (drop i items) (drop (i + 1) items) s
           c.child_level-level.ensures.level inside.inside;
-      ground = grounded_next old.numbers.items old.pairs.items new.pairs.items (drop i items) (drop (i + 1) items) x v lt s
+      ground = grounded_next old.numbers.items old.pairs.items new.pairs.items (drop i items)
+          (drop (i + 1) items) x v lt s
           inside.ground c.in_ok-put.ensures.some c.in_ok-put.ensures.none;
       raised = raised_next I levels c.args.b old.numbers.items x v lt old.raised.items new.raised.items
           (λ less. c.in_ok-put.ensures.raised (omega (arith, q, less))) c.in_ok-put.ensures.kept inside.raised;

@@ -10,6 +10,7 @@ returns-then-far-ne0 c =
     let sky = c.self.inside.sky in
     ap (λ (ns : List Notes). let w : Way = record { sky = sky; frames = tries_of sky.instance sky.claims ns } in w)
     (set_notes c.self.inside.kept.items (c.len-far.result - 256) c.forget.new.self c.index_mut.result.now
-    (let k = c.self.inside.kept.ok.0 in let t = c.if-len-ge-NEAR.true in let a = c.len.ensures in let b = c.len-far.ensures in omega arith) c.index_mut.ensures.value
+    (let k = c.self.inside.kept.ok.0 in let t = c.if-len-ge-NEAR.true in let a = c.len.ensures in
+    let b = c.len-far.ensures in omega arith) c.index_mut.ensures.value
     (ap (λ (k : Kept). k.notes) c.forget.ensures))
     ∙ c.self.view_is

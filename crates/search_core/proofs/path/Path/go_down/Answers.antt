@@ -3,7 +3,8 @@ use Rattle.search_core.proofs.Going.{IsWayTo, down}
 use Rattle.search_core.proofs.path.Path.go_down.Goals as goal
 
 -- the frame is put on the stack
-pushed : (c : goal.After-push-2) → IsWayTo c.push-2.new.self c.push.new.self.items (c.args.self.now.frames ++ c.args.frame ∷ [])
+pushed : (c : goal.After-push-2) → IsWayTo c.push-2.new.self c.push.new.self.items
+    (c.args.self.now.frames ++ c.args.frame ∷ [])
 pushed c =
     down c.args.self.now c.self.inside.sky c.push-2.new.self c.self.inside.kept.items c.push.new.self.items c.args.frame
     c.parts-branches.result.0 c.parts-branches.result.1 c.chosen-b.result (c.self.view_is ∙ c.forget.ensures)

@@ -55,5 +55,6 @@ choices-smaller c =
     let lt = one_is_left I C l c.args.log.now.lines f t (sym c.choices-test.ensures) in
     let k : IsCoveredBy I c.args.log.now.lines (child I l (entry_of l (chosen_of f))) c.in-Some.line =
     rw (c.chosen.ensures, c.log.ensures) at (c.in-Some.ensures l (rw c.levels.ensures t.levels)) in
-    subst (λ (x : Tried). length x.order - length x.refuted < length f.order - length f.refuted) (sym c.in_ok-note-in-Some.ensures)
+    subst (λ (x : Tried). length x.order - length x.refuted < length f.order - length f.refuted)
+    (sym c.in_ok-note-in-Some.ensures)
     (passed_one I C l c.args.log.now f c.in-Some.line s c.requires.log t lt k)

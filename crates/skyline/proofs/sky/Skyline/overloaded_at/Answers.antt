@@ -9,7 +9,8 @@ pub returns-then-is_some-clause-value : goal.returns-then-is_some-clause-value
 returns-then-is_some-clause-value c =
     let n = ap (λ (k : Sky). count_of k.sections) c.self.view_is in
     overloaded_found _ _ _ c.args.capacity c.loop-s.s c.over_at-found.result (sym c.is_some.ensures
-    ∙ c.if-is_some.true) c.over_at-found.ensures.value (omega (arith, n, c.count-s-end.ensures.value)) c.loop-s.invariant
+    ∙ c.if-is_some.true) c.over_at-found.ensures.value
+    (omega (arith, n, c.count-s-end.ensures.value)) c.loop-s.invariant
 
 pub returns-clause-value : goal.returns-clause-value
 returns-clause-value c =
