@@ -1,7 +1,7 @@
 -- The table of commands, pairs of words, and what they give an option.
-use Rattle.std.proofs.Common.{◌≡◌, Bor, List, [], ◌∷◌, map, filter, Some, None, codes, refl, true, false}
+use Rattle.std.proofs.Common.{◌≡◌, Bor, List, [], ◌∷◌, ◌++◌, map, filter, Some, None, codes, refl, true, false}
 use Rattle.command_words.specs.Options.{Word, is_file, option_word}
-use Rattle.command_words.specs.Forms.{files_of, form_of, form_value, option_of, options_of, verb_of, verbs}
+use Rattle.command_words.specs.Forms.{form_of, form_value, option_of, options_of, reads_of, row, verb_of, verbs, writes_of}
 use Rattle.command_words.specs.Pairs.{missing_fault, number_at, number_given, pair_value, pairs_of, value_of, word_at}
 use Rattle.command_words.specs.Requests.{names_of}
 use Rattle.command_words.specs.declared.option.OptionName.{OptionName}
@@ -16,8 +16,19 @@ each_word : map (λ v. verb_of (form_of v).word) verbs ≡ map Some verbs
 each_word = refl
 
 -- each option that names a file is of a file that is read or written
-each_file : map (λ v. filter is_file (options_of v)) verbs ≡ map files_of verbs
+each_file : map (λ v. filter is_file (options_of v)) verbs ≡ map (λ v. reads_of v ++ writes_of v) verbs
 each_file = refl
+
+-- what commands read that have a log or no output
+what_is_read : map reads_of (verb.Refute ∷ verb.Trim ∷ verb.Upgrade ∷ verb.Verify ∷ verb.Core ∷ verb.Import ∷ [])
+    ≡ (option.Input ∷ option.Log ∷ []) ∷ (option.Input ∷ option.Log ∷ []) ∷ (option.Input ∷ option.Log ∷ [])
+    ∷ (option.Input ∷ option.Layout ∷ []) ∷ (option.Input ∷ []) ∷ (option.Trace ∷ []) ∷ []
+what_is_read = refl
+
+-- and what they write
+what_is_written : map writes_of (verb.Refute ∷ verb.Trim ∷ verb.Upgrade ∷ verb.Verify ∷ verb.Core ∷ verb.Import ∷ [])
+    ≡ [] ∷ (option.Output ∷ []) ∷ (option.Output ∷ []) ∷ [] ∷ (option.Output ∷ option.Log ∷ []) ∷ (option.Output ∷ []) ∷ []
+what_is_written = refl
 
 -- each option of each command is found by its word
 each_option : map (λ v. map (λ o. option_of v (option_word o)) (options_of v)) verbs
@@ -27,13 +38,13 @@ each_option = refl
 no_command : verb_of (codes "Solve") ≡ None
 no_command = refl
 
-trim_writes_its_output : (form_of verb.Trim).writes ≡ option.Output ∷ []
+trim_writes_its_output : writes_of verb.Trim ≡ option.Output ∷ []
 trim_writes_its_output = refl
 
-upgrade_reads_the_log : (form_of verb.Upgrade).reads ≡ option.Input ∷ option.Log ∷ []
+upgrade_reads_the_log : reads_of verb.Upgrade ≡ option.Input ∷ option.Log ∷ []
 upgrade_reads_the_log = refl
 
-draw_reads_the_layout : (form_of verb.Draw).reads ≡ option.Input ∷ option.Layout ∷ []
+draw_reads_the_layout : reads_of verb.Draw ≡ option.Input ∷ option.Layout ∷ []
 draw_reads_the_layout = refl
 
 missed_by_draw : (form_of verb.Draw).needed ≡ option.Input ∷ option.Layout ∷ option.Output ∷ []
@@ -42,13 +53,13 @@ missed_by_draw = refl
 missed_by_unroll : (form_of verb.Unroll).needed ≡ option.Period ∷ option.Input ∷ option.Output ∷ []
 missed_by_unroll = refl
 
-solve_writes_both : (form_of verb.Solve).writes ≡ option.Output ∷ option.Log ∷ []
+solve_writes_both : writes_of verb.Solve ≡ option.Output ∷ option.Log ∷ []
 solve_writes_both = refl
 
-report_reads_both : (form_of verb.Report).reads ≡ option.Input ∷ option.Layout ∷ []
+report_reads_both : reads_of verb.Report ≡ option.Input ∷ option.Layout ∷ []
 report_reads_both = refl
 
-verify_writes_nothing : (form_of verb.Verify).writes ≡ []
+verify_writes_nothing : writes_of verb.Verify ≡ []
 verify_writes_nothing = refl
 
 missed_by_trim : (form_of verb.Trim).needed ≡ option.Input ∷ option.Log ∷ option.Output ∷ []
@@ -86,8 +97,7 @@ a_count_is_no_file = refl
 
 -- ---- forms and pairs of the code
 module _ (i o : Bor Word) (r n : Bor (List OptionName)) where
-  a_form : form_value (record { word = i; needed = r; optional = n; reads = r; writes = n })
-      ≡ record { word = i.now; needed = r.now; optional = n.now; reads = r.now; writes = n.now }
+  a_form : form_value (record { word = i; needed = r; optional = n }) ≡ row i.now r.now n.now
   a_form = refl
 
   a_pair : pair_value (record { option = i; value = Some o }) ≡ record { option = i.now; value = Some o.now }

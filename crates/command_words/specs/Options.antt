@@ -35,6 +35,11 @@ is_file Layout = true
 is_file Trace = true
 is_file other = false
 
+-- the option names the first file that a command writes
+abbrev pub is_output : OptionName → Bool
+is_output Output = true
+is_output other = false
+
 -- a value that the option can't have: an empty name, or a word that writes no number where one is wanted
 abbrev pub is_bad : OptionName → Word → Bool
 is_bad option value = if is_file option then is_empty value else not (is_some (written_number number_limit value))

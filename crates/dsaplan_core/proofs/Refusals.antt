@@ -7,7 +7,7 @@ use Rattle.dsa_terms.specs.Logs.{Log}
 use Rattle.dsa_outside.specs.Seen.{FilesSeen}
 use Rattle.csv_instance.specs.Records.{Record}
 use Rattle.command_words.specs.Options.{Word}
-use Rattle.command_words.specs.Forms.{form_of}
+use Rattle.command_words.specs.Forms.{reads_of}
 use Rattle.command_words.specs.Pairs.{word_at}
 use Rattle.command_words.specs.Requests.{Request, request_of}
 use Rattle.command_words.specs.declared.option.OptionName.TheVariants as option
@@ -34,7 +34,7 @@ module _ (words : List Word) (old new : FilesSeen) (r : Request) (is : request_o
   abbrev P : Outcome → Type 0
   P = Promises words old new r
 
-  pub unreadable : (role : Role) → IsIn (option_of_role role) (form_of r.verb).reads →
+  pub unreadable : (role : Role) → IsIn (option_of_role role) (reads_of r.verb) →
       IfUnreadable old new P role (word_at r.pairs (option_of_role role)) (limit_of (option_of_role role))
   unreadable role read = (
     λ unread. (
@@ -60,7 +60,7 @@ module _ (words : List Word) (old new : FilesSeen) (r : Request) (is : request_o
         tt,
       ))
 
-  pub judged_promises : IsIn option.Layout (form_of r.verb).reads → (table : List Record) (I : Instance) (C : ℕ)
+  pub judged_promises : IsIn option.Layout (reads_of r.verb) → (table : List Record) (I : Instance) (C : ℕ)
       (next : List ℕ → Course) → IsInput old (word_at r.pairs option.Input) table I → IsJudgedAt r.verb r.pairs C →
       ((offsets : List ℕ) → GivesLayout old (word_at r.pairs option.Layout) table I C offsets →
       (o : Outcome) → Comes old new (next offsets) o → P o) →
@@ -103,7 +103,7 @@ module _ (words : List Word) (old new : FilesSeen) (r : Request) (is : request_o
     tt,
   )
 
-  pub checked_promises : IsIn option.Log (form_of r.verb).reads → (table : List Record) (I : Instance)
+  pub checked_promises : IsIn option.Log (reads_of r.verb) → (table : List Record) (I : Instance)
       (accepted : Log → Outcome) → IsInput old (word_at r.pairs option.Input) table I →
       IsChecking r.verb →
       ((log : Log) → HoldsAccepted old (word_at r.pairs option.Log) I log → P (accepted log)) →

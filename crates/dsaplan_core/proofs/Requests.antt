@@ -1,12 +1,12 @@
 -- The names of a request: they are of its files, and differ from each other.
-use Rattle.std.proofs.Common.{◌≡◌, ◌≢◌, Bool, true, false, List, [], ◌∷◌, ◌++◌, map, Option, None, Some, Ok, Err, bytes_eq, refl, ap, subst, inl, inr}
+use Rattle.std.proofs.Common.{◌≡◌, ◌≢◌, Bool, true, false, ℕ, zero, suc, List, [], ◌∷◌, drop, length, map, take, Option, None, Some, Ok, Err, bytes_eq, refl, ap, subst, inl, inr}
 use Rattle.std.specs.Option.{option_map_or}
 use Rattle.std.proofs.lemmas.Slice.Eq.{bytes_eq-Decides}
 use Rattle.dsa_terms.specs.Claims.{IsIn}
 use Rattle.dsa_terms.specs.Firsts.{when, first_fault}
 use Rattle.dsa_terms.proofs.Moments.{or_false}
 use Rattle.command_words.specs.Options.{Word}
-use Rattle.command_words.specs.Forms.{form_of, verb_of}
+use Rattle.command_words.specs.Forms.{files_of, reads_of, verb_of, writes_of}
 use Rattle.command_words.specs.Pairs.{Pair, has_equal, pairs_of, word_at}
 use Rattle.command_words.specs.Requests.{Request, names_of, request_fault, request_of, request_or_fault}
 use Rattle.command_words.specs.declared.option.OptionName.{OptionName}
@@ -71,14 +71,16 @@ pack_apart words pairs is = last_two (word_at pairs option.Input) (word_at pairs
     (names_differ words (record { verb = verb.Pack; pairs = pairs }) is)
 
 -- ---- names of files
-in_front : {X : Type 0} (x : X) (xs ys : List X) → IsIn x xs → IsIn x (xs ++ ys)
-in_front x [] ys is = absurd is
-in_front x (y ∷ xs) ys (inl same) = inl same
-in_front x (y ∷ xs) ys (inr is) = inr (in_front x xs ys is)
+in_taken : {X : Type 0} (x : X) (k : ℕ) (xs : List X) → IsIn x (take k xs) → IsIn x xs
+in_taken x zero xs is = absurd is
+in_taken x (suc k) [] is = absurd is
+in_taken x (suc k) (y ∷ xs) (inl same) = inl same
+in_taken x (suc k) (y ∷ xs) (inr is) = inr (in_taken x k xs is)
 
-in_back : {X : Type 0} (x : X) (xs ys : List X) → IsIn x ys → IsIn x (xs ++ ys)
-in_back x [] ys is = is
-in_back x (y ∷ xs) ys is = inr (in_back x xs ys is)
+in_dropped : {X : Type 0} (x : X) (k : ℕ) (xs : List X) → IsIn x (drop k xs) → IsIn x xs
+in_dropped x zero xs is = is
+in_dropped x (suc k) [] is = absurd is
+in_dropped x (suc k) (y ∷ xs) is = inr (in_dropped x k xs is)
 
 in_map : {X Y : Type 0} (f : X → Y) (x : X) (xs : List X) → IsIn x xs → IsIn (f x) (map f xs)
 in_map f x [] is = absurd is
@@ -86,12 +88,10 @@ in_map f x (y ∷ xs) (inl same) = inl (ap f same)
 in_map f x (y ∷ xs) (inr is) = inr (in_map f x xs is)
 
 -- a file that the command reads has a name of the request
-pub read_named : (r : Request) (o : OptionName) → IsIn o (form_of r.verb).reads → IsIn (word_at r.pairs o) (names_of r)
-read_named r o is = in_map (word_at r.pairs) o ((form_of r.verb).reads ++ (form_of r.verb).writes)
-    (in_front o (form_of r.verb).reads (form_of r.verb).writes is)
+pub read_named : (r : Request) (o : OptionName) → IsIn o (reads_of r.verb) → IsIn (word_at r.pairs o) (names_of r)
+read_named r o is = in_map (word_at r.pairs) o (files_of r.verb) (in_taken o _ (files_of r.verb) is)
 
 -- a file that the command writes has one too
-pub write_named : (r : Request) (o : OptionName) → IsIn o (form_of r.verb).writes →
-    IsIn (word_at r.pairs o) (names_of r)
-write_named r o is = in_map (word_at r.pairs) o ((form_of r.verb).reads ++ (form_of r.verb).writes)
-    (in_back o (form_of r.verb).reads (form_of r.verb).writes is)
+pub write_named : (r : Request) (o : OptionName) → IsIn o (writes_of r.verb) → IsIn (word_at r.pairs o) (names_of r)
+write_named r o is =
+    in_map (word_at r.pairs) o (files_of r.verb) (in_dropped o (length (reads_of r.verb)) (files_of r.verb) is)

@@ -10,7 +10,7 @@ use Rattle.csv_instance.specs.Parse.{parse}
 use Rattle.log_text.specs.declared.fault.TextFault.{TextFault}
 use Rattle.log_check.specs.declared.fault.CheckFault.{CheckFault}
 use Rattle.command_words.specs.Options.{Word}
-use Rattle.command_words.specs.Forms.{form_of}
+use Rattle.command_words.specs.Forms.{reads_of}
 use Rattle.command_words.specs.Pairs.{word_at}
 use Rattle.command_words.specs.Requests.{Request}
 use Rattle.command_words.specs.declared.option.OptionName.{OptionName}
@@ -56,13 +56,13 @@ not_more files name most there more =
 
 module _ (old new : FilesSeen) (before after : SinkSeen) (I : Instance) (r : Request) (ready : IsReady old r I)
     (calm : IsUndisturbed r old new before after) where
-  not_unread : (o : OptionName) → IsIn o (form_of r.verb).reads → IsUnread old new (word_at r.pairs o) → ⊥
+  not_unread : (o : OptionName) → IsIn o (reads_of r.verb) → IsUnread old new (word_at r.pairs o) → ⊥
   not_unread o among (inl rose) = calm.files (word_at r.pairs o) (read_named r o among) rose
   not_unread o among (inr missing) =
       let there = ready.files o among in
       not_missing old.held (word_at r.pairs o) there.bytes there.held missing
 
-  not_long : (o : OptionName) → IsIn o (form_of r.verb).reads →
+  not_long : (o : OptionName) → IsIn o (reads_of r.verb) →
       (IsSome old.held → HoldsMore old (word_at r.pairs o) (limit_of o)) → ⊥
   not_long o among long =
       let there = ready.files o among in
@@ -70,7 +70,7 @@ module _ (old new : FilesSeen) (before after : SinkSeen) (I : Instance) (r : Req
       (long (is_told old.held (word_at r.pairs o) there.bytes there.held))
 
   -- reading a file of the command whole does not fail
-  pub served : (P : Outcome → Type 0) (role : Role) (o : OptionName) → IsIn o (form_of r.verb).reads →
+  pub served : (P : Outcome → Type 0) (role : Role) (o : OptionName) → IsIn o (reads_of r.verb) →
       IfUnreadable old new P role (word_at r.pairs o) (limit_of o)
   served P role o among = (λ unread. absurd (not_unread o among unread), λ long. absurd (not_long o among long))
 
@@ -95,7 +95,7 @@ module _ (old new : FilesSeen) (before after : SinkSeen) (I : Instance) (r : Req
       let same : J ≡ I = (let a = input.parsed in cc) in
       given table o (subst (λ (K : Instance). Comes old new (next table K) o) same comes))
 
-  pub judged_served : IsIn option.Layout (form_of r.verb).reads → (P : Outcome → Type 0) (table : List Record)
+  pub judged_served : IsIn option.Layout (reads_of r.verb) → (P : Outcome → Type 0) (table : List Record)
       (C : ℕ) (next : List ℕ → Course) → ((cause : WrongCause) → P (says (status.Wrong cause))) →
       ((offsets : List ℕ) → (o : Outcome) → Comes old new (next offsets) o → P o) →
       (o : Outcome) → Comes old new (judged (word_at r.pairs option.Layout) table I C next) o → P o
@@ -103,7 +103,7 @@ module _ (old new : FilesSeen) (before after : SinkSeen) (I : Instance) (r : Req
       judged_gives old new P (word_at r.pairs option.Layout) table I C next (served P role.Layout option.Layout among)
       (λ cause wrong. wrongly cause) (λ offsets gives. given offsets)
 
-  pub checked_served : IsIn option.Log (form_of r.verb).reads → (P : Outcome → Type 0) (accepted : Log → Outcome) →
+  pub checked_served : IsIn option.Log (reads_of r.verb) → (P : Outcome → Type 0) (accepted : Log → Outcome) →
       ((fault : TextFault) →
       HoldsNoText old (word_at r.pairs option.Log) (status.LogRefused (refused.Text fault)) →
       P (says (status.LogRefused (refused.Text fault)))) →

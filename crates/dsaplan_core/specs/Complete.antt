@@ -14,7 +14,7 @@ use Rattle.log_text.specs.Says.{Says}
 use Rattle.log_text.specs.Text.{raw_log_of}
 use Rattle.size_classes.specs.Plain.{IsPlain, first_rough}
 use Rattle.command_words.specs.Options.{Word}
-use Rattle.command_words.specs.Forms.{form_of}
+use Rattle.command_words.specs.Forms.{reads_of}
 use Rattle.command_words.specs.Pairs.{Pair, number_at, number_given, word_at}
 use Rattle.command_words.specs.Requests.{Request, names_of}
 use Rattle.command_words.specs.declared.option.OptionName.{OptionName}
@@ -40,7 +40,7 @@ pub record HoldsInstance (I : Instance) (files : FilesSeen) (name : Word) : Type
 
 -- each file that the command reads is readable, and the instance, if it reads one, is this
 pub record IsReady (seen : FilesSeen) (r : Request) (I : Instance) : Type 0 where
-  pub files : (o : OptionName) → IsIn o (form_of r.verb).reads → IsReadable seen (word_at r.pairs o) (limit_of o)
+  pub files : (o : OptionName) → IsIn o (reads_of r.verb) → IsReadable seen (word_at r.pairs o) (limit_of o)
   pub input : ReadsInstance r.verb → HoldsInstance I seen (word_at r.pairs option.Input)
 
 -- the name holds bytes that say this log, which is accepted for the instance

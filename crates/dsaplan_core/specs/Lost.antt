@@ -5,7 +5,7 @@ use Rattle.dsa_outside.specs.Held.{without_file}
 use Rattle.dsa_outside.specs.Seen.{FilesSeen}
 use Rattle.dsa_model.specs.Counts.{Rose}
 use Rattle.command_words.specs.Options.{Word}
-use Rattle.command_words.specs.Forms.{form_of}
+use Rattle.command_words.specs.Forms.{reads_of, writes_of}
 use Rattle.command_words.specs.Pairs.{word_at}
 use Rattle.command_words.specs.Requests.{Request, request_of}
 use Rattle.command_words.specs.declared.option.OptionName.{OptionName}
@@ -33,7 +33,7 @@ option_of_role role.Output = option.Output
 pub record MissesFile (words : List Word) (old new : FilesSeen) (role : Role) : Type 0 where
   pub request : Request
   pub asked : request_of words ≡ Ok request
-  pub read : IsIn (option_of_role role) (form_of request.verb).reads
+  pub read : IsIn (option_of_role role) (reads_of request.verb)
   pub cause : IsUnread old new (word_at request.pairs (option_of_role role))
   pub files : new.held ≡ old.held
 
@@ -41,14 +41,14 @@ pub record MissesFile (words : List Word) (old new : FilesSeen) (role : Role) : 
 pub record HasLongFile (words : List Word) (old new : FilesSeen) (role : Role) : Type 0 where
   pub request : Request
   pub asked : request_of words ≡ Ok request
-  pub read : IsIn (option_of_role role) (form_of request.verb).reads
+  pub read : IsIn (option_of_role role) (reads_of request.verb)
   pub long : IsSome old.held →
       HoldsMore old (word_at request.pairs (option_of_role role)) (limit_of (option_of_role role))
   pub files : new.held ≡ old.held
 
 -- the write is of a file that the command writes, under the name that the words give it
 abbrev pub IsOwnWrite : Request → Write → Type 0
-IsOwnWrite r w = IsIn (option_of_role w.role) (form_of r.verb).writes × (w.name ≡ word_at r.pairs (option_of_role w.role))
+IsOwnWrite r w = IsIn (option_of_role w.role) (writes_of r.verb) × (w.name ≡ word_at r.pairs (option_of_role w.role))
 
 -- the command came to an outcome whose writes were made up to that of the role, which failed: the number of its own
 -- name rose, nothing is known of what that file holds, and all others hold what the writes before it leave

@@ -34,7 +34,7 @@ use Rattle.trace_import.specs.ImportText.{import_text}
 use Rattle.trace_import.specs.Traces.{IsTraced, Trace, imported}
 use Rattle.trace_import.specs.declared.fault.TraceFault.{TraceFault}
 use Rattle.command_words.specs.Options.{Word}
-use Rattle.command_words.specs.Forms.{form_of}
+use Rattle.command_words.specs.Forms.{reads_of}
 use Rattle.command_words.specs.Pairs.{Pair, number_at, number_given, word_at}
 use Rattle.command_words.specs.Requests.{request_of}
 use Rattle.command_words.specs.declared.option.OptionName.TheVariants as option
@@ -48,7 +48,7 @@ use Rattle.run_status.specs.declared.status.Status.TheVariants as status
 
 -- the command reads an input and takes it as an instance, as all do but `unroll`
 abbrev pub ReadsInstance : Verb → Type 0
-ReadsInstance v = IsIn option.Input (form_of v).reads × (v ≢ verb.Unroll)
+ReadsInstance v = IsIn option.Input (reads_of v) × (v ≢ verb.Unroll)
 
 -- what the words ask for: the command with its values, and the instance that its input holds
 pub record Asked (words : List Word) (old : FilesSeen) : Type 0 where
