@@ -9,7 +9,7 @@ use Rattle.run_status.specs.declared.status.Status.{Status}
 use Rattle.run_status.specs.declared.status.Status.TheVariants as status
 use Rattle.run_status.specs.declared.status.Role.{Role}
 use Rattle.run_course.specs.Course.{Course, Comes, Outcome, says}
-use Rattle.run_course.specs.Answers.{Answers, AreBroken, IsSaid, Leaves, told_status, with_writes}
+use Rattle.run_course.specs.Answers.{Answers, AreBroken, IsSaid, Leaves, as_told, with_writes}
 use Rattle.dsaplan_core.specs.Courses.{course, course_or_fault, course_with}
 
 module _ (c : Course) (old new : FilesSeen) (before after : SinkSeen) (P : Status → Type 0)
@@ -17,7 +17,7 @@ module _ (c : Course) (old new : FilesSeen) (before after : SinkSeen) (P : Statu
     (lost : (role : Role) (o : Outcome) → Comes old new c o → AreBroken old new o.writes role →
     P (status.WriteFault role)) where
   told : (s : Status) (o : Outcome) (lost_role : Option Role) → Comes old new c o → Leaves old new o.writes lost_role →
-      s ≡ told_status o lost_role → P s
+      s ≡ (as_told o lost_role).status → P s
   told s o None comes left is = subst P (sym is) (own o comes left)
   told s o (Some role) comes left is = subst P (sym is) (lost role o comes left)
 

@@ -11,7 +11,7 @@ use Rattle.run_status.specs.declared.status.Status.{Status}
 use Rattle.run_status.specs.declared.status.Status.TheVariants as status
 use Rattle.run_status.specs.declared.status.Role.{Role}
 use Rattle.run_course.specs.Course.{Comes, Outcome, Write}
-use Rattle.run_course.specs.Answers.{Answers, AreBroken, Leaves, told_status, told_text, with_writes}
+use Rattle.run_course.specs.Answers.{Answers, AreBroken, Leaves, as_told, with_writes}
 use Rattle.dsaplan_core.specs.Courses.{course, course_with}
 use Rattle.dsaplan_core.specs.Theorem.{Headline}
 use Rattle.dsaplan_core.specs.Choice.{Choice}
@@ -120,7 +120,8 @@ module _ (words : List Word) (old new : FilesSeen) where
         answer.tells.its_status answer.tells.its_text
       where
         go : (o : Outcome) (lost : Option Role) → Comes old new (course words) o → Leaves old new o.writes lost →
-            status.Shown ≡ told_status o lost → answer.text ≡ told_text o lost → Shows words old new before after
+            status.Shown ≡ (as_told o lost).status → answer.text ≡ (as_told o lost).text →
+            Shows words old new before after
         go o None comes left is same = record {
           text = answer.text;
           tells = subst (λ t. Tells words old new status.Shown t) (sym same)

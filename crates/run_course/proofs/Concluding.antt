@@ -8,7 +8,7 @@ use Rattle.run_status.specs.declared.status.Role.{Role}
 use Rattle.dsa_outside.specs.Seen.{FilesSeen, SinkSeen}
 use Rattle.run_course.specs.Readings.{HoldsMore}
 use Rattle.run_course.specs.Course.{Course, Concludes, Reads, Comes, Outcome}
-use Rattle.run_course.specs.Answers.{IsSaid, Leaves, told_status, with_writes}
+use Rattle.run_course.specs.Answers.{IsSaid, Leaves, as_told, with_writes}
 use Rattle.run_course.specs.Complete.{IsReadable, IsServed, ConcludesOn}
 
 -- the outcome that the run came to, with all its files written
@@ -19,7 +19,7 @@ pub record Came (course : Course) (old new : FilesSeen) (s : Status) : Type 0 wh
   pub files : new.held ≡ with_writes old.held outcome.writes
 
 told_all : (course : Course) (old new : FilesSeen) (s : Status) (o : Outcome) (lost : Option Role) →
-    Comes old new course o → Leaves old new o.writes lost → s ≡ told_status o lost →
+    Comes old new course o → Leaves old new o.writes lost → s ≡ (as_told o lost).status →
     ((role : Role) → s ≡ status.WriteFault role → ⊥) → Came course old new s
 told_all course old new s o None comes left is kept =
     record { outcome = o; comes = comes; its_status = sym is; files = left }

@@ -8,7 +8,7 @@ use Rattle.run_status.specs.declared.status.Status.TheVariants as status
 use Rattle.run_status.specs.declared.status.Role.{Role}
 use Rattle.dsa_outside.specs.Seen.{FilesSeen, SinkSeen}
 use Rattle.run_course.specs.Course.{Write, Outcome, Course, Comes}
-use Rattle.run_course.specs.Answers.{AreBegun, AreBroken, Leaves, Tells, IsSaid, IsInterrupted, Answers, told_status, told_text, with_writes}
+use Rattle.run_course.specs.Answers.{Answers, AreBegun, AreBroken, IsInterrupted, IsSaid, Leaves, Tells, as_told, with_writes}
 use Rattle.run_course.proofs.Since.{rose_since, comes_until}
 
 broken_since : (old mid new : FilesSeen) (files : List Write) (role : Role) → mid.held ≡ old.held →
@@ -41,7 +41,7 @@ begun_since old mid new files same begun = record {
 module _ (course : Course) (old mid new : FilesSeen) (o : Outcome) (same : mid.held ≡ old.held)
     (before : NoneFell old.faults mid.faults) (after : NoneFell mid.faults new.faults) (comes : Comes old mid course o) where
   pub tells : (lost : Option Role) (s : Status) (text : List ℕ) → Leaves mid new o.writes lost →
-      s ≡ told_status o lost → text ≡ told_text o lost → Tells course old new s text
+      s ≡ (as_told o lost).status → text ≡ (as_told o lost).text → Tells course old new s text
   tells lost s text left its_status its_text = record {
     outcome = o;
     lost = lost;
@@ -67,7 +67,7 @@ module _ (course : Course) (old mid new : FilesSeen) (o : Outcome) (same : mid.h
     files = inr (lost, leaves_since old mid new o.writes lost same before left);
   }
 
-pub spoken : (o : Outcome) (lost : Option Role) (s : Status) → IsSpoken o.status → s ≡ told_status o lost → IsSpoken s
+pub spoken : (o : Outcome) (lost : Option Role) (s : Status) → IsSpoken o.status → s ≡ (as_told o lost).status → IsSpoken s
 spoken o None s speaks is = subst IsSpoken (sym is) speaks
 spoken o (Some role) s speaks is = subst IsSpoken (sym is) tt
 

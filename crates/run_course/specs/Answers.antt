@@ -2,12 +2,11 @@
 use Rattle.std.specs.Prelude.{◌≡◌, ◌⊎◌, ℕ, List, [], ◌∷◌, ◌++◌, Option, Some, None, take}
 use Rattle.dsa_outside.specs.Held.{FileMap, with_file, without_file, with_text}
 use Rattle.dsa_model.specs.Counts.{Rose}
-use Rattle.run_status.specs.Lines.{line}
 use Rattle.run_status.specs.declared.status.Status.{Status}
 use Rattle.run_status.specs.declared.status.Status.TheVariants.{WriteFault, PrintFault, NoMemory}
 use Rattle.run_status.specs.declared.status.Role.{Role}
 use Rattle.dsa_outside.specs.Seen.{FilesSeen, SinkSeen}
-use Rattle.run_course.specs.Course.{Write, Outcome, Course, Comes}
+use Rattle.run_course.specs.Course.{Write, Outcome, Course, Comes, says}
 
 -- what is held once these are written, in order
 abbrev pub with_writes : Option FileMap → List Write → Option FileMap
@@ -37,15 +36,10 @@ abbrev pub Leaves : FilesSeen → FilesSeen → List Write → Option Role → T
 Leaves old new files None = new.held ≡ with_writes old.held files
 Leaves old new files (Some role) = AreBroken old new files role
 
--- how the run ends once the outcome is written, or once the write of this role has failed
-abbrev pub told_status : Outcome → Option Role → Status
-told_status outcome None = outcome.status
-told_status outcome (Some role) = WriteFault role
-
--- and the text that is printed then
-abbrev pub told_text : Outcome → Option Role → List ℕ
-told_text outcome None = outcome.text
-told_text outcome (Some role) = line (WriteFault role)
+-- what is told: the outcome once it is written, or that the write of this role has failed
+abbrev pub as_told : Outcome → Option Role → Outcome
+as_told outcome None = outcome
+as_told outcome (Some role) = says (WriteFault role)
 
 -- the course comes to an outcome, whose files are written, or one is not; the status and the text tell which
 pub record Tells (course : Course) (old new : FilesSeen) (status : Status) (text : List ℕ) : Type 0 where
@@ -53,8 +47,8 @@ pub record Tells (course : Course) (old new : FilesSeen) (status : Status) (text
   pub lost : Option Role
   pub comes : Comes old new course outcome
   pub files : Leaves old new outcome.writes lost
-  pub its_status : status ≡ told_status outcome lost
-  pub its_text : text ≡ told_text outcome lost
+  pub its_status : status ≡ (as_told outcome lost).status
+  pub its_text : text ≡ (as_told outcome lost).text
 
 -- the text has been printed
 pub record IsSaid (course : Course) (old new : FilesSeen) (before after : SinkSeen) (status : Status) : Type 0 where

@@ -2,7 +2,7 @@
 
 ghost use Rattle.std.specs.Prelude.{◌≡◌, List, IfOk, OnErr};
 ghost use Rattle.dsa_outside.specs.Faults.{NoneFell};
-ghost use Rattle.run_course.specs.Answers.{AreBegun, Answers, Leaves, told_status, told_text};
+ghost use Rattle.run_course.specs.Answers.{AreBegun, Answers, Leaves, as_told};
 ghost use Rattle.run_course.specs.Prepares.{outcome_of};
 
 use crate::{Command, Prepared};
@@ -43,8 +43,8 @@ fn write<F: Files>(prepared: &Prepared<'_>, files: &mut F) -> Result<Option<Role
 /// The status and the text that are told once all is written, or once the write of that role has
 /// failed.
 fn told<'a>(prepared: &'a Prepared<'_>, lost: Option<Role>) -> (Status, &'a [u8])
-    ensures status { result.0 ≡ told_status (outcome_of prepared.now) lost }
-    ensures text { result.1.now ≡ told_text (outcome_of prepared.now) lost }
+    ensures status { result.0 ≡ (as_told (outcome_of prepared.now) lost).status }
+    ensures text { result.1.now ≡ (as_told (outcome_of prepared.now) lost).text }
 {
     if let Some(role) = lost {
         return (Status::WriteFault(role), unwritten_line(role).as_bytes());
