@@ -11,20 +11,9 @@ use Rattle.run_course.specs.Course.{Course, Outcome, says, writes}
 use Rattle.readings.specs.Input.{opened}
 use Rattle.readings.specs.Checking.{checked}
 
--- the words of `refute`
-pub record Refute : Type 0 where
-  pub input : Word
-  pub log : Word
-
 -- how `refute` goes
-abbrev pub refute : Refute → Course
-refute r = opened r.input (λ table I. checked r.log I (λ log. says (Accepted log.capacity)))
-
--- the words of `trim`
-pub record Trim : Type 0 where
-  pub input : Word
-  pub log : Word
-  pub output : Word
+abbrev pub refute : (input log : Word) → Course
+refute input log = opened input (λ table I. checked log I (λ log. says (Accepted log.capacity)))
 
 -- the log of an accepted log's needed lines is written to the output
 abbrev pub trimming : Word → Log → Outcome
@@ -32,14 +21,8 @@ trimming output log = writes (record { role = role.Output; name = output; bytes 
     (Trimmed (length log.lines) (length (trimmed log).lines))
 
 -- how `trim` goes
-abbrev pub trim : Trim → Course
-trim t = opened t.input (λ table I. checked t.log I (trimming t.output))
-
--- the words of `upgrade`
-pub record Upgrade : Type 0 where
-  pub input : Word
-  pub log : Word
-  pub output : Word
+abbrev pub trim : (input log output : Word) → Course
+trim input log output = opened input (λ table I. checked log I (trimming output))
 
 -- an accepted log is written to the output in version 2
 abbrev pub upgrading : Word → Log → Outcome
@@ -47,5 +30,5 @@ upgrading output log = writes (record { role = role.Output; name = output; bytes
     (Upgraded (length log.lines))
 
 -- how `upgrade` goes
-abbrev pub upgrade : Upgrade → Course
-upgrade u = opened u.input (λ table I. checked u.log I (upgrading u.output))
+abbrev pub upgrade : (input log output : Word) → Course
+upgrade input log output = opened input (λ table I. checked log I (upgrading output))

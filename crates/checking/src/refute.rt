@@ -17,7 +17,7 @@ pub struct Refute<'a> {
 }
 
 impl<'a> Command<'a> for Refute<'a> {
-    ghost course = { λ r. refute (record { input = r.input.now; log = r.log.now }) };
+    ghost course = { λ r. refute r.input.now r.log.now };
 
     fn conclude<F: Files>(&self, alloc: Global, files: &mut F) -> Result<Prepared<'a>, NoMemory> {
         let table = match open_input(alloc, files, self.input)? {

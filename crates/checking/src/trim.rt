@@ -20,11 +20,7 @@ pub struct Trim<'a> {
 }
 
 impl<'a> Command<'a> for Trim<'a> {
-    ghost course = { λ t. trim (record {
-      input = t.input.now;
-      log = t.log.now;
-      output = t.output.now;
-    }) };
+    ghost course = { λ t. trim t.input.now t.log.now t.output.now };
 
     fn conclude<F: Files>(&self, alloc: Global, files: &mut F) -> Result<Prepared<'a>, NoMemory> {
         let table = match open_input(alloc, files, self.input)? {

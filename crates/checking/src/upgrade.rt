@@ -20,11 +20,7 @@ pub struct Upgrade<'a> {
 }
 
 impl<'a> Command<'a> for Upgrade<'a> {
-    ghost course = { λ u. upgrade (record {
-      input = u.input.now;
-      log = u.log.now;
-      output = u.output.now;
-    }) };
+    ghost course = { λ u. upgrade u.input.now u.log.now u.output.now };
 
     fn conclude<F: Files>(&self, alloc: Global, files: &mut F) -> Result<Prepared<'a>, NoMemory> {
         let table = match open_input(alloc, files, self.input)? {

@@ -33,7 +33,7 @@ use Rattle.planning.specs.Planning.{Plans}
 use Rattle.explaining.specs.Explaining.{ExplainsOrFits}
 use Rattle.deciding.specs.Deciding.{Finds, Solves}
 use Rattle.packing.specs.Packing.{Packs}
-use Rattle.dsaplan_core.specs.Courses.{classes_of, core_of, import_of, course, course_with, least_of, pack_of, solve_of, trial_of, unroll_of}
+use Rattle.dsaplan_core.specs.Courses.{core_of, course, course_with, least_of, pack_of, solve_of}
 use Rattle.dsaplan_core.specs.Choice.{MayStayOpen}
 use Rattle.dsaplan_core.specs.Complete.{IsConcluded, IsReady, IsUndisturbed}
 use Rattle.dsaplan_core.specs.Lost.{IsOwnWrite, option_of_role}
@@ -95,7 +95,8 @@ packed pairs table J o (inr (inr (inr left))) =
     subst (λ (o : Outcome). IsConcluded verb.Pack pairs J o.status) (sym left.written)
     (record { from_bound = left.from_bound; to_best = left.to_best; between = left.between })
 
-planned : (pairs : List Pair) (table : List Record) (J : Instance) (o : Outcome) → Plans (classes_of pairs) table J o →
+planned : (pairs : List Pair) (table : List Record) (J : Instance) (o : Outcome) →
+    Plans (word_at pairs option.Output) table J o →
     IsConcluded verb.Classes pairs J o.status
 planned pairs table J o (inl plan) =
     subst (λ (o : Outcome). IsConcluded verb.Classes pairs J o.status) (sym plan.written) plan.plain
@@ -110,12 +111,13 @@ explained pairs table J o (inr fits) =
     subst (λ (o : Outcome). IsConcluded verb.Core pairs J o.status) (sym fits.told) (refl, fits.feasible)
 
 imports_conclude : (pairs : List Pair) (J : Instance) (r : Result Trace TraceFault) →
-    IsConcluded verb.Import pairs J (imports (import_of pairs) r).status
+    IsConcluded verb.Import pairs J (imports (word_at pairs option.Output) r).status
 imports_conclude pairs J (Ok trace) = tt
 imports_conclude pairs J (Err fault) = tt
 
 unrolls_conclude : (pairs : List Pair) (table : List Record) (J : Instance) (r : Result Instance CycleFault) →
-    IsConcluded verb.Unroll pairs J (unrolls (unroll_of pairs) table r).status
+    IsConcluded verb.Unroll pairs J
+    (unrolls (number_at pairs option.Period) (word_at pairs option.Output) table r).status
 unrolls_conclude pairs table J (Ok I) = tt
 unrolls_conclude pairs table J (Err fault) = tt
 
@@ -217,13 +219,15 @@ module _ (old new : FilesSeen) (before after : SinkSeen) (I : Instance) where
   done verb.Classes pairs (ready, calm) =
       opened_served old new before after I (record { verb = verb.Classes; pairs = pairs }) ready calm (inl refl, λ same. cc)
       (IsDone verb.Classes pairs)
-      (λ table J. Concludes (Plans (classes_of pairs) table J)) (λ table o comes. planned pairs table I o comes.1)
+      (λ table J. Concludes (Plans (word_at pairs option.Output) table J))
+      (λ table o comes. planned pairs table I o comes.1)
   done verb.Core pairs (ready, calm) =
       opened_served old new before after I (record { verb = verb.Core; pairs = pairs }) ready calm (inl refl, λ same. cc)
       (IsDone verb.Core pairs)
       (λ table J. Concludes (ExplainsOrFits (core_of pairs) table J))
       (λ table o comes. explained pairs table I o comes.1)
-  done verb.Trial pairs (ready, calm) = trial_gives old new (IsDone verb.Trial pairs) (trial_of pairs)
+  done verb.Trial pairs (ready, calm) = trial_gives old new (IsDone verb.Trial pairs) (number_at pairs option.Seed)
+      (number_at pairs option.Count) (number_at pairs option.Steps)
       (λ many. (refl, many)) (λ few o shows. subst (IsDone verb.Trial pairs) (sym shows.shown) few)
 
   module _ (words : List Word) (r : Request) (is : request_of words ≡ Ok r) (ready : IsReady old r I)

@@ -21,8 +21,8 @@ use Rattle.run_status.specs.declared.status.Role.TheVariants as role
 use Rattle.run_course.specs.Course.{Ends, says}
 use Rattle.judging.specs.Judging.{verify}
 use Rattle.judging.specs.Drawing.{draw}
-use Rattle.checking.specs.Checking.{upgrade}
-use Rattle.fact_reports.specs.Reporting.{inspect}
+use Rattle.checking.specs.Checking.{trim, upgrade}
+use Rattle.fact_reports.specs.Reporting.{inspect, trial}
 use Rattle.importing.specs.Importing.{import_course}
 use Rattle.importing.specs.Unrolling.{unroll_course}
 use Rattle.planning.specs.Planning.{classes}
@@ -45,7 +45,7 @@ classes_are_asked : request_of (codes "classes" ∷ classes_values)
 classes_are_asked = refl
 
 classes_go : course (codes "classes" ∷ classes_values)
-    ≡ classes (record { input = codes "i"; output = codes "o" })
+    ≡ classes (codes "i") (codes "o")
 classes_go = refl
 
 core_goes : course (codes "core" ∷ core_values (codes "11"))
@@ -61,26 +61,32 @@ pack_within_goes : course (codes "pack" ∷ pack_within (codes "12"))
 pack_within_goes = refl
 
 verify_goes : course (codes "verify" ∷ verify_values (codes "12"))
-    ≡ verify (record { capacity = 12; input = codes "i"; layout = codes "a" })
+    ≡ verify 12 (codes "i") (codes "a")
 verify_goes = refl
 
 import_goes : course (codes "import" ∷ import_values)
-    ≡ import_course (record { trace = codes "t"; output = codes "o" })
+    ≡ import_course (codes "t") (codes "o")
 import_goes = refl
 
-inspect_goes : course (codes "inspect" ∷ bounds_values) ≡ inspect (record { input = codes "i" })
+inspect_goes : course (codes "inspect" ∷ bounds_values) ≡ inspect (codes "i")
 inspect_goes = refl
 
 draw_goes : course (codes "draw" ∷ draw_values)
-    ≡ draw (record { input = codes "i"; layout = codes "a"; output = codes "o" })
+    ≡ draw (codes "i") (codes "a") (codes "o")
 draw_goes = refl
 
 upgrade_goes : course (codes "upgrade" ∷ upgrade_values)
-    ≡ upgrade (record { input = codes "i"; log = codes "l"; output = codes "o" })
+    ≡ upgrade (codes "i") (codes "l") (codes "o")
 upgrade_goes = refl
 
+trim_goes : course (codes "trim" ∷ upgrade_values) ≡ trim (codes "i") (codes "l") (codes "o")
+trim_goes = refl
+
+trial_goes : course (codes "trial" ∷ trial_values (codes "3")) ≡ trial 7 3 5
+trial_goes = refl
+
 unroll_goes : course (codes "unroll" ∷ unroll_values)
-    ≡ unroll_course (record { period = 10; input = codes "i"; output = codes "o" })
+    ≡ unroll_course 10 (codes "i") (codes "o")
 unroll_goes = refl
 
 no_words_go : course [] ≡ Ends (says (status.Usage usage.NoCommand))

@@ -13,7 +13,7 @@ use Rattle.run_course.specs.Course.{Comes, Concludes, Outcome}
 use Rattle.readings.specs.Opens.{IsInput}
 use Rattle.planning.specs.Planning.{Plans}
 use Rattle.explaining.specs.Explaining.{ExplainsOrFits}
-use Rattle.dsaplan_core.specs.Courses.{classes_of, core_of, course_with}
+use Rattle.dsaplan_core.specs.Courses.{core_of, course_with}
 use Rattle.dsaplan_core.proofs.Promises.{Promises, asked}
 use Rattle.dsaplan_core.proofs.Refusals.{opened_promises}
 
@@ -22,7 +22,7 @@ module _ (words : List Word) (old new : FilesSeen) (pairs : List Pair) where
   r v = record { verb = v; pairs = pairs }
 
   plans : (is : request_of words ≡ Ok (r verb.Classes)) (table : List Record) (I : Instance) →
-      IsInput old (word_at pairs option.Input) table I → (o : Outcome) → Plans (classes_of pairs) table I o →
+      IsInput old (word_at pairs option.Input) table I → (o : Outcome) → Plans (word_at pairs option.Output) table I o →
       Promises words old new (r verb.Classes) o
   plans is table I input o (inl plan) = subst (Promises words old new (r verb.Classes)) (sym plan.written) (
     λ files. (
@@ -86,7 +86,7 @@ module _ (words : List Word) (old new : FilesSeen) (pairs : List Pair) where
   pub classes_promises : request_of words ≡ Ok (r verb.Classes) → (o : Outcome) →
       Comes old new (course_with verb.Classes pairs) o → Promises words old new (r verb.Classes) o
   classes_promises is = opened_promises words old new (r verb.Classes) is (inl refl, λ same. cc)
-      (λ table I. Concludes (Plans (classes_of pairs) table I))
+      (λ table I. Concludes (Plans (word_at pairs option.Output) table I))
       (λ table I input o comes. plans is table I input o comes.1)
 
   pub core_promises : request_of words ≡ Ok (r verb.Core) → (o : Outcome) →

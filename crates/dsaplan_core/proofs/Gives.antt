@@ -28,7 +28,7 @@ use Rattle.readings.specs.Judging.{judged, layout_or_fault, offsets_or_fault}
 use Rattle.readings.specs.GivenLayouts.{GivesLayout, GivesNoOffsets, GivesWrongOffsets}
 use Rattle.readings.specs.Checking.{checked, log_limit, Checks, no_text, not_accepted, is_accepted}
 use Rattle.readings.specs.GivenLogs.{HoldsAccepted, HoldsNoText, HoldsNoRefutation}
-use Rattle.fact_reports.specs.Reporting.{Trial, ShowsTrial, trial, unless_many}
+use Rattle.fact_reports.specs.Reporting.{ShowsTrial, trial, unless_many}
 
 module _ (old new : FilesSeen) (P : Outcome → Type 0) where
   -- it holds where the file could not be read, and where the file holds more bytes than that
@@ -124,12 +124,12 @@ module _ (old new : FilesSeen) (P : Outcome → Type 0) where
           (given log (record { bytes = bytes; whole = whole; says = said; accepted = accepted }))
 
   -- a trial
-  pub trial_gives : (t : Trial) → (buffer_limit < t.count → P (says (status.TooMany t.count))) →
-      (t.count ≤ buffer_limit → (o : Outcome) → ShowsTrial t o → P o) →
-      (o : Outcome) → Comes old new (trial t) o → P o
-  trial_gives t many few o comes = counted (nat_lt buffer_limit t.count) refl comes
+  pub trial_gives : (seed count steps : ℕ) → (buffer_limit < count → P (says (status.TooMany count))) →
+      (count ≤ buffer_limit → (o : Outcome) → ShowsTrial seed count steps o → P o) →
+      (o : Outcome) → Comes old new (trial seed count steps) o → P o
+  trial_gives seed count steps many few o comes = counted (nat_lt buffer_limit count) refl comes
     where
-      counted : (b : Bool) → nat_lt buffer_limit t.count ≡ b →
-          Comes old new (unless_many b t.count (Concludes (ShowsTrial t))) o → P o
+      counted : (b : Bool) → nat_lt buffer_limit count ≡ b →
+          Comes old new (unless_many b count (Concludes (ShowsTrial seed count steps))) o → P o
       counted true is comes = subst P (sym comes.1) (many grind (arith, is))
       counted false is comes = few grind (arith, is) o comes.1

@@ -16,7 +16,8 @@ use Rattle.run_status.specs.declared.status.Role.TheVariants as role
 use Rattle.run_course.specs.Readings.{IsWholeFile}
 use Rattle.run_course.specs.Course.{Comes, Outcome}
 use Rattle.importing.specs.Importing.{imports}
-use Rattle.dsaplan_core.specs.Courses.{course_with, import_of}
+use Rattle.dsaplan_core.specs.Courses.{course_with}
+use Rattle.dsaplan_core.specs.Theorem.{AskedOf}
 use Rattle.dsaplan_core.proofs.Gives as gives
 use Rattle.dsaplan_core.proofs.Promises.{Promises}
 use Rattle.dsaplan_core.proofs.Refusals.{unreadable}
@@ -26,22 +27,26 @@ module _ (words : List Word) (old new : FilesSeen) (pairs : List Pair)
   abbrev request : Request
   request = record { verb = verb.Import; pairs = pairs }
 
+  abbrev asked_of : (bytes : List ℕ) → IsWholeFile old (word_at pairs option.Trace) file_limit bytes →
+      AskedOf words old verb.Import option.Trace
+  asked_of bytes whole = record { pairs = pairs; bytes = bytes; words_ask = is; whole = whole }
+
   imported : (bytes : List ℕ) → IsWholeFile old (word_at pairs option.Trace) file_limit bytes →
-      (r : Result Trace TraceFault) → trace_of bytes ≡ r → Promises words old new request (imports (import_of pairs) r)
+      (r : Result Trace TraceFault) → trace_of bytes ≡ r →
+      Promises words old new request (imports (word_at pairs option.Output) r)
   imported bytes whole (Ok trace) read = (
     λ files. (
-      record {
-        pairs = pairs;
-        bytes = bytes;
-        trace = trace;
-        words_ask = is;
-        whole = whole;
-        read = read;
-        its_count = refl;
-        parsed = accepted_parses bytes trace whole.short read;
-        traced = imported_traced trace;
-        files = files;
-      },
+      (
+        asked_of bytes whole,
+        record {
+          trace = trace;
+          read = read;
+          its_count = refl;
+          parsed = accepted_parses bytes trace whole.short read;
+          traced = imported_traced trace;
+          files = files;
+        },
+      ),
       tt,
       tt,
       tt,
@@ -49,12 +54,7 @@ module _ (words : List Word) (old new : FilesSeen) (pairs : List Pair)
     ((inl refl, refl), tt),
   )
   imported bytes whole (Err fault) refused = (
-    λ files. (
-      record { pairs = pairs; bytes = bytes; words_ask = is; whole = whole; refused = refused; files = files },
-      tt,
-      tt,
-      tt,
-    ),
+    λ files. ((asked_of bytes whole, refused, files), tt, tt, tt),
     tt,
   )
 

@@ -3,8 +3,9 @@ use Rattle.std.proofs.Common.{◌≡◌, List, Ok, refl, sym, subst, inl, inr}
 use Rattle.fact_reports.specs.Reporting.{ShowsColumns, ShowsFacts}
 use Rattle.dsa_outside.specs.Seen.{FilesSeen}
 use Rattle.command_words.specs.Options.{Word}
-use Rattle.command_words.specs.Pairs.{Pair}
+use Rattle.command_words.specs.Pairs.{Pair, number_at}
 use Rattle.command_words.specs.Requests.{Request, request_of}
+use Rattle.command_words.specs.declared.option.OptionName.TheVariants as option
 use Rattle.command_words.specs.declared.verb.Verb.{Verb}
 use Rattle.command_words.specs.declared.verb.Verb.TheVariants as verb
 use Rattle.run_course.specs.Course.{Comes, Concludes, Outcome}
@@ -12,7 +13,6 @@ use Rattle.dsaplan_core.specs.Courses.{course_with}
 use Rattle.dsaplan_core.proofs.Promises.{Promises, asked}
 use Rattle.dsaplan_core.proofs.Gives.{trial_gives}
 use Rattle.dsaplan_core.proofs.Refusals.{opened_promises}
-use Rattle.dsaplan_core.specs.Courses.{trial_of}
 
 module _ (words : List Word) (old new : FilesSeen) (pairs : List Pair) where
   abbrev r : Verb → Request
@@ -57,7 +57,8 @@ module _ (words : List Word) (old new : FilesSeen) (pairs : List Pair) where
 
   pub trial_promises : request_of words ≡ Ok (r verb.Trial) → (o : Outcome) →
       Comes old new (course_with verb.Trial pairs) o → Promises words old new (r verb.Trial) o
-  trial_promises is = trial_gives old new (Promises words old new (r verb.Trial)) (trial_of pairs)
+  trial_promises is = trial_gives old new (Promises words old new (r verb.Trial)) (number_at pairs option.Seed)
+      (number_at pairs option.Count) (number_at pairs option.Steps)
       (λ many. (
         λ files.
             (tt, tt, tt, record { pairs = pairs; words_ask = is; its_count = refl; many = many; files = files }),

@@ -19,7 +19,8 @@ use Rattle.run_status.specs.declared.status.Role.TheVariants as role
 use Rattle.run_course.specs.Readings.{IsWholeFile}
 use Rattle.run_course.specs.Course.{Comes, Outcome}
 use Rattle.importing.specs.Unrolling.{unrolls}
-use Rattle.dsaplan_core.specs.Courses.{course_with, unroll_of}
+use Rattle.dsaplan_core.specs.Courses.{course_with}
+use Rattle.dsaplan_core.specs.Theorem.{AskedOf}
 use Rattle.dsaplan_core.proofs.Gives as gives
 use Rattle.dsaplan_core.proofs.Promises.{Promises}
 use Rattle.dsaplan_core.proofs.Refusals.{unreadable}
@@ -45,23 +46,27 @@ module _ (words : List Word) (old new : FilesSeen) (pairs : List Pair)
   abbrev request : Request
   request = record { verb = verb.Unroll; pairs = pairs }
 
+  abbrev asked_of : (bytes : List ℕ) → IsWholeFile old (word_at pairs option.Input) file_limit bytes →
+      AskedOf words old verb.Unroll option.Input
+  asked_of bytes whole = record { pairs = pairs; bytes = bytes; words_ask = is; whole = whole }
+
   unrolled : (bytes : List ℕ) → IsWholeFile old (word_at pairs option.Input) file_limit bytes →
       (r : Result Instance CycleFault) → unrolled_of (number_at pairs option.Period) (table_of bytes) ≡ r →
-      Promises words old new request (unrolls (unroll_of pairs) (table_of bytes) r)
+      Promises words old new request
+      (unrolls (number_at pairs option.Period) (word_at pairs option.Output) (table_of bytes) r)
   unrolled bytes whole (Ok I) read = (
     λ files. (
-      record {
-        pairs = pairs;
-        bytes = bytes;
-        instance = I;
-        words_ask = is;
-        whole = whole;
-        given = read;
-        its_count = refl;
-        unrolled = unrolled_gives (number_at pairs option.Period) (table_of bytes) I
-            (number_within (word_at pairs option.Period)) read;
-        files = files;
-      },
+      (
+        asked_of bytes whole,
+        record {
+          instance = I;
+          given = read;
+          its_count = refl;
+          unrolled = unrolled_gives (number_at pairs option.Period) (table_of bytes) I
+              (number_within (word_at pairs option.Period)) read;
+          files = files;
+        },
+      ),
       tt,
       tt,
       tt,
@@ -69,12 +74,7 @@ module _ (words : List Word) (old new : FilesSeen) (pairs : List Pair)
     ((inl refl, refl), tt),
   )
   unrolled bytes whole (Err fault) refused = (
-    λ files. (
-      record { pairs = pairs; bytes = bytes; words_ask = is; whole = whole; refused = refused; files = files },
-      tt,
-      tt,
-      tt,
-    ),
+    λ files. ((asked_of bytes whole, refused, files), tt, tt, tt),
     tt,
   )
 

@@ -24,7 +24,6 @@ use Rattle.log_text.specs.Text.{log_text, raw_log_of}
 use Rattle.dsa_model.specs.Chosen.{some_of}
 use Rattle.core_find.specs.Cores.{IsCore, without}
 use Rattle.cyclic_plan.specs.Unrolled.{IsUnrolled, unrolled_of, unrolled_text}
-use Rattle.cyclic_plan.specs.declared.fault.CycleFault.{CycleFault}
 use Rattle.layout_picture.specs.Rectangles.{rectangles}
 use Rattle.layout_picture.specs.Texts.{picture_text}
 use Rattle.size_classes.specs.Plain.{first_rough, IsPlain}
@@ -32,11 +31,11 @@ use Rattle.size_classes.specs.Plans.{AllOf, IsPeakLoad, class_height, class_plan
 use Rattle.trace_import.specs.Faults.{trace_of}
 use Rattle.trace_import.specs.ImportText.{import_text}
 use Rattle.trace_import.specs.Traces.{IsTraced, Trace, imported}
-use Rattle.trace_import.specs.declared.fault.TraceFault.{TraceFault}
 use Rattle.command_words.specs.Options.{Word}
 use Rattle.command_words.specs.Forms.{reads_of}
 use Rattle.command_words.specs.Pairs.{Pair, number_at, number_given, word_at}
 use Rattle.command_words.specs.Requests.{request_of}
+use Rattle.command_words.specs.declared.option.OptionName.{OptionName}
 use Rattle.command_words.specs.declared.option.OptionName.TheVariants as option
 use Rattle.command_words.specs.declared.verb.Verb.{Verb}
 use Rattle.command_words.specs.declared.verb.Verb.TheVariants as verb
@@ -152,51 +151,34 @@ pub record HoldsCore {words : List Word} {old : FilesSeen} (a : Asked words old)
   pub files : new.held ≡ with_file (with_file old.held (word_at a.pairs option.Output) (chosen_text a.table members))
       (word_at a.pairs option.Log) (log_text refutation)
 
--- the words ask to import this trace, which the trace's file holds; the output holds the text of its instance, which at
--- each moment has just the buffers that the trace holds after that line
-pub record HoldsImport (words : List Word) (old new : FilesSeen) (count : ℕ) : Type 0 where
+-- the words ask for this command, and these are all bytes of the file that the option names
+pub record AskedOf (words : List Word) (old : FilesSeen) (command : Verb) (file : OptionName) : Type 0 where
   pub pairs : List Pair
   pub bytes : List ℕ
+  pub words_ask : request_of words ≡ Ok (record { verb = command; pairs = pairs })
+  pub whole : IsWholeFile old (word_at pairs file) file_limit bytes
+
+-- the bytes are this trace, and the output holds the text of its instance, which at each moment has just the buffers
+-- that the trace holds after that line
+pub record HoldsImport {words : List Word} {old : FilesSeen} (a : AskedOf words old verb.Import option.Trace)
+    (new : FilesSeen) (count : ℕ) : Type 0 where
   pub trace : Trace
-  pub words_ask : request_of words ≡ Ok (record { verb = verb.Import; pairs = pairs })
-  pub whole : IsWholeFile old (word_at pairs option.Trace) file_limit bytes
-  pub read : trace_of bytes ≡ Ok trace
+  pub read : trace_of a.bytes ≡ Ok trace
   pub its_count : length (imported trace) ≡ count
   pub parsed : parse (table_of (import_text trace)) ≡ Ok (imported trace)
   pub traced : IsTraced trace (imported trace)
-  pub files : new.held ≡ with_file old.held (word_at pairs option.Output) (import_text trace)
+  pub files : new.held ≡ with_file old.held (word_at a.pairs option.Output) (import_text trace)
 
--- the words ask to import a trace, and the bytes of its file are none, for their first fault
-pub record RefusesTrace (words : List Word) (old new : FilesSeen) (fault : TraceFault) : Type 0 where
-  pub pairs : List Pair
-  pub bytes : List ℕ
-  pub words_ask : request_of words ≡ Ok (record { verb = verb.Import; pairs = pairs })
-  pub whole : IsWholeFile old (word_at pairs option.Trace) file_limit bytes
-  pub refused : trace_of bytes ≡ Err fault
-  pub files : new.held ≡ old.held
-
--- the words ask to unroll buffers whose moments repeat with the period; the output holds the text of their instance of
--- one period, which has just the layouts that hold at every moment of endless time
-pub record HoldsUnrolled (words : List Word) (old new : FilesSeen) (count : ℕ) : Type 0 where
-  pub pairs : List Pair
-  pub bytes : List ℕ
+-- the bytes are buffers whose moments repeat with the period; the output holds the text of their instance of one
+-- period, which has just the layouts that hold at every moment of endless time
+pub record HoldsUnrolled {words : List Word} {old : FilesSeen} (a : AskedOf words old verb.Unroll option.Input)
+    (new : FilesSeen) (count : ℕ) : Type 0 where
   pub instance : Instance
-  pub words_ask : request_of words ≡ Ok (record { verb = verb.Unroll; pairs = pairs })
-  pub whole : IsWholeFile old (word_at pairs option.Input) file_limit bytes
-  pub given : unrolled_of (number_at pairs option.Period) (table_of bytes) ≡ Ok instance
+  pub given : unrolled_of (number_at a.pairs option.Period) (table_of a.bytes) ≡ Ok instance
   pub its_count : length instance ≡ count
-  pub unrolled : IsUnrolled (number_at pairs option.Period) (table_of bytes) instance
-  pub files : new.held ≡ with_file old.held (word_at pairs option.Output)
-      (unrolled_text (number_at pairs option.Period) (table_of bytes))
-
--- the words ask to unroll a file that holds no buffers of one period, for its first fault
-pub record RefusesCycle (words : List Word) (old new : FilesSeen) (fault : CycleFault) : Type 0 where
-  pub pairs : List Pair
-  pub bytes : List ℕ
-  pub words_ask : request_of words ≡ Ok (record { verb = verb.Unroll; pairs = pairs })
-  pub whole : IsWholeFile old (word_at pairs option.Input) file_limit bytes
-  pub refused : unrolled_of (number_at pairs option.Period) (table_of bytes) ≡ Err fault
-  pub files : new.held ≡ old.held
+  pub unrolled : IsUnrolled (number_at a.pairs option.Period) (table_of a.bytes) instance
+  pub files : new.held ≡ with_file old.held (word_at a.pairs option.Output)
+      (unrolled_text (number_at a.pairs option.Period) (table_of a.bytes))
 
 -- what the status promises of the files
 abbrev pub Headline : List Word → FilesSeen → FilesSeen → Status → Type 0
@@ -217,10 +199,14 @@ Headline words old new (status.Trimmed before after) = (a : Asked words old) × 
 Headline words old new (status.Upgraded lines) = (a : Asked words old) × (a.verb ≡ verb.Upgrade)
     × ((log : Log) × GivesLog a log × (length log.lines ≡ lines) × HoldsUpgraded a new log)
 Headline words old new (status.Drawn count) = (a : Asked words old) × (a.verb ≡ verb.Draw) × HoldsPicture a new count
-Headline words old new (status.Imported count) = HoldsImport words old new count
-Headline words old new (status.TraceRefused fault) = RefusesTrace words old new fault
-Headline words old new (status.Unrolled count) = HoldsUnrolled words old new count
-Headline words old new (status.CycleRefused fault) = RefusesCycle words old new fault
+Headline words old new (status.Imported count) = (a : AskedOf words old verb.Import option.Trace)
+    × HoldsImport a new count
+Headline words old new (status.TraceRefused fault) = (a : AskedOf words old verb.Import option.Trace)
+    × (trace_of a.bytes ≡ Err fault) × (new.held ≡ old.held)
+Headline words old new (status.Unrolled count) = (a : AskedOf words old verb.Unroll option.Input)
+    × HoldsUnrolled a new count
+Headline words old new (status.CycleRefused fault) = (a : AskedOf words old verb.Unroll option.Input)
+    × (unrolled_of (number_at a.pairs option.Period) (table_of a.bytes) ≡ Err fault) × (new.held ≡ old.held)
 Headline words old new (status.Classed height load) = (a : Asked words old) × (a.verb ≡ verb.Classes)
     × HoldsClassPlan a new height load
 Headline words old new (status.NotPlain b) = (a : Asked words old) × (a.verb ≡ verb.Classes)

@@ -28,7 +28,7 @@ use Rattle.planner.proofs.ShortageFacts.{not_above_the_best, short_of_the_hunt}
 use Rattle.planner.proofs.StepFacts.{best_at_5, four_high, four_is_least, laid_at_4, refuted_at_3}
 use Rattle.run_status.specs.declared.status.Status.TheVariants as status
 use Rattle.run_course.specs.Course.{Comes, Outcome, says, shows}
-use Rattle.fact_reports.specs.Reporting.{IsFoundWithin, IsLeftOpen, IsVerdict, ShowsColumns, ShowsFacts, ShowsTrial, Trial, trial}
+use Rattle.fact_reports.specs.Reporting.{IsFoundWithin, IsLeftOpen, IsVerdict, ShowsColumns, ShowsFacts, ShowsTrial, trial}
 
 -- ---- the peak
 below_load : load small_below 0 ≡ 4
@@ -155,9 +155,6 @@ no_verdict : IsVerdict small_below 4 (status.Feasible 4) → ⊥
 no_verdict h = h
 
 -- ---- a trial without buffers
-abbrev of_none : Trial
-of_none = record { seed = 7; count = 0; steps = 5 }
-
 none_laid : IsLayout [] 0 []
 none_laid = record {
   count = refl;
@@ -205,7 +202,7 @@ trial_text : codes "buffers 0\npeak none\nparts 0\nbound 0 1\nbest 0\nleast 0\n"
 unfolding digits
 trial_text = refl
 
-shows_trial : ShowsTrial of_none none_shown
+shows_trial : ShowsTrial 7 0 5 none_shown
 unfolding digits
 shows_trial = record {
   instance = [];
@@ -218,16 +215,13 @@ shows_trial = record {
 }
 
 -- ---- how trials go
-abbrev trial_of : ℕ → Trial
-trial_of count = record { seed = 7; count = count; steps = 5 }
-
 module _ (old new : FilesSeen) where
-  goes_without_buffers : Comes old new (trial of_none) none_shown
+  goes_without_buffers : Comes old new (trial 7 0 5) none_shown
   goes_without_buffers = (tt, shows_trial)
 
-  goes_with_too_many : Comes old new (trial (trial_of 4097)) (says (status.TooMany 4097))
+  goes_with_too_many : Comes old new (trial 7 4097 5) (says (status.TooMany 4097))
   goes_with_too_many = (tt, refl)
 
   -- 4096 are not too many
-  not_too_many : Comes old new (trial (trial_of 4096)) (says (status.TooMany 4096)) → ⊥
+  not_too_many : Comes old new (trial 7 4096 5) (says (status.TooMany 4096)) → ⊥
   not_too_many h = let e = ap (λ (o : Outcome). o.status) h.1.shown in absurd cc

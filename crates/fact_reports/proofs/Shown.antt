@@ -14,7 +14,7 @@ use Rattle.run_status.specs.declared.status.Status.TheVariants.{TooMany}
 use Rattle.run_course.specs.Course.{Comes, Concludes, Outcome, says}
 use Rattle.run_course.specs.Prepares.{outcome_of}
 use Rattle.run_course.specs.declared.prepared.Prepared.{Prepared}
-use Rattle.fact_reports.specs.Reporting.{ShowsColumns, ShowsFacts, ShowsTrial, Trial, trial, unless_many}
+use Rattle.fact_reports.specs.Reporting.{ShowsColumns, ShowsFacts, ShowsTrial, trial, unless_many}
 
 -- what a clause says of the fault that came
 pub fault_gives : {T E : Type 0} (P : T → Type 0) (Q : E → Type 0) (r : Result T (Fail E)) (f : Fail E) (e : E) →
@@ -29,8 +29,8 @@ facts_spoken I o h = subst (λ (o : Outcome). IsSpoken o.status) (sym h.shown) t
 pub columns_spoken : (table : List Record) (I : Instance) (o : Outcome) → ShowsColumns table I o → IsSpoken o.status
 columns_spoken table I o h = subst (λ (o : Outcome). IsSpoken o.status) (sym h) tt
 
-trial_spoken : (t : Trial) (o : Outcome) → ShowsTrial t o → IsSpoken o.status
-trial_spoken t o h = subst (λ (o : Outcome). IsSpoken o.status) (sym h.shown) tt
+trial_spoken : (seed count steps : ℕ) (o : Outcome) → ShowsTrial seed count steps o → IsSpoken o.status
+trial_spoken seed count steps o h = subst (λ (o : Outcome). IsSpoken o.status) (sym h.shown) tt
 
 some_many : (count : ℕ) → buffer_limit < count → nat_lt buffer_limit count ≡ true
 some_many count lt = grind (arith, nat_tests, lt)
@@ -38,18 +38,21 @@ some_many count lt = grind (arith, nat_tests, lt)
 not_many : (count : ℕ) → count ≤ buffer_limit → nat_lt buffer_limit count ≡ false
 not_many count le = grind (arith, nat_tests, le)
 
--- a trial of few buffers is shown
-pub tried : (old new : FilesSeen) (t : Trial) (r : Result Prepared NoMemory) → t.count ≤ buffer_limit →
-    IfOk r (λ p. ShowsTrial t (outcome_of p)) → IfOk r (λ p. Comes old new (trial t) (outcome_of p))
-tried old new t (Ok p) few shows =
-    subst (λ (many : Bool). Comes old new (unless_many many t.count (Concludes (ShowsTrial t))) (outcome_of p))
-    (sym (not_many t.count few)) (trial_spoken t (outcome_of p) shows, shows)
-tried old new t (Err e) few shows = tt
+module _ (old new : FilesSeen) (seed count steps : ℕ) where
+  -- a trial of few buffers is shown
+  pub tried : (r : Result Prepared NoMemory) → count ≤ buffer_limit →
+      IfOk r (λ p. ShowsTrial seed count steps (outcome_of p)) →
+      IfOk r (λ p. Comes old new (trial seed count steps) (outcome_of p))
+  tried (Ok p) few shows =
+      subst (λ (b : Bool). Comes old new (unless_many b count (Concludes (ShowsTrial seed count steps))) (outcome_of p))
+      (sym (not_many count few)) (trial_spoken seed count steps (outcome_of p) shows, shows)
+  tried (Err e) few shows = tt
 
--- a trial of too many is not
-pub too_many : (old new : FilesSeen) (t : Trial) (r : Result Prepared NoMemory) → buffer_limit < t.count →
-    IfOk r (λ p. outcome_of p ≡ says (TooMany t.count)) → IfOk r (λ p. Comes old new (trial t) (outcome_of p))
-too_many old new t (Ok p) many is =
-    subst (λ (b : Bool). Comes old new (unless_many b t.count (Concludes (ShowsTrial t))) (outcome_of p))
-    (sym (some_many t.count many)) (subst (λ (o : Outcome). IsSpoken o.status) (sym is) tt, is)
-too_many old new t (Err e) many is = tt
+  -- a trial of too many is not
+  pub too_many : (r : Result Prepared NoMemory) → buffer_limit < count →
+      IfOk r (λ p. outcome_of p ≡ says (TooMany count)) →
+      IfOk r (λ p. Comes old new (trial seed count steps) (outcome_of p))
+  too_many (Ok p) many is =
+      subst (λ (b : Bool). Comes old new (unless_many b count (Concludes (ShowsTrial seed count steps))) (outcome_of p))
+      (sym (some_many count many)) (subst (λ (o : Outcome). IsSpoken o.status) (sym is) tt, is)
+  too_many (Err e) many is = tt

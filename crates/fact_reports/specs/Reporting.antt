@@ -23,10 +23,6 @@ use Rattle.run_status.specs.declared.status.Status.TheVariants as status
 use Rattle.run_course.specs.Course.{Course, Outcome, Concludes, Ends, says, shows}
 use Rattle.readings.specs.Input.{opened}
 
--- the words of `bounds`
-pub record Bounds : Type 0 where
-  pub input : Word
-
 -- the facts of the instance are shown
 pub record ShowsFacts (I : Instance) (o : Outcome) : Type 0 where
   pub facts : Facts
@@ -34,26 +30,16 @@ pub record ShowsFacts (I : Instance) (o : Outcome) : Type 0 where
   pub shown : o ≡ shows (bounds_text facts)
 
 -- how `bounds` goes
-abbrev pub bounds : Bounds → Course
-bounds b = opened b.input (λ table I. Concludes (ShowsFacts I))
-
--- the words of `inspect`
-pub record Inspect : Type 0 where
-  pub input : Word
+abbrev pub bounds : (input : Word) → Course
+bounds input = opened input (λ table I. Concludes (ShowsFacts I))
 
 -- how many buffers of the instance ask for something more is shown, and what each column of the table's header means
 abbrev pub ShowsColumns : List Record → Instance → Outcome → Type 0
 ShowsColumns table I o = o ≡ shows (inspect_text table I)
 
 -- how `inspect` goes
-abbrev pub inspect : Inspect → Course
-inspect i = opened i.input (λ table I. Concludes (ShowsColumns table I))
-
--- the words of `trial`: a seed, how many buffers are made from it, and a number of units
-pub record Trial : Type 0 where
-  pub seed : ℕ
-  pub count : ℕ
-  pub steps : ℕ
+abbrev pub inspect : (input : Word) → Course
+inspect input = opened input (λ table I. Concludes (ShowsColumns table I))
 
 -- C is the least capacity: the plan at it is so high, and a log refutes one byte less, unless C is 0; k units are
 -- enough for what the starts and the bound do not give
@@ -82,14 +68,14 @@ IsVerdict I k (status.Least C) = IsFoundWithin I k C
 IsVerdict I k (status.Open L H) = IsLeftOpen I k L H
 IsVerdict I k s = ⊥
 
--- the facts of the made instance are shown, and the verdict on it
-pub record ShowsTrial (t : Trial) (o : Outcome) : Type 0 where
+-- the facts of the instance that is made of so many buffers from the seed are shown, and the verdict on it
+pub record ShowsTrial (seed count steps : ℕ) (o : Outcome) : Type 0 where
   pub instance : Instance
   pub facts : Facts
   pub verdict : Status
-  pub made : parse (table_of (made_text t.seed t.count)) ≡ Ok instance
+  pub made : parse (table_of (made_text seed count)) ≡ Ok instance
   pub true_facts : AreFactsOf instance facts
-  pub true_verdict : IsVerdict instance t.steps verdict
+  pub true_verdict : IsVerdict instance steps verdict
   pub shown : o ≡ shows (bounds_text facts ++ line verdict)
 
 -- goes on where there are not too many
@@ -98,5 +84,6 @@ unless_many true count next = Ends (says (status.TooMany count))
 unless_many false count next = next
 
 -- how `trial` goes: it reads nothing
-abbrev pub trial : Trial → Course
-trial t = unless_many (nat_lt buffer_limit t.count) t.count (Concludes (ShowsTrial t))
+abbrev pub trial : (seed count steps : ℕ) → Course
+trial seed count steps =
+    unless_many (nat_lt buffer_limit count) count (Concludes (ShowsTrial seed count steps))

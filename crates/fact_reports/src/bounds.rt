@@ -3,7 +3,6 @@
 ghost use Rattle.std.specs.Prelude.{IfOk};
 ghost use Rattle.run_course.specs.Prepares.{outcome_of};
 ghost use Rattle.fact_reports.specs.Reporting.{ShowsFacts, bounds};
-ghost use Rattle.fact_reports.specs.Words.{bounds_of};
 
 use dsa_model::{Instance, NoMemory};
 use dsa_outside::Files;
@@ -29,7 +28,7 @@ fn facts_report<'a>(alloc: Global, instance: &Instance) -> Result<Prepared<'a>, 
 }
 
 impl<'a> Command<'a> for Bounds<'a> {
-    ghost course = { λ b. bounds (bounds_of b) };
+    ghost course = { λ b. bounds b.input.now };
 
     fn conclude<F: Files>(&self, alloc: Global, files: &mut F) -> Result<Prepared<'a>, NoMemory> {
         let table = match open_input(alloc, files, self.input)? {

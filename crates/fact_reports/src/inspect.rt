@@ -5,7 +5,6 @@ ghost use Rattle.dsa_terms.specs.Buffers.{Instance as InstanceTerm};
 ghost use Rattle.csv_instance.specs.Parse.{parse};
 ghost use Rattle.run_course.specs.Prepares.{outcome_of};
 ghost use Rattle.fact_reports.specs.Reporting.{ShowsColumns, inspect};
-ghost use Rattle.fact_reports.specs.Words.{inspect_of};
 
 use column_report::column_report;
 use csv_instance::Table;
@@ -31,7 +30,7 @@ fn columns_shown<'a>(alloc: Global, table: &Table) -> Result<Prepared<'a>, NoMem
 }
 
 impl<'a> Command<'a> for Inspect<'a> {
-    ghost course = { λ i. inspect (inspect_of i) };
+    ghost course = { λ i. inspect i.input.now };
 
     fn conclude<F: Files>(&self, alloc: Global, files: &mut F) -> Result<Prepared<'a>, NoMemory> {
         let table = match open_input(alloc, files, self.input)? {

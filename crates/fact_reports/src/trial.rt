@@ -10,7 +10,6 @@ ghost use Rattle.make_instance.specs.Made.{made_text};
 ghost use Rattle.run_status.specs.Lines.{line};
 ghost use Rattle.run_course.specs.Prepares.{outcome_of};
 ghost use Rattle.fact_reports.specs.Reporting.{IsVerdict, ShowsTrial, trial};
-ghost use Rattle.fact_reports.specs.Words.{trial_of};
 
 use csv_instance::{Table, read_instance};
 use dsa_model::{Fail, Instance, NoMemory};
@@ -74,7 +73,8 @@ pub struct Trial {
 /// What is shown of the made instance.
 fn tried<'a>(alloc: Global, words: &Trial, instance: &Instance) -> Result<Prepared<'a>, NoMemory>
     requires made { parse (table_of (made_text words.now.seed words.now.count)) ≡ Ok instance.now }
-    ensures { IfOk result (λ p. ShowsTrial (trial_of words.now) (outcome_of p)) }
+    ensures { IfOk result (λ p.
+        ShowsTrial words.now.seed words.now.count words.now.steps (outcome_of p)) }
 {
     let facts = facts_of(alloc, instance)?;
     let verdict = verdict(alloc, instance, words.steps)?;
@@ -83,7 +83,7 @@ fn tried<'a>(alloc: Global, words: &Trial, instance: &Instance) -> Result<Prepar
 }
 
 impl<'a> Command<'a> for Trial {
-    ghost course = { λ t. trial (trial_of t) };
+    ghost course = { λ t. trial t.seed t.count t.steps };
 
     fn conclude<F: Files>(&self, alloc: Global, _files: &mut F) -> Result<Prepared<'a>, NoMemory> {
         let count = self.count;

@@ -9,11 +9,7 @@ use Rattle.dsa_terms.specs.Buffers.{is_live, some_before}
 use Rattle.run_status.specs.declared.status.Role.TheVariants as role
 use Rattle.run_status.specs.declared.status.Status.TheVariants.{CycleRefused, Unrolled}
 use Rattle.run_course.specs.Course.{says, writes}
-use Rattle.importing.specs.Unrolling.{Unroll, unrolls}
-
--- the words give the period 10 and name the input i and the output o
-abbrev words : Unroll
-words = record { period = 10; input = codes "i"; output = codes "o" }
+use Rattle.importing.specs.Unrolling.{unrolls}
 
 abbrev columns : Record
 columns = codes "id" ∷ codes "lower" ∷ codes "upper" ∷ codes "size" ∷ []
@@ -25,7 +21,7 @@ wrapping =
     ∷ (codes "B" ∷ codes "2" ∷ codes "8" ∷ codes "4" ∷ []) ∷ []
 
 -- two buffers are written
-wrapping_is_written : unrolls words wrapping (unrolled_of 10 wrapping) ≡ writes (record {
+wrapping_is_written : unrolls 10 (codes "o") wrapping (unrolled_of 10 wrapping) ≡ writes (record {
   role = role.Output;
   name = codes "o";
   bytes = unrolled_text 10 wrapping;
@@ -37,6 +33,6 @@ abbrev late : List Record
 late = columns ∷ (codes "A" ∷ codes "10" ∷ codes "2" ∷ codes "4" ∷ []) ∷ []
 
 -- a row begins at the period: this is told, and nothing is written
-outside_is_told : unrolls words late (unrolled_of 10 late) ≡ says (CycleRefused (fault.Outside 0))
+outside_is_told : unrolls 10 (codes "o") late (unrolled_of 10 late) ≡ says (CycleRefused (fault.Outside 0))
 unfolding unrolled_of
 outside_is_told = refl

@@ -10,17 +10,12 @@ use Rattle.run_status.specs.declared.status.Status.TheVariants.{Imported, TraceR
 use Rattle.run_status.specs.declared.status.Role.TheVariants as role
 use Rattle.run_course.specs.Course.{Course, Ends, Outcome, Reads, says, writes}
 
--- the words of `import`
-pub record Import : Type 0 where
-  pub trace : Word
-  pub output : Word
-
 -- the text of the trace's instance is written, and how many buffers it has is told; or the first fault is
-abbrev pub imports : Import → Result Trace TraceFault → Outcome
-imports i (Ok trace) = writes (record { role = role.Output; name = i.output; bytes = import_text trace } ∷ [])
+abbrev pub imports : (output : Word) → Result Trace TraceFault → Outcome
+imports output (Ok trace) = writes (record { role = role.Output; name = output; bytes = import_text trace } ∷ [])
     (Imported (length (imported trace)))
-imports i (Err fault) = says (TraceRefused fault)
+imports output (Err fault) = says (TraceRefused fault)
 
 -- how `import` goes: it reads the trace
-abbrev pub import_course : Import → Course
-import_course i = Reads role.Trace i.trace file_limit (λ bytes. Ends (imports i (trace_of bytes)))
+abbrev pub import_course : (trace output : Word) → Course
+import_course trace output = Reads role.Trace trace file_limit (λ bytes. Ends (imports output (trace_of bytes)))

@@ -1,3 +1,2 @@
 pub mod Importing
 pub mod Unrolling
-pub mod Words

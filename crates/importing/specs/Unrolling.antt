@@ -9,19 +9,13 @@ use Rattle.run_status.specs.declared.status.Status.TheVariants.{CycleRefused, Un
 use Rattle.run_status.specs.declared.status.Role.TheVariants as role
 use Rattle.run_course.specs.Course.{Course, Ends, Outcome, Reads, says, writes}
 
--- the words of `unroll`: the period is in moments
-pub record Unroll : Type 0 where
-  pub period : ℕ
-  pub input : Word
-  pub output : Word
-
 -- the text of the table's instance of one period is written, and how many buffers it has is told; or the first fault is
-abbrev pub unrolls : Unroll → List Record → Result Instance CycleFault → Outcome
-unrolls u table (Ok I) =
-    writes (record { role = role.Output; name = u.output; bytes = unrolled_text u.period table } ∷ []) (Unrolled (length I))
-unrolls u table (Err fault) = says (CycleRefused fault)
+abbrev pub unrolls : (period : ℕ) (output : Word) → List Record → Result Instance CycleFault → Outcome
+unrolls period output table (Ok I) =
+    writes (record { role = role.Output; name = output; bytes = unrolled_text period table } ∷ []) (Unrolled (length I))
+unrolls period output table (Err fault) = says (CycleRefused fault)
 
--- how `unroll` goes: it reads the input
-abbrev pub unroll_course : Unroll → Course
-unroll_course u = Reads role.Input u.input file_limit
-    (λ bytes. Ends (unrolls u (table_of bytes) (unrolled_of u.period (table_of bytes))))
+-- how `unroll` goes: it reads the input; the period is in moments
+abbrev pub unroll_course : (period : ℕ) (input output : Word) → Course
+unroll_course period input output = Reads role.Input input file_limit
+    (λ bytes. Ends (unrolls period output (table_of bytes) (unrolled_of period (table_of bytes))))

@@ -4,7 +4,6 @@ ghost use Rattle.std.specs.Prelude.{◌≡◌, ◌≤◌, IfOk, length};
 ghost use Rattle.trace_import.specs.Faults.{trace_of};
 ghost use Rattle.run_course.specs.Prepares.{outcome_of};
 ghost use Rattle.importing.specs.Importing.{import_course, imports};
-ghost use Rattle.importing.specs.Words.{import_of};
 
 use dsa_model::{Fail, NoMemory};
 use dsa_outside::Files;
@@ -24,7 +23,8 @@ pub struct Import<'a> {
 /// What is written and told of the trace's bytes.
 fn imported<'a>(alloc: Global, words: &Import<'a>, bytes: &[u8]) -> Result<Prepared<'a>, NoMemory>
     requires { length bytes.now ≤ 67108864 }
-    ensures { IfOk result (λ p. outcome_of p ≡ imports (import_of words.now) (trace_of bytes.now)) }
+    ensures { IfOk result (λ p.
+        outcome_of p ≡ imports words.now.output.now (trace_of bytes.now)) }
 {
     let trace = match read_trace(alloc, bytes) {
         Ok(trace) => trace,
@@ -41,7 +41,7 @@ fn imported<'a>(alloc: Global, words: &Import<'a>, bytes: &[u8]) -> Result<Prepa
 }
 
 impl<'a> Command<'a> for Import<'a> {
-    ghost course = { λ i. import_course (import_of i) };
+    ghost course = { λ i. import_course i.trace.now i.output.now };
 
     fn conclude<F: Files>(&self, alloc: Global, files: &mut F) -> Result<Prepared<'a>, NoMemory> {
         let bytes = match read_file(files, self.trace, FILE_LIMIT, Role::Trace)? {

@@ -6,7 +6,6 @@ ghost use Rattle.csv_instance.specs.Records.{table_of};
 ghost use Rattle.cyclic_plan.specs.Unrolled.{unrolled_of};
 ghost use Rattle.run_course.specs.Prepares.{outcome_of};
 ghost use Rattle.importing.specs.Unrolling.{unroll_course, unrolls};
-ghost use Rattle.importing.specs.Words.{unroll_of};
 
 use cyclic_plan::unroll;
 use dsa_model::{Fail, NoMemory};
@@ -28,8 +27,9 @@ pub struct Unroll<'a> {
 fn unrolled<'a>(alloc: Global, words: &Unroll<'a>, bytes: &[u8]) -> Result<Prepared<'a>, NoMemory>
     requires period { words.now.period ≤ number_limit }
     requires length { length bytes.now ≤ 67108864 }
-    ensures { let table = table_of bytes.now in IfOk result (λ p. outcome_of p
-        ≡ unrolls (unroll_of words.now) table (unrolled_of words.now.period table)) }
+    ensures { let table = table_of bytes.now in let period = words.now.period in
+        IfOk result (λ p.
+        outcome_of p ≡ unrolls period words.now.output.now table (unrolled_of period table)) }
 {
     let unrolled = match unroll(alloc, bytes, words.period) {
         Ok(unrolled) => unrolled,
@@ -46,7 +46,7 @@ fn unrolled<'a>(alloc: Global, words: &Unroll<'a>, bytes: &[u8]) -> Result<Prepa
 }
 
 impl<'a> Command<'a> for Unroll<'a> {
-    ghost course = { λ u. unroll_course (unroll_of u) };
+    ghost course = { λ u. unroll_course u.period u.input.now u.output.now };
 
     ghost is_asked = { λ u. u.period ≤ number_limit };
 

@@ -19,7 +19,7 @@ use Rattle.run_course.specs.Course.{Comes, Course, Ends, says, writes}
 use Rattle.run_status.specs.declared.status.Role.TheVariants as role
 use Rattle.readings.specs.Judging.{judged}
 use Rattle.readings.proofs.ExampleFacts.{judges_layout, judges_overlap, opens_two, overlaps}
-use Rattle.judging.specs.Judging.{Verify, verify}
+use Rattle.judging.specs.Judging.{verify}
 use Rattle.judging.specs.Drawing.{drawing}
 
 -- the input stands in the file i, and the layout in the file a
@@ -28,9 +28,6 @@ input = insert empty (codes "i") two_file
 
 abbrev files : List ℕ → FilesSeen
 files bytes = record { held = Some (insert input (codes "a") bytes); faults = λ name. 0 }
-
-abbrev within : ℕ → Verify
-within capacity = record { capacity = capacity; input = codes "i"; layout = codes "a" }
 
 i_is_not_a : codes "i" ≡ codes "a" → ⊥
 i_is_not_a e = omega (arith, ap (λ (bytes : List ℕ). slice_index bytes 0) e)
@@ -48,13 +45,13 @@ right offsets = Ends (says status.Right)
 abbrev goes_on : ℕ → List Record → Instance → Course
 goes_on capacity table I = judged (codes "a") table I capacity right
 
-overlap_at_10 : (new : FilesSeen) → Comes (files low_file) new (verify (within 10))
+overlap_at_10 : (new : FilesSeen) → Comes (files low_file) new (verify 10 (codes "i") (codes "a"))
     (says (status.Wrong (wrong.Layout (layout.Overlap 0 1 4))))
 overlap_at_10 new =
     opens_two (files low_file) new (codes "i") (goes_on 10) overlaps (reads_input low_file)
     (judges_overlap (files low_file) new (codes "a") right (reads_layout low_file))
 
-right_at_8 : (new : FilesSeen) → Comes (files high_file) new (verify (within 8)) (says status.Right)
+right_at_8 : (new : FilesSeen) → Comes (files high_file) new (verify 8 (codes "i") (codes "a")) (says status.Right)
 right_at_8 new =
     opens_two (files high_file) new (codes "i") (goes_on 8) (says status.Right) (reads_input high_file)
     (judges_layout (files high_file) new (codes "a") right (says status.Right) (reads_layout high_file) (tt, refl))

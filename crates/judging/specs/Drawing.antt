@@ -12,12 +12,6 @@ use Rattle.run_course.specs.Course.{Course, Ends, Outcome, writes}
 use Rattle.readings.specs.Input.{opened}
 use Rattle.readings.specs.Judging.{judged}
 
--- the words of `draw`
-pub record Draw : Type 0 where
-  pub input : Word
-  pub layout : Word
-  pub output : Word
-
 -- the picture of the layout is written to the output, and the number of its rectangles is told
 abbrev pub drawing : Word → List Record → Instance → List ℕ → Outcome
 drawing output table I offsets = writes (record {
@@ -27,6 +21,6 @@ drawing output table I offsets = writes (record {
 } ∷ []) (Drawn (length (rectangles I offsets)))
 
 -- how `draw` goes: the layout is judged at the greatest capacity
-abbrev pub draw : Draw → Course
-draw d =
-    opened d.input (λ table I. judged d.layout table I (2 ^ 60) (λ offsets. Ends (drawing d.output table I offsets)))
+abbrev pub draw : (input layout output : Word) → Course
+draw input layout output =
+    opened input (λ table I. judged layout table I (2 ^ 60) (λ offsets. Ends (drawing output table I offsets)))

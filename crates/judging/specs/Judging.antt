@@ -9,20 +9,10 @@ use Rattle.run_course.specs.Course.{Course, Outcome, Concludes, Ends, says, show
 use Rattle.readings.specs.Input.{opened}
 use Rattle.readings.specs.Judging.{judged}
 
--- the words of `verify`: the layout is judged at the capacity, in bytes
-pub record Verify : Type 0 where
-  pub capacity : ℕ
-  pub input : Word
-  pub layout : Word
-
--- how `verify` goes
-abbrev pub verify : Verify → Course
-verify v = opened v.input (λ table I. judged v.layout table I v.capacity (λ offsets. Ends (says Right)))
-
--- the words of `report`
-pub record Report : Type 0 where
-  pub input : Word
-  pub layout : Word
+-- how `verify` goes: the layout is judged at the capacity, in bytes
+abbrev pub verify : (capacity : ℕ) (input layout : Word) → Course
+verify capacity input layout =
+    opened input (λ table I. judged layout table I capacity (λ offsets. Ends (says Right)))
 
 -- the tightest moment of the layout is shown
 pub record ShowsLayout (table : List Record) (I : Instance) (offsets : List ℕ) (o : Outcome) : Type 0 where
@@ -31,6 +21,6 @@ pub record ShowsLayout (table : List Record) (I : Instance) (offsets : List ℕ)
   pub shown : o ≡ shows text
 
 -- how `report` goes: the layout is judged at the greatest capacity
-abbrev pub report : Report → Course
-report r =
-    opened r.input (λ table I. judged r.layout table I (2 ^ 60) (λ offsets. Concludes (ShowsLayout table I offsets)))
+abbrev pub report : (input layout : Word) → Course
+report input layout =
+    opened input (λ table I. judged layout table I (2 ^ 60) (λ offsets. Concludes (ShowsLayout table I offsets)))

@@ -1,7 +1,6 @@
 //! `draw`: a picture of a layout.
 
 ghost use Rattle.judging.specs.Drawing.{draw};
-ghost use Rattle.judging.specs.Words.{draw_of};
 
 use dsa_model::NoMemory;
 use dsa_outside::Files;
@@ -24,7 +23,7 @@ pub struct Draw<'a> {
 }
 
 impl<'a> Command<'a> for Draw<'a> {
-    ghost course = { λ d. draw (draw_of d) };
+    ghost course = { λ d. draw d.input.now d.layout.now d.output.now };
 
     fn conclude<F: Files>(&self, alloc: Global, files: &mut F) -> Result<Prepared<'a>, NoMemory> {
         let table = match open_input(alloc, files, self.input)? {

@@ -20,7 +20,7 @@ pub struct Report<'a> {
 }
 
 impl<'a> Command<'a> for Report<'a> {
-    ghost course = { λ r. report (record { input = r.input.now; layout = r.layout.now }) };
+    ghost course = { λ r. report r.input.now r.layout.now };
 
     fn conclude<F: Files>(&self, alloc: Global, files: &mut F) -> Result<Prepared<'a>, NoMemory> {
         let table = match open_input(alloc, files, self.input)? {

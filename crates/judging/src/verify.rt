@@ -18,11 +18,7 @@ pub struct Verify<'a> {
 }
 
 impl<'a> Command<'a> for Verify<'a> {
-    ghost course = { λ v. verify (record {
-      capacity = v.capacity;
-      input = v.input.now;
-      layout = v.layout.now;
-    }) };
+    ghost course = { λ v. verify v.capacity v.input.now v.layout.now };
 
     fn conclude<F: Files>(&self, alloc: Global, files: &mut F) -> Result<Prepared<'a>, NoMemory> {
         let table = match open_input(alloc, files, self.input)? {

@@ -16,7 +16,7 @@ use Rattle.size_classes.specs.Slots.{held, least_free, live_among, most_live, sl
 use Rattle.run_status.specs.declared.status.Status.TheVariants.{Classed, NotPlain}
 use Rattle.run_course.specs.Course.{Outcome, says, writes}
 use Rattle.writings.specs.Writings.{layout_file}
-use Rattle.planning.specs.Planning.{Classes, Plans, PlansByClass, RefusesRough}
+use Rattle.planning.specs.Planning.{Plans, PlansByClass, RefusesRough}
 
 -- ---- two of alignment 4
 first_is_rough : RefusesRough two_of_four (says (NotPlain 0))
@@ -110,14 +110,10 @@ pub one_powers : power_height one ≡ 1
 unfolding power_height last_class class_of in_class most_live live_among moments is_live buffer
 one_powers = refl
 
--- the words name the input i and the output o
-abbrev pub words : Classes
-words = record { input = codes "i"; output = codes "o" }
-
 abbrev written : Outcome
 written = writes (layout_file (codes "o") rows (0 ∷ []) ∷ []) (Classed 1 1)
 
-pub plans_one : PlansByClass words rows one written
+pub plans_one : PlansByClass (codes "o") rows one written
 plans_one = record {
   load = 1;
   plain = one_plain;
@@ -129,11 +125,11 @@ plans_one = record {
       (sym one_plan) (sym one_high);
 }
 
-plan_is_concluded : Plans words rows one written
+plan_is_concluded : Plans (codes "o") rows one written
 plan_is_concluded = inl plans_one
 
 -- the load is told after the height, and both are the plan's own
-not_at_2 : PlansByClass words rows one (writes (layout_file (codes "o") rows (0 ∷ []) ∷ []) (Classed 2 1)) → ⊥
+not_at_2 : PlansByClass (codes "o") rows one (writes (layout_file (codes "o") rows (0 ∷ []) ∷ []) (Classed 2 1)) → ⊥
 not_at_2 h =
     let same : Classed 2 1 ≡ Classed (class_height one) h.load = ap (λ (o : Outcome). o.status) h.written in
     let high = one_high in
@@ -141,5 +137,5 @@ not_at_2 h =
     omega (arith, two, high)
 
 -- nothing is concluded without the write
-not_unwritten : PlansByClass words rows one (says (Classed 1 1)) → ⊥
+not_unwritten : PlansByClass (codes "o") rows one (says (Classed 1 1)) → ⊥
 not_unwritten h = let e = ap (λ (o : Outcome). o.writes) h.written in absurd cc

@@ -11,21 +11,16 @@ use Rattle.run_course.specs.Course.{Course, Outcome, Concludes, says, writes}
 use Rattle.readings.specs.Input.{opened}
 use Rattle.writings.specs.Writings.{layout_file}
 
--- the words of `classes`
-pub record Classes : Type 0 where
-  pub input : Word
-  pub output : Word
-
 -- the plan by size class is written, a layout at its height, which is at most the sum of two to the power of each class
 -- times its count; where all sizes are equal it is the least capacity, and the load of the peak
-pub record PlansByClass (c : Classes) (table : List Record) (I : Instance) (o : Outcome) : Type 0 where
+pub record PlansByClass (output : Word) (table : List Record) (I : Instance) (o : Outcome) : Type 0 where
   pub load : ℕ
   pub plain : IsPlain I
   pub peak : IsPeakLoad I load
   pub layout : IsLayout I (class_height I) (class_plan I)
   pub powers : class_height I ≤ power_height I
   pub least : (size : ℕ) → AllOf I size → IsLeast I (class_height I) × (class_height I ≡ load)
-  pub written : o ≡ writes (layout_file c.output table (class_plan I) ∷ []) (Classed (class_height I) load)
+  pub written : o ≡ writes (layout_file output table (class_plan I) ∷ []) (Classed (class_height I) load)
 
 -- the instance is not plain, for this buffer first
 pub record RefusesRough (I : Instance) (o : Outcome) : Type 0 where
@@ -34,9 +29,9 @@ pub record RefusesRough (I : Instance) (o : Outcome) : Type 0 where
   pub told : o ≡ says (NotPlain buffer)
 
 -- what `classes` concludes of the instance of a table
-abbrev pub Plans : Classes → List Record → Instance → Outcome → Type 0
-Plans c table I o = PlansByClass c table I o ⊎ RefusesRough I o
+abbrev pub Plans : (output : Word) → List Record → Instance → Outcome → Type 0
+Plans output table I o = PlansByClass output table I o ⊎ RefusesRough I o
 
 -- how `classes` goes
-abbrev pub classes : Classes → Course
-classes c = opened c.input (λ table I. Concludes (Plans c table I))
+abbrev pub classes : (input output : Word) → Course
+classes input output = opened input (λ table I. Concludes (Plans output table I))

@@ -3,7 +3,6 @@
 ghost use Rattle.std.specs.Prelude.{◌≡◌, ◌+◌, IfOk, length};
 ghost use Rattle.run_course.specs.Prepares.{outcome_of};
 ghost use Rattle.planning.specs.Planning.{Plans, classes};
-ghost use Rattle.planning.specs.Words.{classes_of};
 
 use csv_instance::Table;
 use dsa_model::{Fail, Instance, NoMemory};
@@ -30,7 +29,7 @@ fn planned<'a>(
 ) -> Result<Prepared<'a>, NoMemory>
     requires count { length table.now ≡ length instance.now + 1 }
     ensures { IfOk result (λ p.
-        Plans (classes_of words.now) table.now instance.now (outcome_of p)) }
+        Plans words.now.output.now table.now instance.now (outcome_of p)) }
 {
     let plan = match size_classes::classes(alloc, instance) {
         Ok(plan) => plan,
@@ -49,7 +48,7 @@ fn planned<'a>(
 }
 
 impl<'a> Command<'a> for Classes<'a> {
-    ghost course = { λ c. classes (classes_of c) };
+    ghost course = { λ c. classes c.input.now c.output.now };
 
     fn conclude<F: Files>(&self, alloc: Global, files: &mut F) -> Result<Prepared<'a>, NoMemory> {
         let table = match open_input(alloc, files, self.input)? {

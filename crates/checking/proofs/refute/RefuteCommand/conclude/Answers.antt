@@ -13,7 +13,7 @@ pub returns-in-Missing-clause-comes : goal.returns-in-Missing-clause-comes
 returns-in-Missing-clause-comes g c =
     let found = rw c.in-Missing.is at c.in_ok-table.ensures.input in
     silently (g.F.Files.seen c.args.files.now) (g.F.Files.seen c.open_input.new.files)
-    (refute (record { input = c.args.self.now.input.now; log = c.args.self.now.log.now }))
+    (refute c.args.self.now.input.now c.args.self.now.log.now)
     c.in-Missing.status c.silent.result c.silent.ensures
     (no_input (g.F.Files.seen c.args.files.now) (g.F.Files.seen c.open_input.new.files)
     c.args.self.now.input.now c.in-Missing.status (λ t I. checked c.args.self.now.log.now I (λ (log : Log). says (status.Accepted log.capacity))) found)
@@ -22,7 +22,7 @@ pub returns-in-Accepted-clause-comes : goal.returns-in-Accepted-clause-comes
 returns-in-Accepted-clause-comes g c =
     let found = rw c.in-Accepted.is at c.in_ok-log.ensures.checked in
     silently (g.F.Files.seen c.args.files.now) (g.F.Files.seen c.read_checked_log.new.files)
-    (refute (record { input = c.args.self.now.input.now; log = c.args.self.now.log.now }))
+    (refute c.args.self.now.input.now c.args.self.now.log.now)
     (status.Accepted c.capacity-capacity.result) c.silent-in-Accepted.result c.silent-in-Accepted.ensures
     (then_checked (g.F.Files.seen c.args.files.now) (g.F.Files.seen c.open_input.new.files)
     (g.F.Files.seen c.read_checked_log.new.files) c.args.self.now.input.now c.args.self.now.log.now (λ (log : Log). says (status.Accepted log.capacity))
@@ -35,7 +35,7 @@ pub returns-clause-comes : goal.returns-clause-comes
 returns-clause-comes g c =
     let found = rw c.in-Unaccepted.is at c.in_ok-log.ensures.checked in
     silently (g.F.Files.seen c.args.files.now) (g.F.Files.seen c.read_checked_log.new.files)
-    (refute (record { input = c.args.self.now.input.now; log = c.args.self.now.log.now }))
+    (refute c.args.self.now.input.now c.args.self.now.log.now)
     c.in-Unaccepted.status c.silent-in-Unaccepted.result c.silent-in-Unaccepted.ensures
     (not_checked (g.F.Files.seen c.args.files.now) (g.F.Files.seen c.open_input.new.files)
     (g.F.Files.seen c.read_checked_log.new.files) c.args.self.now.input.now c.args.self.now.log.now (λ (log : Log). says (status.Accepted log.capacity))

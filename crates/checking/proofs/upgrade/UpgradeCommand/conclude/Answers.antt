@@ -10,7 +10,7 @@ pub returns-in-Missing-clause-comes : goal.returns-in-Missing-clause-comes
 returns-in-Missing-clause-comes g c =
     let found = rw c.in-Missing.is at c.in_ok-table.ensures.input in
     silently (g.F.Files.seen c.args.files.now) (g.F.Files.seen c.open_input.new.files)
-    (upgrade (record { input = c.args.self.now.input.now; log = c.args.self.now.log.now; output = c.args.self.now.output.now }))
+    (upgrade c.args.self.now.input.now c.args.self.now.log.now c.args.self.now.output.now)
     c.in-Missing.status c.silent.result c.silent.ensures
     (no_input (g.F.Files.seen c.args.files.now) (g.F.Files.seen c.open_input.new.files)
     c.args.self.now.input.now c.in-Missing.status (λ t I. checked c.args.self.now.log.now I (upgrading c.args.self.now.output.now)) found)
@@ -19,7 +19,7 @@ pub returns-in-Unaccepted-clause-comes : goal.returns-in-Unaccepted-clause-comes
 returns-in-Unaccepted-clause-comes g c =
     let found = rw c.in-Unaccepted.is at c.in_ok-original.ensures.checked in
     silently (g.F.Files.seen c.args.files.now) (g.F.Files.seen c.read_checked_log.new.files)
-    (upgrade (record { input = c.args.self.now.input.now; log = c.args.self.now.log.now; output = c.args.self.now.output.now }))
+    (upgrade c.args.self.now.input.now c.args.self.now.log.now c.args.self.now.output.now)
     c.in-Unaccepted.status c.silent-in-Unaccepted.result c.silent-in-Unaccepted.ensures
     (not_checked (g.F.Files.seen c.args.files.now) (g.F.Files.seen c.open_input.new.files)
     (g.F.Files.seen c.read_checked_log.new.files) c.args.self.now.input.now c.args.self.now.log.now
@@ -32,7 +32,7 @@ returns-clause-comes g c =
     let found = rw c.in-Accepted.is at c.in_ok-original.ensures.checked in
     let o = upgraded_file c.args.self.now.output.now c.len.result c.in_ok-write_log2.field-0.items in
     concluded (g.F.Files.seen c.args.files.now) (g.F.Files.seen c.read_checked_log.new.files)
-    (upgrade (record { input = c.args.self.now.input.now; log = c.args.self.now.log.now; output = c.args.self.now.output.now }))
+    (upgrade c.args.self.now.input.now c.args.self.now.log.now c.args.self.now.output.now)
     o c.one_write.result c.one_write.ensures
     (then_checked (g.F.Files.seen c.args.files.now) (g.F.Files.seen c.open_input.new.files)
     (g.F.Files.seen c.read_checked_log.new.files) c.args.self.now.input.now c.args.self.now.log.now

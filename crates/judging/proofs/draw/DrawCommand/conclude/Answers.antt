@@ -6,7 +6,6 @@ use Rattle.readings.proofs.Opening.{no_input}
 use Rattle.readings.proofs.JudgedLayouts.{not_judged, then_judged}
 use Rattle.dsa_model.proofs.LayoutFaults.{layout_exactly}
 use Rattle.judging.specs.Drawing.{draw, drawing}
-use Rattle.judging.specs.Words.{draw_of}
 use Rattle.judging.proofs.Drawn.{drawn_file, ends_within_of, its_outcome}
 use Rattle.judging.proofs.draw.DrawCommand.conclude.Goals as goal
 
@@ -14,7 +13,8 @@ pub returns-in-Missing-clause-comes : goal.returns-in-Missing-clause-comes
 returns-in-Missing-clause-comes g c =
     let found = rw c.in-Missing.is at c.in_ok-table.ensures.input in
     silently (g.F.Files.seen c.args.files.now) (g.F.Files.seen c.open_input.new.files)
-    (draw (draw_of c.args.self.now)) c.in-Missing.status c.silent.result c.silent.ensures
+    (draw c.args.self.now.input.now c.args.self.now.layout.now c.args.self.now.output.now)
+    c.in-Missing.status c.silent.result c.silent.ensures
     (no_input (g.F.Files.seen c.args.files.now) (g.F.Files.seen c.open_input.new.files)
     c.args.self.now.input.now c.in-Missing.status
     (λ t I. judged c.args.self.now.layout.now t I (2 ^ 60) (λ offsets. Ends (drawing c.args.self.now.output.now t I offsets)))
@@ -24,7 +24,8 @@ pub returns-in-NoLayout-clause-comes : goal.returns-in-NoLayout-clause-comes
 returns-in-NoLayout-clause-comes g c =
     let found = rw c.in-NoLayout.is at c.in_ok-judged.ensures.judged in
     silently (g.F.Files.seen c.args.files.now) (g.F.Files.seen c.read_judged_layout.new.files)
-    (draw (draw_of c.args.self.now)) c.in-NoLayout.status c.silent-in-NoLayout.result c.silent-in-NoLayout.ensures
+    (draw c.args.self.now.input.now c.args.self.now.layout.now c.args.self.now.output.now)
+    c.in-NoLayout.status c.silent-in-NoLayout.result c.silent-in-NoLayout.ensures
     (not_judged (g.F.Files.seen c.args.files.now) (g.F.Files.seen c.open_input.new.files)
     (g.F.Files.seen c.read_judged_layout.new.files) c.args.self.now.input.now c.args.self.now.layout.now
     (2 ^ 60) (λ t I offsets. Ends (drawing c.args.self.now.output.now t I offsets)) c.in-Table.table found.instance
@@ -44,7 +45,8 @@ returns-clause-comes g c =
     let found = rw c.in-Layout.is at c.in_ok-judged.ensures.judged in
     let o = drawn_file c.args.self.now.output.now c.in_ok-drawn.drawn.rectangles c.in_ok-drawn.drawn.text.items in
     concluded (g.F.Files.seen c.args.files.now) (g.F.Files.seen c.read_judged_layout.new.files)
-    (draw (draw_of c.args.self.now)) o c.one_write.result c.one_write.ensures
+    (draw c.args.self.now.input.now c.args.self.now.layout.now c.args.self.now.output.now)
+    o c.one_write.result c.one_write.ensures
     (then_judged (g.F.Files.seen c.args.files.now) (g.F.Files.seen c.open_input.new.files)
     (g.F.Files.seen c.read_judged_layout.new.files) c.args.self.now.input.now c.args.self.now.layout.now
     (2 ^ 60) (λ t I offsets. Ends (drawing c.args.self.now.output.now t I offsets)) c.in-Table.table found.instance

@@ -12,7 +12,7 @@ pub returns-in-Missing-clause-comes : goal.returns-in-Missing-clause-comes
 returns-in-Missing-clause-comes g c =
     let found = rw c.in-Missing.is at c.in_ok-table.ensures.input in
     silently (g.F.Files.seen c.args.files.now) (g.F.Files.seen c.open_input.new.files)
-    (report (record { input = c.args.self.now.input.now; layout = c.args.self.now.layout.now }))
+    (report c.args.self.now.input.now c.args.self.now.layout.now)
     c.in-Missing.status c.silent.result c.silent.ensures
     (no_input (g.F.Files.seen c.args.files.now) (g.F.Files.seen c.open_input.new.files)
     c.args.self.now.input.now c.in-Missing.status
@@ -22,7 +22,7 @@ pub returns-in-NoLayout-clause-comes : goal.returns-in-NoLayout-clause-comes
 returns-in-NoLayout-clause-comes g c =
     let found = rw c.in-NoLayout.is at c.in_ok-judged.ensures.judged in
     silently (g.F.Files.seen c.args.files.now) (g.F.Files.seen c.read_judged_layout.new.files)
-    (report (record { input = c.args.self.now.input.now; layout = c.args.self.now.layout.now }))
+    (report c.args.self.now.input.now c.args.self.now.layout.now)
     c.in-NoLayout.status c.silent-in-NoLayout.result c.silent-in-NoLayout.ensures
     (not_judged (g.F.Files.seen c.args.files.now) (g.F.Files.seen c.open_input.new.files)
     (g.F.Files.seen c.read_judged_layout.new.files) c.args.self.now.input.now c.args.self.now.layout.now
@@ -43,7 +43,7 @@ pub returns-clause-comes : goal.returns-clause-comes
 returns-clause-comes g c =
     let found = rw c.in-Layout.is at c.in_ok-judged.ensures.judged in
     comes_by (g.F.Files.seen c.args.files.now) (g.F.Files.seen c.read_judged_layout.new.files)
-    (report (record { input = c.args.self.now.input.now; layout = c.args.self.now.layout.now }))
+    (report c.args.self.now.input.now c.args.self.now.layout.now)
     c.shown.result (shows c.in_ok-text.text.items) c.shown.ensures
     (then_judged (g.F.Files.seen c.args.files.now) (g.F.Files.seen c.open_input.new.files)
     (g.F.Files.seen c.read_judged_layout.new.files) c.args.self.now.input.now c.args.self.now.layout.now

@@ -12,7 +12,7 @@ pub returns-in-Layout-clause-comes : goal.returns-in-Layout-clause-comes
 returns-in-Layout-clause-comes g c =
     let found = rw c.in-Layout.is at c.in_ok-read_judged_layout.ensures.judged in
     silently (g.F.Files.seen c.args.files.now) (g.F.Files.seen c.read_judged_layout.new.files)
-    (verify (record { capacity = c.args.self.now.capacity; input = c.args.self.now.input.now; layout = c.args.self.now.layout.now }))
+    (verify c.args.self.now.capacity c.args.self.now.input.now c.args.self.now.layout.now)
     status.Right c.silent-in-Layout.result c.silent-in-Layout.ensures
     (then_judged (g.F.Files.seen c.args.files.now) (g.F.Files.seen c.open_input.new.files)
     (g.F.Files.seen c.read_judged_layout.new.files) c.args.self.now.input.now c.args.self.now.layout.now
@@ -24,7 +24,7 @@ pub returns-clause-comes : goal.returns-clause-comes
 returns-clause-comes g c =
     let found = rw c.in-NoLayout.is at c.in_ok-read_judged_layout.ensures.judged in
     silently (g.F.Files.seen c.args.files.now) (g.F.Files.seen c.read_judged_layout.new.files)
-    (verify (record { capacity = c.args.self.now.capacity; input = c.args.self.now.input.now; layout = c.args.self.now.layout.now }))
+    (verify c.args.self.now.capacity c.args.self.now.input.now c.args.self.now.layout.now)
     c.in-NoLayout.status c.silent-in-NoLayout.result c.silent-in-NoLayout.ensures
     (not_judged (g.F.Files.seen c.args.files.now) (g.F.Files.seen c.open_input.new.files)
     (g.F.Files.seen c.read_judged_layout.new.files) c.args.self.now.input.now c.args.self.now.layout.now
@@ -36,7 +36,7 @@ pub returns-in-Missing-clause-comes : goal.returns-in-Missing-clause-comes
 returns-in-Missing-clause-comes g c =
     let found = rw c.in-Missing.is at c.in_ok-table.ensures.input in
     silently (g.F.Files.seen c.args.files.now) (g.F.Files.seen c.open_input.new.files)
-    (verify (record { capacity = c.args.self.now.capacity; input = c.args.self.now.input.now; layout = c.args.self.now.layout.now }))
+    (verify c.args.self.now.capacity c.args.self.now.input.now c.args.self.now.layout.now)
     c.in-Missing.status c.silent.result c.silent.ensures
     (no_input (g.F.Files.seen c.args.files.now) (g.F.Files.seen c.open_input.new.files)
     c.args.self.now.input.now c.in-Missing.status

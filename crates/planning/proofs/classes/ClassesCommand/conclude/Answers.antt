@@ -11,7 +11,7 @@ pub returns-in-Missing-clause-comes : goal.returns-in-Missing-clause-comes
 returns-in-Missing-clause-comes g c =
     missing (g.F.Files.seen c.args.files.now) (g.F.Files.seen c.open_input.new.files) c.args.self.now.input.now
     c.in-Missing.status
-    (λ t I. Concludes (Plans (record { input = c.args.self.now.input.now; output = c.args.self.now.output.now }) t I))
+    (λ t I. Concludes (Plans c.args.self.now.output.now t I))
     c.silent.result (rw c.in-Missing.is at c.in_ok-table.ensures.input) c.silent.ensures
 
 pub returns-clause-comes : goal.returns-clause-comes
@@ -19,8 +19,8 @@ returns-clause-comes g c =
     concluded (g.F.Files.seen c.args.files.now) (g.F.Files.seen c.open_input.new.files) c.args.self.now.input.now
     c.in-Table.table c.instance.result.now
     (λ (t : List Record) (I : Instance).
-    Plans (record { input = c.args.self.now.input.now; output = c.args.self.now.output.now }) t I)
+    Plans c.args.self.now.output.now t I)
     (rw c.in-Table.is at c.in_ok-table.ensures.input) c.instance.ensures.parsed c.in_ok-table.ensures.files
     c.in_ok-table.ensures.counts
-    (plans_spoken (record { input = c.args.self.now.input.now; output = c.args.self.now.output.now }) c.in-Table.table
+    (plans_spoken c.args.self.now.output.now c.in-Table.table
     c.instance.result.now) c.planned.result c.planned.ensures
