@@ -13,6 +13,7 @@ abbrev pub upgraded_file : Word → ℕ → List ℕ → Outcome
 upgraded_file output lines bytes =
     writes (record { role = role.Output; name = output; bytes = bytes } ∷ []) (Upgraded lines)
 
-pub its_outcome : (output : Word) (g : Log) (lines : ℕ) (bytes : List ℕ) → lines ≡ length g.lines → bytes ≡ log_text2 g →
+pub its_outcome : (output : Word) (g : Log) (lines : ℕ) (bytes : List ℕ) → lines ≡ length g.lines →
+    bytes ≡ log_text2 g →
     upgraded_file output lines bytes ≡ upgrading output g
 its_outcome output g lines bytes count its = rw (count, its) refl

@@ -27,7 +27,8 @@ what_is_read = refl
 
 -- and what they write
 what_is_written : map writes_of (verb.Refute ∷ verb.Trim ∷ verb.Upgrade ∷ verb.Verify ∷ verb.Core ∷ verb.Import ∷ [])
-    ≡ [] ∷ (option.Output ∷ []) ∷ (option.Output ∷ []) ∷ [] ∷ (option.Output ∷ option.Log ∷ []) ∷ (option.Output ∷ []) ∷ []
+    ≡ [] ∷ (option.Output ∷ []) ∷ (option.Output ∷ []) ∷ [] ∷ (option.Output ∷ option.Log ∷ []) ∷ (option.Output ∷ []) ∷
+    []
 what_is_written = refl
 
 -- each option of each command is found by its word

@@ -11,7 +11,8 @@ any_of_map test f [] = refl
 any_of_map test f (x ∷ xs) = rw (any_of_map test f xs) refl
 
 -- the first option is no file's, or its name is not among those after it, or it is
-module _ {A : Type 0} (name : A → Word) (is_file : A → Bool) (all files : List A) (file : A) (first : all ≡ file ∷ files) where
+module _ {A : Type 0} (name : A → Word) (is_file : A → Bool) (all files : List A) (file : A)
+    (first : all ≡ file ∷ files) where
   pub no_file : is_file file ≡ false
       → has_equal (map name (filter is_file all)) ≡ has_equal (map name (filter is_file files))
   no_file other = rw (first, other) refl

@@ -51,7 +51,8 @@ twice_stays : (header : Record) (c : Column) → AreOther c Gaps → stands_twic
     stands_twice (grown header) c ≡ false
 twice_stays header c other once =
     let count : count_by (bytes_eq (name_of c)) (grown header) ≡ count_by (bytes_eq (name_of c)) header =
-    counted_last (bytes_eq (name_of c)) header (name_of Gaps) ∙ rw other (let z : count_by (bytes_eq (name_of c)) header + 0
+    counted_last (bytes_eq (name_of c)) header (name_of Gaps)
+    ∙ rw other (let z : count_by (bytes_eq (name_of c)) header + 0
     ≡ count_by (bytes_eq (name_of c)) header = omega arith in z) in
     ap (nat_le 2) count ∙ once
 
@@ -207,7 +208,8 @@ row_after : (header row : Record) (o : Option Change) (b : Buffer) → header_fa
     × Says (changed_header header) (changed_row header o row) (changed_value o b)
 row_after header row None b good even s m =
     let f = row_carried header row (field_of header row Id) (field_of header row Lower) (field_of header row Upper)
-    (field_of header row Size) (field_of header row Alignment) (field_of header row Gaps) (field_of header row Lowest) (own_fields header row even) in (
+    (field_of header row Size) (field_of header row Alignment) (field_of header row Gaps) (field_of header row Lowest)
+    (own_fields header row even) in (
       f.even,
       f.id_is,
       record {
@@ -222,7 +224,8 @@ row_after header row None b good even s m =
 row_after header row (Some c) b good even s m =
     let there = moments_there header good in
     let f = row_changed header row (field_of header row Id) (field_of header row Lower) (field_of header row Upper)
-    (field_of header row Size) (field_of header row Alignment) (field_of header row Gaps) (field_of header row Lowest) there.0.0 there.1.0 c there.0.1
+    (field_of header row Size) (field_of header row Alignment) (field_of header row Gaps)
+    (field_of header row Lowest) there.0.0 there.1.0 c there.0.1
     there.1.1 (own_fields header row even) in (
       f.even,
       f.id_is,
@@ -263,7 +266,8 @@ id_still header before before2 row row2 same even id_is e =
     let some : (length (field_of header row Id) == 0) ≡ false = not_so _ (fault.EmptyId (length before)) n.1.1.0 in
     let short : nat_lt id_limit (length (field_of header row Id)) ≡ false =
     not_so _ (fault.IdTooLong (length before)) n.1.1.1.0 in
-    let fresh : position (λ e. bytes_eq (field_of header row Id) (field_of (changed_header header) e Id)) before2 ≡ None =
+    let fresh : position (λ e. bytes_eq (field_of header row Id) (field_of (changed_header header) e Id)) before2
+    ≡ None =
     position-map (bytes_eq (field_of header row Id)) (λ e. field_of (changed_header header) e Id) before2
     ∙ ap (position (bytes_eq (field_of header row Id))) same
     ∙ sym (position-map (bytes_eq (field_of header row Id)) (λ e. field_of header e Id) before)
@@ -285,7 +289,8 @@ same_more header before before2 row row2 e h =
 even_row : (header : Record) (before : List Record) (row : Record) → id_fault header before row ≡ None →
     length row ≡ length header
 even_row header before row e =
-    eqb-true _ _ (not_false _ (not_so _ (fault.FieldCount (length before)) (all_none (id_faults header before row) e).1.0))
+    eqb-true _ _ (not_false _ (not_so _ (fault.FieldCount (length before))
+    (all_none (id_faults header before row) e).1.0))
 
 -- rows without a fault have none after their changes
 rows_after : (header : Record) (cs : List Change) (n : ℕ) (before before2 rows : List Record) →
@@ -297,13 +302,15 @@ rows_after : (header : Record) (cs : List Change) (n : ℕ) (before before2 rows
     ≡ changed_from cs n (map (row_buffer header) rows))
 rows_after header cs n before before2 [] good m same e = (refl, refl)
 rows_after header cs n before before2 (row ∷ rows) good m same e =
-    let (here, later) = neither (row_form_fault header before row) (rows_form_fault header (before ++ row ∷ []) rows) e in
+    let (here, later) = neither (row_form_fault header before row)
+    (rows_form_fault header (before ++ row ∷ []) rows) e in
     let (id_good, form_good) = neither (id_fault header before row) (form_fault header (length before) row) here in
     let o = change_of cs n in
     let row2 = changed_row header o row in
     let (even, id_is, says) = row_after header row o (row_buffer header row) good (even_row header before row id_good)
     (says_its_own header (length before) row form_good) (found_moments cs n m) in
-    let (form, is) = says_well (changed_header header) (length before2) row2 (changed_value o (row_buffer header row)) says in
+    let (form, is) = says_well (changed_header header) (length before2) row2
+    (changed_value o (row_buffer header row)) says in
     let id = id_still header before before2 row row2 same even id_is id_good in
     let (rest, values) = rows_after header cs (n + 1) (before ++ row ∷ []) (before2 ++ row2 ∷ []) rows good m
     (same_more header before before2 row row2 same id_is) later in
@@ -322,7 +329,8 @@ rows_read : (header : Record) (cs : List Change) (n : ℕ) (before rows : List R
     rows_form_fault header before rows ≡ None → AllReadBack (changed_rows header cs n rows)
 rows_read header cs n before [] good e = tt
 rows_read header cs n before (row ∷ rows) good e =
-    let (here, later) = neither (row_form_fault header before row) (rows_form_fault header (before ++ row ∷ []) rows) e in
+    let (here, later) = neither (row_form_fault header before row)
+    (rows_form_fault header (before ++ row ∷ []) rows) e in
     let id_good = (neither (id_fault header before row) (form_fault header (length before) row) here).0 in
     let even = length_after header row (change_of cs n) good (even_row header before row id_good) in
     let some = some_columns (changed_header header) (header_still header good) in (

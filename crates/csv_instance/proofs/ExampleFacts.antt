@@ -141,7 +141,8 @@ lowest_is_no_number : parse (lowered ∷ (codes "A" ∷ codes "0" ∷ codes "0" 
 lowest_is_no_number = refl
 
 -- a column that stands twice comes before one of offsets
-lowest_twice : header_fault (codes "lowest" ∷ codes "offset" ∷ codes "lowest" ∷ []) ≡ Some (fault.DuplicateColumn Lowest)
+lowest_twice : header_fault (codes "lowest" ∷ codes "offset" ∷ codes "lowest" ∷ [])
+    ≡ Some (fault.DuplicateColumn Lowest)
 lowest_twice = refl
 
 -- all faults of a row come before those of the next

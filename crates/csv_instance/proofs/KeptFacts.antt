@@ -34,7 +34,8 @@ first_row = codes "A" ∷ codes "2" ∷ codes "5" ∷ codes "4" ∷ []
 numbers_of_first : AreNumbers plain first_row (record { lower = 2; upper = 5; size = 4; alignment = 1; lowest = 0 })
 numbers_of_first = record { lower = refl; upper = refl; size = refl; alignment = refl; lowest = refl }
 
-two_of_them_changed : AreNumbers plain first_row (record { lower = 5; upper = 2; size = 4; alignment = 1; lowest = 0 }) → ⊥
+two_of_them_changed : AreNumbers plain first_row
+    (record { lower = 5; upper = 2; size = 4; alignment = 1; lowest = 0 }) → ⊥
 two_of_them_changed n = let e : Some 2 ≡ Some 5 = n.lower in cc
 
 past_the_last : length_fault buffer_limit 4 3 0 ≡ Some fault.TooManyBuffers

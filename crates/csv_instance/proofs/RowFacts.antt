@@ -136,7 +136,8 @@ unfolding records_from strip_bom next_record fields_text is_blank digits
 column_put_last = refl
 
 -- the gap stands after the row's own, and all other fields as they were read
-others_carried : changed_text (table_of (codes "note,gaps,upper,id,lower,size\nx,9-10,02,A,8,04\n,,08,B,2,4\n")) (change ∷ [])
+others_carried : changed_text (table_of (codes "note,gaps,upper,id,lower,size\nx,9-10,02,A,8,04\n,,08,B,2,4\n"))
+    (change ∷ [])
     ≡ codes "note,gaps,upper,id,lower,size\nx,9-10 2-8,10,A,0,04\n,,08,B,2,4\n"
 unfolding records_from strip_bom next_record fields_text is_blank digits
 others_carried = refl

@@ -95,7 +95,8 @@ buffers-good : (header : Record) (before rows : List Record) → rows_form_fault
     → rows_fault header before rows ≡ None
 buffers-good header before [] e sound = refl
 buffers-good header before (row ∷ rows) e sound =
-    let (here, later) = neither (row_form_fault header before row) (rows_form_fault header (before ++ row ∷ []) rows) e in
+    let (here, later) = neither (row_form_fault header before row)
+    (rows_form_fault header (before ++ row ∷ []) rows) e in
     let (id, form) = neither (id_fault header before row) (form_fault header (length before) row) here in
     let content = content-none header (length before) row form (sound (row_buffer header row) (inl refl)) in
     let rest = buffers-good header (before ++ row ∷ []) rows later (λ b i. sound b (inr i)) in
@@ -106,17 +107,20 @@ pub rows-parse : (table : List Record) (I : List Buffer) → parse_rows table �
     → ((b : Buffer) → IsIn b I → buffer_fault b ≡ None) → parse table ≡ Ok I
 rows-parse [] I e sound = cc e
 rows-parse (header ∷ rows) I e sound =
-    let none = parsed (option_or (header_fault header) (rows_form_fault header [] rows)) (map (row_buffer header) rows) I e in
+    let none = parsed (option_or (header_fault header) (rows_form_fault header [] rows))
+    (map (row_buffer header) rows) I e in
     let (good, fine) = neither (header_fault header) (rows_form_fault header [] rows) none in
     let is : map (row_buffer header) rows ≡ I =
     (let q : parse_rows (header ∷ rows) ≡ Ok (map (row_buffer header) rows) = rows-good header rows good fine in cc) in
-    parse-good header rows good (buffers-good header [] rows fine (λ b i. sound b (subst (λ (J : List Buffer). IsIn b J) is i)))
+    parse-good header rows good (buffers-good header [] rows fine
+    (λ b i. sound b (subst (λ (J : List Buffer). IsIn b J) is i)))
     ∙ ap Ok is
 
 -- what rows say is what is read of them
 pub values-are : (table : List Record) (rows : List Buffer) → parse_rows table ≡ Ok rows → values_of table ≡ rows
 values-are [] rows e = cc e
 values-are (header ∷ rs) rows e =
-    let none = parsed (option_or (header_fault header) (rows_form_fault header [] rs)) (map (row_buffer header) rs) rows e in
+    let none = parsed (option_or (header_fault header) (rows_form_fault header [] rs))
+    (map (row_buffer header) rs) rows e in
     let (good, fine) = neither (header_fault header) (rows_form_fault header [] rs) none in
     let q : parse_rows (header ∷ rs) ≡ Ok (map (row_buffer header) rs) = rows-good header rs good fine in cc

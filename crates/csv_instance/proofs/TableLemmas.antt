@@ -60,7 +60,8 @@ pub row-content : (header : Record) (rows : List Record) (row : Record) (o : Opt
 row-content header rows row o e g = rw (e, g) refl
 
 -- there is room for a row that is not one too many
-pub room : (header : Record) (rows : List Record) (row : Record) → id_fault header rows row ≡ None → length rows ≢ buffer_limit
+pub room : (header : Record) (rows : List Record) (row : Record) → id_fault header rows row ≡ None →
+    length rows ≢ buffer_limit
 room header rows row e full = cc (rw full at e)
 
 pub none_left : {A : Type 0} (o : Option A) → ((x : A) → o ≡ Some x → ⊥) → o ≡ None

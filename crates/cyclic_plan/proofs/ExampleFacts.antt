@@ -59,7 +59,8 @@ does_not_wrap : does_wrap (plain 3 3 4 1) ≡ false
 does_not_wrap = refl
 
 -- a gap is away in each period
-gap_in_each_period : is_live_round 10 (record { lower = 8; upper = 4; size = 4; alignment = 1; gaps = (1, 3) ∷ []; lowest = 0 }) 22
+gap_in_each_period : is_live_round 10
+    (record { lower = 8; upper = 4; size = 4; alignment = 1; gaps = (1, 3) ∷ []; lowest = 0 }) 22
     ≡ false
 unfolding is_live_round lasts_at
 gap_in_each_period = refl
@@ -72,7 +73,8 @@ begins_at_the_period : IsInPeriod 10 (plain 10 2 4 1) → ⊥
 begins_at_the_period h = let k = h.0 in omega arith
 
 -- it becomes the whole period with a gap, and a row that does not wrap stays
-unrolled_wraps : unrolled 10 wrapping ≡ record { lower = 0; upper = 10; size = 4; alignment = 1; gaps = (2, 8) ∷ []; lowest = 0 }
+unrolled_wraps : unrolled 10 wrapping
+    ≡ record { lower = 0; upper = 10; size = 4; alignment = 1; gaps = (2, 8) ∷ []; lowest = 0 }
 unfolding unrolled
 unrolled_wraps = refl
 
@@ -82,22 +84,28 @@ unrolled_stays = refl
 
 -- a row that fills the gap needs no more room, and one that begins a moment earlier does
 filled_at_4 : planned (map (unrolled 10) (wrapping ∷ plain 2 8 4 1 ∷ [])) 4 ≡ Some (0 ∷ 0 ∷ [])
-unfolding unrolled planned plan layout_height starts orders falls_by rises_by first_fit best_fit neighbours first_place floor
-    first_passing best_place free_ranges stretches holds least_from is_tighter is_free highest top do_share some_before is_live
+unfolding unrolled planned plan layout_height starts orders falls_by rises_by first_fit best_fit neighbours first_place
+    floor
+    first_passing best_place free_ranges stretches holds least_from is_tighter is_free highest top do_share some_before
+    is_live
     buffer searched parts part_of is_cut last_cut first is_tall comes_before ends_below is_twin child up step
     have_same_moments
 filled_at_4 = refl
 
 overrun_at_7 : planned (map (unrolled 10) (wrapping ∷ plain 1 8 4 1 ∷ [])) 7 ≡ None
-unfolding unrolled planned plan layout_height starts orders falls_by rises_by first_fit best_fit neighbours first_place floor
-    first_passing best_place free_ranges stretches holds least_from is_tighter is_free highest top do_share some_before is_live
+unfolding unrolled planned plan layout_height starts orders falls_by rises_by first_fit best_fit neighbours first_place
+    floor
+    first_passing best_place free_ranges stretches holds least_from is_tighter is_free highest top do_share some_before
+    is_live
     buffer searched parts part_of is_cut last_cut first is_tall comes_before ends_below is_twin child up step
     have_same_moments
 overrun_at_7 = refl
 
 overrun_at_8 : planned (map (unrolled 10) (wrapping ∷ plain 1 8 4 1 ∷ [])) 8 ≡ Some (0 ∷ 4 ∷ [])
-unfolding unrolled planned plan layout_height starts orders falls_by rises_by first_fit best_fit neighbours first_place floor
-    first_passing best_place free_ranges stretches holds least_from is_tighter is_free highest top do_share some_before is_live
+unfolding unrolled planned plan layout_height starts orders falls_by rises_by first_fit best_fit neighbours first_place
+    floor
+    first_passing best_place free_ranges stretches holds least_from is_tighter is_free highest top do_share some_before
+    is_live
     buffer searched parts part_of is_cut last_cut first is_tall comes_before ends_below is_twin child up step
     have_same_moments
 overrun_at_8 = refl
@@ -139,7 +147,8 @@ text_of_the_file = refl
 
 -- ---- files
 wrapping_file : unrolled_of 10 (table_of (codes "id,lower,upper,size\nA,8,2,4\nB,2,8,4\n"))
-    ≡ Ok (record { lower = 0; upper = 10; size = 4; alignment = 1; gaps = (2, 8) ∷ []; lowest = 0 } ∷ plain 2 8 4 1 ∷ [])
+    ≡ Ok (record { lower = 0; upper = 10; size = 4; alignment = 1; gaps = (2, 8) ∷ []; lowest = 0 } ∷ plain 2 8 4 1 ∷
+    [])
 unfolding unrolled_of unrolled records_from strip_bom next_record is_ever_live some_before is_live
 wrapping_file = refl
 
@@ -232,6 +241,7 @@ unfolding unrolled_of unrolled records_from strip_bom next_record is_ever_live s
 lowest_too_large = refl
 
 below_its_lowest :
-    IsCycleLayout 10 10 (record { lower = 8; upper = 2; size = 4; alignment = 1; gaps = []; lowest = 6 } ∷ []) (5 ∷ []) → ⊥
+    IsCycleLayout 10 10 (record { lower = 8; upper = 2; size = 4; alignment = 1; gaps = []; lowest = 6 } ∷ [])
+    (5 ∷ []) → ⊥
 unfolding buffer
 below_its_lowest h = let k = h.above 0 (lit< tt) in omega (arith, k)

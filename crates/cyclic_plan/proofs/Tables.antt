@@ -37,8 +37,10 @@ row_good P number b h =
     ∷ option_map (fault.BadBuffer number) (buffer_fault (unrolled P b))
     ∷ []) h in
     let i = and_true (nat_lt b.lower P) (nat_le b.upper P)
-    (not_false (is_in_period P b) (not_so (not (is_in_period P b)) (fault.Outside number) all.0)) in
-    ((less b.lower P i.0, at_most b.upper P i.1), map_none (fault.BadBuffer number) (buffer_fault (unrolled P b)) all.1.0)
+    (not_false (is_in_period P b) (not_so (not (is_in_period P b)) (fault.Outside number) all.0)) in (
+      (less b.lower P i.0, at_most b.upper P i.1),
+      map_none (fault.BadBuffer number) (buffer_fault (unrolled P b)) all.1.0,
+    )
 
 rows_good : (P number : ℕ) (rows : List Buffer) → cycle_rows_fault P number rows ≡ None → (b : Buffer) → IsIn b rows →
     IsInPeriod P b × (buffer_fault (unrolled P b) ≡ None)
@@ -59,7 +61,8 @@ text_parses P table rows le read good =
     let all : parse_rows table ≡ Ok (values_of table) = rw is read in
     let within : (b : Buffer) → IsIn b (values_of table) → IsInPeriod P b =
     (λ b i. (rows_good P 0 rows good b (rw is at i)).0) in
-    let says = changed_parse table (wraps_from P 0 (values_of table)) all (wraps_are_moments P (values_of table) le within)
+    let says = changed_parse table (wraps_from P 0 (values_of table)) all
+    (wraps_are_moments P (values_of table) le within)
     ∙ ap Ok (wrapped_values P (values_of table) ∙ ap (map (unrolled P)) is) in
     rows-parse (table_of (changed_text table (wraps_from P 0 (values_of table)))) (map (unrolled P) rows) says
     (λ b i. let r = from_map (unrolled P) rows b i in
@@ -89,7 +92,8 @@ unrolled_gives P table I le h = from_read (parse_rows table) refl h
   where
     from_rows : (rows : List Buffer) → parse_rows table ≡ Ok rows → (o : Option CycleFault) →
         cycle_rows_fault P 0 rows ≡ o → option_map_or Err o (Ok (map (unrolled P) rows)) ≡ Ok I → IsUnrolled P table I
-    from_rows rows read None good e = is_unrolled P table I rows le read good (let q : map (unrolled P) rows ≡ I = cc in q)
+    from_rows rows read None good e = is_unrolled P table I rows le read good
+        (let q : map (unrolled P) rows ≡ I = cc in q)
     from_rows rows read (Some f) good e = absurd cc
 
     from_read : (r : Result (List Buffer) InstanceFault) → parse_rows table ≡ r → unrolled_rows P r ≡ Ok I →

@@ -32,7 +32,8 @@ unfolding unrolled
 unrolled_wraps P b e = rw e refl
 
 -- the same of numbers that are those of the row
-pub stays_of : (P lower upper size alignment : ℕ) (gaps : List (ℕ × ℕ)) (lowest : ℕ) (b : Buffer) → lower ≡ b.lower → upper ≡ b.upper →
+pub stays_of : (P lower upper size alignment : ℕ) (gaps : List (ℕ × ℕ)) (lowest : ℕ) (b : Buffer) → lower ≡ b.lower →
+    upper ≡ b.upper →
     size ≡ b.size → alignment ≡ b.alignment → gaps ≡ b.gaps → lowest ≡ b.lowest → lower ≤ upper →
     buffer_of lower upper size alignment gaps lowest ≡ unrolled P b
 stays_of P lower upper size alignment gaps lowest b l u s a g f le =
@@ -42,7 +43,8 @@ stays_of P lower upper size alignment gaps lowest b l u s a g f le =
     not_wrapped : (l u : ℕ) → l ≤ u → nat_lt u l ≡ false
     not_wrapped l u le = grind (arith, nat_tests)
 
-pub wraps_of : (P lower upper size alignment : ℕ) (gaps : List (ℕ × ℕ)) (lowest : ℕ) (b : Buffer) → lower ≡ b.lower → upper ≡ b.upper →
+pub wraps_of : (P lower upper size alignment : ℕ) (gaps : List (ℕ × ℕ)) (lowest : ℕ) (b : Buffer) → lower ≡ b.lower →
+    upper ≡ b.upper →
     size ≡ b.size → alignment ≡ b.alignment → gaps ≡ b.gaps → lowest ≡ b.lowest → upper < lower →
     buffer_of 0 P size alignment (gaps ++ (upper, lower) ∷ []) lowest ≡ unrolled P b
 wraps_of P lower upper size alignment gaps lowest b l u s a g f lt =

@@ -106,7 +106,8 @@ pub fn unroll(alloc: Global, bytes: &[u8], period: u64) -> Result<Unrolled, Fail
     ensures unrolled { let given = unrolled_of period (table_of bytes.now) in UnlessNoMemory result
         (λ u. (I : Instance) × (given ≡ Ok I) × (u.buffers ≡ length I)) (λ fault. given ≡ Err fault) }
     ensures text { IfOk result (λ u. u.text.items ≡ unrolled_text period (table_of bytes.now)) }
-    ensures parsed { IfOk result (λ u. (I : Instance) → unrolled_of period (table_of bytes.now) ≡ Ok I →
+    ensures parsed { IfOk result (λ u. (I : Instance) →
+        unrolled_of period (table_of bytes.now) ≡ Ok I →
         parse (table_of u.text.items) ≡ Ok I) }
     ensures layouts { IfOk result (λ u. (rows : List BufferTerm) (I : Instance) →
         parse_rows (table_of bytes.now) ≡ Ok rows → parse (table_of u.text.items) ≡ Ok I →

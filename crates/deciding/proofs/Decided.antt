@@ -17,7 +17,8 @@ use Rattle.deciding.specs.Deciding.{AllReadBack, Finds, FindsLeast, LeavesLeastO
 -- a capacity is left open
 pub leaves_open : (s : Solve) (table : List Record) (I : Instance) (b : Bracket) → IsSpentAt I s.capacity s.steps b →
     AllReadBack b.log →
-    LeavesOpen s table I (writes (layout_file s.output table b.layout.items ∷ log_files s.log b.log) (Open b.low b.high))
+    LeavesOpen s table I (writes (layout_file s.output table b.layout.items ∷ log_files s.log b.log)
+    (Open b.low b.high))
 leaves_open s table I b spent readable = record {
   steps = spent.too_few.number;
   low = b.low;
@@ -36,7 +37,8 @@ leaves_open s table I b spent readable = record {
   readable = subst AllReadBack spent.its_log readable;
   written = ap (λ (o : List ℕ). writes (layout_file s.output table o ∷ log_files s.log b.log) (Open b.low b.high))
       spent.layout_is_best
-      ∙ ap (λ (l : Option Log). writes (layout_file s.output table (best_start I) ∷ log_files s.log l) (Open b.low b.high))
+      ∙ ap (λ (l : Option Log). writes (layout_file s.output table (best_start I) ∷ log_files s.log l)
+      (Open b.low b.high))
       spent.its_log;
 }
 

@@ -77,7 +77,8 @@ not_to_the_output o h is =
 
 -- four steps are too few for a log of five lines
 evens_bound : lower_bound evens ≡ 4
-unfolding lower_bound highest_stack highest_at heights moduli moments stack pile counted floor rounded_size is_live buffer
+unfolding lower_bound highest_stack highest_at heights moduli moments stack pile counted floor rounded_size is_live
+    buffer
 evens_bound = refl
 
 not_refuted_with_four_steps : (o : Outcome) (h : Refutes (words 4 (Some 4)) evens o) → h.refutation ≡ sample → ⊥

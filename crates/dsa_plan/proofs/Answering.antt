@@ -21,7 +21,8 @@ use Rattle.dsa_plan.proofs.Capacities.{first_start, within_wide}
 
 -- ---- what holds at the capacity or the limit holds at the capacity
 at_wide : (I : Instance) (C c : ℕ) (steps : Option ℕ) (offsets : List ℕ) (answer : Answer) → All IsBuffer I →
-    length I ≤ buffer_limit → 2 ^ 60 ≤ C → 2 ^ 60 ≤ c → IsAnswer I c steps offsets answer → IsAnswer I C steps offsets answer
+    length I ≤ buffer_limit → 2 ^ 60 ≤ C → 2 ^ 60 ≤ c → IsAnswer I c steps offsets answer →
+    IsAnswer I C steps offsets answer
 at_wide I C c steps offsets Fits all few wide near h =
     let here : planned I C ≡ Some (first_start I) = planned_start I C _ (within_wide I C all few wide) in
     let there : planned I c ≡ Some (first_start I) = planned_start I c _ (within_wide I c all few near) in

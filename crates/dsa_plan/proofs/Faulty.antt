@@ -127,7 +127,8 @@ is_sound a b x e l u h = rw (← e) (ap (option_map (BadBuffer b)) (own_fault x 
 pub lengths_differ : (a : Arrays) (n : ℕ) → have_one_length a n ≡ false → arrays_fault a n ≡ Some LengthsDiffer
 lengths_differ a n h = rw h refl
 
-pub are_too_many : (a : Arrays) (n : ℕ) → have_one_length a n ≡ true → buffer_limit < n → arrays_fault a n ≡ Some TooMany
+pub are_too_many : (a : Arrays) (n : ℕ) → have_one_length a n ≡ true → buffer_limit < n →
+    arrays_fault a n ≡ Some TooMany
 are_too_many a n h lt = rw (h, late n buffer_limit lt) refl
 
 or_none : {F : Type 0} (o : Option F) → option_or o None ≡ o

@@ -102,7 +102,11 @@ between_4_and_5 =
           layout_steps = 0;
           log_steps = 0;
           layout = inl (sym below_best);
-          log = inl (rw below_bound (lit≤ tt, record { refutation = four_is_open.refuted_below; by_bound = below_log }));
+          log = inl (rw below_bound (
+            lit≤ tt,
+            record
+                { refutation = four_is_open.refuted_below; by_bound = below_log },
+          ));
           given = lit≤ tt;
         };
       };

@@ -28,7 +28,8 @@ within_more I C few many (Some log) le h = (h.0, one log h.1)
       few = go h.few;
     }
       where
-        go : (IsBoundLog I (C - 1) log ⊎ (length log.lines ≤ few)) → (IsBoundLog I (C - 1) log ⊎ (length log.lines ≤ many))
+        go : (IsBoundLog I (C - 1) log ⊎ (length log.lines ≤ few)) →
+            (IsBoundLog I (C - 1) log ⊎ (length log.lines ≤ many))
         go (inl bound) = inl bound
         go (inr lines) = inr (omega (arith, lines))
 

@@ -10,7 +10,8 @@ use Rattle.packer.specs.Packs.{RefutesOneLess}
 use Rattle.dsa_plan.specs.declared.answers.LeastAnswer.{LeastAnswer}
 use Rattle.dsa_plan.specs.declared.answers.LeastAnswer.TheVariants.{Least, Open}
 
--- the capacity is the least one, and the offsets are a layout of that height; a log refutes one byte less, the bound's or
+-- the capacity is the least one, and the offsets are a layout of that height; a log refutes one byte less, the bound's
+-- or
 -- one with no more lines than steps
 pub record IsPackedLeast (I : Instance) (C steps : ℕ) (offsets : List ℕ) : Type 0 where
   pub refutation : Option Log
@@ -20,7 +21,8 @@ pub record IsPackedLeast (I : Instance) (C steps : ℕ) (offsets : List ℕ) : T
   pub its_height : layout_height I offsets ≡ C
 
 -- the least capacity lies between the ends, and the offsets are a layout of the height of the upper one, which is no
--- higher than the best start; a log refutes one byte less than the lower one, the bound's or one with no more lines than
+-- higher than the best start; a log refutes one byte less than the lower one, the bound's or one with no more lines
+-- than
 -- steps
 pub record IsPackedBetween (I : Instance) (low high steps : ℕ) (offsets : List ℕ) : Type 0 where
   pub refutation : Option Log

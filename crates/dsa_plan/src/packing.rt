@@ -48,8 +48,8 @@ impl Arrays<'_> {
 
 /// The lowest layout of the buffers that it finds in `steps` steps, which need not be the plan, or
 /// the first fault of the slices. A buffer's number is its place in each of them, and they are as
-/// long as `offsets`; `Arrays` says what they hold. With `Least` and `Open` the offsets are written,
-/// in bytes, one for each buffer; with any other answer they are as before.
+/// long as `offsets`; `Arrays` says what they hold. With `Least` and `Open` the offsets are
+/// written, in bytes, one for each buffer; with any other answer they are as before.
 ///
 /// A step is a claim that a search opens; placing all n buffers anew counts as 1 + n^2/2^17 of
 /// them, rounded down. More than 2^60 steps are taken as 2^60.

@@ -51,7 +51,8 @@ module _ (old : FilesSeen) (name : Word) (I : Instance) (g : Log) (holds : Holds
       holds.says in
       faulty_is_not_accepted I read.raw (Err (Fault read.fault)) tt read.refused g (sym raws) holds.accepted
 
-module _ (words : List Word) (old new : FilesSeen) (before after : SinkSeen) (pairs : List Pair) (I : Instance) (g : Log)
+module _ (words : List Word) (old new : FilesSeen) (before after : SinkSeen) (pairs : List Pair) (I : Instance)
+    (g : Log)
     (is : request_of words ≡ Ok (record { verb = verb.Refute; pairs = pairs }))
     (ready : IsReady old (record { verb = verb.Refute; pairs = pairs }) I)
     (calm : IsUndisturbed (record { verb = verb.Refute; pairs = pairs }) old new before after)

@@ -66,7 +66,8 @@ memory verb.Core pairs I = tt
 solved : (pairs : List Pair) (table : List Record) (J : Instance) (o : Outcome) → Solves (solve_of pairs) table J o →
     IsConcluded verb.Solve pairs J o.status
 solved pairs table J o (inl lays) =
-    subst (λ (o : Outcome). IsConcluded verb.Solve pairs J o.status) (sym lays.written) (refl, (lays.offsets, lays.layout))
+    subst (λ (o : Outcome). IsConcluded verb.Solve pairs J o.status) (sym lays.written)
+    (refl, (lays.offsets, lays.layout))
 solved pairs table J o (inr (inl none)) =
     subst (λ (o : Outcome). IsConcluded verb.Solve pairs J o.status) (sym none.written) (refl, none.refuted.infeasible)
 solved pairs table J o (inr (inr left)) =
@@ -151,16 +152,19 @@ module _ (old new : FilesSeen) (before after : SinkSeen) (I : Instance) where
   done : (v : Verb) (pairs : List Pair) → IsServed (record { verb = v; pairs = pairs }) → (o : Outcome) →
       Comes old new (course_with v pairs) o → IsDone v pairs o
   done verb.Solve pairs (ready, calm) =
-      opened_served old new before after I (record { verb = verb.Solve; pairs = pairs }) ready calm (inl refl, λ same. cc)
+      opened_served old new before after I (record { verb = verb.Solve; pairs = pairs }) ready calm
+      (inl refl, λ same. cc)
       (IsDone verb.Solve pairs)
       (λ table J. Concludes (Solves (solve_of pairs) table J)) (λ table o comes. solved pairs table I o comes.1)
   done verb.Least pairs (ready, calm) =
-      opened_served old new before after I (record { verb = verb.Least; pairs = pairs }) ready calm (inl refl, λ same. cc)
+      opened_served old new before after I (record { verb = verb.Least; pairs = pairs }) ready calm
+      (inl refl, λ same. cc)
       (IsDone verb.Least pairs)
       (λ table J. Concludes (Finds (least_of pairs) table J))
       (λ table o comes. found pairs table I o comes.1)
   done verb.Pack pairs (ready, calm) =
-      opened_served old new before after I (record { verb = verb.Pack; pairs = pairs }) ready calm (inl refl, λ same. cc)
+      opened_served old new before after I (record { verb = verb.Pack; pairs = pairs }) ready calm
+      (inl refl, λ same. cc)
       (IsDone verb.Pack pairs)
       (λ table J. Concludes (Packs (pack_of pairs) table J))
       (λ table o comes. packed pairs table I o comes.1)
@@ -191,11 +195,13 @@ module _ (old new : FilesSeen) (before after : SinkSeen) (I : Instance) where
       (λ table. checked_served old new before after I r ready calm (inr (inl refl)) (IsDone verb.Upgrade pairs)
       (upgrading (word_at pairs option.Output)) (λ fault bad. tt) (λ fault bad. tt) (λ log holds. tt))
   done verb.Bounds pairs (ready, calm) =
-      opened_served old new before after I (record { verb = verb.Bounds; pairs = pairs }) ready calm (inl refl, λ same. cc)
+      opened_served old new before after I (record { verb = verb.Bounds; pairs = pairs }) ready calm
+      (inl refl, λ same. cc)
       (IsDone verb.Bounds pairs) (λ table J. Concludes (ShowsFacts J))
       (λ table o comes. subst (IsDone verb.Bounds pairs) (sym comes.1.shown) tt)
   done verb.Inspect pairs (ready, calm) =
-      opened_served old new before after I (record { verb = verb.Inspect; pairs = pairs }) ready calm (inl refl, λ same. cc)
+      opened_served old new before after I (record { verb = verb.Inspect; pairs = pairs }) ready calm
+      (inl refl, λ same. cc)
       (IsDone verb.Inspect pairs) (λ table J. Concludes (ShowsColumns table J))
       (λ table o comes. subst (IsDone verb.Inspect pairs) (sym comes.1) tt)
   done verb.Report pairs (ready, calm) =
@@ -217,12 +223,14 @@ module _ (old new : FilesSeen) (before after : SinkSeen) (I : Instance) where
   done verb.Import pairs served = imported_done pairs served
   done verb.Unroll pairs served = unrolled_done pairs served
   done verb.Classes pairs (ready, calm) =
-      opened_served old new before after I (record { verb = verb.Classes; pairs = pairs }) ready calm (inl refl, λ same. cc)
+      opened_served old new before after I (record { verb = verb.Classes; pairs = pairs }) ready calm
+      (inl refl, λ same. cc)
       (IsDone verb.Classes pairs)
       (λ table J. Concludes (Plans (word_at pairs option.Output) table J))
       (λ table o comes. planned pairs table I o comes.1)
   done verb.Core pairs (ready, calm) =
-      opened_served old new before after I (record { verb = verb.Core; pairs = pairs }) ready calm (inl refl, λ same. cc)
+      opened_served old new before after I (record { verb = verb.Core; pairs = pairs }) ready calm
+      (inl refl, λ same. cc)
       (IsDone verb.Core pairs)
       (λ table J. Concludes (ExplainsOrFits (core_of pairs) table J))
       (λ table o comes. explained pairs table I o comes.1)

@@ -18,6 +18,7 @@ module _ (old new : FilesSeen) (before after : SinkSeen) (s : Status) where
 
   -- the request has this command
   pub command_goes : (r : Request) (v : Verb) → v ≡ r.verb →
-      Answers (course_with v r.pairs) old new before after s → Answers (course_with r.verb r.pairs) old new before after s
+      Answers (course_with v r.pairs) old new before after s →
+      Answers (course_with r.verb r.pairs) old new before after s
   command_goes r v is answer =
       subst (λ (v : Verb). Answers (course_with v r.pairs) old new before after s) is answer

@@ -151,7 +151,8 @@ module _ (words : List Word) (old new : FilesSeen) where
         let output = word_at pairs option.Output in
         opened_promises words old new (r verb.Trim) is (inl refl, λ same. cc)
         (λ table I. checked name I (trimming output))
-        (λ table I input. checked_promises words old new (r verb.Trim) is (inr (inl refl)) table I (trimming output) input tt
+        (λ table I input. checked_promises words old new (r verb.Trim) is (inr (inl refl)) table I
+        (trimming output) input tt
         (λ log holds. (
           λ files.
               let a = asked words old (r verb.Trim) is table I input in (
@@ -192,7 +193,16 @@ module _ (words : List Word) (old new : FilesSeen) where
                 (
                   a,
                   refl,
-                  (log, gives_log a log holds, refl, record { readable = says_again holds.bytes (raw_log_of log) holds.says (short_bytes holds.bytes holds.whole.short); files = files }),
+                  (
+                    log,
+                    gives_log a log holds,
+                    refl,
+                    record {
+                      readable = says_again holds.bytes (raw_log_of log) holds.says
+                          (short_bytes holds.bytes holds.whole.short);
+                      files = files;
+                    },
+                  ),
                 ),
                 tt,
                 tt,

@@ -55,19 +55,22 @@ last_two input output log is same =
 pub solve_apart : (words : List Word) (pairs : List Pair) →
     request_of words ≡ Ok (record { verb = verb.Solve; pairs = pairs }) →
     word_at pairs option.Output ≢ word_at pairs option.Log
-solve_apart words pairs is = last_two (word_at pairs option.Input) (word_at pairs option.Output) (word_at pairs option.Log)
+solve_apart words pairs is = last_two (word_at pairs option.Input) (word_at pairs option.Output)
+    (word_at pairs option.Log)
     (names_differ words (record { verb = verb.Solve; pairs = pairs }) is)
 
 pub least_apart : (words : List Word) (pairs : List Pair) →
     request_of words ≡ Ok (record { verb = verb.Least; pairs = pairs }) →
     word_at pairs option.Output ≢ word_at pairs option.Log
-least_apart words pairs is = last_two (word_at pairs option.Input) (word_at pairs option.Output) (word_at pairs option.Log)
+least_apart words pairs is = last_two (word_at pairs option.Input) (word_at pairs option.Output)
+    (word_at pairs option.Log)
     (names_differ words (record { verb = verb.Least; pairs = pairs }) is)
 
 pub pack_apart : (words : List Word) (pairs : List Pair) →
     request_of words ≡ Ok (record { verb = verb.Pack; pairs = pairs }) →
     word_at pairs option.Output ≢ word_at pairs option.Log
-pack_apart words pairs is = last_two (word_at pairs option.Input) (word_at pairs option.Output) (word_at pairs option.Log)
+pack_apart words pairs is = last_two (word_at pairs option.Input) (word_at pairs option.Output)
+    (word_at pairs option.Log)
     (names_differ words (record { verb = verb.Pack; pairs = pairs }) is)
 
 -- ---- names of files

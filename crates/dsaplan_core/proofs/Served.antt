@@ -79,7 +79,8 @@ module _ (old new : FilesSeen) (before after : SinkSeen) (I : Instance) (r : Req
       IsWholeFile old (word_at r.pairs option.Input) file_limit bytes → parse (table_of bytes) ≡ Ok I
   read_as among bytes whole =
       let there = ready.input among in
-      let same = same_bytes old (word_at r.pairs option.Input) file_limit bytes there.file.bytes there.file.held whole in
+      let same = same_bytes old (word_at r.pairs option.Input) file_limit bytes there.file.bytes there.file.held whole
+      in
       ap (λ b. parse (table_of b)) same ∙ there.parsed
 
   -- a course that reads the input goes on with this instance

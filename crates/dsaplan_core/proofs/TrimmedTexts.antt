@@ -33,7 +33,8 @@ less : (needs : List ℕ) (k : ℕ) → renumbered needs k ≤ k
 unfolding renumbered
 less needs k = few_pass (λ j. has j needs) 0 k
 
-not_needed : (I : Instance) (log : Log) (i : ℕ) → IsAccepted I log → suc log.final ≤ i → has (0 + i) (needed log) ≡ false
+not_needed : (I : Instance) (log : Log) (i : ℕ) → IsAccepted I log → suc log.final ≤ i →
+    has (0 + i) (needed log) ≡ false
 unfolding needed
 not_needed I log i accepted le = elim (true_or_false (has (0 + i) (needed log))) [
   | inl is ↦ absurd (let k = kept_up_to log.final 0 log.lines (0 + i) (cites_earlier I log accepted)

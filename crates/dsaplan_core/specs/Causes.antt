@@ -54,7 +54,8 @@ pub record RefusesLayout (words : List Word) (old new : FilesSeen) (cause : Wron
   pub capacity : ℕ
   pub judged : IsJudgedAt asked.verb asked.pairs capacity
   pub wrong : GivesNoOffsets old (word_at asked.pairs option.Layout) asked.table (status.Wrong cause)
-      ⊎ GivesWrongOffsets old (word_at asked.pairs option.Layout) asked.table asked.instance capacity (status.Wrong cause)
+      ⊎ GivesWrongOffsets old (word_at asked.pairs option.Layout) asked.table asked.instance capacity
+      (status.Wrong cause)
   pub files : new.held ≡ old.held
 
 -- the command checks a log's file

@@ -1,4 +1,5 @@
--- Which of several right answers a run gives, and what its steps have to do with it. With `solve` and `least` the layout
+-- Which of several right answers a run gives, and what its steps have to do with it. With `solve` and `least` the
+-- layout
 -- that is written is the plan; a log is without waste; where a number of steps is given, a layout that no start gives
 -- comes only where it is 1 or more, and a log at a capacity that the lower bound leaves open has no more lines; 'open'
 -- comes only where the steps may be too few. With `pack` a log is without needless lines, and is the bound's or has no
@@ -33,7 +34,8 @@ abbrev pub steps_of : List Pair → Option ℕ
 steps_of pairs = number_given pairs option.Steps
 
 -- the output holds the plan at the capacity; where no start is within it, a step at least is given, if a number is
-pub record HoldsPlan {words : List Word} {old : FilesSeen} (a : Asked words old) (new : FilesSeen) (C : ℕ) : Type 0 where
+pub record HoldsPlan {words : List Word} {old : FilesSeen} (a : Asked words old) (new : FilesSeen)
+    (C : ℕ) : Type 0 where
   pub offsets : List ℕ
   pub planned : planned a.instance C ≡ Some offsets
   pub searched : start_within a.instance C ≡ None → AreGiven (steps_of a.pairs) 1
@@ -41,7 +43,8 @@ pub record HoldsPlan {words : List Word} {old : FilesSeen} (a : Asked words old)
 
 -- the log's file holds a log without waste at the capacity; where the lower bound leaves the capacity open, a step is
 -- given for each of its lines, if a number is
-pub record HoldsLean {words : List Word} {old : FilesSeen} (a : Asked words old) (new : FilesSeen) (C : ℕ) : Type 0 where
+pub record HoldsLean {words : List Word} {old : FilesSeen} (a : Asked words old) (new : FilesSeen)
+    (C : ℕ) : Type 0 where
   pub refutation : Log
   pub its_capacity : refutation.capacity ≡ C
   pub lean : IsLean a.instance refutation
@@ -54,9 +57,11 @@ MayStayOpen verb.Solve pairs (Some k) I L H = IsShortOfWork I (number_at pairs o
 MayStayOpen verb.Least pairs (Some k) I L H = IsShortOfHunt I k L H
 MayStayOpen verb pairs steps I L H = ⊥
 
--- the log's file holds a log at the capacity, each line of which but the last is cited by a later one; it is the bound's,
+-- the log's file holds a log at the capacity, each line of which but the last is cited by a later one; it is the
+-- bound's,
 -- or a step is given for each of its lines
-pub record HoldsBrief {words : List Word} {old : FilesSeen} (a : Asked words old) (new : FilesSeen) (C : ℕ) : Type 0 where
+pub record HoldsBrief {words : List Word} {old : FilesSeen} (a : Asked words old) (new : FilesSeen)
+    (C : ℕ) : Type 0 where
   pub refutation : Log
   pub its_capacity : refutation.capacity ≡ C
   pub trimmed : IsTrimmed refutation
@@ -73,7 +78,8 @@ pub record AreEnds (I : Instance) (pairs : List Pair) (L H : ℕ) : Type 0 where
 abbrev pub ChoosesPlan : {words : List Word} {old : FilesSeen} → Asked words old → FilesSeen → Status → Type 0
 ChoosesPlan a new (status.Feasible C) = HoldsPlan a new C
 ChoosesPlan a new (status.Infeasible C) = HoldsLean a new C
-ChoosesPlan a new (status.Least C) = ((a.instance ≡ []) ↔ (C ≡ 0)) × HoldsPlan a new C × (1 ≤ C → HoldsLean a new (C - 1))
+ChoosesPlan a new (status.Least C) =
+    ((a.instance ≡ []) ↔ (C ≡ 0)) × HoldsPlan a new C × (1 ≤ C → HoldsLean a new (C - 1))
 ChoosesPlan a new (status.Open L H) = MayStayOpen a.verb a.pairs (steps_of a.pairs) a.instance L H × HoldsPlan a new H
     × HoldsLean a new (L - 1)
 ChoosesPlan a new status = Unit {0}

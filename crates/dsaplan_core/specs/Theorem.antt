@@ -72,13 +72,15 @@ SeeksLeast verb pairs = ⊥
 
 -- the output holds the text of offsets that are a layout at the capacity: each is aligned, at or above its buffer's
 -- lowest and within the capacity, and no two buffers overlap at a moment at which both are live
-pub record HoldsLayout {words : List Word} {old : FilesSeen} (a : Asked words old) (new : FilesSeen) (C : ℕ) : Type 0 where
+pub record HoldsLayout {words : List Word} {old : FilesSeen} (a : Asked words old) (new : FilesSeen)
+    (C : ℕ) : Type 0 where
   pub offsets : List ℕ
   pub layout : IsLayout a.instance C offsets
   pub held : IsSome old.held → file_at new.held (word_at a.pairs option.Output) ≡ Some (layout_text a.table offsets)
 
 -- the log's file holds the text of a log that is accepted at the capacity, and no layout fits within it
-pub record HoldsRefutation {words : List Word} {old : FilesSeen} (a : Asked words old) (new : FilesSeen) (C : ℕ) : Type 0 where
+pub record HoldsRefutation {words : List Word} {old : FilesSeen} (a : Asked words old) (new : FilesSeen)
+    (C : ℕ) : Type 0 where
   pub refutation : Log
   pub accepted : IsAccepted a.instance refutation
   pub its_capacity : refutation.capacity ≡ C
@@ -103,18 +105,21 @@ pub record GivesLog {words : List Word} {old : FilesSeen} (a : Asked words old) 
   pub infeasible : IsInfeasible a.instance log.capacity
 
 -- the output holds the text of the log's needed lines alone, which is accepted too
-pub record HoldsTrimmed {words : List Word} {old : FilesSeen} (a : Asked words old) (new : FilesSeen) (log : Log) : Type 0 where
+pub record HoldsTrimmed {words : List Word} {old : FilesSeen} (a : Asked words old) (new : FilesSeen)
+    (log : Log) : Type 0 where
   pub accepted : IsAccepted a.instance (trimmed log)
   pub readable : IsTextOf (log_text (trimmed log)) (raw_log_of (trimmed log))
   pub files : new.held ≡ with_file old.held (word_at a.pairs option.Output) (log_text (trimmed log))
 
 -- the output holds the log's text of version 2, which says it
-pub record HoldsUpgraded {words : List Word} {old : FilesSeen} (a : Asked words old) (new : FilesSeen) (log : Log) : Type 0 where
+pub record HoldsUpgraded {words : List Word} {old : FilesSeen} (a : Asked words old) (new : FilesSeen)
+    (log : Log) : Type 0 where
   pub readable : Says (log_text2 log) (raw_log_of log)
   pub files : new.held ≡ with_file old.held (word_at a.pairs option.Output) (log_text2 log)
 
 -- the layout file gives a layout, and the output holds its picture, with so many rectangles
-pub record HoldsPicture {words : List Word} {old : FilesSeen} (a : Asked words old) (new : FilesSeen) (count : ℕ) : Type 0 where
+pub record HoldsPicture {words : List Word} {old : FilesSeen} (a : Asked words old) (new : FilesSeen)
+    (count : ℕ) : Type 0 where
   pub given : GivesLayoutAt a (2 ^ 60)
   pub its_count : length (rectangles a.instance given.offsets) ≡ count
   pub files : new.held ≡ with_file old.held (word_at a.pairs option.Output)

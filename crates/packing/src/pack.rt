@@ -48,8 +48,10 @@ fn packed_least<'a>(
     requires steps { words.now.steps ≤ number_limit }
     requires count { length table.now ≡ length instance.now + 1 }
     requires unused { tries.old ≡ at_start instance.now }
-    ensures value { IfOk result (λ p. Packs (pack_of words.now) table.now instance.now (outcome_of p)) }
-    ensures used { tries.new.units ≤ tries.old.units + (words.now.steps - placing_steps words.now.steps) }
+    ensures value { IfOk result (λ p. Packs (pack_of words.now) table.now instance.now
+        (outcome_of p)) }
+    ensures used { tries.new.units ≤ tries.old.units +
+        (words.now.steps - placing_steps words.now.steps) }
     ensures exhausted { IfOk result (λ p.
         IfLeavesOpen (outcome_of p) (AreUsedUp words.now.steps tries.old.units tries.new.units)) }
 {
@@ -84,8 +86,10 @@ fn packed_within<'a>(
     requires steps { words.now.steps ≤ number_limit }
     requires count { length table.now ≡ length instance.now + 1 }
     requires unused { tries.old ≡ at_start instance.now }
-    ensures value { IfOk result (λ p. Packs (pack_of words.now) table.now instance.now (outcome_of p)) }
-    ensures used { tries.new.units ≤ tries.old.units + (words.now.steps - placing_steps words.now.steps) }
+    ensures value { IfOk result (λ p. Packs (pack_of words.now) table.now instance.now
+        (outcome_of p)) }
+    ensures used { tries.new.units ≤ tries.old.units +
+        (words.now.steps - placing_steps words.now.steps) }
     ensures exhausted { IfOk result (λ p.
         IfLeavesOpen (outcome_of p) (AreUsedUp words.now.steps tries.old.units tries.new.units)) }
 {

@@ -27,9 +27,23 @@ pub no_log : (old new : FilesSeen) (name : Word) (I : Instance) (s : Status) (ac
     IsNone old new name I s → Comes old new (checked name I accepted) (says s)
 no_log old new name I s accepted (inl failed) = inl (failed, refl)
 no_log old new name I s accepted (inr (inl holds)) =
-    inr (holds.bytes, holds.whole, (subst IsSpoken (sym holds.told) tt, no_text holds.fault holds.refused (ap says holds.told)))
+    inr (
+      holds.bytes,
+      holds.whole,
+      (
+        subst IsSpoken (sym holds.told) tt,
+        no_text holds.fault holds.refused (ap says holds.told),
+      ),
+    )
 no_log old new name I s accepted (inr (inr holds)) =
-    inr (holds.bytes, holds.whole, (subst IsSpoken (sym holds.told) tt, not_accepted holds.raw holds.fault holds.says holds.refused (ap says holds.told)))
+    inr (
+      holds.bytes,
+      holds.whole,
+      (
+        subst IsSpoken (sym holds.told) tt,
+        not_accepted holds.raw holds.fault holds.says holds.refused (ap says holds.told),
+      ),
+    )
 
 -- the file gives an accepted log, by which the course concludes
 pub with_log : (old new : FilesSeen) (name : Word) (I : Instance) (g : Log) (accepted : Log → Outcome) →

@@ -16,4 +16,5 @@ instance_or_fault (Err fault) next = Ends (says (Malformed fault))
 
 -- reads the input and goes on with its table and the instance that it is
 abbrev pub opened : Word → (List Record → Instance → Course) → Course
-opened name next = Reads Input name file_limit (λ bytes. instance_or_fault (parse (table_of bytes)) (next (table_of bytes)))
+opened name next = Reads Input name file_limit
+    (λ bytes. instance_or_fault (parse (table_of bytes)) (next (table_of bytes)))

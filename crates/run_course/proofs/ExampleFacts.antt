@@ -1,4 +1,5 @@
--- A small course, and what a run on it leaves: it reads the file i, of at most two bytes, and copies them to o and to l.
+-- A small course, and what a run on it leaves: it reads the file i, of at most two bytes, and copies them to o and to
+-- l.
 use Rattle.std.proofs.Common.{◌≡◌, ℕ, List, [], ◌∷◌, Some, None, inl, inr, cond, codes, refl, ap, lit<, lit≤, arith, rules}
 use Rattle.std.specs.FinMap.{empty, gets, insert}
 use Rattle.std.specs.Str.{bytes_eq}

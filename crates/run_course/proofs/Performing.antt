@@ -39,7 +39,8 @@ begun_since old mid new files same begun = record {
 }
 
 module _ (course : Course) (old mid new : FilesSeen) (o : Outcome) (same : mid.held ≡ old.held)
-    (before : NoneFell old.faults mid.faults) (after : NoneFell mid.faults new.faults) (comes : Comes old mid course o) where
+    (before : NoneFell old.faults mid.faults) (after : NoneFell mid.faults new.faults)
+    (comes : Comes old mid course o) where
   pub tells : (lost : Option Role) (s : Status) (text : List ℕ) → Leaves mid new o.writes lost →
       s ≡ (as_told o lost).status → text ≡ (as_told o lost).text → Tells course old new s text
   tells lost s text left its_status its_text = record {
@@ -67,7 +68,8 @@ module _ (course : Course) (old mid new : FilesSeen) (o : Outcome) (same : mid.h
     files = inr (lost, leaves_since old mid new o.writes lost same before left);
   }
 
-pub spoken : (o : Outcome) (lost : Option Role) (s : Status) → IsSpoken o.status → s ≡ (as_told o lost).status → IsSpoken s
+pub spoken : (o : Outcome) (lost : Option Role) (s : Status) → IsSpoken o.status → s ≡ (as_told o lost).status →
+    IsSpoken s
 spoken o None s speaks is = subst IsSpoken (sym is) speaks
 spoken o (Some role) s speaks is = subst IsSpoken (sym is) tt
 

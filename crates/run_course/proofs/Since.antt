@@ -47,7 +47,8 @@ more_since old mid name most same more told =
 pub unreadable_since : (old mid new : FilesSeen) (role : Role) (name : Word) (most : ℕ) (s : Status) →
     mid.held ≡ old.held → NoneFell old.faults mid.faults →
     IsUnreadable mid new role name most s → IsUnreadable old new role name most s
-unreadable_since old mid new role name most s same none (inl is) = inl (is.0, unread_since old mid new name same none is.1)
+unreadable_since old mid new role name most s same none (inl is) =
+    inl (is.0, unread_since old mid new name same none is.1)
 unreadable_since old mid new role name most s same none (inr is) = inr (is.0, more_since old mid name most same is.1)
 
 unreadable_until : (old mid new : FilesSeen) (role : Role) (name : Word) (most : ℕ) (s : Status) →

@@ -76,7 +76,8 @@ pub fn two_writes<'a>(
     second: Writing<'a>,
     status: Status,
 ) -> Result<Prepared<'a>, NoMemory>
-    ensures { IfOk result (λ p. outcome_of p ≡ writes (write_of first.entry ∷ write_of second.entry ∷ []) status) }
+    ensures { IfOk result (λ p. outcome_of p
+        ≡ writes (write_of first.entry ∷ write_of second.entry ∷ []) status) }
 {
     Ok(Prepared::Both(first, second, say(alloc, status)?))
 }

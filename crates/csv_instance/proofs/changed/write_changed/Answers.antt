@@ -57,7 +57,8 @@ loop-place-preserved c =
           let next = next_change n p cs w.in-Some.change from found in
           rw (w.writer-is, w.next-is) (
             header,
-            text ++ row_text default_writer (changed_row header (Some w.in-Some.change) (fields_of w.index-records-place.result)),
+            text ++ row_text default_writer (changed_row header (Some w.in-Some.change)
+                (fields_of w.index-records-place.result)),
             w.in_ok-write_change-in-Some.ensures header places text wrote,
             places,
             next_row header (changed_text c.args.rows.now cs) text (drop n cs) rows p w.index-records-place.result

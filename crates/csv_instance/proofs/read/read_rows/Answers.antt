@@ -42,7 +42,8 @@ returns-in-Err-with_row-clause-read c =
     let (more, first, on) = gives-some c.loop-row.row-iterator c.next-in-loop-row.new.self left
     (fields_of c.in-Ok-row.row) gives s.0 s.1 s.2 in
     let all = put-first (table_of c.args.bytes.now) c.loop-row.rows left more (fields_of c.in-Ok-row.row) is first in
-    IfFault-map _ (λ (fault : InstanceFault). parse_rows (table_of c.args.bytes.now) ≡ Err fault) c.in-Err-with_row.failure
+    IfFault-map _ (λ (fault : InstanceFault). parse_rows (table_of c.args.bytes.now) ≡ Err fault)
+    c.in-Err-with_row.failure
     (λ f h. ap parse_rows all ∙ h more) c.in-Err-with_row.ensures
 
 pub loop-row-preserved : goal.loop-row-preserved

@@ -58,7 +58,8 @@ pub returns-clause-parsed : goal.returns-clause-parsed
 returns-clause-parsed c = λ I given.
     let table = table_of c.args.bytes.now in
     let text = has_text c.args.period table c.in-Ok-write_changed.text.items
-    (rw (c.as_slice.ensures.value, c.in-Ok-wraps.ensures.1, c.in-Ok.ensures.read) at c.in-Ok-write_changed.ensures.text) in
+    (rw (c.as_slice.ensures.value, c.in-Ok-wraps.ensures.1, c.in-Ok.ensures.read) at c.in-Ok-write_changed.ensures.text)
+    in
     rw text (unrolled_gives c.args.period table I c.requires.period given).parsed
 
 pub returns-clause-layouts : goal.returns-clause-layouts
@@ -68,6 +69,7 @@ returns-clause-layouts c = λ rows J read parsed.
     let sound : parse_rows table ≡ Ok (values_of table) = rw same at c.in-Ok.ensures.sound in
     let good = rw same at c.in-Ok-wraps.ensures.0 in
     let text = has_text c.args.period table c.in-Ok-write_changed.text.items
-    (rw (c.as_slice.ensures.value, c.in-Ok-wraps.ensures.1, c.in-Ok.ensures.read) at c.in-Ok-write_changed.ensures.text) in
+    (rw (c.as_slice.ensures.value, c.in-Ok-wraps.ensures.1, c.in-Ok.ensures.read) at c.in-Ok-write_changed.ensures.text)
+    in
     gives_layouts c.args.period table (map (unrolled c.args.period) (values_of table)) J rows c.requires.period
     (accepted_rows c.args.period table sound good) read (rw text at parsed)

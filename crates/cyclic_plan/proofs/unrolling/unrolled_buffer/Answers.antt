@@ -11,7 +11,8 @@ pub returns-then-lower-upper : goal.returns-then-lower-upper
 returns-then-lower-upper c =
     let b = buffer (values_of c.args.rows.now) c.args.row in
     let same = stays_of c.args.period c.lower-lower.result c.upper-upper.result c.size-size.result
-    c.alignment-alignment.result c.gaps.result.now c.lowest-lowest.result b c.lower-lower.ensures.value c.upper-upper.ensures.value
+    c.alignment-alignment.result c.gaps.result.now c.lowest-lowest.result b c.lower-lower.ensures.value
+    c.upper-upper.ensures.value
     c.size-size.ensures.value c.alignment-alignment.ensures.value c.gaps.ensures.value
     c.lowest-lowest.ensures.value c.if-lower-upper.true in
     UnlessNoMemory-map c.new.result
@@ -25,7 +26,8 @@ returns-in_ok-push c =
     let copied = c.in_ok-gaps.ensures.items_if_clones_equal same_pair ∙ c.gaps-else-lower-upper.ensures.value in
     let items = rw pushed at c.push.ensures.items in
     let same = wraps_of c.args.period c.lower-lower.result c.upper-upper.result c.size-size.result
-    c.alignment-alignment.result c.in_ok-gaps.gaps.items c.lowest-lowest.result b c.lower-lower.ensures.value c.upper-upper.ensures.value
+    c.alignment-alignment.result c.in_ok-gaps.gaps.items c.lowest-lowest.result b c.lower-lower.ensures.value
+    c.upper-upper.ensures.value
     c.size-size.ensures.value c.alignment-alignment.ensures.value copied
     c.lowest-lowest.ensures.value c.if-lower-upper.false in
     let told = rw (c.deref.ensures.value, items) at c.new-else-lower-upper.ensures.value in

@@ -15,7 +15,8 @@ returns-in-Err-write g c = record {
 
 pub returns-in-Ok-put : goal.returns-in-Ok-put
 returns-in-Ok-put g c = answers _ _ _ _ _ c.told-status.result.0
-    (spoken (outcome_of c.in-Ok.prepared) c.in-Ok-write.lost c.told-status.result.0 (comes_spoken (g.F.Files.seen c.args.files.now)
+    (spoken (outcome_of c.in-Ok.prepared) c.in-Ok-write.lost c.told-status.result.0
+    (comes_spoken (g.F.Files.seen c.args.files.now)
     (g.F.Files.seen c.conclude.new.files) (g.C.Command.course c.args.command.now) (outcome_of c.in-Ok.prepared)
     c.in-Ok.ensures.comes)
     c.told-status.ensures.status)

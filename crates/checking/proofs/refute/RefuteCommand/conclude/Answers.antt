@@ -16,7 +16,8 @@ returns-in-Missing-clause-comes g c =
     (refute c.args.self.now.input.now c.args.self.now.log.now)
     c.in-Missing.status c.silent.result c.silent.ensures
     (no_input (g.F.Files.seen c.args.files.now) (g.F.Files.seen c.open_input.new.files)
-    c.args.self.now.input.now c.in-Missing.status (λ t I. checked c.args.self.now.log.now I (λ (log : Log). says (status.Accepted log.capacity))) found)
+    c.args.self.now.input.now c.in-Missing.status
+    (λ t I. checked c.args.self.now.log.now I (λ (log : Log). says (status.Accepted log.capacity))) found)
 
 pub returns-in-Accepted-clause-comes : goal.returns-in-Accepted-clause-comes
 returns-in-Accepted-clause-comes g c =
@@ -25,7 +26,8 @@ returns-in-Accepted-clause-comes g c =
     (refute c.args.self.now.input.now c.args.self.now.log.now)
     (status.Accepted c.capacity-capacity.result) c.silent-in-Accepted.result c.silent-in-Accepted.ensures
     (then_checked (g.F.Files.seen c.args.files.now) (g.F.Files.seen c.open_input.new.files)
-    (g.F.Files.seen c.read_checked_log.new.files) c.args.self.now.input.now c.args.self.now.log.now (λ (log : Log). says (status.Accepted log.capacity))
+    (g.F.Files.seen c.read_checked_log.new.files) c.args.self.now.input.now c.args.self.now.log.now
+    (λ (log : Log). says (status.Accepted log.capacity))
     c.in-Table.table c.instance.result.now (rw c.in-Table.is at c.in_ok-table.ensures.input) c.instance.ensures.parsed
     c.in_ok-table.ensures.files c.in_ok-table.ensures.counts c.in-Accepted.log found
     (says (status.Accepted c.capacity-capacity.result)) tt
@@ -38,6 +40,7 @@ returns-clause-comes g c =
     (refute c.args.self.now.input.now c.args.self.now.log.now)
     c.in-Unaccepted.status c.silent-in-Unaccepted.result c.silent-in-Unaccepted.ensures
     (not_checked (g.F.Files.seen c.args.files.now) (g.F.Files.seen c.open_input.new.files)
-    (g.F.Files.seen c.read_checked_log.new.files) c.args.self.now.input.now c.args.self.now.log.now (λ (log : Log). says (status.Accepted log.capacity))
+    (g.F.Files.seen c.read_checked_log.new.files) c.args.self.now.input.now c.args.self.now.log.now
+    (λ (log : Log). says (status.Accepted log.capacity))
     c.in-Table.table c.instance.result.now (rw c.in-Table.is at c.in_ok-table.ensures.input) c.instance.ensures.parsed
     c.in_ok-table.ensures.files c.in_ok-table.ensures.counts c.in-Unaccepted.status found)

@@ -13,7 +13,8 @@ returns-in-Missing-clause-comes g c =
     (trim c.args.self.now.input.now c.args.self.now.log.now c.args.self.now.output.now)
     c.in-Missing.status c.silent.result c.silent.ensures
     (no_input (g.F.Files.seen c.args.files.now) (g.F.Files.seen c.open_input.new.files)
-    c.args.self.now.input.now c.in-Missing.status (λ t I. checked c.args.self.now.log.now I (trimming c.args.self.now.output.now)) found)
+    c.args.self.now.input.now c.in-Missing.status
+    (λ t I. checked c.args.self.now.log.now I (trimming c.args.self.now.output.now)) found)
 
 pub returns-in-Unaccepted-clause-comes : goal.returns-in-Unaccepted-clause-comes
 returns-in-Unaccepted-clause-comes g c =

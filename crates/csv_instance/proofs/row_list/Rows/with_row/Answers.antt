@@ -96,7 +96,8 @@ invariant_of-result c =
         map-append value_of c.self.inside.values.items (c.in-Ok.value ∷ []),
       )
           (rw (i.values, (c.in-Ok.ensures.value h i.places).1) refl);
-      limits = rw values (All-append AreKeptValues c.self.inside.values.items (c.in-Ok.value ∷ []) i.limits (all_cons AreKeptValues c.in-Ok.value [] c.in-Ok.ensures.limits (All-nil AreKeptValues)));
+      limits = rw values (All-append AreKeptValues c.self.inside.values.items (c.in-Ok.value ∷ []) i.limits
+          (all_cons AreKeptValues c.in-Ok.value [] c.in-Ok.ensures.limits (All-nil AreKeptValues)));
       ids = rw items (ids-more (λ k. k.items)
           (λ (r : Row). field_of h
           (fields_of r) Id) c.self.inside.ids.keys c.self.inside.rows.items c.in-Ok-from_slice.id c.args.row i.ids fresh

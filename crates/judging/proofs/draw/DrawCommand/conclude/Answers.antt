@@ -17,7 +17,8 @@ returns-in-Missing-clause-comes g c =
     c.in-Missing.status c.silent.result c.silent.ensures
     (no_input (g.F.Files.seen c.args.files.now) (g.F.Files.seen c.open_input.new.files)
     c.args.self.now.input.now c.in-Missing.status
-    (λ t I. judged c.args.self.now.layout.now t I (2 ^ 60) (λ offsets. Ends (drawing c.args.self.now.output.now t I offsets)))
+    (λ t I. judged c.args.self.now.layout.now t I (2 ^ 60)
+    (λ offsets. Ends (drawing c.args.self.now.output.now t I offsets)))
     found)
 
 pub returns-in-NoLayout-clause-comes : goal.returns-in-NoLayout-clause-comes
