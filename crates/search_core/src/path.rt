@@ -21,11 +21,19 @@ use skyline::Skyline;
 use std::alloc::Global;
 use std::marker::Model;
 
-/// Of how many claims the branches are kept, the last ones above the one that the search is at.
-const NEAR: usize = 256;
+/// The branches of the last claims above the one that the search is at are kept, as many as have
+/// about so many levels together.
+const NEAR_LEVELS: u32 = 1 << 17;
 
 /// Of the claims above these the branches of one in so many are kept.
 const STRIDE: usize = 128;
+
+/// How many claims of the instance have about as many levels as are kept.
+fn near_claims(instance: &Instance) -> usize
+    ensures { 0 < result }
+{
+    (NEAR_LEVELS / (instance.len() + 1)) as usize + 1
+}
 
 /// The claim above the one that a search is at: its levels, and the choice that was taken.
 #[derive(Drop)]
@@ -101,8 +109,9 @@ impl<'a> Path<'a> {
     fn forget(&mut self)
         ensures { self.new ≡ self.old }
     {
-        if self.kept.len() >= NEAR {
-            let far = self.kept.len() - NEAR;
+        let near = near_claims(self.instance());
+        if self.kept.len() >= near {
+            let far = self.kept.len() - near;
             if far % STRIDE != 0 {
                 self.kept[far].forget();
             }
