@@ -19,7 +19,7 @@ use Rattle.planner.specs.declared.decision.Decision.TheVariants as decision
 use Rattle.planner.proofs.ExampleFacts.{five_moment}
 use Rattle.planner.proofs.ExampleLeastFacts.{below_bound, below_log, four_is_open, line_refutes}
 use Rattle.planner.proofs.StepFacts.{best_at_5}
-use Rattle.packer.specs.Packs.{AreUsedUp, IfLeftOpen, IsPackedOpen, IsTrimmed, Packs, PacksWithin, placing_cost, placing_steps, RefutesOneLess, RefutesWithin}
+use Rattle.packer.specs.Packs.{AreUsedUp, IfLeftOpen, IsPackedOpen, IsTrimmed, Packs, PacksWithin, placing_pairs, placing_steps, placings, RefutesOneLess, RefutesWithin}
 use Rattle.packer.specs.Reached.{IsLogWithin, IsReached}
 use Rattle.packer.specs.Starts.{IsOpenFrom}
 use Rattle.packer.proofs.Brief.{bound_line, one_line}
@@ -235,14 +235,17 @@ two_of_twelve = refl
 few_of_many : placing_steps 1000000 ≡ 65536
 few_of_many = refl
 
-one_for_362 : placing_cost 362 ≡ 1
-one_for_362 = refl
+eight_a_step_for_none : placings 0 48 ≡ 64
+eight_a_step_for_none = refl
 
-two_for_363 : placing_cost 363 ≡ 2
-two_for_363 = refl
+one_a_step_for_478 : placings 478 60000 ≡ 10034
+one_a_step_for_478 = refl
 
-many_for_4096 : placing_cost 4096 ≡ 129
-many_for_4096 = refl
+few_for_4096 : placings 4096 60000 ≡ 155
+few_for_4096 = refl
+
+pairs_for_512 : placing_pairs 512 ≡ 294912
+pairs_for_512 = refl
 
 ten_of_twelve : AreUsedUp 12 3 13
 ten_of_twelve = refl

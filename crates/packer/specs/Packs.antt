@@ -59,9 +59,13 @@ pub record IsPackedOpen (I : Instance) (steps : ℕ) (b : Bracket) : Type 0 wher
 abbrev pub placing_steps : ℕ → ℕ
 placing_steps steps = min (steps / 6) (2 ^ 16)
 
--- how many steps it counts to place n buffers anew once, in which each pair of them may be looked at
-abbrev pub placing_cost : ℕ → ℕ
-placing_cost n = 1 + n * n / 2 ^ 17
+-- how many pairs of buffers it counts to place n buffers anew once
+abbrev pub placing_pairs : ℕ → ℕ
+placing_pairs n = n * n + 2 ^ 15
+
+-- how often n buffers are placed anew in so many steps, at 2^18 pairs a step
+abbrev pub placings : (n steps : ℕ) → ℕ
+placings n steps = placing_steps steps * 2 ^ 18 / placing_pairs n
 
 -- the searches have used all the other steps
 abbrev pub AreUsedUp : (steps before after : ℕ) → Type 0

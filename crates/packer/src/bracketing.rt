@@ -1,10 +1,10 @@
 //! The bracket in which to pack.
 
-ghost use Rattle.std.specs.Prelude.{◌≡◌, ◌-◌, ◌/◌, ◌≤◌, IfOk, length};
+ghost use Rattle.std.specs.Prelude.{◌≡◌, ◌-◌, ◌≤◌, IfOk, length};
 ghost use Rattle.dsa_terms.specs.Plans.{layout_height};
 ghost use Rattle.dsa_terms.specs.Starts.{best_start};
 ghost use Rattle.first_fit.specs.Starts.{IsStart};
-ghost use Rattle.packer.specs.Packs.{placing_cost, placing_steps};
+ghost use Rattle.packer.specs.Packs.{placing_pairs, placing_steps, placings};
 ghost use Rattle.packer.specs.Starts.{IsOpenFrom};
 
 use dsa_model::{Instance, NoMemory};
@@ -17,14 +17,17 @@ use std::alloc::Global;
 const PLACING_LIMIT: u64 = 1 << 16;
 
 /// How many pairs of buffers are looked at for a step.
-const PAIRS: u64 = 1 << 17;
+const PAIRS: u64 = 1 << 18;
 
-/// How many steps placing all buffers anew counts as.
-fn placing_cost(instance: &Instance) -> u64
-    ensures { result ≡ placing_cost (length instance.now) }
+/// How many pairs of buffers placing all of them anew counts as, beside those that there are.
+const FURTHER_PAIRS: u64 = 1 << 15;
+
+/// How many pairs of buffers placing all of them anew counts as.
+fn placing_pairs(instance: &Instance) -> u64
+    ensures { result ≡ placing_pairs (length instance.now) }
 {
     let count = instance.len() as u64;
-    1 + count * count / PAIRS
+    count * count + FURTHER_PAIRS
 }
 
 /// The bracket with the layout of the start. The caller owes one that is no higher than the best of
@@ -62,10 +65,10 @@ pub(crate) fn improved(
     ensures log { IfOk result (λ found. found.0.log ≡ bracket.log) }
     ensures steps { IfOk result (λ found. found.1 ≡ steps - placing_steps steps) }
     ensures placings { IfOk result (λ found.
-        found.2 ≤ placing_steps steps / placing_cost (length instance.now)) }
+        found.2 ≤ placings (length instance.now) steps) }
 {
     let share = (steps / 6).min(PLACING_LIMIT);
-    let passes = share / placing_cost(instance);
+    let passes = share * PAIRS / placing_pairs(instance);
     let start = Start {
         height: bracket.high,
         offsets: bracket.layout.to_vec(alloc)?,
