@@ -38,7 +38,8 @@ length_ordered before (b ∷ bs) = length_put before b (ordered_by before bs) �
 
 is_order : (I : Instance) → IsOrderOf I (by_size I)
 is_order I = record {
-  count = length_ordered (falls_by (λ (b : Buffer). b.size) I) (numbers (length I)) ∙ length-range_with_len 0 (length I);
+  count = length_ordered (falls_by (λ (b : Buffer). b.size) I) (numbers (length I))
+      ∙ length-range_with_len 0 (length I);
   in_range = all_from_in (λ b. b < length I) (by_size I) (λ b i.
       let z = (from_range (length I) 0 b
       (from_ordered_by (falls_by (λ (b : Buffer). b.size) I) (numbers (length I)) b i)).1 in
@@ -48,7 +49,8 @@ is_order I = record {
 }
 
 -- the first start ends below 2 ^ 54
-pub first_low : (I : Instance) → All IsBuffer I → length I ≤ buffer_limit → layout_height I (first_fit I (by_size I)) < 2 ^ 54
+pub first_low : (I : Instance) → All IsBuffer I → length I ≤ buffer_limit →
+    layout_height I (first_fit I (by_size I)) < 2 ^ 54
 unfolding first_fit
 first_low I all few = fitting_limit I first_place (by_size I) (first_fit I (by_size I))
     (first_is_low I (sound_instance I all)) all (is_order I) few refl

@@ -89,11 +89,13 @@ unfolding stack pile counted floor rounded_size is_live buffer
 twelve_stacked = refl
 
 five_bound : lower_bound five ≡ 12
-unfolding lower_bound highest_stack highest_at heights moduli moments stack pile counted floor rounded_size is_live buffer
+unfolding lower_bound highest_stack highest_at heights moduli moments stack pile counted floor rounded_size is_live
+    buffer
 five_bound = refl
 
 five_modulus : bound_modulus five ≡ 1
-unfolding bound_modulus least_of lower_bound highest_stack highest_at heights moduli moments stack pile counted floor rounded_size is_live buffer
+unfolding bound_modulus least_of lower_bound highest_stack highest_at heights moduli moments stack pile counted floor
+    rounded_size is_live buffer
 five_modulus = refl
 
 abbrev pub five_log : Log

@@ -143,7 +143,8 @@ open_from I b all few h w =
     let at = at_bound I b.low h.below_log h.stays_open.positive refuted.its_capacity below in
     opens I b h.below_log all few h.its_log h.stays_open at.0 at.1 h.to_best
 
-pub open_at : (I : Instance) (C : ℕ) (b : Bracket) → All IsBuffer I → length I ≤ buffer_limit → IsSpentAt I C (Some 0) b →
+pub open_at : (I : Instance) (C : ℕ) (b : Bracket) → All IsBuffer I → length I ≤ buffer_limit →
+    IsSpentAt I C (Some 0) b →
     IsOpenFrom I b
 open_at I C b all few h = opens I b h.bound_log all few h.its_log h.stays_open h.low_is_bound h.by_bound
     (let e = h.high_is_best in omega arith)

@@ -21,7 +21,8 @@ fn brief(alloc: Global, instance: &Instance, log: ClosedLog) -> Result<ClosedLog
     ensures capacity { IfOk result (λ brief. brief.capacity ≡ log.capacity) }
     ensures trimmed { IfOk result IsTrimmed }
     ensures fewer { IfOk result (λ brief. length brief.lines ≤ length log.lines) }
-    ensures bound { (C : ℕ) → IsBoundLog instance.now C log → IfOk result (IsBoundLog instance.now C) }
+    ensures bound { (C : ℕ) → IsBoundLog instance.now C log →
+        IfOk result (IsBoundLog instance.now C) }
 {
     if log.len() <= 1 {
         return Ok(log);

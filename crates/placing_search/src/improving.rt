@@ -24,8 +24,8 @@ pub struct Improved {
 ///
 /// It climbs from one order of the buffers after another, from that of the lowest stack first, two
 /// of them changing places: an order is judged by stacking the buffers from below, and kept where
-/// the stack is no higher than the one before. A climb ends where many stacks have not lowered the height, with first-fit in the order
-/// of its lowest stack, whose layout counts.
+/// the stack is no higher than the one before. A climb ends where many stacks have not lowered the
+/// height, with first-fit in the order of its lowest stack, whose layout counts.
 pub fn improve(
     alloc: Global,
     instance: &Instance,

@@ -43,7 +43,8 @@ module _ (v : Vec ℕ) where
   second_first e = rw e in_both
 
   one_is_left_out : v.items ≡ 1 ∷ [] → IsOtherOrder two_of_four v → ⊥
-  one_is_left_out e h = let k : length v.items ≡ 2 = h.count in let q : length {A = ℕ} (1 ∷ []) ≡ 2 = rw e at k in omega (arith, q)
+  one_is_left_out e h = let k : length v.items ≡ 2 = h.count in let q : length {A = ℕ} (1 ∷ []) ≡ 2 = rw e at k in
+      omega (arith, q)
 
   -- ---- what is found in another order
   laid_at_7 : v.items ≡ 0 ∷ 4 ∷ [] → IsCarriedBack two_of_four 7 (Layout v)

@@ -20,7 +20,8 @@ returns-in_ok-brief_bracket-in-Exact-2-clause-value g c =
     let h = c.in_ok-bracket-2.ensures in
     let brief = c.in_ok-brief_bracket-in-Exact-2.ensures in
     let r = reached I c.args.steps c.in_ok-start.left _ _ c.in_ok-start.start found c.in_ok-start.ensures.bracket
-    (rw c.in-Exact-2.is at h.narrowed) h.used (let e = c.in_ok-start.ensures.steps in omega arith) (rw c.in-Exact-2.is at h.log) in
+    (rw c.in-Exact-2.is at h.narrowed) h.used (let e = c.in_ok-start.ensures.steps in omega arith)
+    (rw c.in-Exact-2.is at h.log) in
     tight I c.args.steps found c.in_ok-brief_bracket-in-Exact-2.field-0 r (brief.between c.args.steps r) brief.low
     brief.high (rw c.in-Exact-2.is at h.exact) (rw c.in-Exact-2.is at h.least)
 
@@ -31,6 +32,7 @@ returns-in_ok-brief_bracket-in-Open-2-clause-value g c =
     let h = c.in_ok-bracket-2.ensures in
     let brief = c.in_ok-brief_bracket-in-Open-2.ensures in
     let r = reached I c.args.steps c.in_ok-start.left _ _ c.in_ok-start.start found c.in_ok-start.ensures.bracket
-    (rw c.in-Open-2.is at h.narrowed) h.used (let e = c.in_ok-start.ensures.steps in omega arith) (rw c.in-Open-2.is at h.log) in
+    (rw c.in-Open-2.is at h.narrowed) h.used (let e = c.in_ok-start.ensures.steps in omega arith)
+    (rw c.in-Open-2.is at h.log) in
     apart I c.args.steps found c.in_ok-brief_bracket-in-Open-2.field-0 r (brief.between c.args.steps r) brief.low
     brief.high (rw c.in-Open-2.is at h.open)
