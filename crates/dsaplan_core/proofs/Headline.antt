@@ -14,12 +14,14 @@ use Rattle.run_course.specs.Course.{Comes, Outcome, Write}
 use Rattle.run_course.specs.Answers.{Answers, AreBroken, Leaves, as_told, with_writes}
 use Rattle.dsaplan_core.specs.Courses.{course, course_with}
 use Rattle.dsaplan_core.specs.Theorem.{Headline}
+use Rattle.dsaplan_core.specs.Derived.{Derived}
 use Rattle.dsaplan_core.specs.Choice.{Choice}
 use Rattle.dsaplan_core.specs.Causes.{IsCaused}
 use Rattle.dsaplan_core.specs.Lost.{Blames, IsOwnWrite, LosesFile}
 use Rattle.dsaplan_core.specs.Refused.{IsMisuse}
 use Rattle.dsaplan_core.specs.Shown.{Shows, Tells}
 use Rattle.dsaplan_core.proofs.Answered.{answered, words_give}
+use Rattle.dsaplan_core.proofs.Promised.{Promised, to_derived, to_headline}
 use Rattle.dsaplan_core.proofs.Promises.{AreOwn, Promises}
 use Rattle.dsaplan_core.proofs.Solving.{solve_promises}
 use Rattle.dsaplan_core.proofs.Finding.{least_promises}
@@ -71,7 +73,7 @@ module _ (words : List Word) (old new : FilesSeen) where
   -- what is promised of an outcome of the words that is written
   abbrev Holds : Outcome → Type 0
   Holds o = new.held ≡ with_writes old.held o.writes →
-      Headline words old new o.status × Choice words old new o.status × Tells words old new o.status o.text
+      Promised words old new o.status × Choice words old new o.status × Tells words old new o.status o.text
       × Blames words old new o.status
 
   written : (o : Outcome) → Comes old new (course words) o → Holds o
@@ -102,7 +104,13 @@ module _ (words : List Word) (old new : FilesSeen) where
   module _ (before after : SinkSeen) where
     pub headline : (s : Status) → Answers (course words) old new before after s → Headline words old new s
     headline = answered (course words) old new before after (Headline words old new)
-        (λ o comes files. (written o comes files).0) (λ role o comes left. tt) (λ rose. tt) tt
+        (λ o comes files. to_headline words old new o.status (written o comes files).0) (λ role o comes left. tt)
+        (λ rose. tt) tt
+
+    pub derived : (s : Status) → Answers (course words) old new before after s → Derived words old new s
+    derived = answered (course words) old new before after (Derived words old new)
+        (λ o comes files. to_derived words old new o.status (written o comes files).0) (λ role o comes left. tt)
+        (λ rose. tt) tt
 
     pub choice : (s : Status) → Answers (course words) old new before after s → Choice words old new s
     choice = answered (course words) old new before after (Choice words old new)

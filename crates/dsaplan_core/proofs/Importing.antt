@@ -17,7 +17,7 @@ use Rattle.run_course.specs.Readings.{IsWholeFile}
 use Rattle.run_course.specs.Course.{Comes, Outcome}
 use Rattle.importing.specs.Importing.{imports}
 use Rattle.dsaplan_core.specs.Courses.{course_with}
-use Rattle.dsaplan_core.specs.Theorem.{AskedOf}
+use Rattle.dsaplan_core.specs.Derived.{AskedOf}
 use Rattle.dsaplan_core.proofs.Gives as gives
 use Rattle.dsaplan_core.proofs.Promises.{Promises}
 use Rattle.dsaplan_core.proofs.Refusals.{unreadable}

@@ -4,6 +4,7 @@ mod Requests
 mod Held
 mod ParsedInstances
 mod TrimmedTexts
+mod Promised
 mod Promises
 mod Refusals
 mod Solving

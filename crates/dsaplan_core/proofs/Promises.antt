@@ -10,10 +10,11 @@ use Rattle.command_words.specs.declared.option.OptionName.TheVariants as option
 use Rattle.run_course.specs.Course.{Outcome, Write}
 use Rattle.run_course.specs.Answers.{with_writes}
 use Rattle.readings.specs.Opens.{IsInput}
-use Rattle.dsaplan_core.specs.Theorem.{Asked, Headline}
+use Rattle.dsaplan_core.specs.Theorem.{Asked}
 use Rattle.dsaplan_core.specs.Choice.{Choice}
 use Rattle.dsaplan_core.specs.Lost.{Blames, IsOwnWrite}
 use Rattle.dsaplan_core.specs.Shown.{Tells}
+use Rattle.dsaplan_core.proofs.Promised.{Promised}
 
 -- all writes are of files that the command writes
 abbrev pub AreOwn : Request → List Write → Type 0
@@ -23,7 +24,7 @@ AreOwn r (w ∷ ws) = IsOwnWrite r w × AreOwn r ws
 -- what is promised once the outcome is written; its writes are of files that the command writes
 abbrev pub Promises : List Word → FilesSeen → FilesSeen → Request → Outcome → Type 0
 Promises words old new r o = (new.held ≡ with_writes old.held o.writes →
-    Headline words old new o.status × Choice words old new o.status × Tells words old new o.status o.text
+    Promised words old new o.status × Choice words old new o.status × Tells words old new o.status o.text
     × Blames words old new o.status)
     × AreOwn r o.writes
 
