@@ -57,8 +57,7 @@ unrolled_text P table = changed_text table (wraps_from P 0 (values_of table))
 
 -- ---- what they come to
 -- the instance that a table gives: that of its rows, each unrolled, of which each is a buffer; its text parses as it;
--- and
--- it has just the layouts that hold at every moment of endless time
+-- and it has just the layouts that hold at every moment of endless time
 pub record IsUnrolled (P : ℕ) (table : List Record) (I : Instance) : Type 0 where
   pub rows : List Buffer
   pub read : parse_rows table ≡ Ok rows

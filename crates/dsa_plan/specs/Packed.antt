@@ -11,8 +11,7 @@ use Rattle.dsa_plan.specs.declared.answers.LeastAnswer.{LeastAnswer}
 use Rattle.dsa_plan.specs.declared.answers.LeastAnswer.TheVariants.{Least, Open}
 
 -- the capacity is the least one, and the offsets are a layout of that height; a log refutes one byte less, the bound's
--- or
--- one with no more lines than steps
+-- or one with no more lines than steps
 pub record IsPackedLeast (I : Instance) (C steps : ℕ) (offsets : List ℕ) : Type 0 where
   pub refutation : Option Log
   pub refuted : RefutesOneLess I C steps refutation
@@ -22,8 +21,7 @@ pub record IsPackedLeast (I : Instance) (C steps : ℕ) (offsets : List ℕ) : T
 
 -- the least capacity lies between the ends, and the offsets are a layout of the height of the upper one, which is no
 -- higher than the best start; a log refutes one byte less than the lower one, the bound's or one with no more lines
--- than
--- steps
+-- than steps
 pub record IsPackedBetween (I : Instance) (low high steps : ℕ) (offsets : List ℕ) : Type 0 where
   pub refutation : Option Log
   pub refuted : RefutesOneLess I low steps refutation

@@ -44,8 +44,7 @@ IsAnswer I C steps offsets Open = IsCutShort I C steps
 IsAnswer I C steps offsets _ = Unit {0}
 
 -- there is a log by which none fits within one byte less, unless `low` is 0, and the steps are enough for it and for
--- the
--- offsets, where the starts and the bound do not give them
+-- the offsets, where the starts and the bound do not give them
 pub record HasLogBelow (I : Instance) (low : ℕ) (steps : Option ℕ) (offsets : List ℕ) : Type 0 where
   pub refutation : Option Log
   pub refuted : RefutesBelow I low refutation
@@ -60,8 +59,7 @@ pub record IsLeastPlan (I : Instance) (C : ℕ) (steps : Option ℕ) (offsets : 
   pub log : HasLogBelow I C steps offsets
 
 -- the least capacity lies between the ends, the offsets are the plan at the upper one, a layout of that height; the
--- steps
--- are fewer than the work that is left, and enough for what the starts and the bound do not give
+-- steps are fewer than the work that is left, and enough for what the starts and the bound do not give
 pub record IsBetween (I : Instance) (steps : Option ℕ) (low high : ℕ) (offsets : List ℕ) : Type 0 where
   pub ends_apart : low < high
   pub from_bound : lower_bound I ≤ low

@@ -1,9 +1,8 @@
 -- Which of several right answers a run gives, and what its steps have to do with it. With `solve` and `least` the
--- layout
--- that is written is the plan; a log is without waste; where a number of steps is given, a layout that no start gives
--- comes only where it is 1 or more, and a log at a capacity that the lower bound leaves open has no more lines; 'open'
--- comes only where the steps may be too few. With `pack` a log is without needless lines, and is the bound's or has no
--- more lines than steps; the ends of 'open' are no worse than the lower bound and the best start.
+-- layout that is written is the plan; a log is without waste; where a number of steps is given, a layout that no start
+-- gives comes only where it is 1 or more, and a log at a capacity that the lower bound leaves open has no more lines;
+-- 'open' comes only where the steps may be too few. With `pack` a log is without needless lines, and is the bound's or
+-- has no more lines than steps; the ends of 'open' are no worse than the lower bound and the best start.
 use Rattle.std.specs.Prelude.{◌≡◌, ◌-◌, ◌<◌, ◌≤◌, ◌↔◌, ◌⊎◌, ℕ, List, [], length, IsSome, IfSome, Option, Some, None}
 use Rattle.dsa_terms.specs.Bounds.{lower_bound}
 use Rattle.dsa_terms.specs.Buffers.{Instance}
@@ -58,8 +57,7 @@ MayStayOpen verb.Least pairs (Some k) I L H = IsShortOfHunt I k L H
 MayStayOpen verb pairs steps I L H = ⊥
 
 -- the log's file holds a log at the capacity, each line of which but the last is cited by a later one; it is the
--- bound's,
--- or a step is given for each of its lines
+-- bound's, or a step is given for each of its lines
 pub record HoldsBrief {words : List Word} {old : FilesSeen} (a : Asked words old) (new : FilesSeen)
     (C : ℕ) : Type 0 where
   pub refutation : Log

@@ -11,7 +11,7 @@ HasAllOf I s u = (b : ℕ) → b < length I → IsLive (buffer I b) u → IsLive
 abbrev pub Gathers : Instance → ℕ → ℕ → Type 0
 Gathers I t s = (t ≤ s) × ((u : ℕ) → t ≤ u → u ≤ s → HasAllOf I s u)
 
--- of the moments that gather from the first one on that reaches the bound, s is the first that has most
+-- of the moments that gather from the first one on that reaches the bound by its modulus, s is the first that has most
 pub record IsBoundMoment (I : Instance) (s : ℕ) : Type 0 where
   pub first : ℕ
   pub reached : highest_at I first (bound_modulus I) ≡ lower_bound I

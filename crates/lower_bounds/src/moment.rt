@@ -9,8 +9,8 @@ ghost use Rattle.lifetime.specs.Runs.{starts_of};
 ghost use Rattle.lifetime.specs.SectionList.{SectionList};
 ghost use Rattle.lower_bounds.specs.BoundMoment.{IsBoundMoment};
 
-/// The moment of the bound is the start of the first section of the instance that reaches it, and
-/// there is one such moment.
+/// The moment of the bound is the start of the first section of the instance that reaches it by the
+/// bound's modulus, and there is one such moment.
 pub fn bound_moment_is_one()
     ensures section { (I : Instance) (S : SectionList) → AreSections I S → 1 ≤ lower_bound I →
         IsBoundMoment I (bound_moment I (starts_of S.sections)) }

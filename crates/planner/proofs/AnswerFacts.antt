@@ -1,9 +1,9 @@
 -- What is decided of capacities, and found of least ones, on two buffers of size 3 aligned to four, whose least
 -- capacity is 7, and on a small buffer that belongs below, whose least capacity stays open without steps.
-use Rattle.std.proofs.Common.{◌≡◌, ◌<◌, ℕ, ◌+◌, ◌≤◌, inl, inr, [], ◌∷◌, Some, None, refl, sym, ap, subst, ◌∙◌, ◌-◌, lit<, lit≤, arith}
+use Rattle.std.proofs.Common.{◌≡◌, ◌<◌, ℕ, ◌+◌, ◌≤◌, inl, inr, [], ◌∷◌, length, Some, None, refl, sym, ap, subst, ◌∙◌, ◌-◌, lit<, lit≤, arith}
 use Rattle.std.specs.Global.{Vec}
 use Rattle.dsa_terms.specs.Bounds.{counted, highest_stack, lower_bound, moduli, moments, rounded_size, stack, stack_log, pile, heights, highest_at, stack_line, line_height}
-use Rattle.dsa_terms.specs.Buffers.{buffer, do_share, have_same_moments, is_live, some_before, floor}
+use Rattle.dsa_terms.specs.Buffers.{Instance, buffer, do_share, have_same_moments, is_live, some_before, floor}
 use Rattle.dsa_terms.specs.Claims.{child, step, up}
 use Rattle.dsa_terms.specs.Fits.{best_fit, best_place, first_fit, first_passing, first_place, free_ranges, highest, holds, is_free, is_tighter, neighbours, stretches, top, least_from}
 use Rattle.dsa_terms.specs.Layouts.{IsInfeasible, IsLayout}
@@ -19,8 +19,10 @@ use Rattle.dsa_start_laws.proofs.Planned.{planned_is_layout}
 use Rattle.min_capacity.specs.declared.brackets.Bracket.{Bracket}
 use Rattle.min_capacity.specs.declared.brackets.Least.TheVariants as least
 use Rattle.planner.specs.Decides.{IsAnswered}
-use Rattle.planner.specs.Decisions.{Decides, IsByBound, IsByLog, IsLaidOut}
+use Rattle.planner.specs.Decisions.{Decides, IsByBound, IsByLog, IsExact, IsLaidOut}
 use Rattle.planner.specs.LeastCapacity.{FindsLeast, IsOpenAfter, work_of_least}
+use Rattle.planner.specs.Openings.{AreEnough}
+use Rattle.dsa_search_laws.specs.Searches.{most_work}
 use Rattle.planner.specs.declared.decision.Decision.TheVariants.{Layout, Open, Refuted}
 use Rattle.planner.proofs.ExampleFacts.{bound_log, one_line}
 use Rattle.planner.proofs.ExampleLeastFacts.{below_best, below_bound, four_is_open, four_is_spent, line_refutes, seven_is_exact, seven_stacked, two_sound}
@@ -111,15 +113,27 @@ module _ (b : Bracket) where
   open_is_not_by_the_bound : IsByBound small_below 4 (Open b) → ⊥
   open_is_not_by_the_bound h = h
 
+-- ---- enough steps: a search of two buffers opens at most five claims
+five_are_enough : (I : Instance) → length I ≡ 2 → AreEnough I (Some 5)
+five_are_enough I two = rw two (omega arith)
+
+four_are_not_enough : (I : Instance) → length I ≡ 2 → AreEnough I (Some 4) → ⊥
+four_are_not_enough I two h = let most = subst (λ n. most_work n ≤ 4) two h in absurd (omega (arith, most))
+
+no_number_is_enough : AreEnough small_below None
+no_number_is_enough = tt
+
+-- what stays open says nothing of the capacity
+open_is_not_exact : (I : Instance) (C : ℕ) (b : Bracket) → IsExact I C (Open b) → ⊥
+open_is_not_exact I C b h = h.1.1 (λ offsets layout. h.0.1 (offsets, layout))
+
 -- ---- least capacities
 below_work : work_of_least small_below ≡ 4
 unfolding hunted hunt whole_work work planned plan layout_height starts orders falls_by rises_by first_fit best_fit
     neighbours first_place floor first_passing best_place free_ranges stretches holds least_from is_tighter is_free
-    highest top do_share
-    some_before is_live buffer searched parts part_of is_cut last_cut first is_tall comes_before ends_below is_twin
-    child up step have_same_moments lower_bound highest_stack highest_at heights moduli moments stack pile counted
-    rounded_size best_start
-    lowest_place
+    highest top do_share some_before is_live buffer searched parts part_of is_cut last_cut first is_tall comes_before
+    ends_below is_twin child up step have_same_moments lower_bound highest_stack highest_at heights moduli moments stack
+    pile counted rounded_size best_start lowest_place
 below_work = refl
 
 -- three steps are too few

@@ -57,8 +57,7 @@ no_facts = record { buffers = 0; peak = None; parts = 0; bound = 0; modulus = 1;
 
 pub facts_of_none : AreFactsOf [] no_facts
 unfolding parts part_of last_cut is_cut bound_modulus least_of lower_bound highest_stack highest_at heights moduli
-    moments stack pile counted floor
-    layout_height best_start lowest_place starts orders first_fit best_fit
+    moments stack pile counted floor layout_height best_start lowest_place starts orders first_fit best_fit
 facts_of_none = record { buffers = refl; peak = refl; parts = refl; bound = refl; modulus = refl; best = refl }
 
 -- ---- steps

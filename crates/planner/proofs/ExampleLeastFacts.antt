@@ -30,11 +30,9 @@ use Rattle.planner.specs.Openings.{AreTooFew, StaysOpen, IsSpentAt}
 evens_work : work_of_least evens ≡ 6
 unfolding hunted hunt whole_work work planned plan layout_height starts orders falls_by rises_by first_fit best_fit
     neighbours first_place floor first_passing best_place free_ranges stretches holds least_from is_tighter is_free
-    highest top do_share
-    some_before is_live buffer searched parts part_of is_cut last_cut first is_tall comes_before ends_below is_twin
-    child up step have_same_moments lower_bound highest_stack highest_at heights moduli moments stack pile counted
-    rounded_size best_start
-    lowest_place
+    highest top do_share some_before is_live buffer searched parts part_of is_cut last_cut first is_tall comes_before
+    ends_below is_twin child up step have_same_moments lower_bound highest_stack highest_at heights moduli moments stack
+    pile counted rounded_size best_start lowest_place
 evens_work = refl
 
 five_steps : AreTooFew (Some 5) (work_of_least evens)
@@ -50,9 +48,8 @@ no_number work h = let g = h.given in cc
 halving_evens : hunted evens 4 5 ≡ 6
 unfolding hunted hunt whole_work work planned plan layout_height starts orders falls_by rises_by first_fit best_fit
     neighbours first_place floor first_passing best_place free_ranges stretches holds least_from is_tighter is_free
-    highest top do_share
-    some_before is_live buffer searched parts part_of is_cut last_cut first is_tall comes_before ends_below is_twin
-    child up step have_same_moments
+    highest top do_share some_before is_live buffer searched parts part_of is_cut last_cut first is_tall comes_before
+    ends_below is_twin child up step have_same_moments
 halving_evens = refl
 
 evens_at_4 : whole_work evens 4 ≡ 6
@@ -127,8 +124,7 @@ seven_is_exact b low high layout log = record {
 nothing_planned : planned [] 0 ≡ Some []
 unfolding planned plan layout_height starts orders falls_by rises_by first_fit best_fit neighbours first_place floor
     first_passing best_place free_ranges stretches holds least_from is_tighter is_free highest top do_share some_before
-    is_live
-    buffer searched parts part_of is_cut last_cut first is_tall comes_before ends_below is_twin child up step
+    is_live buffer searched parts part_of is_cut last_cut first is_tall comes_before ends_below is_twin child up step
     have_same_moments
 nothing_planned = refl
 
@@ -187,8 +183,7 @@ below_modulus = refl
 pub below_best : best_start small_below ≡ 0 ∷ 4 ∷ []
 unfolding best_start lowest_place layout_height starts orders falls_by rises_by first_fit best_fit neighbours
     first_place floor first_passing best_place free_ranges stretches holds least_from is_tighter is_free highest top
-    do_share
-    some_before is_live buffer
+    do_share some_before is_live buffer
 below_best = refl
 
 pub below_log : IsBoundLog small_below 3 (stack_log small_below 0 0 1 3)

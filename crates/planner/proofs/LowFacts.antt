@@ -23,8 +23,7 @@ no_lower H (inr (inr (inr i))) h = absurd i
 
 ten_from_six : IsLowerBound low (ten_from 6)
 unfolding bound_modulus least_of lower_bound highest_stack highest_at heights floor stack pile counted rounded_size
-    moduli
-    moments is_live buffer
+    moduli moments is_live buffer
 ten_from_six = record {
   capacity = refl;
   modulus = refl;
@@ -44,8 +43,7 @@ ten_from_zero h = elim h.reached [
 -- the first buffer alone, from 6 on, is too much for 9
 low_log : IsBoundLog low 9 (record { count = 2; capacity = 9; lines = Over ((0, 6) ∷ []) 0 6 1 ∷ []; final = 0 })
 unfolding bound_modulus least_of lower_bound highest_stack highest_at heights floor stack pile counted rounded_size
-    moduli
-    moments is_live buffer stack_log stack_line line_height
+    moduli moments is_live buffer stack_log stack_line line_height
 low_log = record {
   moment = 0;
   height = 6;

@@ -37,9 +37,8 @@ below_the_bound k L H h =
 halving : hunted small_below 4 5 ≡ 4
 unfolding hunted hunt whole_work work plan layout_height starts orders falls_by rises_by first_fit best_fit neighbours
     first_place floor first_passing best_place free_ranges stretches holds least_from is_tighter is_free highest top
-    do_share
-    some_before is_live buffer searched parts part_of is_cut last_cut first is_tall comes_before ends_below is_twin
-    child up step have_same_moments
+    do_share some_before is_live buffer searched parts part_of is_cut last_cut first is_tall comes_before ends_below
+    is_twin child up step have_same_moments
 halving = refl
 
 its_hunt : hunted small_below (lower_bound small_below) (layout_height small_below (best_start small_below)) ≡ 4

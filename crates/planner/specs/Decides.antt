@@ -21,8 +21,7 @@ pub record LeavesNoLayout (I : Instance) (C : ℕ) (log : Log) : Type 0 where
   pub lean : IsLean I log
 
 -- the one line of the stack that is as high as the lower bound, at the bound's moment, by its modulus and from the
--- least
--- height with which it is as high
+-- least height with which it is as high
 pub record IsBoundLog (I : Instance) (C : ℕ) (log : Log) : Type 0 where
   pub moment : ℕ
   pub height : ℕ

@@ -37,8 +37,7 @@ module _ (lines : List Line) (before now buffers : List ℕ) where
   ]
 
   -- where none is left and these are the buffers that rose, the watches of all fail: none of another buffer is below
-  -- the
-  -- level now and not below the one before
+  -- the level now and not below the one before
   pub fail_at_all : (watches : List Entry) (left : List ℕ) → left ≡ [] → AreTheRaised before now buffers →
       FailBut lines before now watches buffers left → (b : ℕ) → FailAt lines watches now b (slice_index before b)
   fail_at_all watches left q raised h b k line e is at n from below =
