@@ -4,7 +4,6 @@ use Rattle.std.proofs.Math.ListN.{set, length-set}
 use Rattle.std.proofs.lemmas.List.Elements.{All-set}
 use Rattle.std.specs.List.{All, swap}
 use Rattle.std.specs.Int.{next_multiple_of}
-use Rattle.std.proofs.lemmas.List.Sorted.{All-permutation, IsPermutation-swap, length_permutation}
 use Rattle.dsa_terms.specs.Buffers.{Buffer, Instance, floor}
 use Rattle.dsa_model.specs.Buffer.{IsBuffer}
 use Rattle.first_fit.specs.Rules.{IsOrderOf}
@@ -20,27 +19,27 @@ pub floor_is_low : (b : Buffer) → IsBuffer b → floor b ≤ 2 ^ 61
 unfolding floor
 floor_is_low b h = let le = h.within_lowest in raised_is_low b b.lowest h (omega arith)
 
--- two places of a stack change what stands there
-pub stack_swapped : (I : Instance) (s t : Stack) (a b : ℕ) → a < length I → b < length I →
-    t.order.items ≡ swap s.order.items a b → t.lows.items ≡ swap s.lows.items a b → IsStackOf I s → IsStackOf I t
-stack_swapped I s t a b la lb e f h =
+-- two places of a stack's order change what stands there, and the offset of one buffer to one that is not too large
+pub stack_swapped : (I : Instance) (s t : Stack) (a b k low : ℕ) → a < length I → b < length I → low ≤ 2 ^ 61 →
+    t.order.items ≡ swap s.order.items a b → length t.ends.items ≡ length I → t.lows.items ≡ set s.lows.items k low →
+    IsStackOf I s → IsStackOf I t
+stack_swapped I s t a b k low la lb le e f g h =
     let m = h.each_once.count in
-    let n = h.count in
-    let moved = IsPermutation-swap s.lows.items t.lows.items a b (omega arith) (omega arith) f in
-    let same = length_permutation s.lows.items t.lows.items moved in
     record {
       each_once = order_swapped I s.order.items t.order.items a b (omega arith) (omega arith) e h.each_once;
-      count = omega arith;
-      limit = All-permutation (λ (low : ℕ). low ≤ 2 ^ 61) s.lows.items t.lows.items moved h.limit;
+      end_count = f;
+      count = ap length g ∙ length-set s.lows.items k low ∙ h.count;
+      limit = rw g (All-set (λ (low : ℕ). low ≤ 2 ^ 61) s.lows.items k low le h.limit);
     }
 
--- the offset at one place changes to one that is not too large
+-- the offset of one buffer changes to one that is not too large
 pub stack_set : (I : Instance) (s t : Stack) (k low : ℕ) → low ≤ 2 ^ 61 → t.order.items ≡ s.order.items →
-    t.lows.items ≡ set s.lows.items k low → IsStackOf I s → IsStackOf I t
-stack_set I s t k low le e f h = record {
+    t.ends.items ≡ s.ends.items → t.lows.items ≡ set s.lows.items k low → IsStackOf I s → IsStackOf I t
+stack_set I s t k low le e f g h = record {
   each_once = subst (IsOrderOf I) (sym e) h.each_once;
-  count = ap length f ∙ length-set s.lows.items k low ∙ h.count;
-  limit = rw f (All-set (λ (low : ℕ). low ≤ 2 ^ 61) s.lows.items k low le h.limit);
+  end_count = ap length f ∙ h.end_count;
+  count = ap length g ∙ length-set s.lows.items k low ∙ h.count;
+  limit = rw g (All-set (λ (low : ℕ). low ≤ 2 ^ 61) s.lows.items k low le h.limit);
 }
 
 -- two places get numbers that are in range

@@ -1,2 +1,3 @@
 pub mod Rankings
 pub mod Stacks
+pub mod Meetings

@@ -5,8 +5,9 @@ use Rattle.dsa_terms.specs.Buffers.{Instance}
 use Rattle.first_fit.specs.Rules.{IsOrderOf}
 use Rattle.placing_search.specs.declared.stacking.Stack.{Stack}
 
--- an order of all buffers, and for each place in it an offset that is not too large
+-- an order of all buffers, an end for each place in it, and for each buffer an offset that is not too large
 pub record IsStackOf (I : Instance) (s : Stack) : Type 0 where
   pub each_once : IsOrderOf I s.order.items
+  pub end_count : length s.ends.items ≡ length I
   pub count : length s.lows.items ≡ length I
   pub limit : All (λ low. low ≤ 2 ^ 61) s.lows.items

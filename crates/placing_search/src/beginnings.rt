@@ -2,7 +2,9 @@
 
 ghost use Rattle.std.specs.Prelude.{◌≡◌, ◌<◌, ◌≤◌, IfOk};
 ghost use Rattle.first_fit.specs.Rules.{IsOrderOf};
+ghost use Rattle.placing_search.specs.Meetings.{AreMeetingsOf};
 
+use crate::meetings::Meetings;
 use crate::rankings::Ranking;
 use crate::stacking::{HIGHEST, Stack};
 use dsa_model::{Instance, NoMemory};
@@ -42,30 +44,39 @@ pub(crate) fn beginning(
 }
 
 /// The height of the stack by this order, in bytes.
-fn stack_height(alloc: Global, instance: &Instance, order: Vec<u32>) -> Result<u64, NoMemory>
-    requires { IsOrderOf instance.now order.items }
+fn stack_height(
+    alloc: Global,
+    instance: &Instance,
+    meetings: &Meetings,
+    order: Vec<u32>,
+) -> Result<u64, NoMemory>
+    requires meetings { AreMeetingsOf instance.now meetings.now }
+    requires order { IsOrderOf instance.now order.items }
 {
-    if instance.len() == 0 {
-        return Ok(0);
-    }
     let mut stack = Stack::of(alloc, instance, &order)?;
     let ranking = Ranking::of(alloc, instance, order)?;
     Ok(
         stack
-            .restack(instance, &ranking.places, HIGHEST)
+            .restack(instance, meetings, &ranking.places, HIGHEST)
             .unwrap_or(HIGHEST),
     )
 }
 
 /// The beginning with the lowest stack, of equals the first.
-fn lowest_beginning(alloc: Global, instance: &Instance, best: &Start) -> Result<usize, NoMemory>
+fn lowest_beginning(
+    alloc: Global,
+    instance: &Instance,
+    meetings: &Meetings,
+    best: &Start,
+) -> Result<usize, NoMemory>
+    requires { AreMeetingsOf instance.now meetings.now }
     ensures { IfOk result (λ number. number < 6) }
 {
     let mut lowest = 0;
     let mut least = u64::MAX;
     for number in 0..BEGINNINGS {
         let order = beginning(alloc, instance, best, number)?;
-        let height = stack_height(alloc, instance, order)?;
+        let height = stack_height(alloc, instance, meetings, order)?;
         if height < least {
             least = height;
             lowest = number;
@@ -79,17 +90,17 @@ fn lowest_beginning(alloc: Global, instance: &Instance, best: &Start) -> Result<
 pub(crate) fn first_beginning(
     alloc: Global,
     instance: &Instance,
+    meetings: &Meetings,
     best: &Start,
-    floor: u64,
     passes: u64,
 ) -> Result<(usize, u64), NoMemory>
+    requires { AreMeetingsOf instance.now meetings.now }
     ensures number { IfOk result (λ first. first.0 < 6) }
     ensures passes { IfOk result (λ first. first.1 ≤ passes) }
-    ensures idle { best.now.height ≤ floor → IfOk result (λ first. first.1 ≡ 0) }
 {
-    if best.height <= floor || passes <= BEGINNINGS as u64 {
+    if passes <= BEGINNINGS as u64 {
         return Ok((0, 0));
     }
-    let number = lowest_beginning(alloc, instance, best)?;
+    let number = lowest_beginning(alloc, instance, meetings, best)?;
     Ok((number, BEGINNINGS as u64))
 }

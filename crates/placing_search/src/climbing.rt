@@ -3,9 +3,11 @@
 ghost use Rattle.std.specs.Prelude.{◌<◌, ◌≤◌, IfOk, length};
 ghost use Rattle.first_fit.specs.Rules.{IsOrderOf};
 ghost use Rattle.first_fit.specs.Starts.{IsStart};
+ghost use Rattle.placing_search.specs.Meetings.{AreMeetingsOf};
 
 use crate::draws::Draws;
 use crate::improving::Improved;
+use crate::meetings::Meetings;
 use crate::rankings::Ranking;
 use crate::stacking::{HIGHEST, Stack};
 use crate::swaps::two_places;
@@ -40,11 +42,13 @@ pub(crate) fn place_all(
 fn climbed(
     alloc: Global,
     instance: &Instance,
+    meetings: &Meetings,
     order: Vec<u32>,
     draws: &mut Draws,
     floor: u64,
     passes: u64,
 ) -> Result<(Vec<u32>, u64), NoMemory>
+    requires meetings { AreMeetingsOf instance.now meetings.now }
     requires order { IsOrderOf instance.now order.items }
     requires some { 0 < length instance.now }
     ensures order { IfOk result (λ climbed. IsOrderOf instance.now climbed.0.items) }
@@ -57,7 +61,7 @@ fn climbed(
     let mut next = Stack::of(alloc, instance, &order)?;
     let mut ranking = Ranking::of(alloc, instance, order)?;
     let mut height = best
-        .restack(instance, &ranking.places, HIGHEST)
+        .restack(instance, meetings, &ranking.places, HIGHEST)
         .unwrap_or(HIGHEST);
     let mut made = 1;
     let mut idle = 0;
@@ -66,7 +70,7 @@ fn climbed(
         ranking.swap(instance, later, earlier);
         made += 1;
         idle += 1;
-        match next.restack(instance, &ranking.places, height) {
+        match next.restack(instance, meetings, &ranking.places, height) {
             Some(found) => {
                 if found < height {
                     idle = 0;
@@ -87,11 +91,13 @@ fn climbed(
 pub(crate) fn climb(
     alloc: Global,
     instance: &Instance,
+    meetings: &Meetings,
     order: Vec<u32>,
     draws: &mut Draws,
     floor: u64,
     passes: u64,
 ) -> Result<Improved, NoMemory>
+    requires meetings { AreMeetingsOf instance.now meetings.now }
     requires order { IsOrderOf instance.now order.items }
     requires buffers { 0 < length instance.now }
     requires some { 0 < passes }
@@ -99,7 +105,7 @@ pub(crate) fn climb(
     ensures some { IfOk result (λ climbed. 0 < climbed.passes) }
     ensures passes { IfOk result (λ climbed. climbed.passes ≤ passes) }
 {
-    let (order, made) = climbed(alloc, instance, order, draws, floor, passes - 1)?;
+    let (order, made) = climbed(alloc, instance, meetings, order, draws, floor, passes - 1)?;
     Ok(Improved {
         start: place_all(alloc, instance, &order)?,
         passes: made + 1,

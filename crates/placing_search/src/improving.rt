@@ -6,6 +6,7 @@ ghost use Rattle.first_fit.specs.Starts.{IsStart};
 use crate::beginnings::{BEGINNINGS, beginning, first_beginning};
 use crate::climbing::climb;
 use crate::draws::Draws;
+use crate::meetings::Meetings;
 use dsa_model::{Instance, NoMemory};
 use first_fit::Start;
 use std::alloc::Global;
@@ -42,12 +43,24 @@ pub fn improve(
     ensures spent { IfOk result (λ improved.
         improved.passes < passes → improved.start.height ≤ floor) }
 {
+    if start.height <= floor || passes == 0 {
+        return Ok(Improved { start, passes: 0 });
+    }
     let mut best = start;
-    let (mut number, mut made) = first_beginning(alloc, instance, &best, floor, passes)?;
+    let meetings = Meetings::of(alloc, instance)?;
+    let (mut number, mut made) = first_beginning(alloc, instance, &meetings, &best, passes)?;
     let mut draws = Draws::new();
     while made < passes && floor < best.height {
         let order = beginning(alloc, instance, &best, number)?;
-        let climbed = climb(alloc, instance, order, &mut draws, floor, passes - made)?;
+        let climbed = climb(
+            alloc,
+            instance,
+            &meetings,
+            order,
+            &mut draws,
+            floor,
+            passes - made,
+        )?;
         made += climbed.passes;
         if climbed.start.height < best.height {
             best = climbed.start;

@@ -5,6 +5,7 @@ mod beginnings;
 mod climbing;
 mod draws;
 mod improving;
+mod meetings;
 mod rankings;
 mod stacking;
 mod swaps;

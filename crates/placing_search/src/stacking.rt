@@ -1,23 +1,30 @@
 //! Layouts that are stacked from below.
 
-ghost use Rattle.std.specs.Prelude.{◌≡◌, ◌^◌, ◌<◌, ◌≤◌, IfOk, IfSome, length};
+ghost use Rattle.std.specs.Prelude.{◌≡◌, ◌+◌, ◌/◌, ◌^◌, ◌<◌, ◌≤◌, IfOk, IfSome, length};
 ghost use Rattle.first_fit.specs.Rules.{IsOrderOf};
+ghost use Rattle.placing_search.specs.Meetings.{AreMeetingsOf};
 ghost use Rattle.placing_search.specs.Stacks.{IsStackOf};
 
+use crate::meetings::Meetings;
 use dsa_model::{Instance, NoMemory};
 use std::alloc::Global;
 
 /// A height that no layout of sound buffers needs, in bytes.
 pub(crate) const HIGHEST: u64 = 1 << 60;
 
-/// All buffers in the order in which they were stacked, and where.
+/// What stands for the offset of a buffer that is stacked: above all that are not, in bytes.
+const STACKED: u64 = 1 << 61;
+
+/// All buffers in the order in which they were stacked, and where they end.
 #[derive(Drop)]
 pub(crate) struct Stack {
     /// The buffers as they were stacked.
     pub(crate) order: Vec<u32>,
-    /// The offset of each, by its place in the order, in bytes. Where it is not stacked yet, it is
-    /// the least at which it does not meet those that are.
-    pub(crate) lows: Vec<u64>,
+    /// Where each ends, by its place in the order, in bytes.
+    pub(crate) ends: Vec<u64>,
+    /// For each buffer that is not stacked yet, by number, the least offset at which it does not
+    /// meet those that are; `STACKED` for one that is.
+    lows: Vec<u64>,
 }
 
 impl Stack {
@@ -28,73 +35,91 @@ impl Stack {
     {
         Ok(Stack {
             order: order.to_vec(alloc)?,
+            ends: vec![in alloc; 0u64; instance.len() as usize]?,
             lows: vec![in alloc; 0u64; instance.len() as usize]?,
         })
     }
 
-    /// Takes all buffers off. Tells the place of the one that can start lowest, of equals the one
-    /// of the first place in the ranking.
-    fn clear(&mut self, instance: &Instance, places: &[usize]) -> usize
-        requires stack { IsStackOf instance.now self.old }
-        requires places { length places.now ≡ length instance.now }
-        requires some { 0 < length instance.now }
-        ensures stack { IsStackOf instance.now self.new }
-        ensures place { result < length instance.now }
+    /// Takes all buffers off.
+    fn clear(&mut self, instance: &Instance)
+        requires { IsStackOf instance.now self.old }
+        ensures { IsStackOf instance.now self.new }
     {
-        let mut lowest = 0;
-        let mut least = u64::MAX;
-        for k in 0..self.order.len() {
-            let b = self.order[k];
-            let low = instance.buffer(b).floor();
-            self.lows[k] = low;
-            let first = self.order[lowest];
-            if low < least || low == least && places[b as usize] < places[first as usize] {
-                lowest = k;
+        for b in 0..instance.len() {
+            self.lows[b as usize] = instance.buffer(b).floor();
+        }
+    }
+
+    /// The place from `from` on of the buffer that can start lowest, of equals the one of the first
+    /// place in the ranking.
+    fn lowest_from(&self, instance: &Instance, places: &[usize], from: usize) -> usize
+        requires stack { IsStackOf instance.now self.now }
+        requires places { length places.now ≡ length instance.now }
+        requires from { from < length instance.now }
+        ensures { result < length instance.now }
+    {
+        let mut lowest = from;
+        let mut first = self.order[from] as usize;
+        let mut least = self.lows[first];
+        for place in from + 1..self.order.len() {
+            let b = self.order[place] as usize;
+            let low = self.lows[b];
+            if low < least || low == least && places[b] < places[first] {
+                lowest = place;
+                first = b;
                 least = low;
             }
         }
         lowest
     }
 
-    /// Raises the buffers behind place `k` that share a moment with the one there to its end. Tells
-    /// the place behind `k` of the one that can start lowest, of equals the one of the first place
-    /// in the ranking; none where one of them would end above the limit.
-    fn raise(
+    /// Raises those buffers that are not stacked and whose bits are set in this word to the end of
+    /// one that they meet; its lowest bit is that of buffer `first`. Tells whether none of them
+    /// would end above the limit.
+    fn raise_some(
         &mut self,
         instance: &Instance,
-        places: &[usize],
-        k: usize,
+        word: u64,
+        first: u32,
         end: u64,
         limit: u64,
-    ) -> Option<usize>
+    ) -> bool
         requires stack { IsStackOf instance.now self.old }
-        requires places { length places.now ≡ length instance.now }
-        requires place { k < length instance.now }
+        requires first { first ≤ 2 ^ 20 }
         requires end { end ≤ 2 ^ 60 }
-        ensures stack { IsStackOf instance.now self.new }
-        ensures place { IfSome result (λ place. place < length instance.now) }
+        ensures { IsStackOf instance.now self.new }
     {
-        let b = self.order[k];
-        let mut lowest = k;
-        let mut least = u64::MAX;
-        for place in k + 1..self.order.len() {
-            let c = self.order[place];
-            let mut low = self.lows[place];
-            if low < end && instance.do_share(b, c) {
+        let mut rest = word;
+        for _ in 0..word.count_ones() {
+            let c = first + rest.trailing_zeros();
+            rest &= rest.wrapping_sub(1);
+            if c < instance.len() && self.lows[c as usize] < end {
                 let buffer = instance.buffer(c);
-                low = buffer.least_offset(end);
+                let low = buffer.least_offset(end);
                 if low + buffer.size() > limit {
-                    return None;
+                    return false;
                 }
-                self.lows[place] = low;
-            }
-            let first = self.order[lowest];
-            if low < least || low == least && places[c as usize] < places[first as usize] {
-                lowest = place;
-                least = low;
+                self.lows[c as usize] = low;
             }
         }
-        Some(lowest)
+        true
+    }
+
+    /// Raises those buffers that are not stacked and whose bits are set in this row to the end of
+    /// one that they meet. Tells whether none of them would end above the limit.
+    fn raise(&mut self, instance: &Instance, row: &[u64], end: u64, limit: u64) -> bool
+        requires stack { IsStackOf instance.now self.old }
+        requires row { length row.now ≡ length instance.now / 64 + 1 }
+        requires end { end ≤ 2 ^ 60 }
+        ensures { IsStackOf instance.now self.new }
+    {
+        let _count = instance.len();
+        for (place, &word) in row.iter().enumerate() {
+            if !self.raise_some(instance, word, 64 * place as u32, end, limit) {
+                return false;
+            }
+        }
+        true
     }
 
     /// Stacks all buffers anew: of those that are left always the one that can start lowest goes
@@ -104,33 +129,36 @@ impl Stack {
     ///
     /// First-fit in the order in which they were stacked puts no buffer higher.
     ///
-    /// The caller owes a place for each buffer, some buffers, and a limit of at most 2^60.
+    /// The caller owes a row and a place for each buffer, and a limit of at most 2^60.
     pub(crate) fn restack(
         &mut self,
         instance: &Instance,
+        meetings: &Meetings,
         places: &[usize],
         limit: u64,
     ) -> Option<u64>
         requires stack { IsStackOf instance.now self.old }
+        requires meetings { AreMeetingsOf instance.now meetings.now }
         requires places { length places.now ≡ length instance.now }
-        requires some { 0 < length instance.now }
         requires limit { limit ≤ 2 ^ 60 }
         ensures stack { IsStackOf instance.now self.new }
         ensures limit { IfSome result (λ height. height ≤ limit) }
     {
-        let mut lowest = self.clear(instance, places);
+        self.clear(instance);
         let mut height = 0;
         for k in 0..self.order.len() {
-            self.order.swap(k, lowest);
-            self.lows.swap(k, lowest);
-            let end = self.lows[k] + instance.buffer(self.order[k]).size();
+            let lowest = self.lowest_from(instance, places, k);
+            let b = self.order[lowest];
+            let end = self.lows[b as usize] + instance.buffer(b).size();
             if end > limit {
                 return None;
             }
             height = end.max(height);
-            match self.raise(instance, places, k, end, limit) {
-                Some(place) => lowest = place,
-                None => return None,
+            self.order.swap(k, lowest);
+            self.ends[k] = end;
+            self.lows[b as usize] = STACKED;
+            if !self.raise(instance, meetings.with(instance, b), end, limit) {
+                return None;
             }
         }
         Some(height)

@@ -20,8 +20,7 @@ fn top_place(instance: &Instance, stack: &Stack, height: u64, from: usize) -> us
     let count = instance.len() as usize;
     for k in 0..count {
         let place = (from + k) % count;
-        let b = stack.order[place];
-        if stack.lows[place] + instance.buffer(b).size() == height {
+        if stack.ends[place] == height {
             return place;
         }
     }

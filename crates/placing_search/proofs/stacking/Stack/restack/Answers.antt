@@ -1,15 +1,10 @@
-use Rattle.std.proofs.Common.{arith}
+use Rattle.std.proofs.Common.{refl, ◌∙◌, ◌^◌, arith}
+use Rattle.std.proofs.Math.ListN.{length-set}
 use Rattle.placing_search.proofs.Stacked.{stack_swapped}
 use Rattle.placing_search.proofs.stacking.Stack.restack.Goals as goal
 
-pub returns-then-end-limit-clause-stack : goal.returns-then-end-limit-clause-stack
-returns-then-end-limit-clause-stack c =
-    stack_swapped c.args.instance.now c.loop-k.self record { order = c.swap.new.self; lows = c.swap-in-loop-k.new.self }
-    c.loop-k.k c.loop-k.lowest (omega arith) c.loop-k.invariant.1 c.swap.ensures.items c.swap-in-loop-k.ensures.items
-    c.loop-k.invariant.0
-
 pub raise-requires-clause-stack : goal.raise-requires-clause-stack
 raise-requires-clause-stack c =
-    stack_swapped c.args.instance.now c.loop-k.self record { order = c.swap.new.self; lows = c.swap-in-loop-k.new.self }
-    c.loop-k.k c.loop-k.lowest (omega arith) c.loop-k.invariant.1 c.swap.ensures.items c.swap-in-loop-k.ensures.items
-    c.loop-k.invariant.0
+    stack_swapped c.args.instance.now c.loop-k.self _ c.loop-k.k c.lowest_from-lowest.result c.index-b.result.now
+    (2 ^ 61) (omega arith) c.lowest_from-lowest.ensures (omega arith) c.swap.ensures.items
+    (length-set _ _ _ ∙ c.loop-k.invariant.0.end_count) refl c.loop-k.invariant.0
