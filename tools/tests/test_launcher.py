@@ -86,9 +86,7 @@ class Launcher(unittest.TestCase):
         with open(f"{TOP}/crates/command_words/specs/Forms.antt", encoding="utf-8") as file:
             text = file.read()
         forms = {}
-        for command, needed, optional in re.findall(
-            r'word = codes "(\w+)";\s+needed = (.*?);\s+optional = (.*?);', text
-        ):
+        for command, needed, optional in re.findall(r'= row \(codes "(\w+)"\) \((.*?)\) (\(.*?\)|\[\])$', text, re.M):
             forms[command] = [
                 [f"--{it.lower()}" for it in re.findall(r"[A-Z]\w+", options)] for options in (needed, optional)
             ]
