@@ -85,29 +85,23 @@ unrolled_stays = refl
 -- a row that fills the gap needs no more room, and one that begins a moment earlier does
 filled_at_4 : planned (map (unrolled 10) (wrapping ∷ plain 2 8 4 1 ∷ [])) 4 ≡ Some (0 ∷ 0 ∷ [])
 unfolding unrolled planned plan layout_height starts orders falls_by rises_by first_fit best_fit neighbours first_place
-    floor
-    first_passing best_place free_ranges stretches holds least_from is_tighter is_free highest top do_share some_before
-    is_live
-    buffer searched parts part_of is_cut last_cut first is_tall comes_before ends_below is_twin child up step
-    have_same_moments
+    floor first_passing best_place free_ranges stretches holds least_from is_tighter is_free highest top do_share
+    some_before is_live buffer searched parts part_of is_cut last_cut first is_tall comes_before ends_below is_twin
+    child up step have_same_moments
 filled_at_4 = refl
 
 overrun_at_7 : planned (map (unrolled 10) (wrapping ∷ plain 1 8 4 1 ∷ [])) 7 ≡ None
 unfolding unrolled planned plan layout_height starts orders falls_by rises_by first_fit best_fit neighbours first_place
-    floor
-    first_passing best_place free_ranges stretches holds least_from is_tighter is_free highest top do_share some_before
-    is_live
-    buffer searched parts part_of is_cut last_cut first is_tall comes_before ends_below is_twin child up step
-    have_same_moments
+    floor first_passing best_place free_ranges stretches holds least_from is_tighter is_free highest top do_share
+    some_before is_live buffer searched parts part_of is_cut last_cut first is_tall comes_before ends_below is_twin
+    child up step have_same_moments
 overrun_at_7 = refl
 
 overrun_at_8 : planned (map (unrolled 10) (wrapping ∷ plain 1 8 4 1 ∷ [])) 8 ≡ Some (0 ∷ 4 ∷ [])
 unfolding unrolled planned plan layout_height starts orders falls_by rises_by first_fit best_fit neighbours first_place
-    floor
-    first_passing best_place free_ranges stretches holds least_from is_tighter is_free highest top do_share some_before
-    is_live
-    buffer searched parts part_of is_cut last_cut first is_tall comes_before ends_below is_twin child up step
-    have_same_moments
+    floor first_passing best_place free_ranges stretches holds least_from is_tighter is_free highest top do_share
+    some_before is_live buffer searched parts part_of is_cut last_cut first is_tall comes_before ends_below is_twin
+    child up step have_same_moments
 overrun_at_8 = refl
 
 -- one that begins a moment earlier than the other ends is live with it at a moment of each period

@@ -14,8 +14,7 @@ overrun_moment = refl
 
 none_moment : bound_moment [] [] ≡ 0
 unfolding bound_moment bound_modulus least_of lower_bound highest_stack highest_at heights floor stack pile counted
-    moduli
-    moments
+    moduli moments
 none_moment = refl
 
 -- ---- what reaches a bound: two sizes of 3 by the modulus 4, which is an alignment, at moment 0

@@ -38,8 +38,7 @@ five_bound = refl
 
 five_modulus : bound_modulus five ≡ 1
 unfolding bound_modulus least_of lower_bound highest_stack highest_at heights floor stack pile counted rounded_size
-    moduli
-    moments is_live buffer
+    moduli moments is_live buffer
 five_modulus = refl
 
 two_of_four_bound : lower_bound two_of_four ≡ 7
@@ -49,8 +48,7 @@ two_of_four_bound = refl
 
 two_of_four_modulus : bound_modulus two_of_four ≡ 4
 unfolding bound_modulus least_of lower_bound highest_stack highest_at heights floor stack pile counted rounded_size
-    moduli
-    moments is_live buffer
+    moduli moments is_live buffer
 two_of_four_modulus = refl
 
 evens_bound : lower_bound evens ≡ 4
@@ -60,8 +58,7 @@ evens_bound = refl
 
 evens_modulus : bound_modulus evens ≡ 1
 unfolding bound_modulus least_of lower_bound highest_stack highest_at heights floor stack pile counted rounded_size
-    moduli
-    moments is_live buffer
+    moduli moments is_live buffer
 evens_modulus = refl
 
 filled_bound : lower_bound filled ≡ 4
@@ -71,8 +68,7 @@ filled_bound = refl
 
 filled_modulus : bound_modulus filled ≡ 1
 unfolding bound_modulus least_of lower_bound highest_stack highest_at heights floor stack pile counted rounded_size
-    moduli
-    moments is_live buffer
+    moduli moments is_live buffer
 filled_modulus = refl
 
 overrun_bound : lower_bound overrun ≡ 8
@@ -82,8 +78,7 @@ overrun_bound = refl
 
 overrun_modulus : bound_modulus overrun ≡ 1
 unfolding bound_modulus least_of lower_bound highest_stack highest_at heights floor stack pile counted rounded_size
-    moduli
-    moments is_live buffer
+    moduli moments is_live buffer
 overrun_modulus = refl
 
 two_parts_bound : lower_bound two_parts ≡ 4
@@ -93,8 +88,7 @@ two_parts_bound = refl
 
 two_parts_modulus : bound_modulus two_parts ≡ 1
 unfolding bound_modulus least_of lower_bound highest_stack highest_at heights floor stack pile counted rounded_size
-    moduli
-    moments is_live buffer
+    moduli moments is_live buffer
 two_parts_modulus = refl
 
 small_below_bound : lower_bound small_below ≡ 4
@@ -104,8 +98,7 @@ small_below_bound = refl
 
 small_below_modulus : bound_modulus small_below ≡ 1
 unfolding bound_modulus least_of lower_bound highest_stack highest_at heights floor stack pile counted rounded_size
-    moduli
-    moments is_live buffer
+    moduli moments is_live buffer
 small_below_modulus = refl
 
 made_bound : lower_bound made ≡ 65
@@ -115,8 +108,7 @@ made_bound = refl
 
 made_modulus : bound_modulus made ≡ 1
 unfolding bound_modulus least_of lower_bound highest_stack highest_at heights floor stack pile counted rounded_size
-    moduli
-    moments is_live buffer
+    moduli moments is_live buffer
 made_modulus = refl
 
 -- 14 rounded up to 4 is 16, less the rounding 14; by 3 there is 51 alone

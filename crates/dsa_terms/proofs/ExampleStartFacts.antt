@@ -80,8 +80,7 @@ five_starts = refl
 
 five_heights : map (layout_height five) (starts five) ≡ 12 ∷ 12 ∷ 12 ∷ 12 ∷ 12 ∷ 12 ∷ []
 unfolding layout_height starts orders falls_by rises_by first_fit best_fit neighbours first_place floor first_passing
-    best_place free_ranges stretches holds least_from is_tighter is_free highest top do_share some_before is_live
-    buffer
+    best_place free_ranges stretches holds least_from is_tighter is_free highest top do_share some_before is_live buffer
 five_heights = refl
 
 two_of_four_starts :
@@ -93,8 +92,7 @@ two_of_four_starts = refl
 
 two_of_four_heights : map (layout_height two_of_four) (starts two_of_four) ≡ 7 ∷ 7 ∷ 7 ∷ 7 ∷ 7 ∷ 7 ∷ []
 unfolding layout_height starts orders falls_by rises_by first_fit best_fit neighbours first_place floor first_passing
-    best_place free_ranges stretches holds least_from is_tighter is_free highest top do_share some_before is_live
-    buffer
+    best_place free_ranges stretches holds least_from is_tighter is_free highest top do_share some_before is_live buffer
 two_of_four_heights = refl
 
 evens_starts :
@@ -107,8 +105,7 @@ evens_starts = refl
 
 evens_heights : map (layout_height evens) (starts evens) ≡ 5 ∷ 5 ∷ 5 ∷ 5 ∷ 5 ∷ 5 ∷ []
 unfolding layout_height starts orders falls_by rises_by first_fit best_fit neighbours first_place floor first_passing
-    best_place free_ranges stretches holds least_from is_tighter is_free highest top do_share some_before is_live
-    buffer
+    best_place free_ranges stretches holds least_from is_tighter is_free highest top do_share some_before is_live buffer
 evens_heights = refl
 
 filled_starts :
@@ -120,8 +117,7 @@ filled_starts = refl
 
 filled_heights : map (layout_height filled) (starts filled) ≡ 4 ∷ 4 ∷ 4 ∷ 4 ∷ 4 ∷ 4 ∷ []
 unfolding layout_height starts orders falls_by rises_by first_fit best_fit neighbours first_place floor first_passing
-    best_place free_ranges stretches holds least_from is_tighter is_free highest top do_share some_before is_live
-    buffer
+    best_place free_ranges stretches holds least_from is_tighter is_free highest top do_share some_before is_live buffer
 filled_heights = refl
 
 overrun_starts :
@@ -133,8 +129,7 @@ overrun_starts = refl
 
 overrun_heights : map (layout_height overrun) (starts overrun) ≡ 8 ∷ 8 ∷ 8 ∷ 8 ∷ 8 ∷ 8 ∷ []
 unfolding layout_height starts orders falls_by rises_by first_fit best_fit neighbours first_place floor first_passing
-    best_place free_ranges stretches holds least_from is_tighter is_free highest top do_share some_before is_live
-    buffer
+    best_place free_ranges stretches holds least_from is_tighter is_free highest top do_share some_before is_live buffer
 overrun_heights = refl
 
 two_parts_starts :
@@ -147,8 +142,7 @@ two_parts_starts = refl
 
 two_parts_heights : map (layout_height two_parts) (starts two_parts) ≡ 5 ∷ 5 ∷ 5 ∷ 5 ∷ 5 ∷ 5 ∷ []
 unfolding layout_height starts orders falls_by rises_by first_fit best_fit neighbours first_place floor first_passing
-    best_place free_ranges stretches holds least_from is_tighter is_free highest top do_share some_before is_live
-    buffer
+    best_place free_ranges stretches holds least_from is_tighter is_free highest top do_share some_before is_live buffer
 two_parts_heights = refl
 
 small_below_starts :
@@ -160,8 +154,7 @@ small_below_starts = refl
 
 small_below_heights : map (layout_height small_below) (starts small_below) ≡ 5 ∷ 5 ∷ 5 ∷ 5 ∷ 5 ∷ 5 ∷ []
 unfolding layout_height starts orders falls_by rises_by first_fit best_fit neighbours first_place floor first_passing
-    best_place free_ranges stretches holds least_from is_tighter is_free highest top do_share some_before is_live
-    buffer
+    best_place free_ranges stretches holds least_from is_tighter is_free highest top do_share some_before is_live buffer
 small_below_heights = refl
 
 made_starts :
@@ -173,8 +166,7 @@ made_starts = refl
 
 made_heights : map (layout_height made) (starts made) ≡ 66 ∷ 66 ∷ 66 ∷ 66 ∷ 66 ∷ 66 ∷ []
 unfolding layout_height starts orders falls_by rises_by first_fit best_fit neighbours first_place floor first_passing
-    best_place free_ranges stretches holds least_from is_tighter is_free highest top do_share some_before is_live
-    buffer
+    best_place free_ranges stretches holds least_from is_tighter is_free highest top do_share some_before is_live buffer
 made_heights = refl
 
 unlike_starts :
@@ -187,8 +179,7 @@ unlike_starts = refl
 
 unlike_heights : map (layout_height unlike) (starts unlike) ≡ 15 ∷ 18 ∷ 16 ∷ 15 ∷ 13 ∷ 16 ∷ []
 unfolding layout_height starts orders falls_by rises_by first_fit best_fit neighbours first_place floor first_passing
-    best_place free_ranges stretches holds least_from is_tighter is_free highest top do_share some_before is_live
-    buffer
+    best_place free_ranges stretches holds least_from is_tighter is_free highest top do_share some_before is_live buffer
 unlike_heights = refl
 
 five_best : best_start five ≡ 0 ∷ 0 ∷ 4 ∷ 0 ∷ 8 ∷ []

@@ -1,6 +1,5 @@
 -- What is known of a log that bytes say: each of its Cases lines has a cite, it has no more lines than bytes, and its
--- text
--- of version 2 says it too.
+-- text of version 2 says it too.
 use Rattle.std.proofs.Common.{◌≡◌, ◌≤◌, ◌+◌, ◌^◌, ℕ, List, [], ◌∷◌, ◌++◌, length, All, sym, ap, subst, inr, arith}
 use Rattle.std.specs.List.{flat_map}
 use Rattle.std.proofs.lemmas.List.{length-append}

@@ -151,24 +151,20 @@ text_of_no_lines = refl
 
 -- its text parses as the instance
 parses : parse (table_of (import_text twice)) ≡ Ok (imported twice)
-unfolding import_text imported fields_text is_blank digits records_from strip_bom next_record is_ever_live
-    some_before is_live
+unfolding import_text imported fields_text is_blank digits records_from strip_bom next_record is_ever_live some_before
+    is_live
 parses = refl
 
 twice_at_11 : planned (imported twice) 11 ≡ None
 unfolding imported planned plan layout_height starts orders falls_by rises_by first_fit best_fit neighbours first_place
-    floor
-    first_passing best_place free_ranges stretches holds least_from is_tighter is_free highest top do_share some_before
-    is_live
-    buffer searched parts part_of is_cut last_cut first is_tall comes_before ends_below is_twin child up step
-    have_same_moments
+    floor first_passing best_place free_ranges stretches holds least_from is_tighter is_free highest top do_share
+    some_before is_live buffer searched parts part_of is_cut last_cut first is_tall comes_before ends_below is_twin
+    child up step have_same_moments
 twice_at_11 = refl
 
 twice_at_12 : planned (imported twice) 12 ≡ Some (8 ∷ 0 ∷ 8 ∷ [])
 unfolding imported planned plan layout_height starts orders falls_by rises_by first_fit best_fit neighbours first_place
-    floor
-    first_passing best_place free_ranges stretches holds least_from is_tighter is_free highest top do_share some_before
-    is_live
-    buffer searched parts part_of is_cut last_cut first is_tall comes_before ends_below is_twin child up step
-    have_same_moments
+    floor first_passing best_place free_ranges stretches holds least_from is_tighter is_free highest top do_share
+    some_before is_live buffer searched parts part_of is_cut last_cut first is_tall comes_before ends_below is_twin
+    child up step have_same_moments
 twice_at_12 = refl
