@@ -1,6 +1,6 @@
 //! The line that is printed for a status.
 
-ghost use Rattle.std.specs.Prelude.{◌≡◌, IfOk, string_bytes};
+ghost use Rattle.std.specs.Prelude.{◌≡◌, ◌++◌, List, ℕ, IfOk, codes, decimal, string_bytes};
 ghost use Rattle.run_status.specs.Lines.{role_text, wrong_text, refused_text, line};
 
 use crate::status::{LogCause, Role, Status, WrongCause};
@@ -61,63 +61,66 @@ fn classes_line(alloc: Global, height: u64, load: u64) -> Result<String, NoMemor
     Ok(format!(in alloc; "classes {height} {load}\n")?)
 }
 
+/// The line of a word and a number.
+fn number_line(alloc: Global, word: &str, number: u64) -> Result<String, NoMemory>
+    ensures { let number = codes " " ++ decimal number ++ codes "\n" in
+        IfOk result (λ text. string_bytes text ≡ word.now ++ number) }
+{
+    Ok(format!(in alloc; "{word} {number}\n")?)
+}
+
+/// The line of a word and a text.
+fn text_line(alloc: Global, word: &str, text: &str) -> Result<String, NoMemory>
+    ensures { let text = codes " " ++ text.now ++ codes "\n" in
+        IfOk result (λ made. string_bytes made ≡ word.now ++ text) }
+{
+    Ok(format!(in alloc; "{word} {text}\n")?)
+}
+
+/// The line of a word and the text of a fault, if there is memory for it.
+fn fault_line(
+    alloc: Global,
+    word: &str,
+    fault: Result<String, NoMemory>,
+) -> Result<String, NoMemory>
+    ensures { IfOk result (λ made. (fault_text : List ℕ) →
+        IfOk fault (λ text. string_bytes text ≡ fault_text) →
+        string_bytes made ≡ word.now ++ codes " " ++ fault_text ++ codes "\n") }
+{
+    let text = fault?;
+    text_line(alloc, word, &text)
+}
+
 /// The line of a status.
 pub fn status_line(alloc: Global, status: Status) -> Result<String, NoMemory>
     ensures { IfOk result (λ text. string_bytes text ≡ line status) }
 {
     match status {
-        Status::Feasible { capacity } => Ok(format!(in alloc; "feasible {capacity}\n")?),
-        Status::Infeasible { capacity } => Ok(format!(in alloc; "infeasible {capacity}\n")?),
-        Status::Least { capacity } => Ok(format!(in alloc; "least {capacity}\n")?),
+        Status::Feasible { capacity } => number_line(alloc, "feasible", capacity),
+        Status::Infeasible { capacity } => number_line(alloc, "infeasible", capacity),
+        Status::Least { capacity } => number_line(alloc, "least", capacity),
         Status::Open { low, high } => open_line(alloc, low, high),
         Status::Trimmed { before, after } => trimmed_line(alloc, before, after),
-        Status::Upgraded { lines } => Ok(format!(in alloc; "upgraded {lines}\n")?),
-        Status::Drawn { rectangles } => Ok(format!(in alloc; "drawn {rectangles}\n")?),
-        Status::Imported { buffers } => Ok(format!(in alloc; "imported {buffers}\n")?),
-        Status::TraceRefused(fault) => {
-            let text = fault.text(alloc)?;
-            Ok(format!(in alloc; "trace {text}\n")?)
-        }
-        Status::Unrolled { buffers } => Ok(format!(in alloc; "unrolled {buffers}\n")?),
-        Status::CycleRefused(fault) => {
-            let text = fault.text(alloc)?;
-            Ok(format!(in alloc; "cycle {text}\n")?)
-        }
+        Status::Upgraded { lines } => number_line(alloc, "upgraded", lines),
+        Status::Drawn { rectangles } => number_line(alloc, "drawn", rectangles),
+        Status::Imported { buffers } => number_line(alloc, "imported", u64::from(buffers)),
+        Status::TraceRefused(fault) => fault_line(alloc, "trace", fault.text(alloc)),
+        Status::Unrolled { buffers } => number_line(alloc, "unrolled", u64::from(buffers)),
+        Status::CycleRefused(fault) => fault_line(alloc, "cycle", fault.text(alloc)),
         Status::Classed { height, load } => classes_line(alloc, height, load),
-        Status::NotPlain { buffer } => Ok(format!(in alloc; "not plain {buffer}\n")?),
-        Status::Core { members } => Ok(format!(in alloc; "core {members}\n")?),
-        Status::NoCore { capacity } => Ok(format!(in alloc; "no core {capacity}\n")?),
-        Status::TooMany { count } => Ok(format!(in alloc; "too many {count}\n")?),
+        Status::NotPlain { buffer } => number_line(alloc, "not plain", u64::from(buffer)),
+        Status::Core { members } => number_line(alloc, "core", u64::from(members)),
+        Status::NoCore { capacity } => number_line(alloc, "no core", capacity),
+        Status::TooMany { count } => number_line(alloc, "too many", count),
         Status::Right => Ok(String::from_str(alloc, "right\n")?),
-        Status::Accepted { capacity } => Ok(format!(in alloc; "accepted {capacity}\n")?),
-        Status::Wrong(cause) => {
-            let text = wrong_line(alloc, cause)?;
-            Ok(format!(in alloc; "wrong {text}\n")?)
-        }
-        Status::LogRefused(cause) => {
-            let text = refused_line(alloc, cause)?;
-            Ok(format!(in alloc; "refused {text}\n")?)
-        }
-        Status::Usage(fault) => {
-            let text = fault.text(alloc)?;
-            Ok(format!(in alloc; "usage {text}\n")?)
-        }
-        Status::Malformed(fault) => {
-            let text = fault.text(alloc)?;
-            Ok(format!(in alloc; "malformed {text}\n")?)
-        }
-        Status::ReadFault(role) => {
-            let word = role_word(role);
-            Ok(format!(in alloc; "unread {word}\n")?)
-        }
-        Status::TooLong(role) => {
-            let word = role_word(role);
-            Ok(format!(in alloc; "too long {word}\n")?)
-        }
-        Status::WriteFault(role) => {
-            let word = role_word(role);
-            Ok(format!(in alloc; "unwritten {word}\n")?)
-        }
+        Status::Accepted { capacity } => number_line(alloc, "accepted", capacity),
+        Status::Wrong(cause) => fault_line(alloc, "wrong", wrong_line(alloc, cause)),
+        Status::LogRefused(cause) => fault_line(alloc, "refused", refused_line(alloc, cause)),
+        Status::Usage(fault) => fault_line(alloc, "usage", fault.text(alloc)),
+        Status::Malformed(fault) => fault_line(alloc, "malformed", fault.text(alloc)),
+        Status::ReadFault(role) => text_line(alloc, "unread", role_word(role)),
+        Status::TooLong(role) => text_line(alloc, "too long", role_word(role)),
+        Status::WriteFault(role) => text_line(alloc, "unwritten", role_word(role)),
         Status::Shown | Status::PrintFault | Status::NoMemory => Ok(String::new(alloc)),
     }
 }
