@@ -4,7 +4,7 @@ ghost use Rattle.std.specs.Prelude.{◌≡◌, IfOk, string_bytes};
 ghost use Rattle.command_words.specs.FaultTexts.{usage_text};
 
 use crate::UsageFault;
-use dsa_model::NoMemory;
+use dsa_model::{NoMemory, number_text, pair_text, word_text};
 use std::alloc::Global;
 
 impl UsageFault {
@@ -13,19 +13,26 @@ impl UsageFault {
         ensures text { IfOk result (λ text. string_bytes text ≡ usage_text self) }
     {
         match self {
-            UsageFault::NoCommand => Ok(String::from_str(alloc, "no command")?),
-            UsageFault::UnknownCommand => Ok(String::from_str(alloc, "unknown command")?),
-            UsageFault::UnknownOption { word } => Ok(format!(in alloc; "unknown option {word}")?),
-            UsageFault::RepeatedOption { word } => {
-                Ok(format!(in alloc; "repeated option {word}")?)
-            }
-            UsageFault::MissingValue { word } => Ok(format!(in alloc; "missing value {word}")?),
-            UsageFault::BadValue { word } => Ok(format!(in alloc; "bad value {word}")?),
-            UsageFault::MissingOption { option } => {
-                let word = option.word();
-                Ok(format!(in alloc; "missing {word}")?)
-            }
-            UsageFault::SameName => Ok(String::from_str(alloc, "same name")?),
+            UsageFault::NoCommand => word_text(alloc, "no command"),
+            UsageFault::UnknownCommand => word_text(alloc, "unknown command"),
+            UsageFault::UnknownOption { word } => number_text(
+                alloc,
+                "unknown option",
+                u64::from(word),
+            ),
+            UsageFault::RepeatedOption { word } => number_text(
+                alloc,
+                "repeated option",
+                u64::from(word),
+            ),
+            UsageFault::MissingValue { word } => number_text(
+                alloc,
+                "missing value",
+                u64::from(word),
+            ),
+            UsageFault::BadValue { word } => number_text(alloc, "bad value", u64::from(word)),
+            UsageFault::MissingOption { option } => pair_text(alloc, "missing", option.word()),
+            UsageFault::SameName => word_text(alloc, "same name"),
         }
     }
 }

@@ -4,7 +4,7 @@ ghost use Rattle.std.specs.Prelude.{◌≡◌, IfOk, string_bytes};
 ghost use Rattle.refute_log.specs.ReasonTexts.{reason_text};
 
 use crate::Reason;
-use dsa_model::NoMemory;
+use dsa_model::{NoMemory, number_text, word_text};
 use std::alloc::Global;
 
 impl Reason {
@@ -13,17 +13,17 @@ impl Reason {
         ensures text { IfOk result (λ text. string_bytes text ≡ reason_text self) }
     {
         match self {
-            Reason::EmptyClaim => Ok(String::from_str(alloc, "empty claim")?),
-            Reason::BufferRange { buffer } => Ok(format!(in alloc; "buffer range {buffer}")?),
-            Reason::ZeroModulus => Ok(String::from_str(alloc, "zero modulus")?),
-            Reason::NotMultiple => Ok(String::from_str(alloc, "not multiple")?),
-            Reason::EmptySet => Ok(String::from_str(alloc, "empty set")?),
-            Reason::NotOver => Ok(String::from_str(alloc, "not over")?),
-            Reason::CitesDiffer => Ok(String::from_str(alloc, "cites differ")?),
-            Reason::NotEarlier { buffer } => Ok(format!(in alloc; "not earlier {buffer}")?),
-            Reason::NotCovered { buffer } => Ok(format!(in alloc; "not covered {buffer}")?),
-            Reason::NotBelow { buffer } => Ok(format!(in alloc; "not below {buffer}")?),
-            Reason::NotTwin { buffer } => Ok(format!(in alloc; "not twin {buffer}")?),
+            Reason::EmptyClaim => word_text(alloc, "empty claim"),
+            Reason::BufferRange { buffer } => number_text(alloc, "buffer range", buffer),
+            Reason::ZeroModulus => word_text(alloc, "zero modulus"),
+            Reason::NotMultiple => word_text(alloc, "not multiple"),
+            Reason::EmptySet => word_text(alloc, "empty set"),
+            Reason::NotOver => word_text(alloc, "not over"),
+            Reason::CitesDiffer => word_text(alloc, "cites differ"),
+            Reason::NotEarlier { buffer } => number_text(alloc, "not earlier", u64::from(buffer)),
+            Reason::NotCovered { buffer } => number_text(alloc, "not covered", u64::from(buffer)),
+            Reason::NotBelow { buffer } => number_text(alloc, "not below", u64::from(buffer)),
+            Reason::NotTwin { buffer } => number_text(alloc, "not twin", u64::from(buffer)),
         }
     }
 }
