@@ -5,7 +5,7 @@ use Rattle.std.specs.List.{list_any, AllZip}
 use Rattle.dsa_terms.specs.Buffers.{Instance, buffer, IsLive}
 use Rattle.dsa_terms.specs.Claims.{Claim, Entry, IsIn, Covers}
 use Rattle.dsa_terms.specs.Logs.{Cite, ByLine, Below, Twin, Line, Over, Cases, claim_of, IsLegal, Log, ends_below, is_twin}
-use Rattle.dsa_terms.specs.Parts.{part_of}
+use Rattle.dsa_terms.specs.Parts.{IsUncut}
 
 -- a below or a twin cite
 abbrev pub IsOwnCite : Cite → Type 0
@@ -28,7 +28,7 @@ abbrev pub IsLeanLine : Instance → ℕ → List Line → Line → Type 0
 IsLeanLine I C earlier (Over l T H G) = IsLeanOver I C earlier l T H G
 IsLeanLine I C earlier (Cases l cites) = AllZip (CitesOwn I l) l cites
 
--- no line is covered by an earlier one, each line is lean, and all buffers of all claims are of one part
+-- no line is covered by an earlier one, each line is lean, and no cut lies between any two buffers of its claims
 pub record IsLean (I : Instance) (log : Log) : Type 0 where
   pub uncovered : (j k : ℕ) (earlier line : Line) → j < k →
       slice_get log.lines j ≡ Some earlier → slice_get log.lines k ≡ Some line →
@@ -37,4 +37,4 @@ pub record IsLean (I : Instance) (log : Log) : Type 0 where
       IsLeanLine I log.capacity (take k log.lines) line
   pub one_part : (j k : ℕ) (other line : Line) (e f : Entry) →
       slice_get log.lines j ≡ Some other → slice_get log.lines k ≡ Some line →
-      IsIn e (claim_of other) → IsIn f (claim_of line) → part_of I e.0 ≡ part_of I f.0
+      IsIn e (claim_of other) → IsIn f (claim_of line) → IsUncut I e.0 f.0

@@ -4,7 +4,7 @@ use Rattle.dsa_terms.specs.Buffers.{Instance, IsLive, buffer, do_share, floor, h
 use Rattle.dsa_terms.specs.Claims.{Entry, IsIn, IsWhole, child, step, up}
 use Rattle.dsa_terms.specs.Lean.{IsLeanLine}
 use Rattle.dsa_terms.specs.Logs.{IsLegal, Line, Log, Over, claim_of, ends_below, is_stacked, is_twin, rounded, rounding}
-use Rattle.dsa_terms.specs.Parts.{is_cut, last_cut, part_of, parts, searched, whole}
+use Rattle.dsa_terms.specs.Parts.{is_cut, IsUncut, last_cut, part_of, parts, searched, whole}
 use Rattle.dsa_terms.specs.Plans.{layout_height}
 use Rattle.dsa_terms.specs.Search.{comes_before, first, is_tall}
 use Rattle.dsa_terms.proofs.Examples.{lifted, low, raised}
@@ -66,6 +66,14 @@ only_line : (k : ℕ) (line : Line) → slice_get (from_8 ∷ []) k ≡ Some lin
 only_line zero line at = (refl, cc)
 only_line (suc k) line at = absurd cc
 
+-- no cut lies between the buffer's end and its beginning
+uncut_itself : IsUncut aligned 0 0
+unfolding buffer
+uncut_itself = record {
+  forth = λ t cut s. (let ended = s.0 in let begun = s.1 in omega arith);
+  back = λ t cut s. (let ended = s.0 in let begun = s.1 in omega arith);
+}
+
 only_buffer : (k : ℕ) (line : Line) (e : Entry) → slice_get (from_8 ∷ []) k ≡ Some line → IsIn e (claim_of line) →
     e.0 ≡ 0
 only_buffer k line e at i = go (subst (λ (x : Line). IsIn e (claim_of x)) (sym (only_line k line at).1) i)
@@ -95,7 +103,7 @@ refuted_at_10 = record {
     uncovered = λ j k earlier line lt at_j at_k covers. let e = (only_line k line at_k).0 in omega arith;
     lean = λ k line at. first_lean k line (only_line k line at);
     one_part = λ j k other line e f at_j at_k i m.
-        ap (part_of aligned) (only_buffer j other e at_j i ∙ sym (only_buffer k line f at_k m));
+        rw (only_buffer j other e at_j i, only_buffer k line f at_k m) uncut_itself;
   };
 }
   where

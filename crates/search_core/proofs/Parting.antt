@@ -2,14 +2,15 @@
 use Rattle.std.proofs.Common.{◌≡◌, ℕ, zero, suc, ◌≤◌, ◌<◌, ◌==◌, List, [], ◌∷◌, length, slice_get, Some, sym, refl, ap, ◌∙◌, subst, inl, inr, arith}
 use Rattle.std.specs.List.{All}
 use Rattle.std.specs.Int.{next_multiple_of}
-use Rattle.dsa_terms.specs.Buffers.{Instance, buffer, floor}
+use Rattle.dsa_terms.specs.Buffers.{Instance, IsInstance, buffer, floor}
 use Rattle.dsa_terms.specs.Claims.{Claim, Entry, IsIn, Covers, IsWhole, up}
 use Rattle.dsa_terms.specs.Logs.{Line, Log, claim_of, IsAccepted}
 use Rattle.dsa_terms.specs.Parts.{numbers, part_of, parts, whole}
 use Rattle.dsa_terms.proofs.Lists.{from_filter, into_map}
 use Rattle.dsa_terms.proofs.NumberTests.{equal}
+use Rattle.dsa_terms.proofs.Ranges.{from_range}
 use Rattle.dsa_search_laws.proofs.PartLists.{got_in}
-use Rattle.dsa_search_laws.proofs.Parts.{buffers_of-whole, claim_of_part, in_whole, part_is_members}
+use Rattle.dsa_search_laws.proofs.Parts.{buffers_of-whole, claim_of_part, in_whole, part_is_members, same_part_uncut}
 use Rattle.refute_log.specs.Logs.{OpenLog, ended}
 use Rattle.search_core.specs.Cites.{IsCoveredBy}
 use Rattle.search_core.specs.Decisions.{IsRefutation}
@@ -43,28 +44,31 @@ whole_end I lines p k c = (c.line, c.stands, covers_whole I (claim_of c.line) p 
 
 -- ---- the log
 part_of_member : (I : Instance) (p : List ℕ) (h : IsIn p (parts I)) (b : ℕ) → IsIn b p →
-    part_of I b ≡ (part_is_members I p h).0
+    (b < length I) × (part_of I b ≡ (part_is_members I p h).0)
 part_of_member I p h b i =
     let m = part_is_members I p h in
     let r = from_filter (λ b. part_of I b == m.0) (numbers (length I)) b (subst (IsIn b) m.1 i) in
-    equal (part_of I b) m.0 r.1
+    let below = (from_range (length I) 0 b r.0).1 in
+    (omega arith, equal (part_of I b) m.0 r.1)
 
-pub refutes_part : (I : Instance) (C : ℕ) (p : List ℕ) (log : OpenLog) (closed : Log) (end : ℕ) → IsIn p (parts I) →
-    IsSearchLog I C log → Extends (whole I p) [] log.lines →
+pub refutes_part : (I : Instance) (C : ℕ) (p : List ℕ) (log : OpenLog) (closed : Log) (end : ℕ) → IsInstance I →
+    IsIn p (parts I) → IsSearchLog I C log → Extends (whole I p) [] log.lines →
     closed ≡ ended log end → IsAccepted I closed → IsRefutation I C closed
-refutes_part I C p log closed end h s grown q accepted = record {
+refutes_part I C p log closed end sound h s grown q accepted = record {
   accepted = accepted;
   capacity = ap (λ (g : Log). g.capacity) q ∙ s.capacity;
   lean = rw q (record {
     uncovered = s.uncovered;
     lean = rw s.capacity s.lean;
     one_part = λ j k other line e f at_j at_k in_other in_line.
-        of_part other e j at_j in_other ∙ sym (of_part line f k at_k in_line);
+        let m = of_part other e j at_j in_other in
+        let n = of_part line f k at_k in_line in
+        same_part_uncut I e.0 f.0 sound m.0 n.0 (m.1 ∙ sym n.1);
   });
 }
   where
     of_part : (line : Line) (e : Entry) (k : ℕ) → slice_get log.lines k ≡ Some line → IsIn e (claim_of line) →
-        part_of I e.0 ≡ (part_is_members I p h).0
+        (e.0 < length I) × (part_of I e.0 ≡ (part_is_members I p h).0)
     of_part line e k at in_line =
         let i : IsIn line grown.more = subst (IsIn line) grown.is (got_in log.lines k line at) in
         part_of_member I p h e.0 (rw buffers_of-whole at (grown.among line e i in_line))

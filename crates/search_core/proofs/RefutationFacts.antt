@@ -5,7 +5,7 @@ use Rattle.dsa_terms.specs.Claims.{Covers, Entry, IsClaim, IsIn, IsWhole, child,
 use Rattle.dsa_terms.specs.Layouts.{IsLayout}
 use Rattle.dsa_terms.specs.Lean.{IsLeanLine}
 use Rattle.dsa_terms.specs.Logs.{IsLegal, Line, Log, Over, claim_of, ends_below, is_stacked, is_twin, rounded, rounding}
-use Rattle.dsa_terms.specs.Parts.{is_cut, last_cut, part_of, parts, searched}
+use Rattle.dsa_terms.specs.Parts.{is_cut, IsUncut, last_cut, part_of, parts, searched}
 use Rattle.dsa_terms.specs.Search.{comes_before, first, is_tall}
 use Rattle.dsa_terms.proofs.Examples.{plain}
 use Rattle.dsa_search_laws.proofs.Logs.{accepted_is_infeasible}
@@ -73,6 +73,14 @@ the_line : (k : ℕ) (line : Line) → slice_get one k ≡ Some line → from_ze
 the_line zero line at = cc
 the_line (suc k) line at = absurd cc
 
+-- no cut lies between the buffer's end and its beginning
+uncut_itself : IsUncut lone 0 0
+unfolding buffer
+uncut_itself = record {
+  forth = λ t cut s. (let ended = s.0 in let begun = s.1 in omega arith);
+  back = λ t cut s. (let ended = s.0 in let begun = s.1 in omega arith);
+}
+
 the_buffer : (k : ℕ) (line : Line) (e : Entry) → slice_get one k ≡ Some line → IsIn e (claim_of line) → e.0 ≡ 0
 the_buffer k line e at i = go (subst (λ (x : Line). IsIn e (claim_of x)) (sym (the_line k line at)) i)
   where
@@ -96,7 +104,7 @@ refuted_at_2 = record {
     uncovered = λ j k earlier line lt at_j at_k covers. one_place j k line lt at_k;
     lean = λ k line at. subst (IsLeanLine lone 2 (take k one)) (the_line k line at) (line_is_lean (take k one));
     one_part = λ j k other line e f at_j at_k i m.
-        ap (part_of lone) (the_buffer j other e at_j i ∙ sym (the_buffer k line f at_k m));
+        rw (the_buffer j other e at_j i, the_buffer k line f at_k m) uncut_itself;
   };
 }
   where

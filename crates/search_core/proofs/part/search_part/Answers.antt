@@ -2,6 +2,7 @@ use Rattle.std.proofs.Common.{length, ap}
 use Rattle.std.proofs.lemmas.Option.{slice_get_within}
 use Rattle.dsa_terms.specs.Logs.{Log}
 use Rattle.dsa_search_laws.proofs.PartLists.{part_rises}
+use Rattle.dsa_model.proofs.Instances.{sound_instance}
 use Rattle.refute_log.specs.Logs.{OpenLog}
 use Rattle.search_core.proofs.Counting.{counted_from_nothing}
 use Rattle.search_core.proofs.Parting.{part_in_range, refutes_part, whole_end}
@@ -31,7 +32,8 @@ returns-in-Ok-clause-found c =
     let found = rw c.in-Line.is at c.in_ok-seats.ensures.found in (
       found.0,
       refutes_part c.args.task.now.instance.now c.args.task.now.capacity c.args.members.now c.search.new.log
-          c.in-Ok.closed c.in-Line.end c.requires.part c.in_ok-seats.ensures.log
+          c.in-Ok.closed c.in-Line.end (sound_instance c.args.task.now.instance.now c.len-count.ensures.buffers)
+          c.requires.part c.in_ok-seats.ensures.log
           (rw (ap (λ (log : OpenLog). log.lines) c.new-log.ensures.value)
           at c.in_ok-seats.ensures.grown) (rw c.into_log.ensures at c.in-Ok.ensures.closed) c.in-Ok.ensures.accepted,
     )
