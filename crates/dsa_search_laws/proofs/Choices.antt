@@ -5,12 +5,29 @@ use Rattle.std.specs.List.{list_any}
 use Rattle.dsa_terms.specs.Buffers.{Instance}
 use Rattle.dsa_terms.specs.Claims.{Claim, Entry, IsIn, IsClaim, Rises, buffers_of, up}
 use Rattle.dsa_terms.specs.Logs.{ends_below, is_twin}
-use Rattle.dsa_terms.specs.Search.{Rule, choices, comes_before, in_order, not_excluded, put_in}
-use Rattle.dsa_terms.proofs.Lists.{any_gives, from_filter, from_order, from_put_in, into_filter, into_order, none_passes, true_or_false}
-use Rattle.dsa_search_laws.specs.Choosing.{AreInOrder, IsBefore}
+use Rattle.dsa_terms.specs.Sorts.{IsOrdered, ordered_by, put_by}
+use Rattle.dsa_terms.specs.Search.{Rule, choices, comes_before, not_excluded}
+use Rattle.dsa_terms.proofs.Lists.{any_gives, from_filter, from_ordered_by, from_put_by, into_filter, into_ordered_by, none_passes, true_or_false}
 use Rattle.dsa_search_laws.proofs.Placing.{in_buffers}
 
 -- ---- before
+-- the up of e is lower than that of f, or as high, with the smaller number
+abbrev IsBefore : Instance → Entry → Entry → Type 0
+IsBefore I e f = (up I e < up I f) ⊎ ((up I e ≡ up I f) × (e.0 < f.0))
+
+-- each entry is before all later ones
+abbrev AreInOrder : Instance → List Entry → Type 0
+AreInOrder I [] = Unit {0}
+AreInOrder I (e ∷ es) = ((f : Entry) → IsIn f es → IsBefore I e f) × AreInOrder I es
+
+is_before : (I : Instance) (e f : Entry) → IsBefore I e f → comes_before I e f ≡ true
+unfolding comes_before
+is_before I e f h = test (up I e) (up I f) e.0 f.0 h
+  where
+    test : (m n b c : ℕ) → (m < n) ⊎ ((m ≡ n) × (b < c)) → (nat_lt m n || ((m == n) && nat_lt b c)) ≡ true
+    test m n b c (inl q) = grind (arith, nat_tests)
+    test m n b c (inr q) = let x = q.0 in let y = q.1 in grind (arith, nat_tests)
+
 before_is : (I : Instance) (e f : Entry) → comes_before I e f ≡ true → IsBefore I e f
 unfolding comes_before
 before_is I e f h = test (up I e) (up I f) e.0 f.0 h
@@ -39,55 +56,64 @@ one_way I e f (inr p) (inr q) = let k = p.1 in let l = q.1 in omega arith
 
 -- ---- a list brought into order
 put_is_in_order : (I : Instance) (e : Entry) (fs : List Entry) → ((f : Entry) → IsIn f fs → f.0 ≢ e.0) →
-    AreInOrder I fs → AreInOrder I (put_in I e fs)
+    AreInOrder I fs → AreInOrder I (put_by (comes_before I) e fs)
 put_is_in_order I e [] ne h = ((λ f i. absurd i), tt)
 put_is_in_order I e (f ∷ fs) ne h = go (put_is_in_order I e fs (λ g i. ne g (inr i)) h.1) (comes_before I e f) refl
   where
-    go : AreInOrder I (put_in I e fs) → (t : Bool) → comes_before I e f ≡ t →
-        AreInOrder I (cond t (e ∷ f ∷ fs) (f ∷ put_in I e fs))
+    go : AreInOrder I (put_by (comes_before I) e fs) → (t : Bool) → comes_before I e f ≡ t →
+        AreInOrder I (cond t (e ∷ f ∷ fs) (f ∷ put_by (comes_before I) e fs))
     go ih true q = (first, h)
       where
         first : (g : Entry) → IsIn g (f ∷ fs) → IsBefore I e g
         first g (inl s) = subst (IsBefore I e) (sym s) (before_is I e f q)
         first g (inr i) = along I e f g (before_is I e f q) (h.0 g i)
-    go ih false q = ((λ g i. later g (from_put_in I e fs g i)), ih)
+    go ih false q = ((λ g i. later g (from_put_by (comes_before I) e fs g i)), ih)
       where
         later : (g : Entry) → IsIn g (e ∷ fs) → IsBefore I f g
         later g (inl s) = subst (IsBefore I f) (sym s) (else_after I e f (ne f (inl refl)) q)
         later g (inr i) = h.0 g i
 
 are_in_order : (I : Instance) (p : Entry → Bool) (l : Claim) → Rises (buffers_of l) →
-    AreInOrder I (in_order I (filter p l))
+    AreInOrder I (ordered_by (comes_before I) (filter p l))
 are_in_order I p [] r = tt
 are_in_order I p (e ∷ l) r = go (are_in_order I p l r.1) (p e)
   where
-    apart : (f : Entry) → IsIn f (in_order I (filter p l)) → f.0 ≢ e.0
+    apart : (f : Entry) → IsIn f (ordered_by (comes_before I) (filter p l)) → f.0 ≢ e.0
     apart f i q =
-        let j = from_filter p l f (from_order I (filter p l) f i) in
+        let j = from_filter p l f (from_ordered_by (comes_before I) (filter p l) f i) in
         let above = r.0 f.0 (in_buffers l f j.0) in omega arith
 
-    go : AreInOrder I (in_order I (filter p l)) → (t : Bool) →
-        AreInOrder I (in_order I (cond t (e ∷ filter p l) (filter p l)))
-    go ih true = put_is_in_order I e (in_order I (filter p l)) apart ih
+    go : AreInOrder I (ordered_by (comes_before I) (filter p l)) → (t : Bool) →
+        AreInOrder I (ordered_by (comes_before I) (cond t (e ∷ filter p l) (filter p l)))
+    go ih true = put_is_in_order I e (ordered_by (comes_before I) (filter p l)) apart ih
     go ih false = ih
 
-pub choices_are_in_order : (I : Instance) (rule : Rule) (l : Claim) → IsClaim I l → AreInOrder I (choices I rule l)
-choices_are_in_order I rule l c = are_in_order I (rule l) l c.rises
+in_order_is : (I : Instance) (es : List Entry) → AreInOrder I es → IsOrdered (comes_before I) es
+in_order_is I [] h = tt
+in_order_is I (e ∷ es) h = ((λ f i. is_before I e f (h.0 f i)), in_order_is I es h.1)
+
+ordered_is : (I : Instance) (es : List Entry) → IsOrdered (comes_before I) es → AreInOrder I es
+ordered_is I [] h = tt
+ordered_is I (e ∷ es) h = ((λ f i. before_is I e f (h.0 f i)), ordered_is I es h.1)
+
+pub choices_are_in_order : (I : Instance) (rule : Rule) (l : Claim) → IsClaim I l →
+    IsOrdered (comes_before I) (choices I rule l)
+choices_are_in_order I rule l c = in_order_is I (choices I rule l) (are_in_order I (rule l) l c.rises)
 
 pub choices_are : (I : Instance) (rule : Rule) (l : Claim) (e : Entry) →
     IsIn e (choices I rule l) ↔ (IsIn e l × (rule l e ≡ true))
 choices_are I rule l e = (
-  λ i. from_filter (rule l) l e (from_order I (filter (rule l) l) e i),
-  λ h. into_order I (filter (rule l) l) e (into_filter (rule l) l e h.0 h.1),
+  λ i. from_filter (rule l) l e (from_ordered_by (comes_before I) (filter (rule l) l) e i),
+  λ h. into_ordered_by (comes_before I) (filter (rule l) l) e (into_filter (rule l) l e h.0 h.1),
 )
 
 -- ---- and there is one such list
-pub one_order : (I : Instance) (es fs : List Entry) → AreInOrder I es → AreInOrder I fs →
+one_in_order : (I : Instance) (es fs : List Entry) → AreInOrder I es → AreInOrder I fs →
     ((e : Entry) → IsIn e es ↔ IsIn e fs) → es ≡ fs
-one_order I [] [] p q h = refl
-one_order I [] (f ∷ fs) p q h = absurd ((h f).1 (inl refl))
-one_order I (e ∷ es) [] p q h = absurd ((h e).0 (inl refl))
-one_order I (e ∷ es) (f ∷ fs) p q h = ap₂ (λ z zs. z ∷ zs) same (one_order I es fs p.1 q.1 rest)
+one_in_order I [] [] p q h = refl
+one_in_order I [] (f ∷ fs) p q h = absurd ((h f).1 (inl refl))
+one_in_order I (e ∷ es) [] p q h = absurd ((h e).0 (inl refl))
+one_in_order I (e ∷ es) (f ∷ fs) p q h = ap₂ (λ z zs. z ∷ zs) same (one_in_order I es fs p.1 q.1 rest)
   where
     same : e ≡ f
     same = go ((h e).0 (inl refl)) ((h f).1 (inl refl))
@@ -135,3 +161,7 @@ not_excluded_is I l e = (forth (list_any (λ f. ends_below I f e) l) (list_any (
     back : ((f : Entry) → IsIn f l → (ends_below I f e ≡ false) × (is_twin I f e ≡ false)) →
         not_excluded I l e ≡ true
     back h = rw (none (λ f. ends_below I f e) (λ f i. (h f i).0), none (λ f. is_twin I f e) (λ f i. (h f i).1)) refl
+
+pub one_order : (I : Instance) (es fs : List Entry) → IsOrdered (comes_before I) es → IsOrdered (comes_before I) fs →
+    ((e : Entry) → IsIn e es ↔ IsIn e fs) → es ≡ fs
+one_order I es fs p q = one_in_order I es fs (ordered_is I es p) (ordered_is I fs q)

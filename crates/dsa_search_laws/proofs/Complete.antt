@@ -5,8 +5,8 @@ use Rattle.std.proofs.lemmas.Bool.Decides.{nat_tests}
 use Rattle.dsa_terms.specs.Buffers.{Instance, buffer, IsLive, do_share, IsInstance}
 use Rattle.dsa_terms.specs.Layouts.{IsMultiple}
 use Rattle.dsa_terms.specs.Claims.{Entry, Claim, IsIn, Rises, buffers_of, IsClaim, up, number_of, Places, IsPlacement, IsRefuted, step, child}
-use Rattle.dsa_terms.specs.Search.{is_tall, first_some, choices, seated, Rule, first_of}
-use Rattle.dsa_terms.proofs.Lists.{into_filter, from_filter, true_or_false, none_or_some, any_gives, none_passes, into_order, from_order, all_none, some_answer}
+use Rattle.dsa_terms.specs.Search.{comes_before, is_tall, first_some, choices, seated, Rule, first_of}
+use Rattle.dsa_terms.proofs.Lists.{into_filter, from_filter, true_or_false, none_or_some, any_gives, none_passes, into_ordered_by, from_ordered_by, all_none, some_answer}
 use Rattle.dsa_terms.proofs.Moments.{do_share-false}
 use Rattle.dsa_search_laws.specs.Searches.{all_taken, plain_first}
 use Rattle.dsa_search_laws.proofs.Placing.{same_entry, in_child, up_at_or_above, up_is_multiple, above_up, push_down}
@@ -119,10 +119,10 @@ seated_some I l e (Some r) s h = (r, refl, cc)
 
 pub into_choices : (I : Instance) (rule : Rule) (l : Claim) (e : Entry) → IsIn e l → rule l e ≡ true →
     IsIn e (choices I rule l)
-into_choices I rule l e i h = into_order I (filter (rule l) l) e (into_filter (rule l) l e i h)
+into_choices I rule l e i h = into_ordered_by (comes_before I) (filter (rule l) l) e (into_filter (rule l) l e i h)
 
 pub from_choices : (I : Instance) (rule : Rule) (l : Claim) (e : Entry) → IsIn e (choices I rule l) → IsIn e l
-from_choices I rule l e i = (from_filter (rule l) l e (from_order I (filter (rule l) l) e i)).0
+from_choices I rule l e i = (from_filter (rule l) l e (from_ordered_by (comes_before I) (filter (rule l) l) e i)).0
 
 has_entry : (l : Claim) (k : ℕ) → length l ≡ suc k → (e : Entry) × IsIn e l
 has_entry [] k h = absurd (omega arith)

@@ -5,8 +5,8 @@ use Rattle.std.proofs.lemmas.Bool.Decides.{nat_tests}
 use Rattle.std.specs.Option.{option_or}
 use Rattle.dsa_terms.specs.Buffers.{Instance, buffer, IsInstance}
 use Rattle.dsa_terms.specs.Claims.{Entry, Claim, IsIn, buffers_of, IsClaim, up, number_of, IsPlacement, IsRefuted, child}
-use Rattle.dsa_terms.specs.Search.{is_tall, comes_before, put_in, in_order, first_some, choices, seated, Rule, not_excluded, first_of, first, work_through, work_of, work}
-use Rattle.dsa_terms.proofs.Lists.{any_gives, length-filter_le}
+use Rattle.dsa_terms.specs.Search.{is_tall, comes_before, first_some, choices, seated, Rule, not_excluded, first_of, first, work_through, work_of, work}
+use Rattle.dsa_terms.proofs.Lists.{any_gives, length-filter_le, length-ordered_by}
 use Rattle.dsa_search_laws.specs.Searches.{height, most_work}
 use Rattle.dsa_search_laws.proofs.Placing.{above_up, of_child, in_buffers}
 use Rattle.dsa_search_laws.proofs.Claims.{number_of-map, not_placed, claim-child, length-child}
@@ -133,19 +133,6 @@ first_lower I C D l seats s c h below le =
         omega arith
 
 -- ---- the work
-length-put_in : (I : Instance) (e : Entry) (es : List Entry) → length (put_in I e es) ≡ suc (length es)
-length-put_in I e [] = refl
-length-put_in I e (f ∷ fs) = go (length-put_in I e fs) (comes_before I e f)
-  where
-    go : length (put_in I e fs) ≡ suc (length fs) → (b : Bool) →
-        length (cond b (e ∷ f ∷ fs) (f ∷ put_in I e fs)) ≡ suc (suc (length fs))
-    go ih true = refl
-    go ih false = ap suc ih
-
-length-in_order : (I : Instance) (es : List Entry) → length (in_order I es) ≡ length es
-length-in_order I [] = refl
-length-in_order I (e ∷ es) = length-put_in I e (in_order I es) ∙ ap suc (length-in_order I es)
-
 work_through_le : (w : Entry → ℕ) (found : Entry → Bool) (m : ℕ) (es : List Entry) →
     ((e : Entry) → IsIn e es → w e ≤ m) → work_through w found es ≤ length es * m
 work_through_le w found m [] h = omega arith
@@ -184,7 +171,7 @@ work_of_bounds I C (suc k) l c n = go (work_of_bounds I C k) (list_any (is_tall 
           (choices I rule l)
           (λ e i. (ih (child I l e) (claim-child I l e c)
           (let len = length-child I l e c.rises (from_choices I rule l e i) in omega arith)).1) in
-          let count : length (choices I rule l) ≤ suc k = (let a = length-in_order I (filter (rule l) l) in
+          let count : length (choices I rule l) ≤ suc k = (let a = length-ordered_by (comes_before I) (filter (rule l) l) in
           let b = length-filter_le (rule l) l in omega arith) in
           let more : length (choices I rule l) * most_work k ≤ suc k * most_work k = mul-le-mul_right
           (most_work k) count in

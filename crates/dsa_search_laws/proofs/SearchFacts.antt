@@ -2,11 +2,11 @@
 use Rattle.std.proofs.Common.{◌≡◌, ℕ, inl, inr, true, List, [], ◌∷◌, map, Some, None, subst, refl, arith}
 use Rattle.dsa_terms.specs.Buffers.{is_live, buffer, do_share, some_before}
 use Rattle.dsa_terms.specs.Claims.{Claim, Entry, IsIn, up, step, child}
+use Rattle.dsa_terms.specs.Sorts.{IsOrdered}
 use Rattle.dsa_terms.specs.Search.{is_tall, comes_before, first_of}
 use Rattle.dsa_terms.specs.Parts.{is_cut, last_cut, part_of, parts}
 use Rattle.dsa_terms.proofs.Examples.{evens, two_parts}
 use Rattle.dsa_search_laws.specs.Searches.{all_taken, plain_first, height, most_work}
-use Rattle.dsa_search_laws.specs.Choosing.{AreInOrder, IsBefore}
 use Rattle.dsa_search_laws.specs.Together.{AreTogether}
 
 -- two of size 1 at even offsets and one of size 2, all with the bound 0
@@ -66,19 +66,19 @@ other_parts t = close t.part t.is_part t.has_first t.has_second
     close p (inr (inr i)) h k = i
 
 -- ---- in order: by the ups 1 and 2, and by the numbers of equal ups
-up_first : AreInOrder evens ((2, 1) ∷ (0, 1) ∷ (1, 2) ∷ [])
-unfolding up buffer
+up_first : IsOrdered (comes_before evens) ((2, 1) ∷ (0, 1) ∷ (1, 2) ∷ [])
+unfolding comes_before up buffer
 up_first = (from_two, (from_zero, ((λ f i. absurd i), tt)))
   where
-    from_two : (f : Entry) → IsIn f ((0, 1) ∷ (1, 2) ∷ []) → IsBefore evens (2, 1) f
-    from_two f (inl q) = rw q (inl (omega arith))
-    from_two f (inr (inl q)) = rw q (inl (omega arith))
+    from_two : (f : Entry) → IsIn f ((0, 1) ∷ (1, 2) ∷ []) → comes_before evens (2, 1) f ≡ true
+    from_two f (inl q) = rw q refl
+    from_two f (inr (inl q)) = rw q refl
     from_two f (inr (inr i)) = absurd i
 
-    from_zero : (f : Entry) → IsIn f ((1, 2) ∷ []) → IsBefore evens (0, 1) f
-    from_zero f (inl q) = rw q (inr (refl, omega arith))
+    from_zero : (f : Entry) → IsIn f ((1, 2) ∷ []) → comes_before evens (0, 1) f ≡ true
+    from_zero f (inl q) = rw q refl
     from_zero f (inr i) = absurd i
 
-number_last : AreInOrder evens ((1, 2) ∷ (0, 1) ∷ []) → ⊥
-unfolding up buffer
-number_last o = elim (o.0 (0, 1) (inl refl)) [ inl h ↦ omega arith | inr h ↦ (let k = h.1 in omega arith) ]
+number_last : IsOrdered (comes_before evens) ((1, 2) ∷ (0, 1) ∷ []) → ⊥
+unfolding comes_before up buffer
+number_last o = let h = o.0 (0, 1) (inl refl) in cc

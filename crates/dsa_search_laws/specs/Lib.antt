@@ -1,4 +1,3 @@
 pub mod Placements
 pub mod Searches
 pub mod Together
-pub mod Choosing

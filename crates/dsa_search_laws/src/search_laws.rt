@@ -6,8 +6,8 @@ ghost use Rattle.dsa_terms.specs.Claims.{Claim, Entry, IsClaim, IsIn, IsPlacemen
 ghost use Rattle.dsa_terms.specs.Logs.{ends_below, is_twin};
 ghost use Rattle.dsa_terms.specs.Parts.{whole, whole_work};
 ghost use Rattle.dsa_terms.specs.Plans.{after_plan, hunt, plan};
-ghost use Rattle.dsa_terms.specs.Search.{Rule, choices, first, first_some, is_tall, not_excluded, seated, work, work_through};
-ghost use Rattle.dsa_search_laws.specs.Choosing.{AreInOrder};
+ghost use Rattle.dsa_terms.specs.Sorts.{IsOrdered};
+ghost use Rattle.dsa_terms.specs.Search.{Rule, choices, comes_before, first, first_some, is_tall, not_excluded, seated, work, work_through};
 ghost use Rattle.dsa_search_laws.specs.Searches.{height, most_work, plain_first};
 ghost use Rattle.std.specs.List.{list_any};
 
@@ -40,11 +40,11 @@ pub fn first_stays()
 /// claim ends below it and none is a twin before it.
 pub fn choices_are_in_order()
     ensures order { (I : Instance) (rule : Rule) (l : Claim) → IsClaim I l →
-        AreInOrder I (choices I rule l) }
+        IsOrdered (comes_before I) (choices I rule l) }
     ensures members { (I : Instance) (rule : Rule) (l : Claim) (e : Entry) →
         IsIn e (choices I rule l) ↔ (IsIn e l × (rule l e ≡ true)) }
-    ensures one { (I : Instance) (es fs : List Entry) → AreInOrder I es → AreInOrder I fs →
-        ((e : Entry) → IsIn e es ↔ IsIn e fs) → es ≡ fs }
+    ensures one { (I : Instance) (es fs : List Entry) → IsOrdered (comes_before I) es →
+        IsOrdered (comes_before I) fs → ((e : Entry) → IsIn e es ↔ IsIn e fs) → es ≡ fs }
     ensures taken { (I : Instance) (l : Claim) (e : Entry) → (not_excluded I l e ≡ true)
         ↔ ((f : Entry) → IsIn f l → (ends_below I f e ≡ false) × (is_twin I f e ≡ false)) }
 {}

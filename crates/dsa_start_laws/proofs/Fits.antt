@@ -8,9 +8,10 @@ use Rattle.dsa_terms.specs.Claims.{Entry, IsIn, buffers_of, number_of}
 use Rattle.dsa_terms.specs.Parts.{numbers, offsets_of}
 use Rattle.dsa_terms.specs.Plans.{layout_height}
 use Rattle.dsa_terms.specs.Fits.{neighbours, FitRule, first_place, best_place, fitted, first_fit, best_fit}
-use Rattle.dsa_terms.specs.Orders.{put_by, ordered_by, falls_by, rises_by, area, orders}
+use Rattle.dsa_terms.specs.Sorts.{ordered_by}
+use Rattle.dsa_terms.specs.Orders.{falls_by, rises_by, area, orders}
 use Rattle.dsa_terms.specs.Starts.{starts}
-use Rattle.dsa_terms.proofs.Lists.{from_append, from_map, into_filter, true_or_false}
+use Rattle.dsa_terms.proofs.Lists.{from_append, from_map, into_filter, into_ordered_by, true_or_false}
 use Rattle.dsa_terms.proofs.Moments.{do_share-false}
 use Rattle.dsa_terms.proofs.NumberTests.{equal}
 use Rattle.dsa_terms.proofs.Ranges.{into_range}
@@ -133,23 +134,6 @@ best_fit_is_layout I order s each =
     (λ b lt. fitted_has I best_place order [] b (each b lt))
 
 -- ---- the orders
-into_put_by : (before : ℕ → ℕ → Bool) (b : ℕ) (cs : List ℕ) (x : ℕ) → IsIn x (b ∷ cs) → IsIn x (put_by before b cs)
-into_put_by before b [] x h = h
-into_put_by before b (c ∷ cs) x h = go (into_put_by before b cs x) (before b c) h
-  where
-    go : (IsIn x (b ∷ cs) → IsIn x (put_by before b cs)) → (t : Bool) → IsIn x (b ∷ c ∷ cs) →
-        IsIn x (cond t (b ∷ c ∷ cs) (c ∷ put_by before b cs))
-    go ih true q = q
-    go ih false (inl q) = inr (ih (inl q))
-    go ih false (inr (inl q)) = inl q
-    go ih false (inr (inr q)) = inr (ih (inr q))
-
-pub into_ordered_by : (before : ℕ → ℕ → Bool) (bs : List ℕ) (x : ℕ) → IsIn x bs → IsIn x (ordered_by before bs)
-into_ordered_by before [] x h = h
-into_ordered_by before (b ∷ bs) x (inl q) = into_put_by before b (ordered_by before bs) x (inl q)
-into_ordered_by before (b ∷ bs) x (inr q) =
-    into_put_by before b (ordered_by before bs) x (inr (into_ordered_by before bs x q))
-
 ordered_has_each : (I : Instance) (before : ℕ → ℕ → Bool) → HasEach I (ordered_by before (numbers (length I)))
 ordered_has_each I before b lt = into_ordered_by before (numbers (length I)) b
     (into_range (length I) 0 b (omega arith) (omega arith))

@@ -4,14 +4,15 @@ use Rattle.std.proofs.lemmas.Bool.Decides.{nat_tests}
 use Rattle.dsa_terms.specs.Buffers.{Buffer, Instance, buffer}
 use Rattle.dsa_terms.specs.Claims.{IsIn, Rises}
 use Rattle.dsa_terms.specs.Parts.{numbers}
-use Rattle.dsa_terms.specs.Orders.{put_by, ordered_by, IsOrdered, falls_by, rises_by}
+use Rattle.dsa_terms.specs.Sorts.{comes_first, put_by, ordered_by, IsOrdered}
+use Rattle.dsa_terms.specs.Orders.{falls_by, rises_by}
+use Rattle.dsa_terms.proofs.Lists.{from_ordered_by, from_put_by, into_ordered_by}
 use Rattle.dsa_terms.proofs.Ranges.{rises-range}
 use Rattle.dsa_start_laws.specs.Ordering.{IsOrder}
-use Rattle.dsa_start_laws.proofs.Fits.{into_ordered_by}
 
 -- ---- by a measure, ties to the smaller number
 abbrev later_test : ℕ → ℕ → ℕ → ℕ → Bool
-later_test m n b c = nat_lt n m || ((m == n) && nat_lt b c)
+later_test m n b c = comes_first n m b c
 
 test_is : (m n b c : ℕ) → later_test m n b c ≡ true → (n < m) ⊎ ((m ≡ n) × (b < c))
 test_is m n b c h = grind (arith, nat_tests)
@@ -75,15 +76,15 @@ rises_is_order measure I = record {
       (low_is (measure (buffer I c)) (measure (buffer I d)) c d q));
 }
   where
-    low_is : (m n b c : ℕ) → (nat_lt m n || ((m == n) && nat_lt b c)) ≡ true → (m < n) ⊎ ((m ≡ n) × (b < c))
+    low_is : (m n b c : ℕ) → comes_first m n b c ≡ true → (m < n) ⊎ ((m ≡ n) × (b < c))
     low_is m n b c h = grind (arith, nat_tests)
 
-    is_low : (m n b c : ℕ) → (m < n) ⊎ ((m ≡ n) × (b < c)) → (nat_lt m n || ((m == n) && nat_lt b c)) ≡ true
+    is_low : (m n b c : ℕ) → (m < n) ⊎ ((m ≡ n) × (b < c)) → comes_first m n b c ≡ true
     is_low m n b c (inl q) = grind (arith, nat_tests)
     is_low m n b c (inr q) = let x = q.0 in let y = q.1 in grind (arith, nat_tests)
 
     total : (m n b c : ℕ) → (m < n) ⊎ ((n < m) ⊎ (m ≡ n)) → (b < c) ⊎ (c < b) →
-        ((nat_lt m n || ((m == n) && nat_lt b c)) ≡ true) ⊎ ((nat_lt n m || ((n == m) && nat_lt c b)) ≡ true)
+        (comes_first m n b c ≡ true) ⊎ (comes_first n m c b ≡ true)
     total m n b c (inl q) e = inl (is_low m n b c (inl q))
     total m n b c (inr (inl q)) e = inr (is_low n m c b (inl q))
     total m n b c (inr (inr q)) (inl l) = inl (is_low m n b c (inr (q, l)))
@@ -107,28 +108,6 @@ pub measures_are_orders : (measure : Buffer → ℕ) (I : Instance) →
 measures_are_orders measure I = (falls_is_order measure I, rises_is_order measure I)
 
 -- ---- a list brought into order
-from_put_by : (before : ℕ → ℕ → Bool) (b : ℕ) (cs : List ℕ) (x : ℕ) → IsIn x (put_by before b cs) → IsIn x (b ∷ cs)
-from_put_by before b [] x h = h
-from_put_by before b (c ∷ cs) x h = go (from_put_by before b cs x) (before b c) h
-  where
-    swap : IsIn x (b ∷ cs) → IsIn x (b ∷ c ∷ cs)
-    swap (inl q) = inl q
-    swap (inr q) = inr (inr q)
-
-    go : (IsIn x (put_by before b cs) → IsIn x (b ∷ cs)) → (t : Bool) →
-        IsIn x (cond t (b ∷ c ∷ cs) (c ∷ put_by before b cs)) → IsIn x (b ∷ c ∷ cs)
-    go ih true q = q
-    go ih false (inl q) = inr (inl q)
-    go ih false (inr q) = swap (ih q)
-
-pub from_ordered_by : (before : ℕ → ℕ → Bool) (bs : List ℕ) (x : ℕ) → IsIn x (ordered_by before bs) → IsIn x bs
-from_ordered_by before [] x h = h
-from_ordered_by before (b ∷ bs) x h = go (from_put_by before b (ordered_by before bs) x h) (from_ordered_by before bs x)
-  where
-    go : IsIn x (b ∷ ordered_by before bs) → (IsIn x (ordered_by before bs) → IsIn x bs) → IsIn x (b ∷ bs)
-    go (inl q) ih = inl q
-    go (inr q) ih = inr (ih q)
-
 put_is_ordered : (before : ℕ → ℕ → Bool) (b : ℕ) (cs : List ℕ) → IsOrder before → ((c : ℕ) → IsIn c cs → b ≢ c) →
     IsOrdered before cs → IsOrdered before (put_by before b cs)
 put_is_ordered before b [] o ne h = ((λ c i. absurd i), tt)

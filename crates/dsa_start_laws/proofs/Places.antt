@@ -5,11 +5,12 @@ use Rattle.std.proofs.lemmas.Bool.Decides.{nat_tests}
 use Rattle.dsa_terms.specs.Buffers.{Instance, buffer, IsInstance, floor}
 use Rattle.dsa_terms.specs.Layouts.{IsApart}
 use Rattle.dsa_terms.specs.Claims.{Entry, IsIn}
-use Rattle.dsa_terms.specs.Fits.{top, highest, is_free, first_passing, FitRule, first_place, Range, stretches, free_ranges, least_from, holds, is_tighter, tighter_of, tightest, start_in, best_place}
+use Rattle.dsa_terms.specs.Fits.{top, highest, is_free, first_passing, FitRule, first_place, Range, stretches, free_ranges, least_from, holds, is_tighter, tightest, start_in, best_place}
 use Rattle.dsa_terms.proofs.Numbers.{next_is_least, next_is_multiple, multiple_sum, multiple_steps}
 use Rattle.dsa_terms.proofs.Lists.{from_filter, all_at, all_from}
 use Rattle.dsa_terms.proofs.Moments.{and_true, sound}
 use Rattle.dsa_terms.proofs.NumberTests.{at_most}
+use Rattle.dsa_start_laws.proofs.Tightest.{tightest_is_in}
 use Rattle.dsa_start_laws.specs.Fitting.{IsClear}
 use Rattle.dsa_search_laws.proofs.Logs.{in_greatest}
 use Rattle.dsa_search_laws.proofs.Members.{lowest_to_floor}
@@ -135,20 +136,6 @@ first_is_least I b placed y s c =
     (floor (buffer I b)) y (sound I b s).1
     (floor_is_multiple I b s) (itself_multiple (buffer I b).alignment) (floor_to_clear I b placed y s c) c.aligned
     (free_from I placed y (y + (buffer I b).size) c.apart)
-
--- ---- the tightest range is one of them
-pub tightest_is_in : (rs : List Range) (r : Range) → tightest rs ≡ Some r → IsIn r rs
-tightest_is_in [] r h = absurd cc
-tightest_is_in (x ∷ xs) r h = go (tightest xs) (tightest_is_in xs) h
-  where
-    pick : (s : Range) (b : Bool) → ((y : Range) → Some s ≡ Some y → IsIn y xs) → cond b (Some s) (Some x) ≡ Some r →
-        IsIn r (x ∷ xs)
-    pick s true ih q = inr (ih r q)
-    pick s false ih q = inl cc
-
-    go : (o : Option Range) → ((y : Range) → o ≡ Some y → IsIn y xs) → tighter_of x o ≡ Some r → IsIn r (x ∷ xs)
-    go None ih q = inl cc
-    go (Some s) ih q = pick s (is_tighter s x) ih q
 
 pub free_range_is_free : (I : Instance) (placed : List Entry) (r : Range) → IsIn r (free_ranges I placed) →
     is_free I placed r.start r.stop ≡ true

@@ -1,8 +1,12 @@
 -- Best-fit takes the shortest and lowest of the ranges that hold the buffer.
-use Rattle.std.proofs.Common.{◌≡◌, ℕ, ◌-◌, ◌<◌, ◌≤◌, ◌⊎◌, inl, inr, Bool, true, false, cond, ◌&&◌, ◌||◌, ◌==◌, List, [], ◌∷◌, nat_lt, Option, Some, None, refl, arith}
+use Rattle.std.proofs.Common.{◌≡◌, ℕ, ◌-◌, ◌<◌, ◌≤◌, ◌⊎◌, inl, inr, Bool, true, false, cond, ◌&&◌, ◌||◌, ◌==◌, List, [], ◌∷◌, find, not, nat_lt, Option, Some, None, sym, refl, ap, ◌∙◌, arith}
+use Rattle.std.specs.List.{list_all}
 use Rattle.std.proofs.lemmas.Bool.Decides.{nat_tests}
 use Rattle.dsa_terms.specs.Claims.{IsIn}
-use Rattle.dsa_terms.specs.Fits.{Range, is_tighter, tighter_of, tightest}
+use Rattle.dsa_terms.specs.Fits.{Range, is_tighter, tightest}
+use Rattle.dsa_terms.proofs.Lists.{all_at}
+use Rattle.dsa_terms.proofs.Moments.{not_true}
+use Rattle.dsa_start_laws.specs.Fitting.{tighter_of, tightest_in_turn}
 
 -- ---- the tightest
 abbrev tighter_test : ℕ → ℕ → ℕ → ℕ → Bool
@@ -41,9 +45,22 @@ not_along r s u h k = go (u.stop - u.start) (s.stop - s.start) (r.stop - r.start
     go l m n a b c p q = no_tighter_from l n a c (omega arith) (λ z. let x : b ≤ a = p.1 (omega arith) in
         let y : c ≤ b = q.1 (omega arith) in omega arith)
 
-none_in : (xs : List Range) (s : Range) → tightest xs ≡ None → IsIn s xs → ⊥
+in_turn_is_in : (rs : List Range) (r : Range) → tightest_in_turn rs ≡ Some r → IsIn r rs
+in_turn_is_in [] r h = absurd cc
+in_turn_is_in (x ∷ xs) r h = go (tightest_in_turn xs) (in_turn_is_in xs) h
+  where
+    pick : (s : Range) (b : Bool) → ((y : Range) → Some s ≡ Some y → IsIn y xs) → cond b (Some s) (Some x) ≡ Some r →
+        IsIn r (x ∷ xs)
+    pick s true ih q = inr (ih r q)
+    pick s false ih q = inl cc
+
+    go : (o : Option Range) → ((y : Range) → o ≡ Some y → IsIn y xs) → tighter_of x o ≡ Some r → IsIn r (x ∷ xs)
+    go None ih q = inl cc
+    go (Some s) ih q = pick s (is_tighter s x) ih q
+
+none_in : (xs : List Range) (s : Range) → tightest_in_turn xs ≡ None → IsIn s xs → ⊥
 none_in [] s h i = i
-none_in (x ∷ xs) s h i = go (tightest xs) h
+none_in (x ∷ xs) s h i = go (tightest_in_turn xs) h
   where
     pick : (b : Bool) (y : Range) → cond b (Some y) (Some x) ≡ None → ⊥
     pick true y q = cc
@@ -53,12 +70,12 @@ none_in (x ∷ xs) s h i = go (tightest xs) h
     go None q = cc
     go (Some y) q = pick (is_tighter y x) y q
 
-pub none_tighter : (rs : List Range) (r s : Range) → tightest rs ≡ Some r → IsIn s rs → is_tighter s r ≡ false
-none_tighter [] r s h i = absurd i
-none_tighter (x ∷ xs) r s h i = go (tightest xs) refl (none_tighter xs) h i
+none_tighter_in_turn : (rs : List Range) (r s : Range) → tightest_in_turn rs ≡ Some r → IsIn s rs → is_tighter s r ≡ false
+none_tighter_in_turn [] r s h i = absurd i
+none_tighter_in_turn (x ∷ xs) r s h i = go (tightest_in_turn xs) refl (none_tighter_in_turn xs) h i
   where
-    go : (o : Option Range) → tightest xs ≡ o →
-        ((r s : Range) → tightest xs ≡ Some r → IsIn s xs → is_tighter s r ≡ false) → tighter_of x o ≡ Some r →
+    go : (o : Option Range) → tightest_in_turn xs ≡ o →
+        ((r s : Range) → tightest_in_turn xs ≡ Some r → IsIn s xs → is_tighter s r ≡ false) → tighter_of x o ≡ Some r →
         IsIn s (x ∷ xs) → is_tighter s r ≡ false
     go None e ih q (inl j) = let z : x ≡ r = cc in rw (j, z) (not_itself r)
     go None e ih q (inr j) = absurd (none_in xs s e j)
@@ -71,15 +88,92 @@ none_tighter (x ∷ xs) r s h i = go (tightest xs) refl (none_tighter xs) h i
         pick false t q (inl j) = let z : x ≡ r = cc in rw (j, z) (not_itself r)
         pick false t q (inr j) = let z : x ≡ r = cc in rw (← z) (not_along x y s (ih y s e j) t)
 
--- one of several ranges is the tightest
-pub some_tightest : (rs : List Range) (r : Range) → tightest rs ≡ None → IsIn r rs → ⊥
-some_tightest [] r h i = i
-some_tightest (s ∷ rs) r h i = never (tightest rs) h
+-- ---- the first that none is tighter than is found by going through them
+chain : (r s u : Range) → is_tighter s r ≡ true → is_tighter r u ≡ true → is_tighter s u ≡ true
+unfolding is_tighter
+chain r s u h k = go (s.stop - s.start) (r.stop - r.start) (u.stop - u.start) s.start r.start u.start
+    (tighter_is (s.stop - s.start) (r.stop - r.start) s.start r.start h)
+    (tighter_is (r.stop - r.start) (u.stop - u.start) r.start u.start k)
   where
-    either : (u : Range) (b : Bool) → cond b (Some u) (Some s) ≡ None → ⊥
-    either u true q = cc
-    either u false q = cc
+    so : (l m a b : ℕ) → (l < m) ⊎ ((l ≡ m) × (a < b)) → tighter_test l m a b ≡ true
+    so l m a b (inl q) = grind (arith, nat_tests)
+    so l m a b (inr q) = let x = q.0 in let y = q.1 in grind (arith, nat_tests)
 
-    never : (o : Option Range) → tighter_of s o ≡ None → ⊥
-    never None q = cc
-    never (Some u) q = either u (is_tighter u s) q
+    go : (l m n a b c : ℕ) → (l < m) ⊎ ((l ≡ m) × (a < b)) → (m < n) ⊎ ((m ≡ n) × (b < c)) →
+        tighter_test l n a c ≡ true
+    go l m n a b c (inl p) (inl q) = so l n a c (inl (omega arith))
+    go l m n a b c (inl p) (inr q) = let x = q.0 in so l n a c (inl (omega arith))
+    go l m n a b c (inr p) (inl q) = let x = p.0 in so l n a c (inl (omega arith))
+    go l m n a b c (inr p) (inr q) = let x = p.1 in let y = q.1 in so l n a c (inr (p.0 ∙ q.0, omega arith))
+
+-- none of the ranges is tighter than r
+abbrev is_least : List Range → Range → Bool
+is_least rs r = list_all (λ s. not (is_tighter s r)) rs
+
+least_gives : (rs : List Range) (r s : Range) → is_least rs r ≡ true → IsIn s rs → is_tighter s r ≡ false
+least_gives rs r s h i = not_true (is_tighter s r) (all_at (λ s. not (is_tighter s r)) rs s h i)
+
+gives_least : (rs : List Range) (r : Range) → ((s : Range) → IsIn s rs → is_tighter s r ≡ false) → is_least rs r ≡ true
+gives_least [] r h = refl
+gives_least (x ∷ xs) r h = rw (h x (inl refl), gives_least xs r (λ s i. h s (inr i))) refl
+
+-- a test that says of each of them whether it is one that none is tighter than
+abbrev IsTest : (Range → Bool) → List Range → Type 0
+IsTest test rs = (r : Range) → IsIn r rs → test r ≡ is_least rs r
+
+-- where another one is tighter than the first, the test of all is one of the rest
+rest_test : (test : Range → Bool) (x y : Range) (xs : List Range) → IsTest test (x ∷ xs) → IsIn y xs →
+    is_tighter y x ≡ true → IsTest test xs
+rest_test test x y xs h i beaten r j = h r (inr j) ∙ go (is_tighter x r) refl (is_least xs r) refl
+  where
+    clash : is_tighter y r ≡ true → is_tighter y r ≡ false → ⊥
+    clash p q = cc
+
+    go : (a : Bool) → is_tighter x r ≡ a → (b : Bool) → is_least xs r ≡ b → (not a && b) ≡ b
+    go true p true q = absurd (clash (chain x y r beaten p) (least_gives xs r y q i))
+    go true p false q = refl
+    go false p b q = refl
+
+found : (rs : List Range) (test : Range → Bool) → IsTest test rs → find test rs ≡ tightest_in_turn rs
+found [] test h = refl
+found (x ∷ xs) test h = go (tightest_in_turn xs) refl (found xs test)
+  where
+    is_first : ((s : Range) → IsIn s xs → is_tighter s x ≡ false) → test x ≡ true
+    is_first none = h x (inl refl) ∙ gives_least (x ∷ xs) x (λ s i. elim i [ inl q ↦ rw q (not_itself x) | inr j ↦ none s j ])
+
+    not_first : (y : Range) → IsIn y xs → is_tighter y x ≡ true → test x ≡ false
+    not_first y i t = h x (inl refl) ∙ beaten (is_least (x ∷ xs) x) refl
+      where
+        clash : is_tighter y x ≡ true → is_tighter y x ≡ false → ⊥
+        clash p q = cc
+
+        beaten : (b : Bool) → is_least (x ∷ xs) x ≡ b → b ≡ false
+        beaten true q = absurd (clash t (least_gives (x ∷ xs) x y q (inr i)))
+        beaten false q = refl
+
+    go : (o : Option Range) → tightest_in_turn xs ≡ o → (IsTest test xs → find test xs ≡ tightest_in_turn xs) →
+        find test (x ∷ xs) ≡ tighter_of x o
+    go None e ih = rw (is_first (λ s i. absurd (none_in xs s e i))) refl
+    go (Some y) e ih = pick (is_tighter y x) refl
+      where
+        pick : (b : Bool) → is_tighter y x ≡ b → find test (x ∷ xs) ≡ cond b (Some y) (Some x)
+        pick true t =
+            let i = in_turn_is_in xs y e in
+            rw (not_first y i t) (ih (rest_test test x y xs h i t) ∙ e)
+        pick false t = rw (is_first (λ s i. not_along x y s (none_tighter_in_turn xs y s e i) t)) refl
+
+pub tightest_turns : (rs : List Range) → tightest rs ≡ tightest_in_turn rs
+tightest_turns rs = found rs (λ r. is_least rs r) (λ r i. refl)
+
+pub tightest_next : (r : Range) (rs : List Range) → tightest (r ∷ rs) ≡ tighter_of r (tightest rs)
+tightest_next r rs = tightest_turns (r ∷ rs) ∙ ap (tighter_of r) (sym (tightest_turns rs))
+
+-- ---- the tightest is one of them, none is tighter, and one of several is the tightest
+pub tightest_is_in : (rs : List Range) (r : Range) → tightest rs ≡ Some r → IsIn r rs
+tightest_is_in rs r h = in_turn_is_in rs r (sym (tightest_turns rs) ∙ h)
+
+pub none_tighter : (rs : List Range) (r s : Range) → tightest rs ≡ Some r → IsIn s rs → is_tighter s r ≡ false
+none_tighter rs r s h = none_tighter_in_turn rs r s (sym (tightest_turns rs) ∙ h)
+
+pub some_tightest : (rs : List Range) (r : Range) → tightest rs ≡ None → IsIn r rs → ⊥
+some_tightest rs r h = none_in rs r (sym (tightest_turns rs) ∙ h)

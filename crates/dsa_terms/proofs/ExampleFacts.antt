@@ -6,7 +6,8 @@ use Rattle.dsa_terms.specs.Layouts.{IsLayout}
 use Rattle.dsa_terms.specs.Claims.{up, number_of, step, child}
 use Rattle.dsa_terms.specs.Logs.{greatest, ends_below, is_twin}
 use Rattle.dsa_terms.specs.Parts.{has}
-use Rattle.dsa_terms.specs.Search.{comes_before, in_order}
+use Rattle.dsa_terms.specs.Sorts.{ordered_by}
+use Rattle.dsa_terms.specs.Search.{comes_before}
 use Rattle.dsa_terms.specs.Plans.{layout_height}
 use Rattle.dsa_terms.proofs.Examples.{plain, evens, gapped, filled, overrun, made, one_by_one}
 
@@ -156,7 +157,7 @@ unfolding is_twin have_same_moments some_before is_live up buffer
 other_moments_are_no_twin = refl
 
 -- ---- the order of the choices: by up, then by number
-choices_in_order : in_order evens ((0, 1) ∷ (1, 0) ∷ (2, 2) ∷ []) ≡ (1, 0) ∷ (0, 1) ∷ (2, 2) ∷ []
+choices_in_order : ordered_by (comes_before evens) ((0, 1) ∷ (1, 0) ∷ (2, 2) ∷ []) ≡ (1, 0) ∷ (0, 1) ∷ (2, 2) ∷ []
 unfolding comes_before up buffer
 choices_in_order = refl
 

@@ -2,8 +2,9 @@
 use Rattle.std.proofs.Common.{◌≡◌, ℕ, ◌+◌, ◌==◌, inl, inr, Bool, true, List, [], ◌∷◌, map, Some, None, refl}
 use Rattle.dsa_terms.specs.Buffers.{Buffer, Instance, is_live, buffer, do_share, some_before, floor}
 use Rattle.dsa_terms.specs.Claims.{Entry, IsIn}
-use Rattle.dsa_terms.specs.Fits.{top, highest, neighbours, is_free, first_passing, FitRule, first_place, Range, stretches, free_ranges, holds, is_tighter, tighter_of, tightest, start_in, best_place, fitted, least_from}
-use Rattle.dsa_terms.specs.Orders.{put_by, ordered_by, IsOrdered, falls_by, area}
+use Rattle.dsa_terms.specs.Fits.{top, highest, neighbours, is_free, first_passing, FitRule, first_place, Range, stretches, free_ranges, holds, is_tighter, tightest, start_in, best_place, fitted, least_from}
+use Rattle.dsa_terms.specs.Sorts.{put_by, ordered_by, IsOrdered}
+use Rattle.dsa_terms.specs.Orders.{falls_by, area}
 use Rattle.dsa_terms.proofs.Examples.{plain, evens, gapped, filled, overrun}
 
 -- ---- one buffer beside placed ones: ranges 3..4 and 5..6 are taken, so 0..3 and 4..5 are free
@@ -25,19 +26,20 @@ unfoldable pub range : ℕ → ℕ → Range
 range x y = record { start = x; stop = y }
 
 -- ---- the tightest range: the shorter, and of two of one length the lower
-shorter : tighter_of (range 0 3) (Some (range 4 5)) ≡ Some (range 4 5)
+shorter : tightest (range 0 3 ∷ range 4 5 ∷ []) ≡ Some (range 4 5)
 unfolding is_tighter range
 shorter = refl
 
-lower_of_two : tighter_of (range 5 7) (Some (range 0 2)) ≡ Some (range 0 2)
+lower_of_two : tightest (range 5 7 ∷ range 0 2 ∷ []) ≡ Some (range 0 2)
 unfolding is_tighter range
 lower_of_two = refl
 
-first_of_two : tighter_of (range 0 2) (Some (range 5 7)) ≡ Some (range 0 2)
+first_of_two : tightest (range 0 2 ∷ range 5 7 ∷ []) ≡ Some (range 0 2)
 unfolding is_tighter range
 first_of_two = refl
 
-alone : tighter_of (range 5 7) None ≡ Some (range 5 7)
+alone : tightest (range 5 7 ∷ []) ≡ Some (range 5 7)
+unfolding is_tighter range
 alone = refl
 
 tightest_of_four : tightest (range 0 3 ∷ range 9 11 ∷ range 4 6 ∷ range 20 90 ∷ []) ≡ Some (range 4 6)

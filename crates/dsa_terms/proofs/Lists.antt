@@ -1,12 +1,12 @@
 -- Membership in a list, and the lists that are made of others.
-use Rattle.std.proofs.Common.{◌≡◌, ◌≤◌, ◌⊎◌, inl, inr, ℕ, Bool, true, false, cond, ◌==◌, ◌||◌, List, [], ◌∷◌, ◌++◌, map, length, filter, find, Option, Some, None, refl, ap, ◌∙◌, subst, arith}
+use Rattle.std.proofs.Common.{◌≡◌, ◌≤◌, ◌⊎◌, inl, inr, ℕ, suc, Bool, true, false, cond, ◌==◌, ◌||◌, List, [], ◌∷◌, ◌++◌, map, length, filter, find, Option, Some, None, refl, ap, ◌∙◌, subst, arith}
 use Rattle.std.specs.List.{flat_map, list_any, list_all}
 use Rattle.std.specs.Option.{option_or}
-use Rattle.dsa_terms.specs.Claims.{IsIn, Entry}
-use Rattle.dsa_terms.specs.Buffers.{Instance}
+use Rattle.dsa_terms.specs.Claims.{IsIn}
 use Rattle.dsa_terms.specs.Logs.{greatest}
 use Rattle.dsa_terms.specs.Parts.{has}
-use Rattle.dsa_terms.specs.Search.{comes_before, put_in, in_order, first_some}
+use Rattle.dsa_terms.specs.Sorts.{ordered_by, put_by}
+use Rattle.dsa_terms.specs.Search.{first_some}
 use Rattle.dsa_terms.proofs.Moments.{and_true}
 use Rattle.dsa_terms.proofs.NumberTests.{equal, same}
 
@@ -91,43 +91,62 @@ any_from p xs x i t = elim (true_or_false (list_any p xs)) [
 ]
 
 -- ---- the list in order has the same items
-pub into_put_in : (I : Instance) (e : Entry) (es : List Entry) (x : Entry) → IsIn x (e ∷ es) → IsIn x (put_in I e es)
-into_put_in I e [] x h = h
-into_put_in I e (f ∷ fs) x h = go (into_put_in I e fs x) (comes_before I e f) h
+pub into_put_by : {X : Type 0} (before : X → X → Bool) (e : X) (es : List X) (x : X) → IsIn x (e ∷ es) →
+    IsIn x (put_by before e es)
+into_put_by before e [] x h = h
+into_put_by {X} before e (f ∷ fs) x h = go (into_put_by before e fs x) (before e f) h
   where
-    go : (IsIn x (e ∷ fs) → IsIn x (put_in I e fs)) → (b : Bool) → IsIn x (e ∷ f ∷ fs) →
-        IsIn x (cond b (e ∷ f ∷ fs) (f ∷ put_in I e fs))
+    go : (IsIn x (e ∷ fs) → IsIn x (put_by before e fs)) → (b : Bool) → IsIn x (e ∷ f ∷ fs) →
+        IsIn x (cond b (e ∷ f ∷ fs) (f ∷ put_by before e fs))
     go ih true q = q
     go ih false (inl q) = inr (ih (inl q))
     go ih false (inr (inl q)) = inl q
     go ih false (inr (inr q)) = inr (ih (inr q))
 
-pub from_put_in : (I : Instance) (e : Entry) (es : List Entry) (x : Entry) → IsIn x (put_in I e es) → IsIn x (e ∷ es)
-from_put_in I e [] x h = h
-from_put_in I e (f ∷ fs) x h = go (from_put_in I e fs x) (comes_before I e f) h
+pub from_put_by : {X : Type 0} (before : X → X → Bool) (e : X) (es : List X) (x : X) → IsIn x (put_by before e es) →
+    IsIn x (e ∷ es)
+from_put_by before e [] x h = h
+from_put_by {X} before e (f ∷ fs) x h = go (from_put_by before e fs x) (before e f) h
   where
     swap : IsIn x (e ∷ fs) → IsIn x (e ∷ f ∷ fs)
     swap (inl q) = inl q
     swap (inr q) = inr (inr q)
 
-    go : (IsIn x (put_in I e fs) → IsIn x (e ∷ fs)) → (b : Bool) → IsIn x (cond b (e ∷ f ∷ fs) (f ∷ put_in I e fs)) →
-        IsIn x (e ∷ f ∷ fs)
+    go : (IsIn x (put_by before e fs) → IsIn x (e ∷ fs)) → (b : Bool) →
+        IsIn x (cond b (e ∷ f ∷ fs) (f ∷ put_by before e fs)) → IsIn x (e ∷ f ∷ fs)
     go ih true q = q
     go ih false (inl q) = inr (inl q)
     go ih false (inr q) = swap (ih q)
 
-pub into_order : (I : Instance) (es : List Entry) (x : Entry) → IsIn x es → IsIn x (in_order I es)
-into_order I [] x h = h
-into_order I (e ∷ es) x (inl q) = into_put_in I e (in_order I es) x (inl q)
-into_order I (e ∷ es) x (inr q) = into_put_in I e (in_order I es) x (inr (into_order I es x q))
+pub into_ordered_by : {X : Type 0} (before : X → X → Bool) (es : List X) (x : X) → IsIn x es →
+    IsIn x (ordered_by before es)
+into_ordered_by before [] x h = h
+into_ordered_by before (e ∷ es) x (inl q) = into_put_by before e (ordered_by before es) x (inl q)
+into_ordered_by before (e ∷ es) x (inr q) =
+    into_put_by before e (ordered_by before es) x (inr (into_ordered_by before es x q))
 
-pub from_order : (I : Instance) (es : List Entry) (x : Entry) → IsIn x (in_order I es) → IsIn x es
-from_order I [] x h = h
-from_order I (e ∷ es) x h = go (from_order I es x) (from_put_in I e (in_order I es) x h)
+pub from_ordered_by : {X : Type 0} (before : X → X → Bool) (es : List X) (x : X) → IsIn x (ordered_by before es) →
+    IsIn x es
+from_ordered_by before [] x h = h
+from_ordered_by {X} before (e ∷ es) x h = go (from_ordered_by before es x) (from_put_by before e (ordered_by before es) x h)
   where
-    go : (IsIn x (in_order I es) → IsIn x es) → IsIn x (e ∷ in_order I es) → IsIn x (e ∷ es)
+    go : (IsIn x (ordered_by before es) → IsIn x es) → IsIn x (e ∷ ordered_by before es) → IsIn x (e ∷ es)
     go ih (inl q) = inl q
     go ih (inr q) = inr (ih q)
+
+pub length-put_by : {X : Type 0} (before : X → X → Bool) (e : X) (es : List X) →
+    length (put_by before e es) ≡ suc (length es)
+length-put_by before e [] = refl
+length-put_by {X} before e (f ∷ fs) = go (length-put_by before e fs) (before e f)
+  where
+    go : length (put_by before e fs) ≡ suc (length fs) → (b : Bool) →
+        length (cond b (e ∷ f ∷ fs) (f ∷ put_by before e fs)) ≡ suc (suc (length fs))
+    go ih true = refl
+    go ih false = ap suc ih
+
+pub length-ordered_by : {X : Type 0} (before : X → X → Bool) (es : List X) → length (ordered_by before es) ≡ length es
+length-ordered_by before [] = refl
+length-ordered_by before (e ∷ es) = length-put_by before e (ordered_by before es) ∙ ap suc (length-ordered_by before es)
 
 -- ---- the first answer
 pub all_none : {X Y : Type 0} (f : X → Option Y) (xs : List X) (x : X) → first_some f xs ≡ None → IsIn x xs → f x ≡ None

@@ -3,7 +3,8 @@ use Rattle.std.proofs.Common.{◌≡◌, ℕ, ◌+◌, ◌*◌, ◌==◌, true, 
 use Rattle.dsa_terms.specs.Buffers.{is_live, buffer, do_share, have_same_moments, some_before}
 use Rattle.dsa_terms.specs.Claims.{Entry, Claim, up, step, child}
 use Rattle.dsa_terms.specs.Logs.{ends_below, is_twin}
-use Rattle.dsa_terms.specs.Search.{is_tall, comes_before, put_in, first_some, seated, not_excluded, choices, first_of, first, work_through, work_of, work}
+use Rattle.dsa_terms.specs.Sorts.{put_by}
+use Rattle.dsa_terms.specs.Search.{is_tall, comes_before, first_some, seated, not_excluded, choices, first_of, first, work_through, work_of, work}
 use Rattle.dsa_terms.specs.Parts.{is_cut, last_cut, part_of, parts, searched, whole_work}
 use Rattle.dsa_terms.specs.Plans.{layout_height, plan, after_plan, hunt_within}
 use Rattle.dsa_terms.proofs.Examples.{evens}
@@ -13,7 +14,7 @@ abbrev all_three : Claim
 all_three = (0, 0) ∷ (1, 0) ∷ (2, 0) ∷ []
 
 -- an up of 2 goes behind one of 0, and before an equal up with a greater number
-put_between : put_in evens (0, 1) ((1, 0) ∷ (2, 2) ∷ []) ≡ (1, 0) ∷ (0, 1) ∷ (2, 2) ∷ []
+put_between : put_by (comes_before evens) (0, 1) ((1, 0) ∷ (2, 2) ∷ []) ≡ (1, 0) ∷ (0, 1) ∷ (2, 2) ∷ []
 unfolding comes_before up buffer
 put_between = refl
 

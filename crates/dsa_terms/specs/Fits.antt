@@ -1,10 +1,11 @@
 -- First-fit and best-fit: where a buffer goes beside those that are placed, and an order of buffers placed so.
-use Rattle.std.specs.Prelude.{ℕ, max, zero, suc, ◌+◌, ◌-◌, cond, ◌==◌, ◌||◌, ◌&&◌, nat_le, nat_lt, Bool, List, [], ◌∷◌, map, Option}
+use Rattle.std.specs.Prelude.{ℕ, max, zero, suc, ◌+◌, ◌-◌, cond, not, ◌||◌, ◌&&◌, nat_le, nat_lt, Bool, List, [], ◌∷◌, map, Option}
 use Rattle.std.specs.declared.option.Option.TheVariants.{Some, None}
-use Rattle.std.specs.List.{filter, flat_map, list_all}
+use Rattle.std.specs.List.{filter, find, flat_map, list_all}
 use Rattle.std.specs.Int.{next_multiple_of}
 use Rattle.dsa_terms.specs.Buffers.{Instance, buffer, do_share, floor}
 use Rattle.dsa_terms.specs.Claims.{Entry}
+use Rattle.dsa_terms.specs.Sorts.{comes_first}
 use Rattle.dsa_terms.specs.Logs.{greatest}
 use Rattle.dsa_terms.specs.Parts.{offsets_of}
 
@@ -64,19 +65,11 @@ holds I b r = nat_le (least_from I b r.start + (buffer I b).size) r.stop
 
 -- r is shorter than s, or as long and lower
 unfoldable pub is_tighter : Range → Range → Bool
-is_tighter r s =
-    nat_lt (r.stop - r.start) (s.stop - s.start)
-    || ((r.stop - r.start == s.stop - s.start) && nat_lt r.start s.start)
+is_tighter r s = comes_first (r.stop - r.start) (s.stop - s.start) r.start s.start
 
--- of a range and maybe another the tighter one
-abbrev pub tighter_of : Range → Option Range → Option Range
-tighter_of r None = Some r
-tighter_of r (Some s) = cond (is_tighter s r) (Some s) (Some r)
-
--- the tightest of the ranges
+-- the tightest of the ranges: the first that none of them is tighter than
 abbrev pub tightest : List Range → Option Range
-tightest [] = None
-tightest (r ∷ rs) = tighter_of r (tightest rs)
+tightest rs = find (λ r. list_all (λ s. not (is_tighter s r)) rs) rs
 
 -- where b begins in the range, and without one past all the placed
 abbrev pub start_in : Instance → ℕ → List Entry → Option Range → ℕ

@@ -2,6 +2,7 @@ pub mod Firsts
 pub mod Buffers
 pub mod Layouts
 pub mod Claims
+pub mod Sorts
 pub mod Logs
 pub mod Search
 pub mod Parts

@@ -21,7 +21,8 @@ use Rattle.dsa_start_laws.specs.Fitting.{HasEach, IsFreeRange}
 use Rattle.dsa_search_laws.proofs.Search.{has_seat}
 use Rattle.dsa_search_laws.proofs.Parts.{offset_at}
 use Rattle.dsa_start_laws.proofs.Fits.{fitted_has, fitted_is_stacked, stacked_is_layout}
-use Rattle.dsa_start_laws.proofs.Places.{IsClearRule, best_is_clear, first_is_clear, first_is_least, from_is_above, from_is_multiple, holds_is, tightest_is_in, under_highest}
+use Rattle.dsa_start_laws.proofs.Tightest.{tightest_is_in}
+use Rattle.dsa_start_laws.proofs.Places.{IsClearRule, best_is_clear, first_is_clear, first_is_least, from_is_above, from_is_multiple, holds_is, under_highest}
 use Rattle.dsa_start_laws.proofs.Ranges.{free_ranges_exactly}
 use Rattle.dsa_model.specs.Buffer.{IsBuffer, buffer_limit}
 use Rattle.dsa_model.proofs.Instances.{sound_buffer}

@@ -17,7 +17,7 @@ area_limit x h = let k = mul-le-mul {n₁ = x.size} {m₁ = x.upper - x.lower} {
     lifetime : (u l : ℕ) → u < 2 ^ 62 → u - l ≤ 2 ^ 62
     lifetime u l q = omega arith
 
-before_is : (m n b c : ℕ) → (n < m) ⊎ ((m ≡ n) × (b < c)) → (nat_lt n m || ((m == n) && nat_lt b c)) ≡ true
+before_is : (m n b c : ℕ) → (n < m) ⊎ ((m ≡ n) × (b < c)) → (nat_lt n m || ((n == m) && nat_lt b c)) ≡ true
 before_is m n b c (inl q) = grind (arith, nat_tests)
 before_is m n b c (inr q) = let x = q.0 in let y = q.1 in grind (arith, nat_tests)
 

@@ -10,16 +10,15 @@ use Rattle.dsa_terms.specs.Buffers.{Instance}
 use Rattle.dsa_terms.specs.Claims.{IsIn}
 use Rattle.dsa_terms.specs.Fits.{best_fit, first_fit}
 use Rattle.dsa_terms.specs.Layouts.{IsLayout}
-use Rattle.dsa_terms.specs.Orders.{ordered_by, orders, put_by}
+use Rattle.dsa_terms.specs.Sorts.{put_by, ordered_by}
+use Rattle.dsa_terms.specs.Orders.{orders}
 use Rattle.dsa_terms.specs.Parts.{numbers}
 use Rattle.dsa_terms.specs.Plans.{layout_height}
 use Rattle.dsa_terms.specs.Starts.{lowest_place, starts}
-use Rattle.dsa_terms.proofs.Lists.{all_at, all_from, from_append, true_or_false}
+use Rattle.dsa_terms.proofs.Lists.{all_at, all_from, from_append, true_or_false, into_ordered_by, from_ordered_by, length-ordered_by}
 use Rattle.dsa_terms.proofs.Places.{all_from_in, in_at, in_from_all, place_of}
 use Rattle.dsa_terms.proofs.NumberTests.{at_most, below_or_last, is_at_most, less, not_less}
 use Rattle.dsa_terms.proofs.Ranges.{from_range, into_range}
-use Rattle.dsa_start_laws.proofs.Fits.{into_ordered_by}
-use Rattle.dsa_start_laws.proofs.Orders.{from_ordered_by}
 use Rattle.first_fit.specs.Orders.{before_by, numbers_in_order}
 use Rattle.first_fit.specs.Rules.{IsOrderOf}
 use Rattle.first_fit.specs.Starts.{IsStart, height_in, offsets_at, offsets_by, offsets_in}
@@ -30,19 +29,6 @@ use Rattle.first_fit.specs.declared.orders.Order.TheVariants.{AreaFalling, Lower
 use Rattle.first_fit.specs.declared.start_list.Start.{Start}
 
 -- ---- an order has each buffer once
-length-put_by : (before : ℕ → ℕ → Bool) (b : ℕ) (cs : List ℕ) → length (put_by before b cs) ≡ suc (length cs)
-length-put_by before b [] = refl
-length-put_by before b (c ∷ cs) = go (length-put_by before b cs) (before b c)
-  where
-    go : length (put_by before b cs) ≡ suc (length cs) → (t : Bool) →
-        length (cond t (b ∷ c ∷ cs) (c ∷ put_by before b cs)) ≡ suc (suc (length cs))
-    go ih true = refl
-    go ih false = ap suc ih
-
-length-ordered_by : (before : ℕ → ℕ → Bool) (bs : List ℕ) → length (ordered_by before bs) ≡ length bs
-length-ordered_by before [] = refl
-length-ordered_by before (b ∷ bs) = length-put_by before b (ordered_by before bs) ∙ ap suc (length-ordered_by before bs)
-
 pub has_each_once : (I : Instance) (order : Order) (bs : List ℕ) → bs ≡ numbers_in_order order I → IsOrderOf I bs
 has_each_once I order bs e = rw e (record {
   count = length-ordered_by (before_by order I) (numbers (length I)) ∙ length-range_with_len 0 (length I);

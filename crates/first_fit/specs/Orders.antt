@@ -1,7 +1,8 @@
 -- The orders in which the starts take the buffers.
 use Rattle.std.specs.Prelude.{ℕ, ◌-◌, ◌^◌, Bool, List, length}
 use Rattle.dsa_terms.specs.Buffers.{Buffer, Instance, buffer}
-use Rattle.dsa_terms.specs.Orders.{area, falls_by, ordered_by, rises_by}
+use Rattle.dsa_terms.specs.Sorts.{ordered_by}
+use Rattle.dsa_terms.specs.Orders.{area, falls_by, rises_by}
 use Rattle.dsa_terms.specs.Parts.{numbers}
 use Rattle.first_fit.specs.declared.orders.Order.{Order}
 use Rattle.first_fit.specs.declared.orders.Order.TheVariants.{AreaFalling, LowerRising, SizeFalling}

@@ -5,14 +5,14 @@ use Rattle.std.proofs.lemmas.List.FromFn.{length-range_with_len}
 use Rattle.dsa_terms.specs.Buffers.{Buffer, Instance}
 use Rattle.dsa_terms.specs.Claims.{IsIn}
 use Rattle.dsa_terms.specs.Fits.{first_fit, first_place}
-use Rattle.dsa_terms.specs.Orders.{falls_by, ordered_by, orders, put_by}
+use Rattle.dsa_terms.specs.Sorts.{put_by, ordered_by}
+use Rattle.dsa_terms.specs.Orders.{falls_by, orders}
 use Rattle.dsa_terms.specs.Parts.{numbers}
 use Rattle.dsa_terms.specs.Plans.{layout_height}
 use Rattle.dsa_terms.specs.Starts.{best_start, starts}
 use Rattle.dsa_terms.proofs.Places.{all_from_in}
 use Rattle.dsa_terms.proofs.Ranges.{from_range, into_range}
-use Rattle.dsa_start_laws.proofs.Fits.{into_ordered_by}
-use Rattle.dsa_start_laws.proofs.Orders.{from_ordered_by}
+use Rattle.dsa_terms.proofs.Lists.{into_ordered_by, from_ordered_by, length-ordered_by}
 use Rattle.dsa_start_laws.proofs.Planned.{best_start_is_lowest}
 use Rattle.dsa_model.specs.Buffer.{IsBuffer, buffer_limit}
 use Rattle.dsa_model.proofs.Instances.{sound_instance}
@@ -23,22 +23,9 @@ use Rattle.first_fit.proofs.Fitting.{first_is_low, fitting_limit}
 abbrev pub by_size : Instance → List ℕ
 by_size I = ordered_by (falls_by (λ (b : Buffer). b.size) I) (numbers (length I))
 
-length_put : (before : ℕ → ℕ → Bool) (b : ℕ) (cs : List ℕ) → length (put_by before b cs) ≡ suc (length cs)
-length_put before b [] = refl
-length_put before b (c ∷ cs) = go (length_put before b cs) (before b c)
-  where
-    go : length (put_by before b cs) ≡ suc (length cs) → (t : Bool) →
-        length (cond t (b ∷ c ∷ cs) (c ∷ put_by before b cs)) ≡ suc (suc (length cs))
-    go ih true = refl
-    go ih false = ap suc ih
-
-length_ordered : (before : ℕ → ℕ → Bool) (bs : List ℕ) → length (ordered_by before bs) ≡ length bs
-length_ordered before [] = refl
-length_ordered before (b ∷ bs) = length_put before b (ordered_by before bs) ∙ ap suc (length_ordered before bs)
-
 is_order : (I : Instance) → IsOrderOf I (by_size I)
 is_order I = record {
-  count = length_ordered (falls_by (λ (b : Buffer). b.size) I) (numbers (length I))
+  count = length-ordered_by (falls_by (λ (b : Buffer). b.size) I) (numbers (length I))
       ∙ length-range_with_len 0 (length I);
   in_range = all_from_in (λ b. b < length I) (by_size I) (λ b i.
       let z = (from_range (length I) 0 b

@@ -10,7 +10,8 @@ use Rattle.std.proofs.lemmas.List.Sorted.{IsPermutation-map, IsPermutation-sym, 
 use Rattle.std.proofs.lemmas.Map.Keys.{IsDistinct-IsPermutation}
 use Rattle.dsa_terms.specs.Buffers.{Buffer, Instance, buffer}
 use Rattle.dsa_terms.specs.Claims.{IsIn}
-use Rattle.dsa_terms.specs.Orders.{IsOrdered, falls_by, ordered_by}
+use Rattle.dsa_terms.specs.Sorts.{ordered_by, IsOrdered}
+use Rattle.dsa_terms.specs.Orders.{falls_by}
 use Rattle.dsa_terms.specs.Parts.{numbers}
 use Rattle.dsa_terms.proofs.Lists.{from_map}
 use Rattle.dsa_terms.proofs.NumberTests.{differ, equal, not_less}
@@ -64,17 +65,17 @@ comes_first measure I b c x y h ne = go (measure (buffer I b)) (measure (buffer 
   where
     go : (m n : ℕ) → m ≤ 2 ^ 102 → n ≤ 2 ^ 102 →
         (2 ^ 128 - 1 - m < 2 ^ 128 - 1 - n) ⊎ ((2 ^ 128 - 1 - m ≡ 2 ^ 128 - 1 - n) × (b ≤ c)) →
-        (nat_lt n m || ((m == n) && nat_lt b c)) ≡ true
+        (nat_lt n m || ((n == m) && nat_lt b c)) ≡ true
     go m n p q (inl k) = by_measure m n (omega arith)
       where
-        by_measure : (m n : ℕ) → n < m → (nat_lt n m || ((m == n) && nat_lt b c)) ≡ true
+        by_measure : (m n : ℕ) → n < m → (nat_lt n m || ((n == m) && nat_lt b c)) ≡ true
         by_measure m n l = grind (arith, nat_tests)
     go m n p q (inr k) = by_number m n (omega arith) (less b c k.1 ne)
       where
         less : (m n : ℕ) → m ≤ n → m ≢ n → m < n
         less m n p q = grind arith
 
-        by_number : (m n : ℕ) → m ≡ n → b < c → (nat_lt n m || ((m == n) && nat_lt b c)) ≡ true
+        by_number : (m n : ℕ) → m ≡ n → b < c → (nat_lt n m || ((n == m) && nat_lt b c)) ≡ true
         by_number m n e l = grind (arith, nat_tests)
 
 all_at : {X : Type 0} (P : X → Type 0) (xs : List X) (x : X) → AllByRecursion P xs → IsIn x xs → P x

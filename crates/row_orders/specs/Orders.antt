@@ -2,7 +2,8 @@
 use Rattle.std.specs.Prelude.{ℕ, ◌-◌, List, length}
 use Rattle.std.specs.List.{filter, sum_by}
 use Rattle.dsa_terms.specs.Buffers.{Buffer, Instance, do_share}
-use Rattle.dsa_terms.specs.Orders.{area, falls_by, ordered_by}
+use Rattle.dsa_terms.specs.Sorts.{ordered_by}
+use Rattle.dsa_terms.specs.Orders.{area, falls_by}
 use Rattle.dsa_terms.specs.Parts.{numbers}
 use Rattle.row_orders.specs.declared.orders.Order.{Order}
 use Rattle.row_orders.specs.declared.orders.Order.TheVariants.{Area, File, Lifetime, Met, Upper}

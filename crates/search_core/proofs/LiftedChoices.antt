@@ -2,7 +2,8 @@
 use Rattle.std.proofs.Common.{◌≡◌, ℕ, Bool, true, false, cond, List, [], ◌∷◌, filter, find, length, map, Some, option_map, inl, inr, refl, sym, ap, ◌∙◌}
 use Rattle.dsa_terms.specs.Buffers.{Instance, IsInstance}
 use Rattle.dsa_terms.specs.Claims.{Claim, Entry, IsIn, Rises, buffers_of}
-use Rattle.dsa_terms.specs.Search.{choices, comes_before, in_order, is_tall, not_excluded, put_in}
+use Rattle.dsa_terms.specs.Sorts.{ordered_by, put_by}
+use Rattle.dsa_terms.specs.Search.{choices, comes_before, is_tall, not_excluded}
 use Rattle.dsa_search_laws.proofs.Complete.{from_choices}
 use Rattle.canonical_order.specs.Claims.{entry_of, least_buffer}
 use Rattle.canonical_order.proofs.Entries.{is_entry}
@@ -33,22 +34,26 @@ unfolding comes_before
 before_lifted I e f s = rw (up_of_lift I e s, up_of_lift I f s) refl
 
 put_lifted : (I : Instance) (e : Entry) (fs : List Entry) → IsInstance I →
-    put_in I (lift I e) (lifted I fs) ≡ lifted I (put_in I e fs)
+    put_by (comes_before I) (lift I e) (lifted I fs) ≡ lifted I (put_by (comes_before I) e fs)
 put_lifted I e [] s = refl
 put_lifted I e (f ∷ fs) s = go (comes_before I (lift I e) (lift I f)) (comes_before I e f) (before_lifted I e f s)
     (put_lifted I e fs s)
   where
-    go : (t u : Bool) → t ≡ u → put_in I (lift I e) (lifted I fs) ≡ lifted I (put_in I e fs) →
-        cond t (lift I e ∷ lift I f ∷ lifted I fs) (lift I f ∷ put_in I (lift I e) (lifted I fs))
-        ≡ lifted I (cond u (e ∷ f ∷ fs) (f ∷ put_in I e fs))
+    go : (t u : Bool) → t ≡ u →
+        put_by (comes_before I) (lift I e) (lifted I fs) ≡ lifted I (put_by (comes_before I) e fs) →
+        cond t (lift I e ∷ lift I f ∷ lifted I fs) (lift I f ∷ put_by (comes_before I) (lift I e) (lifted I fs))
+        ≡ lifted I (cond u (e ∷ f ∷ fs) (f ∷ put_by (comes_before I) e fs))
     go true true q ih = refl
     go true false q ih = absurd cc
     go false true q ih = absurd cc
     go false false q ih = ap (λ es. lift I f ∷ es) ih
 
-order_lifted : (I : Instance) (es : List Entry) → IsInstance I → in_order I (lifted I es) ≡ lifted I (in_order I es)
+order_lifted : (I : Instance) (es : List Entry) → IsInstance I →
+    ordered_by (comes_before I) (lifted I es) ≡ lifted I (ordered_by (comes_before I) es)
 order_lifted I [] s = refl
-order_lifted I (e ∷ es) s = ap (put_in I (lift I e)) (order_lifted I es s) ∙ put_lifted I e (in_order I es) s
+order_lifted I (e ∷ es) s =
+    ap (put_by (comes_before I) (lift I e)) (order_lifted I es s)
+    ∙ put_lifted I e (ordered_by (comes_before I) es) s
 
 filter_lifted : (I : Instance) (p q : Entry → Bool) (es : List Entry) → ((e : Entry) → p (lift I e) ≡ q e) →
     filter p (lifted I es) ≡ lifted I (filter q es)
@@ -66,7 +71,8 @@ filter_lifted I p q (e ∷ es) h = go (p (lift I e)) (q e) (h e) (filter_lifted 
 choices_lifted : (I : Instance) (l : Claim) → IsInstance I →
     choices I (not_excluded I) (lifted I l) ≡ lifted I (choices I (not_excluded I) l)
 choices_lifted I l s =
-    ap (in_order I) (filter_lifted I (not_excluded I (lifted I l)) (not_excluded I l) l (λ e. lifted_excluded I l e s))
+    ap (ordered_by (comes_before I)) (filter_lifted I (not_excluded I (lifted I l)) (not_excluded I l) l
+    (λ e. lifted_excluded I l e s))
     ∙ order_lifted I (filter (not_excluded I l) l) s
 
 -- ---- buffers of entries

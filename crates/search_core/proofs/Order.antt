@@ -7,8 +7,9 @@ use Rattle.std.specs.declared.cmp.Ordering.TheVariants.{Less, Equal, Greater}
 use Rattle.std.specs.BTreeSet.{insert_key}
 use Rattle.dsa_terms.specs.Buffers.{Instance}
 use Rattle.dsa_terms.specs.Claims.{Claim, Entry, IsIn, Rises, buffers_of, up}
-use Rattle.dsa_terms.specs.Search.{comes_before, put_in, in_order, choices, not_excluded}
-use Rattle.dsa_terms.proofs.Lists.{from_order, from_filter}
+use Rattle.dsa_terms.specs.Sorts.{ordered_by, put_by}
+use Rattle.dsa_terms.specs.Search.{comes_before, choices, not_excluded}
+use Rattle.dsa_terms.proofs.Lists.{from_ordered_by, from_filter}
 use Rattle.dsa_terms.proofs.NumberTests.{same}
 use Rattle.dsa_search_laws.proofs.Complete.{from_choices}
 use Rattle.dsa_search_laws.proofs.Placing.{in_buffers}
@@ -32,7 +33,7 @@ by_tests x y z false true false false h = refl
 
 put_key : (I : Instance) (e : Entry) (es : List Entry) →
     ((f : Entry) → IsIn f es → f.0 ≢ e.0) →
-    insert_key key_cmp (map (key_of I) es) (key_of I e) ≡ map (key_of I) (put_in I e es)
+    insert_key key_cmp (map (key_of I) es) (key_of I e) ≡ map (key_of I) (put_by (comes_before I) e es)
 unfolding comes_before
 put_key I e [] h = refl
 put_key I e (f ∷ fs) h =
@@ -44,17 +45,18 @@ put_key I e (f ∷ fs) h =
     differ : (b c : ℕ) → c ≢ b → (b == c) ≡ false
     differ b c ne = grind (arith, nat_tests)
 
-    go : insert_key key_cmp (map (key_of I) fs) (key_of I e) ≡ map (key_of I) (put_in I e fs) → (t : Bool) →
+    go : insert_key key_cmp (map (key_of I) fs) (key_of I e) ≡ map (key_of I) (put_by (comes_before I) e fs) →
+        (t : Bool) →
         cond t (key_of I e ∷ key_of I f ∷ map (key_of I) fs)
         (key_of I f ∷ insert_key key_cmp (map (key_of I) fs) (key_of I e))
-        ≡ map (key_of I) (cond t (e ∷ f ∷ fs) (f ∷ put_in I e fs))
+        ≡ map (key_of I) (cond t (e ∷ f ∷ fs) (f ∷ put_by (comes_before I) e fs))
     go ih true = refl
     go ih false = ap (λ ks. key_of I f ∷ ks) ih
 
 -- ---- the loop that fills the set
 -- the keys of those of the entries that no rule excludes in the claim
 abbrev pub keys_of : Instance → Claim → List Entry → List (ℕ × ℕ)
-keys_of I l es = map (key_of I) (in_order I (filter (not_excluded I l) es))
+keys_of I l es = map (key_of I) (ordered_by (comes_before I) (filter (not_excluded I l) es))
 
 module _ (I : Instance) (l left rest : Claim) (e : Entry) (s : left ≡ e ∷ rest) where
   keys_exclude : not_excluded I l e ≡ false → keys_of I l rest ≡ keys_of I l left
@@ -62,11 +64,12 @@ module _ (I : Instance) (l left rest : Claim) (e : Entry) (s : left ≡ e ∷ re
 
   keys_take : Rises (buffers_of left) → not_excluded I l e ≡ true →
       insert_key key_cmp (keys_of I l rest) (key_of I e) ≡ keys_of I l left
-  keys_take r t = rw (s, t) (put_key I e (in_order I (filter (not_excluded I l) rest)) other)
+  keys_take r t = rw (s, t) (put_key I e (ordered_by (comes_before I) (filter (not_excluded I l) rest)) other)
     where
-      other : (f : Entry) → IsIn f (in_order I (filter (not_excluded I l) rest)) → f.0 ≢ e.0
+      other : (f : Entry) → IsIn f (ordered_by (comes_before I) (filter (not_excluded I l) rest)) → f.0 ≢ e.0
       other f i q =
-          let j = from_filter (not_excluded I l) rest f (from_order I (filter (not_excluded I l) rest) f i) in
+          let j = from_filter (not_excluded I l) rest f
+          (from_ordered_by (comes_before I) (filter (not_excluded I l) rest) f i) in
           let above = (subst (λ (k : Claim). Rises (buffers_of k)) s r).0 f.0 (in_buffers rest f j.0) in
           omega arith
 

@@ -9,17 +9,16 @@ use Rattle.dsa_terms.specs.Buffers.{Buffer, Instance, buffer, is_live, is_within
 use Rattle.dsa_terms.specs.Bounds.{moments}
 use Rattle.dsa_terms.specs.Claims.{buffers_of, Entry, IsIn, number_of}
 use Rattle.dsa_terms.specs.Logs.{greatest}
-use Rattle.dsa_terms.specs.Orders.{IsOrdered, rises_by}
+use Rattle.dsa_terms.specs.Sorts.{IsOrdered}
+use Rattle.dsa_terms.specs.Orders.{rises_by}
 use Rattle.dsa_terms.specs.Parts.{has, numbers}
-use Rattle.dsa_terms.proofs.Lists.{from_append, has_in, in_has, into_filter, into_map, left_append, right_append}
+use Rattle.dsa_terms.proofs.Lists.{from_append, has_in, in_has, into_filter, into_map, left_append, right_append, into_ordered_by, from_ordered_by}
 use Rattle.dsa_terms.proofs.Moments.{both_true, lasts, live_at_or_after, live_before}
 use Rattle.dsa_terms.proofs.NumberTests.{below_or_from, differ, equal, is_at_most, is_below, less, same}
 use Rattle.dsa_terms.proofs.Places.{in_at}
 use Rattle.dsa_terms.proofs.Ranges.{among}
 use Rattle.dsa_search_laws.proofs.Logs.{in_greatest}
 use Rattle.dsa_search_laws.proofs.Parts.{number_of-left, number_of-right}
-use Rattle.dsa_start_laws.proofs.Fits.{into_ordered_by}
-use Rattle.dsa_start_laws.proofs.Orders.{from_ordered_by}
 use Rattle.size_classes.specs.Plain.{HasNoGaps}
 use Rattle.size_classes.specs.Slots.{AreMembers, held, in_turn, least_free, live_among, most_live, slot_of, slotted, with_slot}
 use Rattle.size_classes.proofs.TurnLemmas.{before_of, begins_no_later, first_of_filter, is_another, ordered_counts, ordered_is_ordered, pigeons, turn_is_order}

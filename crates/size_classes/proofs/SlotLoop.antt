@@ -4,13 +4,14 @@ use Rattle.std.proofs.lemmas.List.{append-nil, get_or-replicate, get_or-set_othe
 use Rattle.std.proofs.lemmas.List.FromFn.{fill_by_all, get_or-map-range_with_len, length-map-range_with_len}
 use Rattle.dsa_terms.specs.Buffers.{Buffer, Instance, buffer, IsInstance}
 use Rattle.dsa_terms.specs.Claims.{buffers_of, Entry, IsIn, number_of, Rises}
-use Rattle.dsa_terms.specs.Orders.{IsOrdered, ordered_by, put_by, rises_by}
+use Rattle.dsa_terms.specs.Sorts.{put_by, ordered_by, IsOrdered}
+use Rattle.dsa_terms.specs.Orders.{rises_by}
 use Rattle.dsa_terms.specs.Parts.{numbers}
 use Rattle.dsa_terms.proofs.Moments.{lasts}
 use Rattle.dsa_terms.proofs.NumberTests.{apart, differ, equal, same}
 use Rattle.dsa_terms.proofs.Places.{in_at}
 use Rattle.dsa_search_laws.proofs.Parts.{number_of-right}
-use Rattle.dsa_start_laws.proofs.Orders.{from_ordered_by}
+use Rattle.dsa_terms.proofs.Lists.{from_ordered_by}
 use Rattle.size_classes.specs.Pools.{IsReleased, IsTaken, no_slots, Pool}
 use Rattle.size_classes.specs.Slots.{AreMembers, AreTurns, held, in_turn, least_free, slot_of, slotted, with_slot}
 use Rattle.size_classes.proofs.Holding.{holding_later, holding_none, holding_released, holding_taken, IsHolding, slot_is_least}

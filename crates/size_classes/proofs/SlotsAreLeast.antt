@@ -3,12 +3,11 @@ use Rattle.std.proofs.Common.{◌≡◌, ◌≢◌, ℕ, ◌<◌, ◌⊎◌, inl
 use Rattle.std.proofs.lemmas.List.{append-nil, map-append}
 use Rattle.dsa_terms.specs.Buffers.{Buffer, Instance, buffer}
 use Rattle.dsa_terms.specs.Claims.{buffers_of, Entry, IsIn, number_of, Rises}
-use Rattle.dsa_terms.specs.Orders.{IsOrdered, rises_by}
-use Rattle.dsa_terms.proofs.Lists.{from_append, from_filter, from_map, into_map, left_append}
+use Rattle.dsa_terms.specs.Sorts.{IsOrdered}
+use Rattle.dsa_terms.specs.Orders.{rises_by}
+use Rattle.dsa_terms.proofs.Lists.{from_append, from_filter, from_map, into_map, left_append, into_ordered_by, from_ordered_by}
 use Rattle.dsa_terms.proofs.NumberTests.{less, same}
 use Rattle.dsa_search_laws.proofs.Parts.{number_of-left, number_of-right}
-use Rattle.dsa_start_laws.proofs.Fits.{into_ordered_by}
-use Rattle.dsa_start_laws.proofs.Orders.{from_ordered_by}
 use Rattle.size_classes.specs.Slots.{held, in_turn, IsSlotting, IsTakenBefore, least_free, slot_of, slotted, with_slot}
 use Rattle.size_classes.proofs.SlotLemmas.{free_is_free, held_has, less_are_held}
 use Rattle.size_classes.proofs.TurnLemmas.{before_of, is_another, ordered_is_ordered, turn_is_order}

@@ -3,11 +3,12 @@ use Rattle.std.proofs.Common.{◌≡◌, ◌≢◌, ℕ, zero, suc, ◌+◌, ◌
 use Rattle.std.proofs.lemmas.Bool.Decides.{nat_tests}
 use Rattle.dsa_terms.specs.Buffers.{Buffer, Instance, buffer}
 use Rattle.dsa_terms.specs.Claims.{IsIn, Rises}
-use Rattle.dsa_terms.specs.Orders.{put_by, ordered_by, IsOrdered, rises_by}
-use Rattle.dsa_terms.proofs.Lists.{into_filter, length-filter_le}
+use Rattle.dsa_terms.specs.Sorts.{put_by, ordered_by, IsOrdered}
+use Rattle.dsa_terms.specs.Orders.{rises_by}
+use Rattle.dsa_terms.proofs.Lists.{into_filter, length-filter_le, from_ordered_by}
 use Rattle.dsa_terms.proofs.NumberTests.{apart, same}
 use Rattle.dsa_start_laws.specs.Ordering.{IsOrder}
-use Rattle.dsa_start_laws.proofs.Orders.{from_ordered_by, measures_are_orders}
+use Rattle.dsa_start_laws.proofs.Orders.{measures_are_orders}
 
 -- ---- a list brought into order
 from_put_by : (before : ℕ → ℕ → Bool) (b : ℕ) (cs : List ℕ) (x : ℕ) → IsIn x (put_by before b cs) → IsIn x (b ∷ cs)

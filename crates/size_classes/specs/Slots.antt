@@ -5,7 +5,8 @@ use Rattle.dsa_terms.specs.Bounds.{moments}
 use Rattle.dsa_terms.specs.Buffers.{Buffer, Instance, buffer, is_live}
 use Rattle.dsa_terms.specs.Claims.{Entry, IsIn, number_of, Rises}
 use Rattle.dsa_terms.specs.Logs.{greatest}
-use Rattle.dsa_terms.specs.Orders.{IsOrdered, ordered_by, rises_by}
+use Rattle.dsa_terms.specs.Sorts.{ordered_by, IsOrdered}
+use Rattle.dsa_terms.specs.Orders.{rises_by}
 use Rattle.dsa_terms.specs.Parts.{has, numbers}
 use Rattle.size_classes.specs.Plain.{HasNoGaps}
 

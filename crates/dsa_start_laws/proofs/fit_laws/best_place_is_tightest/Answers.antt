@@ -1,6 +1,6 @@
-use Rattle.dsa_start_laws.proofs.Places.{best_is_clear, tightest_is_in}
+use Rattle.dsa_start_laws.proofs.Places.{best_is_clear}
 use Rattle.dsa_start_laws.proofs.Ranges.{free_ranges_exactly}
-use Rattle.dsa_start_laws.proofs.Tightest.{none_tighter, some_tightest}
+use Rattle.dsa_start_laws.proofs.Tightest.{tightest_is_in, none_tighter, some_tightest}
 use Rattle.dsa_start_laws.proofs.fit_laws.best_place_is_tightest.Goals as goal
 
 pub returns-clause-clear : goal.returns-clause-clear
