@@ -1,8 +1,14 @@
 //! `refute`: whether a log proves that nothing fits.
 
+ghost use Rattle.std.specs.Prelude.{◌≡◌, IfOk};
+ghost use Rattle.dsa_outside.specs.Faults.{NoneFell};
+ghost use Rattle.run_status.specs.declared.status.Status.TheVariants.{Accepted};
+ghost use Rattle.run_course.specs.Course.{Comes, says};
+ghost use Rattle.run_course.specs.Prepares.{outcome_of};
+ghost use Rattle.readings.specs.Checking.{checked};
 ghost use Rattle.checking.specs.Checking.{refute};
 
-use dsa_model::NoMemory;
+use dsa_model::{Instance, NoMemory};
 use dsa_outside::Files;
 use readings::{Checked, Input, open_input, read_checked_log};
 use run_course::{Command, Prepared, silent};
@@ -16,6 +22,28 @@ pub struct Refute<'a> {
     pub log: &'a str,
 }
 
+/// What is told once the input is open.
+fn refute_checked<'a, F: Files>(
+    alloc: Global,
+    files: &mut F,
+    words: &Refute<'a>,
+    instance: &Instance,
+) -> Result<Prepared<'a>, NoMemory>
+    ensures comes { IfOk result (λ p. Comes (F.seen files.old) (F.seen files.new)
+        (checked words.now.log.now instance.now (λ log. says (Accepted log.capacity)))
+        (outcome_of p)) }
+    ensures files { (F.seen files.new).held ≡ (F.seen files.old).held }
+    ensures counts { NoneFell (F.seen files.old).faults (F.seen files.new).faults }
+{
+    match read_checked_log(alloc, files, words.log, instance)? {
+        Checked::Accepted(log) => {
+            let capacity = log.capacity();
+            silent(alloc, Status::Accepted { capacity })
+        }
+        Checked::Unaccepted(status) => silent(alloc, status),
+    }
+}
+
 impl<'a> Command<'a> for Refute<'a> {
     ghost course = { λ r. refute r.input.now r.log.now };
 
@@ -24,12 +52,6 @@ impl<'a> Command<'a> for Refute<'a> {
             Input::Table(table) => table,
             Input::Missing(status) => return silent(alloc, status),
         };
-        match read_checked_log(alloc, files, self.log, table.instance())? {
-            Checked::Accepted(log) => {
-                let capacity = log.capacity();
-                silent(alloc, Status::Accepted { capacity })
-            }
-            Checked::Unaccepted(status) => silent(alloc, status),
-        }
+        refute_checked(alloc, files, self, table.instance())
     }
 }

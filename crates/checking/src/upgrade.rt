@@ -1,11 +1,17 @@
 //! `upgrade`: an accepted log in version 2.
 
-ghost use Rattle.checking.specs.Checking.{upgrade};
+ghost use Rattle.std.specs.Prelude.{◌≡◌, IfOk};
+ghost use Rattle.dsa_outside.specs.Faults.{NoneFell};
+ghost use Rattle.run_course.specs.Course.{Comes};
+ghost use Rattle.run_course.specs.Prepares.{outcome_of};
+ghost use Rattle.readings.specs.Checking.{checked};
+ghost use Rattle.checking.specs.Checking.{upgrade, upgrading};
 
-use dsa_model::NoMemory;
+use dsa_model::{Instance, NoMemory};
 use dsa_outside::Files;
 use log_text::write_log2;
 use readings::{Checked, Input, open_input, read_checked_log};
+use refute_log::ClosedLog;
 use run_course::{Command, Prepared, Writing, one_write, silent};
 use run_status::{Role, Status};
 use std::alloc::Global;
@@ -19,6 +25,43 @@ pub struct Upgrade<'a> {
     pub output: &'a str,
 }
 
+/// The text of a log in version 2, to be written.
+fn second_version<'a>(
+    alloc: Global,
+    original: &ClosedLog,
+    output: &'a str,
+) -> Result<Prepared<'a>, NoMemory>
+    ensures { IfOk result (λ p. outcome_of p ≡ upgrading output.entry.now original.now) }
+{
+    let status = Status::Upgraded {
+        lines: original.len(),
+    };
+    let file = Writing {
+        role: Role::Output,
+        name: output,
+        bytes: write_log2(alloc, original)?,
+    };
+    one_write(alloc, file, status)
+}
+
+/// What is written and told once the input is open.
+fn upgrade_checked<'a, F: Files>(
+    alloc: Global,
+    files: &mut F,
+    words: &Upgrade<'a>,
+    instance: &Instance,
+) -> Result<Prepared<'a>, NoMemory>
+    ensures comes { IfOk result (λ p. Comes (F.seen files.old) (F.seen files.new)
+        (checked words.now.log.now instance.now (upgrading words.now.output.now)) (outcome_of p)) }
+    ensures files { (F.seen files.new).held ≡ (F.seen files.old).held }
+    ensures counts { NoneFell (F.seen files.old).faults (F.seen files.new).faults }
+{
+    match read_checked_log(alloc, files, words.log, instance)? {
+        Checked::Accepted(original) => second_version(alloc, &original, words.output),
+        Checked::Unaccepted(status) => silent(alloc, status),
+    }
+}
+
 impl<'a> Command<'a> for Upgrade<'a> {
     ghost course = { λ u. upgrade u.input.now u.log.now u.output.now };
 
@@ -27,18 +70,6 @@ impl<'a> Command<'a> for Upgrade<'a> {
             Input::Table(table) => table,
             Input::Missing(status) => return silent(alloc, status),
         };
-        let original = match read_checked_log(alloc, files, self.log, table.instance())? {
-            Checked::Accepted(original) => original,
-            Checked::Unaccepted(status) => return silent(alloc, status),
-        };
-        let status = Status::Upgraded {
-            lines: original.len(),
-        };
-        let file = Writing {
-            role: Role::Output,
-            name: self.output,
-            bytes: write_log2(alloc, &original)?,
-        };
-        one_write(alloc, file, status)
+        upgrade_checked(alloc, files, self, table.instance())
     }
 }

@@ -1,5 +1,5 @@
--- What comes of a command that reads the input alone.
-use Rattle.std.proofs.Common.{◌≡◌, List, Result, Ok, Err, IfOk}
+-- What comes of a command that reads the input.
+use Rattle.std.proofs.Common.{◌≡◌, List, Result, Ok, Err, IfOk, subst, sym}
 use Rattle.dsa_terms.specs.Buffers.{Instance}
 use Rattle.dsa_model.specs.declared.fail.NoMemory.{NoMemory}
 use Rattle.csv_instance.specs.Records.{Record}
@@ -35,3 +35,32 @@ concluded old new name table J allowed given parsed same none spoken (Ok p) hold
     with_input old new new name table J (λ t I. Concludes (allowed t I)) given parsed same none (outcome_of p)
     (spoken (outcome_of p) holds, holds)
 concluded old new name table J allowed given parsed same none spoken (Err e) holds = tt
+
+-- the input gives an instance, and this comes of what follows
+pub goes_on : (old mid new : FilesSeen) (name : Word) (table : List Record) (J : Instance)
+    (next : List Record → Instance → Course) → ((I : Instance) × IsInput old name table I) → parse table ≡ Ok J →
+    mid.held ≡ old.held → NoneFell old.faults mid.faults →
+    (r : Result Prepared NoMemory) → IfOk r (λ p. Comes mid new (next table J) (outcome_of p)) →
+    IfOk r (λ p. Comes old new (opened name next) (outcome_of p))
+goes_on old mid new name table J next given parsed same none (Ok p) comes =
+    with_input old mid new name table J next given parsed same none (outcome_of p) comes
+goes_on old mid new name table J next given parsed same none (Err e) comes = tt
+
+-- the same, where what follows says which instance the table tells of
+pub goes_on_told : (old mid new : FilesSeen) (name : Word) (table : List Record)
+    (next : List Record → Instance → Course) → ((I : Instance) × IsInput old name table I) →
+    mid.held ≡ old.held → NoneFell old.faults mid.faults → (r : Result Prepared NoMemory) →
+    IfOk r (λ p. (J : Instance) × (parse table ≡ Ok J) × Comes mid new (next table J) (outcome_of p)) →
+    IfOk r (λ p. Comes old new (opened name next) (outcome_of p))
+goes_on_told old mid new name table next given same none (Ok p) (J, parsed, comes) =
+    with_input old mid new name table J next given parsed same none (outcome_of p) comes
+goes_on_told old mid new name table next given same none (Err e) comes = tt
+
+-- this is prepared for the instance that the table tells of
+pub prepared_for : (old new : FilesSeen) (table : List Record) (J : Instance) (next : List Record → Instance → Course)
+    (o : Outcome) (r : Result Prepared NoMemory) → parse table ≡ Ok J → IfOk r (λ p. outcome_of p ≡ o) →
+    Comes old new (next table J) o →
+    IfOk r (λ p. (I : Instance) × (parse table ≡ Ok I) × Comes old new (next table I) (outcome_of p))
+prepared_for old new table J next o (Ok p) parsed is comes =
+    (J, parsed, subst (λ o. Comes old new (next table J) o) (sym is) comes)
+prepared_for old new table J next o (Err e) parsed is comes = tt

@@ -1,44 +1,20 @@
-use Rattle.run_course.proofs.Silently.{concluded, silently}
 use Rattle.readings.specs.Checking.{checked}
-use Rattle.readings.proofs.Opening.{no_input}
-use Rattle.readings.proofs.CheckedLogs.{not_checked, then_checked}
-use Rattle.checking.specs.Checking.{upgrade, upgrading}
-use Rattle.checking.proofs.UpgradedLogs.{its_outcome, upgraded_file}
+use Rattle.readings.proofs.AfterInput.{goes_on, missing}
+use Rattle.checking.specs.Checking.{upgrading}
 use Rattle.checking.proofs.upgrade.UpgradeCommand.conclude.Goals as goal
 
 pub returns-in-Missing-clause-comes : goal.returns-in-Missing-clause-comes
 returns-in-Missing-clause-comes g c =
-    let found = rw c.in-Missing.is at c.in_ok-table.ensures.input in
-    silently (g.F.Files.seen c.args.files.now) (g.F.Files.seen c.open_input.new.files)
-    (upgrade c.args.self.now.input.now c.args.self.now.log.now c.args.self.now.output.now)
-    c.in-Missing.status c.silent.result c.silent.ensures
-    (no_input (g.F.Files.seen c.args.files.now) (g.F.Files.seen c.open_input.new.files)
-    c.args.self.now.input.now c.in-Missing.status
-    (λ t I. checked c.args.self.now.log.now I (upgrading c.args.self.now.output.now)) found)
-
-pub returns-in-Unaccepted-clause-comes : goal.returns-in-Unaccepted-clause-comes
-returns-in-Unaccepted-clause-comes g c =
-    let found = rw c.in-Unaccepted.is at c.in_ok-original.ensures.checked in
-    silently (g.F.Files.seen c.args.files.now) (g.F.Files.seen c.read_checked_log.new.files)
-    (upgrade c.args.self.now.input.now c.args.self.now.log.now c.args.self.now.output.now)
-    c.in-Unaccepted.status c.silent-in-Unaccepted.result c.silent-in-Unaccepted.ensures
-    (not_checked (g.F.Files.seen c.args.files.now) (g.F.Files.seen c.open_input.new.files)
-    (g.F.Files.seen c.read_checked_log.new.files) c.args.self.now.input.now c.args.self.now.log.now
-    (upgrading c.args.self.now.output.now) c.in-Table.table c.instance.result.now
-    (rw c.in-Table.is at c.in_ok-table.ensures.input) c.instance.ensures.parsed
-    c.in_ok-table.ensures.files c.in_ok-table.ensures.counts c.in-Unaccepted.status found)
+    missing (g.F.Files.seen c.args.files.now) (g.F.Files.seen c.open_input.new.files) c.args.self.now.input.now
+    c.in-Missing.status (λ t I. checked c.args.self.now.log.now I (upgrading c.args.self.now.output.now))
+    c.silent.result
+    (rw c.in-Missing.is at c.in_ok-table.ensures.input) c.silent.ensures
 
 pub returns-clause-comes : goal.returns-clause-comes
 returns-clause-comes g c =
-    let found = rw c.in-Accepted.is at c.in_ok-original.ensures.checked in
-    let o = upgraded_file c.args.self.now.output.now c.len.result c.in_ok-write_log2.field-0.items in
-    concluded (g.F.Files.seen c.args.files.now) (g.F.Files.seen c.read_checked_log.new.files)
-    (upgrade c.args.self.now.input.now c.args.self.now.log.now c.args.self.now.output.now)
-    o c.one_write.result c.one_write.ensures
-    (then_checked (g.F.Files.seen c.args.files.now) (g.F.Files.seen c.open_input.new.files)
-    (g.F.Files.seen c.read_checked_log.new.files) c.args.self.now.input.now c.args.self.now.log.now
-    (upgrading c.args.self.now.output.now) c.in-Table.table c.instance.result.now
-    (rw c.in-Table.is at c.in_ok-table.ensures.input) c.instance.ensures.parsed
-    c.in_ok-table.ensures.files c.in_ok-table.ensures.counts c.in-Accepted.original found o tt
-    (its_outcome c.args.self.now.output.now c.in-Accepted.original c.len.result c.in_ok-write_log2.field-0.items
-    c.len.ensures.value c.in_ok-write_log2.ensures.value))
+    goes_on (g.F.Files.seen c.args.files.now) (g.F.Files.seen c.open_input.new.files)
+    (g.F.Files.seen c.upgrade_checked.new.files) c.args.self.now.input.now c.in-Table.table c.instance.result.now
+    (λ t I. checked c.args.self.now.log.now I (upgrading c.args.self.now.output.now))
+    (rw c.in-Table.is at c.in_ok-table.ensures.input)
+    c.instance.ensures.parsed c.in_ok-table.ensures.files c.in_ok-table.ensures.counts c.upgrade_checked.result
+    c.upgrade_checked.ensures.comes
