@@ -1,3 +1,4 @@
 pub mod Rankings
 pub mod Stacks
 pub mod Meetings
+pub mod Sides

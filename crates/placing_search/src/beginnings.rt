@@ -53,7 +53,7 @@ fn stack_height(
     requires meetings { AreMeetingsOf instance.now meetings.now }
     requires order { IsOrderOf instance.now order.items }
 {
-    let mut stack = Stack::of(alloc, instance, &order)?;
+    let mut stack = Stack::of(alloc, instance, &order, false)?;
     let ranking = Ranking::of(alloc, instance, order)?;
     Ok(
         stack

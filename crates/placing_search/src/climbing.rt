@@ -44,6 +44,7 @@ fn climbed(
     instance: &Instance,
     meetings: &Meetings,
     order: Vec<u32>,
+    snug: bool,
     draws: &mut Draws,
     floor: u64,
     passes: u64,
@@ -57,8 +58,8 @@ fn climbed(
     if passes == 0 {
         return Ok((order, 0));
     }
-    let mut best = Stack::of(alloc, instance, &order)?;
-    let mut next = Stack::of(alloc, instance, &order)?;
+    let mut best = Stack::of(alloc, instance, &order, snug)?;
+    let mut next = Stack::of(alloc, instance, &order, snug)?;
     let mut ranking = Ranking::of(alloc, instance, order)?;
     let mut height = best
         .restack(instance, meetings, &ranking.places, HIGHEST)
@@ -93,6 +94,7 @@ pub(crate) fn climb(
     instance: &Instance,
     meetings: &Meetings,
     order: Vec<u32>,
+    snug: bool,
     draws: &mut Draws,
     floor: u64,
     passes: u64,
@@ -105,7 +107,16 @@ pub(crate) fn climb(
     ensures some { IfOk result (λ climbed. 0 < climbed.passes) }
     ensures passes { IfOk result (λ climbed. climbed.passes ≤ passes) }
 {
-    let (order, made) = climbed(alloc, instance, meetings, order, draws, floor, passes - 1)?;
+    let (order, made) = climbed(
+        alloc,
+        instance,
+        meetings,
+        order,
+        snug,
+        draws,
+        floor,
+        passes - 1,
+    )?;
     Ok(Improved {
         start: place_all(alloc, instance, &order)?,
         passes: made + 1,

@@ -50,6 +50,7 @@ pub fn improve(
     let meetings = Meetings::of(alloc, instance)?;
     let (mut number, mut made) = first_beginning(alloc, instance, &meetings, &best, passes)?;
     let mut draws = Draws::new();
+    let mut snug = true;
     while made < passes && floor < best.height {
         let order = beginning(alloc, instance, &best, number)?;
         let climbed = climb(
@@ -57,6 +58,7 @@ pub fn improve(
             instance,
             &meetings,
             order,
+            snug,
             &mut draws,
             floor,
             passes - made,
@@ -66,6 +68,7 @@ pub fn improve(
             best = climbed.start;
         }
         number = (number + 1) % BEGINNINGS;
+        snug = !snug;
     }
     Ok(Improved {
         start: best,

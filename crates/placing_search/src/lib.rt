@@ -7,6 +7,7 @@ mod draws;
 mod improving;
 mod meetings;
 mod rankings;
+mod sides;
 mod stacking;
 mod swaps;
 #[cfg(test)]

@@ -1,8 +1,9 @@
-//! Who shares a moment with whom, in rows of bits.
+//! Who shares a moment with whom, in rows of bits, and what stands beside a buffer.
 
 ghost use Rattle.std.specs.Prelude.{◌≡◌, ◌+◌, ◌<◌, ◌/◌, IfOk, length};
 ghost use Rattle.placing_search.specs.Meetings.{AreMeetingsOf};
 
+use crate::sides::Sides;
 use dsa_model::{Instance, NoMemory};
 use std::alloc::Global;
 
@@ -13,10 +14,12 @@ pub(crate) struct Meetings {
     width: usize,
     /// The rows, one behind the other.
     words: Vec<u64>,
+    /// What stands beside each buffer.
+    pub(crate) sides: Sides,
 }
 
 impl Meetings {
-    /// The rows of all buffers.
+    /// The rows and the sides of all buffers.
     pub(crate) fn of(alloc: Global, instance: &Instance) -> Result<Meetings, NoMemory>
         ensures { IfOk result (AreMeetingsOf instance.now) }
     {
@@ -30,7 +33,11 @@ impl Meetings {
                 }
             }
         }
-        Ok(Meetings { width, words })
+        Ok(Meetings {
+            width,
+            words,
+            sides: Sides::of(alloc, instance)?,
+        })
     }
 
     /// The row of `b`.

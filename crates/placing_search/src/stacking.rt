@@ -3,9 +3,11 @@
 ghost use Rattle.std.specs.Prelude.{◌≡◌, ◌+◌, ◌/◌, ◌^◌, ◌<◌, ◌≤◌, IfOk, IfSome, length};
 ghost use Rattle.first_fit.specs.Rules.{IsOrderOf};
 ghost use Rattle.placing_search.specs.Meetings.{AreMeetingsOf};
+ghost use Rattle.placing_search.specs.Sides.{AreSidesOf};
 ghost use Rattle.placing_search.specs.Stacks.{IsStackOf};
 
 use crate::meetings::Meetings;
+use crate::sides::Sides;
 use dsa_model::{Instance, NoMemory};
 use std::alloc::Global;
 
@@ -25,11 +27,20 @@ pub(crate) struct Stack {
     /// For each buffer that is not stacked yet, by number, the least offset at which it does not
     /// meet those that are; `STACKED` for one that is.
     lows: Vec<u64>,
+    /// How high the stack is in each column, in bytes.
+    tops: Vec<u64>,
+    /// Whether of the buffers that can start lowest one with fewer open sides comes first.
+    snug: bool,
 }
 
 impl Stack {
     /// The buffers in the order, none of them stacked.
-    pub(crate) fn of(alloc: Global, instance: &Instance, order: &[u32]) -> Result<Stack, NoMemory>
+    pub(crate) fn of(
+        alloc: Global,
+        instance: &Instance,
+        order: &[u32],
+        snug: bool,
+    ) -> Result<Stack, NoMemory>
         requires { IsOrderOf instance.now order.now }
         ensures { IfOk result (IsStackOf instance.now) }
     {
@@ -37,23 +48,68 @@ impl Stack {
             order: order.to_vec(alloc)?,
             ends: vec![in alloc; 0u64; instance.len() as usize]?,
             lows: vec![in alloc; 0u64; instance.len() as usize]?,
+            tops: vec![in alloc; 0u64; 2 * instance.len() as usize + 2]?,
+            snug,
         })
     }
 
     /// Takes all buffers off.
-    fn clear(&mut self, instance: &Instance)
-        requires { IsStackOf instance.now self.old }
+    fn clear(&mut self, instance: &Instance, sides: &Sides)
+        requires stack { IsStackOf instance.now self.old }
+        requires sides { AreSidesOf instance.now sides.now }
         ensures { IsStackOf instance.now self.new }
     {
         for b in 0..instance.len() {
             self.lows[b as usize] = instance.buffer(b).floor();
         }
+        self.tops.copy_from_slice(&sides.bare);
     }
 
-    /// The place from `from` on of the buffer that can start lowest, of equals the one of the first
-    /// place in the ranking.
-    fn lowest_from(&self, instance: &Instance, places: &[usize], from: usize) -> usize
+    /// How many sides of the buffer are open where it can start now, in a snug stack: those where
+    /// nothing that is stacked reaches higher, and where time goes on.
+    fn open_sides(&self, instance: &Instance, sides: &Sides, b: u32) -> u32
         requires stack { IsStackOf instance.now self.now }
+        requires sides { AreSidesOf instance.now sides.now }
+        requires in_range { b < length instance.now }
+    {
+        if !self.snug {
+            return 0;
+        }
+        let low = self.lows[b as usize];
+        let mut open = 0;
+        if self.tops[sides.left[b as usize]] <= low {
+            open += 1;
+        }
+        if self.tops[sides.right[b as usize]] <= low {
+            open += 1;
+        }
+        open
+    }
+
+    /// The columns of the buffer are as high as its end.
+    fn top_up(&mut self, instance: &Instance, sides: &Sides, b: u32, end: u64)
+        requires stack { IsStackOf instance.now self.old }
+        requires sides { AreSidesOf instance.now sides.now }
+        requires in_range { b < length instance.now }
+        ensures { IsStackOf instance.now self.new }
+    {
+        let _count = instance.len();
+        for column in sides.left[b as usize] + 1..sides.right[b as usize] {
+            self.tops[column] = end;
+        }
+    }
+
+    /// The place from `from` on of the buffer that can start lowest, of equals the one with fewest
+    /// open sides, and of these the one of the first place in the ranking.
+    fn lowest_from(
+        &self,
+        instance: &Instance,
+        sides: &Sides,
+        places: &[usize],
+        from: usize,
+    ) -> usize
+        requires stack { IsStackOf instance.now self.now }
+        requires sides { AreSidesOf instance.now sides.now }
         requires places { length places.now ≡ length instance.now }
         requires from { from < length instance.now }
         ensures { result < length instance.now }
@@ -61,13 +117,19 @@ impl Stack {
         let mut lowest = from;
         let mut first = self.order[from] as usize;
         let mut least = self.lows[first];
+        let mut fewest = self.open_sides(instance, sides, self.order[from]);
         for place in from + 1..self.order.len() {
             let b = self.order[place] as usize;
             let low = self.lows[b];
-            if low < least || low == least && places[b] < places[first] {
+            if low > least {
+                continue;
+            }
+            let open = self.open_sides(instance, sides, self.order[place]);
+            if low < least || open < fewest || open == fewest && places[b] < places[first] {
                 lowest = place;
                 first = b;
                 least = low;
+                fewest = open;
             }
         }
         lowest
@@ -123,7 +185,8 @@ impl Stack {
     }
 
     /// Stacks all buffers anew: of those that are left always the one that can start lowest goes
-    /// where it can start, of equals the one of the first place in the ranking. This is the rule of
+    /// where it can start, in a snug stack of equals one with fewest open sides, and of equals the
+    /// one of the first place in the ranking. This is the rule of
     /// the lowest gap in strip packing (Burke, Kendall and Whitwell), the places in time being
     /// given. Tells the height, in bytes; none where it would be above the limit.
     ///
@@ -144,10 +207,10 @@ impl Stack {
         ensures stack { IsStackOf instance.now self.new }
         ensures limit { IfSome result (λ height. height ≤ limit) }
     {
-        self.clear(instance);
+        self.clear(instance, &meetings.sides);
         let mut height = 0;
         for k in 0..self.order.len() {
-            let lowest = self.lowest_from(instance, places, k);
+            let lowest = self.lowest_from(instance, &meetings.sides, places, k);
             let b = self.order[lowest];
             let end = self.lows[b as usize] + instance.buffer(b).size();
             if end > limit {
@@ -157,6 +220,7 @@ impl Stack {
             self.order.swap(k, lowest);
             self.ends[k] = end;
             self.lows[b as usize] = STACKED;
+            self.top_up(instance, &meetings.sides, b, end);
             if !self.raise(instance, meetings.with(instance, b), end, limit) {
                 return None;
             }

@@ -30,7 +30,8 @@ const CUT: [Row; 10] = [
     (8, 10, 4, 1),
 ];
 
-/// Another such rectangle, cut into twelve buffers. No beginning stacks it within 12.
+/// Another such rectangle, cut into twelve buffers. Stacks are within 12 by beginnings that are
+/// snug alone.
 const CUT_FINER: [Row; 12] = [
     (2, 8, 3, 1),
     (8, 10, 1, 1),
@@ -85,7 +86,7 @@ fn other_orders_are_lower(rt: HostRuntime) {
         (&TWO_OF_FOUR, 6, 40, (7, 7)),
         (&CUT, 12, 40, (18, 12)),
         (&CUT, 12, 0, (18, 18)),
-        (&CUT_FINER, 12, 2, (14, 13)),
+        (&CUT_FINER, 12, 2, (14, 12)),
         (&CUT_FINER, 12, 400, (14, 12)),
         (&[], 0, 40, (0, 0)),
     ];
