@@ -1,5 +1,5 @@
 -- The levels of a child, from those of the claim above it.
-use Rattle.std.proofs.Common.{◌≡◌, ◌≢◌, ℕ, ◌+◌, ◌-◌, ◌<◌, ◌≤◌, ◌^◌, ◌⊎◌, inl, inr, List, ◌∷◌, slice_set, subst, All, max, length, slice_index, ap, sym, ◌∙◌, refl, arith}
+use Rattle.std.proofs.Common.{◌≡◌, ◌≢◌, ℕ, ◌+◌, ◌-◌, ◌<◌, ◌≤◌, ◌^◌, ◌⊎◌, inl, inr, zero, suc, List, [], ◌∷◌, slice_set, subst, All, max, length, slice_index, ap, sym, ◌∙◌, refl, arith}
 use Rattle.std.specs.Int.{next_multiple_of}
 use Rattle.std.proofs.lemmas.List.{get_or-set_other, get_or-set_same}
 use Rattle.dsa_terms.specs.Buffers.{Instance, IsInstance, buffer}
@@ -106,6 +106,12 @@ set_cases xs j v c lt = elim (equal_or_not c j) [
   where
     equal_or_not : (c j : ℕ) → (c ≡ j) ⊎ (c ≢ j)
     equal_or_not c j = grind arith
+
+-- a level that is written again changes nothing
+pub set_own : (xs : List ℕ) (j v : ℕ) → v ≡ slice_index xs j → slice_set xs j v ≡ xs
+set_own [] j v q = refl
+set_own (x ∷ xs) zero v q = ap (λ (n : ℕ). n ∷ xs) q
+set_own (x ∷ xs) (suc j) v q = ap (λ (ns : List ℕ). x ∷ ns) (set_own xs j v q)
 
 -- the levels of the entries are those of the child, but for those entries that are left
 abbrev pub AreLoweredBut : Instance → List ℕ → ℕ → List ℕ → Claim → Claim → Type 0

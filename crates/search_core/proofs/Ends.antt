@@ -64,7 +64,7 @@ least_of_all I l left x q h = record {
 }
 
 -- ---- what the least end says of a buffer of the claim
-no_any : {X : Type 0} (p : X → Bool) (xs : List X) → ((x : X) → IsIn x xs → p x ≡ false) → list_any p xs ≡ false
+pub no_any : {X : Type 0} (p : X → Bool) (xs : List X) → ((x : X) → IsIn x xs → p x ≡ false) → list_any p xs ≡ false
 no_any p xs h = elim (true_or_false (list_any p xs)) [
   | inl t ↦ absurd (let r = any_gives p xs t in let k = h r.0 r.1 in let q = r.2 in cc)
   | inr f ↦ f

@@ -1,18 +1,15 @@
 -- Steps of the way, down and back, by what is kept.
-use Rattle.std.proofs.Common.{◌≡◌, ℕ, List, [], ◌∷◌, ◌++◌, map, IfSome, Some, refl, sym, ap, ◌∙◌, subst}
+use Rattle.std.proofs.Common.{◌≡◌, ℕ, List, [], ◌∷◌, ◌++◌, IfSome, refl, sym, ap, ◌∙◌, subst}
 use Rattle.dsa_terms.specs.Buffers.{Instance}
 use Rattle.dsa_terms.specs.Claims.{Claim, child}
-use Rattle.dsa_terms.specs.Search.{choices, not_excluded}
 use Rattle.canonical_order.specs.Claims.{entry_of}
 use Rattle.canonical_order.specs.Levels.{AreLevels}
 use Rattle.skyline.specs.Skies.{Sky, last_claim}
-use Rattle.search_core.specs.declared.branches.Branches.{Branches}
 use Rattle.search_core.specs.declared.kept.Kept.{Kept}
-use Rattle.search_core.specs.declared.notes.Notes.{Notes}
 use Rattle.search_core.specs.Descents.{IsStanding}
 use Rattle.search_core.specs.Tries.{IsLeft, Tried, chosen_of}
-use Rattle.search_core.specs.Ways.{AreBranches, AreKeptAlong, IsBackBy, IsBackFrom, Way, notes_of, tried_by, tried_of, tries_of}
-use Rattle.search_core.proofs.Keeping.{branches_from, last_kept, pop_kept, push_kept, pushed_tries, tries_are}
+use Rattle.search_core.specs.Ways.{AreKeptAlong, IsBackBy, IsBackFrom, IsOrderOf, Way, notes_of, tried_of, tries_of}
+use Rattle.search_core.proofs.Keeping.{last_kept, pop_kept, push_kept, pushed_tries}
 
 -- the way with so much kept
 abbrev pub way_of : Sky → List Kept → Way
@@ -24,15 +21,15 @@ pub record IsWayTo (sky : Sky) (kept : List Kept) (frames : List Tried) : Type 0
   pub tries : tries_of sky.instance sky.claims (notes_of kept) ≡ frames
 
 -- a frame of the last claim is kept, and the child by its choice is the last claim
-down_from : (I : Instance) (claims : List Claim) (kept : List Kept) (f : Tried) (b : Branches) (n : Notes) (x : ℕ) →
-    AreKeptAlong I claims kept → f ≡ tried_by b n → x ≡ chosen_of f → IsLeft f → AreBranches I (last_claim claims) b →
+pub down_from : (I : Instance) (claims : List Claim) (kept : List Kept) (f : Tried) (k : Kept) →
+    AreKeptAlong I claims kept → f ≡ tried_of I (last_claim claims) k.notes → k.chosen ≡ chosen_of f → IsLeft f →
+    IfSome k.levels (AreLevels I (last_claim claims)) → IfSome k.order (IsOrderOf I (last_claim claims)) →
     (after : Sky) → after.instance ≡ I →
     after.claims ≡ claims ++ child I (last_claim claims) (entry_of (last_claim claims) (chosen_of f)) ∷ [] →
-    IsWayTo after (kept ++ record { notes = n; chosen = x; branches = Some b } ∷ [])
-    (tries_of I claims (notes_of kept) ++ f ∷ [])
-down_from I claims kept f b n x h e taken left br after i q = record {
+    IsWayTo after (kept ++ k ∷ []) (tries_of I claims (notes_of kept) ++ f ∷ [])
+down_from I claims kept f k h is taken left levels order after i q = record {
   along = rw (i, q) (push_kept I claims kept c k h
-      (record { branches = br; standing = standing; chosen = taken ∙ ap chosen_of is }));
+      (record { levels = levels; order = order; standing = standing; chosen = taken ∙ ap chosen_of is }));
   tries = rw (i, q) (pushed_tries I claims kept c k h
       ∙ ap (λ (f : Tried). tries_of I claims (notes_of kept) ++ f ∷ []) (sym is));
 }
@@ -43,38 +40,31 @@ down_from I claims kept f b n x h e taken left br after i q = record {
     c : Claim
     c = child I l (entry_of l (chosen_of f))
 
-    k : Kept
-    k = record { notes = n; chosen = x; branches = Some b }
-
-    is : f ≡ tried_of I l n
-    is = e ∙ tries_are I l b n br
-
-    standing : IsStanding I l (tried_of I l n) c
+    standing : IsStanding I l (tried_of I l k.notes) c
     standing = subst (λ (g : Tried). IsStanding I l g c) is (record { is_left = left; is_child = refl })
 
-pub down : (before : Way) (sky after : Sky) (kept items : List Kept) (f : Tried) (b : Branches) (n : Notes) (c : ℕ) →
-    way_of sky kept ≡ before → AreKeptAlong sky.instance sky.claims kept → f ≡ tried_by b n → c ≡ chosen_of f →
-    IsLeft f →
-    map (entry_of (last_claim before.sky.claims)) f.order
-    ≡ choices before.sky.instance (not_excluded before.sky.instance) (last_claim before.sky.claims) →
-    AreLevels before.sky.instance (last_claim before.sky.claims) f.levels → after.instance ≡ sky.instance →
+pub down : (before : Way) (sky after : Sky) (kept items : List Kept) (f : Tried) (k : Kept) →
+    way_of sky kept ≡ before → AreKeptAlong sky.instance sky.claims kept →
+    f ≡ tried_of before.sky.instance (last_claim before.sky.claims) k.notes → k.chosen ≡ chosen_of f → IsLeft f →
+    IfSome k.levels (AreLevels before.sky.instance (last_claim before.sky.claims)) →
+    IfSome k.order (IsOrderOf before.sky.instance (last_claim before.sky.claims)) → after.instance ≡ sky.instance →
     after.claims ≡ sky.claims
-    ++ child sky.instance (last_claim sky.claims) (entry_of (last_claim sky.claims) c) ∷ [] →
-    items ≡ kept ++ record { notes = n; chosen = c; branches = Some b } ∷ [] →
-    IsWayTo after items (before.frames ++ f ∷ [])
-down before sky after kept items f b n c w h e chosen left order levels i q p =
-    let br = branches_from before.sky.instance (last_claim before.sky.claims) f b n e order levels in
-    let br : AreBranches sky.instance (last_claim sky.claims) b =
-    subst (λ (w : Way). AreBranches w.sky.instance (last_claim w.sky.claims) b) (sym w) br in
-    let r = down_from sky.instance sky.claims kept f b n c h e chosen left br after i (rw chosen at q) in
+    ++ child sky.instance (last_claim sky.claims) (entry_of (last_claim sky.claims) k.chosen) ∷ [] →
+    items ≡ kept ++ k ∷ [] → IsWayTo after items (before.frames ++ f ∷ [])
+down before sky after kept items f k w h is chosen left levels order i q p =
+    let r = down_from sky.instance sky.claims kept f k h
+    (subst (λ (w : Way). f ≡ tried_of w.sky.instance (last_claim w.sky.claims) k.notes) (sym w) is) chosen left
+    (subst (λ (w : Way). IfSome k.levels (AreLevels w.sky.instance (last_claim w.sky.claims))) (sym w) levels)
+    (subst (λ (w : Way). IfSome k.order (IsOrderOf w.sky.instance (last_claim w.sky.claims))) (sym w) order)
+    after i (rw chosen at q) in
     subst (λ (items : List Kept). IsWayTo after items (before.frames ++ f ∷ [])) (sym p)
-    (subst (λ (w : Way). IsWayTo after (kept ++ record { notes = n; chosen = c; branches = Some b } ∷ [])
-    (w.frames ++ f ∷ [])) w r)
+    (subst (λ (w : Way). IsWayTo after (kept ++ k ∷ []) (w.frames ++ f ∷ [])) w r)
 
 -- what is kept once a claim is popped, and what was kept of the claim above it
 pub record IsPopped (sky after : Sky) (kept rest : List Kept) (k : Kept) : Type 0 where
   pub along : AreKeptAlong after.instance after.claims rest
-  pub last : IfSome k.branches (AreBranches after.instance (last_claim after.claims))
+  pub levels : IfSome k.levels (AreLevels after.instance (last_claim after.claims))
+  pub order : IfSome k.order (IsOrderOf after.instance (last_claim after.claims))
   pub chosen : k.chosen ≡ chosen_of (tried_of after.instance (last_claim after.claims) k.notes)
   pub tries : tries_of sky.instance sky.claims (notes_of kept) ≡ tries_of after.instance after.claims (notes_of rest)
       ++ tried_of after.instance (last_claim after.claims) k.notes ∷ []
@@ -84,7 +74,8 @@ pub popped : (sky after : Sky) (kept rest : List Kept) (k : Kept) → AreKeptAlo
     IsPopped sky after kept rest k
 popped sky after kept rest k h i q p = record {
   along = rw i along;
-  last = rw i (last_kept sky.instance after.claims rest c k both).branches;
+  levels = rw i (last_kept sky.instance after.claims rest c k both).levels;
+  order = rw i (last_kept sky.instance after.claims rest c k both).order;
   chosen = rw i (last_kept sky.instance after.claims rest c k both).chosen;
   tries = rw i (ap (λ (cs : List Claim). tries_of sky.instance cs (notes_of kept)) q
       ∙ ap (λ (ks : List Kept). tries_of sky.instance (after.claims ++ c ∷ []) (notes_of ks)) p

@@ -1,6 +1,8 @@
 -- The claim beside levels is the claim of the levels, with its lows as bounds.
-use Rattle.std.proofs.Common.{◌≡◌, ℕ, ◌+◌, ◌-◌, ◌<◌, ◌≤◌, ◌⊎◌, ◌^◌, inl, inr, List, [], ◌∷◌, ◌++◌, length, map, slice_index, slice_index_or, slice_set, ap, sym, ◌∙◌, subst, arith, refl}
-use Rattle.std.proofs.lemmas.List.{get_or-set_other, get_or-set_same, get_or_default, get_or_past}
+use Rattle.std.proofs.Common.{◌≡◌, ℕ, ◌+◌, ◌-◌, ◌<◌, ◌≤◌, ◌⊎◌, ◌^◌, inl, inr, List, [], ◌∷◌, ◌++◌, length, map, slice_index, drop, slice_index_or, slice_set, ap, sym, ◌∙◌, subst, arith, refl, append_assoc}
+use Rattle.std.specs.List.{between}
+use Rattle.std.proofs.lemmas.List.Edits.{between_more, between_none}
+use Rattle.std.proofs.lemmas.List.{append-nil, get_or-set_other, get_or-set_same, get_or_default, get_or_past}
 use Rattle.std.specs.List.{All}
 use Rattle.dsa_terms.specs.Buffers.{Instance}
 use Rattle.dsa_terms.specs.Claims.{Claim, Entry, IsIn, Rises, buffers_of, up}
@@ -17,7 +19,8 @@ use Rattle.canonical_order.proofs.Entries.{entry_in, is_entry}
 use Rattle.canonical_order.proofs.LevelLemmas.{has_level, level_inside}
 use Rattle.search_core.specs.Levels.{AreKept}
 use Rattle.search_core.specs.Lifted.{lift, lifted}
-use Rattle.search_core.proofs.ChildLevels.{set_cases}
+use Rattle.search_core.proofs.Along.{next_left, nothing_left}
+use Rattle.search_core.proofs.ChildLevels.{set_cases, set_own}
 use Rattle.search_core.proofs.Meeting.{entries_rise}
 
 -- an entry by its level
@@ -246,3 +249,48 @@ grounded_all levels k left q g few low = record {
     | inr i ↦ absurd (subst (λ (l : Claim). HasBuffer l b) q i)
   ];
 }
+
+-- ---- entries that stay as they are, in a row behind those that are taken
+module _ (levels : List ℕ) (taken items : Claim) (from i : ℕ) (v : ℕ) (le : from ≤ i) (lt : i < length items)
+    (within : (slice_index_or items i (0, 0)).0 < length levels)
+    (g : IsGrounded levels (taken ++ between from i items) (drop i items)) where
+  abbrev x : Entry
+  x = slice_index_or items i (0, 0)
+
+  pub grounded_stay : v ≡ x.1 + 1 → v ≡ slice_index levels x.0 →
+      IsGrounded levels (taken ++ between from (i + 1) items) (drop (i + 1) items)
+  grounded_stay q own =
+      subst (λ (ns : List ℕ). IsGrounded ns (taken ++ between from (i + 1) items) (drop (i + 1) items))
+      (set_own levels x.0 v own)
+      (grounded_next levels (taken ++ between from i items) (taken ++ between from (i + 1) items) (drop i items)
+      (drop (i + 1) items) x v within (next_left items i lt) g
+      (λ more. ap (λ (k : Claim). taken ++ k) (between_more items from i (0, 0) le lt)
+      ∙ sym (append_assoc taken (between from i items) (x ∷ []))
+      ∙ ap (λ (n : ℕ). (taken ++ between from i items) ++ (x.0, n) ∷ []) (let n : x.1 ≡ v - 1 = omega arith in n))
+      (λ none. absurd (omega arith)))
+
+  pub grounded_change : (all after : Claim) → all ≡ taken ++ between from i items →
+      (0 < v → after ≡ all ++ (x.0, v - 1) ∷ []) → (v ≡ 0 → after ≡ all) →
+      IsGrounded (slice_set levels x.0 v) (after ++ between (i + 1) (i + 1) items) (drop (i + 1) items)
+  grounded_change all after e some none =
+      subst (λ (k : Claim). IsGrounded (slice_set levels x.0 v) k (drop (i + 1) items))
+      (sym (ap (λ (k : Claim). after ++ k) (between_none items (i + 1)) ∙ append-nil after))
+      (grounded_next levels all after (drop i items) (drop (i + 1) items) x v within (next_left items i lt)
+      (subst (λ (k : Claim). IsGrounded levels k (drop i items)) (sym e) g) some none)
+
+-- what is left keeps its levels
+pub left_same : (levels : List ℕ) (left rest : Claim) (x : Entry) (v : ℕ) → left ≡ x ∷ rest → Rises (buffers_of left) →
+    ((e : Entry) → IsIn e left → slice_index levels e.0 ≡ e.1 + 1) →
+    (e : Entry) → IsIn e rest → slice_index (slice_set levels x.0 v) e.0 ≡ e.1 + 1
+left_same levels left rest x v s r h e i =
+    let above : x.0 < e.0 = (subst (λ (k : Claim). Rises (buffers_of k)) s r).0 e.0 (in_buffers rest e i) in
+    get_or-set_other levels x.0 e.0 v 0 (λ q. omega (arith, q, above)) ∙ h e (subst (IsIn e) (sym s) (inr i))
+
+-- at the end all that is left is taken
+pub grounded_end : (levels : List ℕ) (taken items all : Claim) (from i : ℕ) → i ≤ length items → length items ≤ i →
+    all ≡ taken ++ between from (length items) items →
+    IsGrounded levels (taken ++ between from i items) (drop i items) → IsGrounded levels all []
+grounded_end levels taken items all from i le ge q g =
+    subst (IsGrounded levels all) (nothing_left items i ge)
+    (subst (λ (k : Claim). IsGrounded levels k (drop i items))
+    (ap (λ (n : ℕ). taken ++ between from n items) (let e : i ≡ length items = omega arith in e) ∙ sym q) g)

@@ -13,8 +13,10 @@ use Rattle.canonical_order.specs.Levels.{AreLevels}
 use Rattle.canonical_order.proofs.LevelLemmas.{has_or_not}
 use Rattle.skyline.specs.Skies.{last_claim}
 use Rattle.search_core.specs.declared.branches.Branches.{Branches}
+use Rattle.search_core.specs.declared.fresh.Fresh.{Fresh}
 use Rattle.search_core.specs.declared.kept.Kept.{Kept}
 use Rattle.search_core.specs.declared.notes.Notes.{Notes}
+use Rattle.search_core.specs.Fresh.{tries_at}
 use Rattle.search_core.specs.Tries.{Tried}
 use Rattle.search_core.specs.Ways.{AreBranches, AreKeptAlong, IsKeptOf, claim_no, level_of, levels_of, notes_of, order_of, tried_by, tried_of, tries_of}
 use Rattle.search_core.proofs.LiftedChoices.{buffers_of_entries}
@@ -70,6 +72,19 @@ tries_are I l b n h = put (order_is I l b.order.items h.order) (levels_are I l b
       asked = n.asked;
     }
     put p q = rw (← p, ← q) refl
+
+-- and so are those of a claim that was just opened
+pub fresh_are : (I : Instance) (l : Claim) (x : Fresh) (n : Notes) → AreLevels I l x.levels → n.refuted.items ≡ [] →
+    n.asked ≡ x.asked → tries_at I l x ≡ tried_of I l n
+fresh_are I l x n h none asked = put (levels_are I l x.levels h)
+  where
+    put : {levels : List ℕ} → x.levels ≡ levels → tries_at I l x ≡ record {
+      order = order_of I l;
+      refuted = n.refuted.items;
+      levels = levels;
+      asked = n.asked;
+    }
+    put p = rw (← p, none, asked) refl
 
 -- the branches of a frame
 pub branches_from : (I : Instance) (l : Claim) (f : Tried) (b : Branches) (n : Notes) → f ≡ tried_by b n →
@@ -198,12 +213,12 @@ module _ (I : Instance) (claims : List Claim) (kept : List Kept) (c : Claim) (k 
       ∙ tries_push I claims (notes_of kept) c k.notes
       (let e = h.count in let n = notes_count kept in omega arith)
 
--- other branches at one place
+-- other levels at one place
 pub set_kept : (I : Instance) (claims : List Claim) (kept : List Kept) (i : ℕ) (k old : Kept) → i < length kept →
     old ≡ slice_index_or kept i old → k.notes ≡ old.notes → k.chosen ≡ old.chosen →
-    IfSome k.branches (AreBranches I (claim_no claims i)) →
+    IfSome k.levels (AreLevels I (claim_no claims i)) → k.order ≡ old.order →
     AreKeptAlong I claims kept → AreKeptAlong I claims (slice_set kept i k)
-set_kept I claims kept i k old lt is same_notes same_choice b h = record {
+set_kept I claims kept i k old lt is same_notes same_choice levels same_order h = record {
   count = let n : length (slice_set kept i k) ≡ length kept = length-set kept i k in let e = h.count in omega arith;
   each = λ j d within.
       let n : length (slice_set kept i k) ≡ length kept = length-set kept i k in
@@ -213,7 +228,8 @@ set_kept I claims kept i k old lt is same_notes same_choice b h = record {
             let o : IsKeptOf I (claim_no claims i) (claim_no claims (i + 1)) old =
             subst (IsKeptOf I (claim_no claims i) (claim_no claims (i + 1))) (sym is) (h.each i old lt) in
             rw (r, e) (record {
-              branches = b;
+              levels = levels;
+              order = rw same_order o.order;
               standing = rw same_notes o.standing;
               chosen = same_choice ∙ (rw same_notes o.chosen);
             })

@@ -1,5 +1,6 @@
 pub mod Least
 pub mod Ends
+pub mod FirstChoice
 pub mod Order
 pub mod Noted
 pub mod Taking

@@ -8,6 +8,7 @@ use Rattle.dsa_search_laws.proofs.Complete.{from_choices}
 use Rattle.canonical_order.specs.Claims.{entry_of, least_buffer}
 use Rattle.canonical_order.proofs.Entries.{is_entry}
 use Rattle.search_core.specs.Lifted.{lift, lifted}
+use Rattle.search_core.specs.Ways.{order_of}
 use Rattle.search_core.proofs.Lifting.{lifted_excluded, up_of_lift}
 
 -- ---- tall buffers
@@ -91,6 +92,15 @@ entries_again l (e ∷ es) r h =
     ap (λ (f : Entry). f ∷ map (entry_of l) (buffers_of es)) (sym (is_entry l e r (h e (inl refl))))
     ∙ ap (λ fs. e ∷ fs) (entries_again l es r (λ f i. h f (inr i)))
 
+-- the choices of the claim have these buffers
+pub order_entries : (I : Instance) (l : Claim) → Rises (buffers_of l) →
+    map (entry_of l) (order_of I l) ≡ choices I (not_excluded I) l
+order_entries I l r = entries_again l (choices I (not_excluded I) l) r (λ f i. from_choices I (not_excluded I) l f i)
+
+pub order_of_lifted : (I : Instance) (l : Claim) → IsInstance I → order_of I (lifted I l) ≡ order_of I l
+order_of_lifted I l s =
+    ap buffers_of (choices_lifted I l s) ∙ buffers_of_lifts I (choices I (not_excluded I) l)
+
 pub lifted_order : (I : Instance) (l : Claim) (order : List ℕ) → IsInstance I → Rises (buffers_of l) →
     map (entry_of (lifted I l)) order ≡ choices I (not_excluded I) (lifted I l) →
     map (entry_of l) order ≡ choices I (not_excluded I) l
@@ -98,8 +108,7 @@ lifted_order I l order s r q =
     let e : order ≡ buffers_of (choices I (not_excluded I) l) =
     sym (buffers_of_entries (lifted I l) order) ∙ ap buffers_of (q ∙ choices_lifted I l s)
     ∙ buffers_of_lifts I (choices I (not_excluded I) l) in
-    ap (map (entry_of l)) e
-    ∙ entries_again l (choices I (not_excluded I) l) r (λ f i. from_choices I (not_excluded I) l f i)
+    ap (map (entry_of l)) e ∙ order_entries I l r
 
 -- ---- whether there is a buffer
 pub lifted_nothing : (I : Instance) (l : Claim) → length (lifted I l) ≡ 0 → l ≡ []

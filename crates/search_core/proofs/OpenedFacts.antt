@@ -6,11 +6,12 @@ use Rattle.dsa_terms.specs.Logs.{Line, claim_of, ends_below, is_twin}
 use Rattle.dsa_terms.specs.Search.{comes_before, first, is_tall, work}
 use Rattle.dsa_terms.proofs.Examples.{small_below}
 use Rattle.dsa_terms.proofs.Lists.{same_some}
+use Rattle.search_core.specs.declared.fresh.Fresh.{Fresh}
 use Rattle.search_core.specs.declared.opening.Opened.TheVariants as opened
 use Rattle.search_core.specs.Descents.{through}
 use Rattle.search_core.specs.Meters.{Units}
 use Rattle.search_core.specs.Opened.{AreAllAsked, AreChoices, IfChoices, IsOpened, UnlessUnopened, left_open}
-use Rattle.search_core.specs.Tries.{Tried, IsLeft}
+use Rattle.search_core.specs.Tries.{Tried}
 use Rattle.search_core.specs.Watches.{RulesOut}
 use Rattle.search_core.proofs.FoundFacts.{rest_known, root_layout}
 use Rattle.search_core.proofs.LevelFacts.{differ, rest, root}
@@ -42,8 +43,12 @@ none_where_covered f h = h.fresh 0 over refl over_covers
 none_of_no_buffers : (f : Tried) → AreChoices small_below 4 [] [] f → ⊥
 none_of_no_buffers f h = h.not_empty refl
 
+-- the claim of both, just opened
+abbrev fresh : ℕ → Fresh
+fresh n = record { levels = 1 ∷ 1 ∷ []; chosen = 0; asked = n }
+
 -- ---- lines that were asked, and are watched
-asked_and_watched : AreAllAsked (over ∷ []) ((1, 4) ∷ []) (both_left 1)
+asked_and_watched : AreAllAsked (over ∷ []) ((1, 4) ∷ []) (fresh 1)
 asked_and_watched = record { asked = refl; watched = record { within = omega arith; each = each } }
   where
     each : (k : ℕ) (line : Line) → k < 1 → slice_get (over ∷ []) k ≡ Some line →
@@ -56,18 +61,19 @@ asked_and_watched = record { asked = refl; watched = record { within = omega ari
     )
     each (suc k) line lt at = absurd (omega arith)
 
-not_all_asked : AreAllAsked (over ∷ []) ((1, 4) ∷ []) (both_left 0) → ⊥
+not_all_asked : AreAllAsked (over ∷ []) ((1, 4) ∷ []) (fresh 0) → ⊥
 not_all_asked h = let k = h.asked in omega arith
 
-asked_without_watch : AreAllAsked (over ∷ []) [] (both_left 1) → ⊥
+asked_without_watch : AreAllAsked (over ∷ []) [] (fresh 1) → ⊥
 asked_without_watch h = let r = h.watched.each 0 over (omega arith) refl in let e = r.1 in absurd cc
 
 -- ---- what is found
 abbrev used : ℕ → Units
 used n = record { most = Some 7; used = n }
 
-opens_root : IsOpened small_below 4 [] root (used 0) (used 1) (opened.Choices (both_left 0))
-opens_root = choices_of_root
+opens_root : IsOpened small_below 4 [] root (used 0) (used 1) (opened.Choices (fresh 0))
+unfolding comes_before ends_below is_twin have_same_moments some_before is_live up buffer
+opens_root = (record { left = omega arith; chosen = refl }, choices_of_root)
 
 line_for_rest : IsOpened small_below 4 (over ∷ []) rest (used 1) (used 1) (opened.Line 0)
 line_for_rest = rest_known
@@ -89,19 +95,19 @@ one_is_unused : IsOpened small_below 4 [] root (used 6) (used 6) opened.Spent �
 one_is_unused h = let k = h.0 in omega arith
 
 -- ---- facts that hold in some cases alone
-of_the_choices : IfChoices IsLeft (opened.Choices (both_left 0))
-of_the_choices = omega arith
+of_the_choices : IfChoices (λ x. x.chosen ≡ 0) (opened.Choices (fresh 0))
+of_the_choices = refl
 
 of_no_choices : IfChoices (λ f. ⊥) (opened.Line 0)
 of_no_choices = tt
 
-not_of_the_choices : IfChoices (λ f. ⊥) (opened.Choices (both_left 0)) → ⊥
+not_of_the_choices : IfChoices (λ f. ⊥) (opened.Choices (fresh 0)) → ⊥
 not_of_the_choices h = h
 
 holds_with_line : UnlessUnopened ⊥ (opened.Line 0) → ⊥
 holds_with_line h = h
 
-holds_with_choices : UnlessUnopened ⊥ (opened.Choices (both_left 0)) → ⊥
+holds_with_choices : UnlessUnopened ⊥ (opened.Choices (fresh 0)) → ⊥
 holds_with_choices h = h
 
 holds_when_empty : UnlessUnopened ⊥ opened.Empty → ⊥
@@ -111,7 +117,7 @@ nothing_once_spent : UnlessUnopened ⊥ opened.Spent
 nothing_once_spent = tt
 
 -- ---- claims that are left to have a line
-one_to_be_tried : left_open (opened.Choices (both_left 0)) ≡ 1
+one_to_be_tried : left_open (opened.Choices (fresh 0)) ≡ 1
 one_to_be_tried = refl
 
 none_with_line : left_open (opened.Line 0) ≡ 0

@@ -16,9 +16,11 @@ use Rattle.canonical_order.specs.Claims.{HasBuffer, entry_of, least_buffer}
 use Rattle.canonical_order.specs.Levels.{AreLevels}
 use Rattle.dsa_terms.specs.Logs.{Line}
 use Rattle.search_core.specs.declared.found.Refuted.{Refuted}
+use Rattle.search_core.specs.declared.fresh.Fresh.{Fresh}
 use Rattle.search_core.specs.Cites.{IsChildCovered}
 use Rattle.search_core.specs.Logs.{Extends, NoneCovers}
 use Rattle.search_core.specs.Descents.{IsKnown, IsTrying, refuted_buffer}
+use Rattle.search_core.specs.Fresh.{IsFresh, tries_at}
 use Rattle.search_core.specs.Tries.{IsLeft, Tried, asked_to, chosen_of, later_of, noted_by, rest_of, untried}
 use Rattle.search_core.proofs.Growing.{covered_still}
 use Rattle.search_core.specs.Opened.{AreChoices}
@@ -94,7 +96,12 @@ module _ (I : Instance) (C : ℕ) (l : Claim) where
   pub chosen_in : (lines : List Line) (f : Tried) → IsTrying I C lines l f → IsLeft f → HasBuffer l (chosen_of f)
   chosen_in lines f t lt = chosen_at I l f.order (length f.refuted) t.order lt
 
-  -- and so is each that was refuted
+  -- and so is the first one of a claim just opened
+  pub first_in : (lines : List Line) (x : Fresh) → IsFresh I l x → IsTrying I C lines l (tries_at I l x) →
+      HasBuffer l x.chosen
+  first_in lines x h t = subst (HasBuffer l) (sym h.chosen) (chosen_in lines (tries_at I l x) t h.left)
+
+  -- and each that was refuted
   pub refuted_in : (lines : List Line) (f : Tried) → IsTrying I C lines l f → (r : Refuted) → IsIn r f.refuted →
       HasBuffer l r.buffer
   refuted_in lines f t r i =

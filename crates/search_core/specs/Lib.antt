@@ -8,6 +8,7 @@ pub mod Tries
 pub mod Descents
 pub mod Opened
 pub mod Ways
+pub mod Fresh
 pub mod Turns
 pub mod Walks
 pub mod Logs

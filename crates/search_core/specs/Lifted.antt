@@ -1,5 +1,5 @@
 -- A claim with the lows of its buffers as bounds.
-use Rattle.std.specs.Prelude.{◌≡◌, ℕ, map}
+use Rattle.std.specs.Prelude.{◌≡◌, map}
 use Rattle.std.specs.Coded.{Coded-set, coded_ℕ}
 use Rattle.dsa_terms.specs.Buffers.{Instance}
 use Rattle.dsa_terms.specs.Claims.{Claim, Entry, IsIn, up}

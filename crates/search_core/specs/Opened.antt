@@ -7,7 +7,9 @@ use Rattle.dsa_terms.specs.Search.{first, work}
 use Rattle.canonical_order.specs.Claims.{entry_of}
 use Rattle.search_core.specs.declared.opening.Opened.{Opened}
 use Rattle.search_core.specs.declared.opening.Opened.TheVariants as opened
+use Rattle.search_core.specs.declared.fresh.Fresh.{Fresh}
 use Rattle.search_core.specs.Descents.{IsKnown, IsTrying, through}
+use Rattle.search_core.specs.Fresh.{IsFresh, tries_at}
 use Rattle.search_core.specs.Logs.{NoneCovers}
 use Rattle.search_core.specs.Meters.{AreSpent, Units}
 use Rattle.search_core.specs.Tries.{Tried, rest_of}
@@ -21,34 +23,34 @@ pub record AreChoices (I : Instance) (C : ℕ) (lines : List Line) (l : Claim) (
   pub work : work I C l ≡ 1 + through I C l (map (entry_of l) (rest_of f))
 
 -- all lines were asked at the claim of the choices, and are watched there
-pub record AreAllAsked (lines : List Line) (watches : List Entry) (f : Tried) : Type 0 where
-  pub asked : f.asked ≡ length lines
-  pub watched : AreWatched lines watches f.levels f.asked
+pub record AreAllAsked (lines : List Line) (watches : List Entry) (x : Fresh) : Type 0 where
+  pub asked : x.asked ≡ length lines
+  pub watched : AreWatched lines watches x.levels x.asked
 
 -- a line that covers the claim, its choices, its layout where it has no buffer, or that all units are used
 abbrev pub IsOpened : Instance → ℕ → List Line → Claim → Units → Units → Opened → Type 0
 IsOpened I C lines l before after (opened.Line k) = IsKnown I C lines l k
-IsOpened I C lines l before after (opened.Choices f) = AreChoices I C lines l f
+IsOpened I C lines l before after (opened.Choices x) = IsFresh I l x × AreChoices I C lines l (tries_at I l x)
 IsOpened I C lines l before after opened.Empty = first I C l ≡ Some []
 IsOpened I C lines l before after opened.Spent = AreSpent after × (after.used ≡ before.used)
 
 -- the fact holds of the choices, if they are found
-abbrev pub IfChoices : (Tried → Type 0) → Opened → Type 0
+abbrev pub IfChoices : (Fresh → Type 0) → Opened → Type 0
 IfChoices P (opened.Line k) = ⊤
-IfChoices P (opened.Choices f) = P f
+IfChoices P (opened.Choices x) = P x
 IfChoices P opened.Empty = ⊤
 IfChoices P opened.Spent = ⊤
 
 -- the fact holds unless the budget is spent
 abbrev pub UnlessUnopened : Type 0 → Opened → Type 0
 UnlessUnopened P (opened.Line k) = P
-UnlessUnopened P (opened.Choices f) = P
+UnlessUnopened P (opened.Choices x) = P
 UnlessUnopened P opened.Empty = P
 UnlessUnopened P opened.Spent = ⊤
 
 -- how many claims are left to have a line: the one whose choices are to be tried
 abbrev pub left_open : Opened → ℕ
 left_open (opened.Line k) = 0
-left_open (opened.Choices f) = 1
+left_open (opened.Choices x) = 1
 left_open opened.Empty = 0
 left_open opened.Spent = 0

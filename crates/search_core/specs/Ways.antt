@@ -1,10 +1,11 @@
 -- The way of a search: the claims down to the one that it is at, and what is kept of the choices of those above.
-use Rattle.std.specs.Prelude.{◌≡◌, ℕ, ◌^◌, ◌+◌, ◌-◌, ◌<◌, ◌≤◌, ◌++◌, List, [], ◌∷◌, length, map, slice_get, slice_index_or, IfSome, Option, Some}
+use Rattle.std.specs.Prelude.{◌≡◌, ℕ, ◌+◌, ◌-◌, ◌<◌, ◌≤◌, ◌++◌, List, [], ◌∷◌, length, map, slice_get, slice_index_or, IfSome, Option, Some}
+use Rattle.std.specs.Global.{Vec}
 use Rattle.dsa_terms.specs.Buffers.{Instance}
 use Rattle.dsa_terms.specs.Claims.{Claim, Entry, buffers_of, number_of, up}
 use Rattle.dsa_terms.specs.Parts.{numbers}
 use Rattle.dsa_terms.specs.Search.{choices, not_excluded}
-use Rattle.canonical_order.specs.Claims.{IsBoundedBy, entry_of}
+use Rattle.canonical_order.specs.Claims.{entry_of}
 use Rattle.canonical_order.specs.Levels.{AreLevels}
 use Rattle.skyline.specs.Skies.{Sky, last_claim}
 use Rattle.search_core.specs.declared.branches.Branches.{Branches}
@@ -32,6 +33,10 @@ levels_of I l = map (level_of I l) (numbers (length I))
 abbrev pub order_of : Instance → Claim → List ℕ
 order_of I l = buffers_of (choices I (not_excluded I) l)
 
+-- these are the choices of the claim in order
+abbrev pub IsOrderOf : Instance → Claim → Vec ℕ → Type 0
+IsOrderOf I l order = map (entry_of l) order.items ≡ choices I (not_excluded I) l
+
 -- these are the choices of the claim in order, and its levels
 pub record AreBranches (I : Instance) (l : Claim) (b : Branches) : Type 0 where
   pub order : map (entry_of l) b.order.items ≡ choices I (not_excluded I) l
@@ -57,13 +62,6 @@ tries_of I [] ns = []
 tries_of I (l ∷ ls) [] = []
 tries_of I (l ∷ ls) (n ∷ ns) = tried_of I l n ∷ tries_of I ls ns
 
--- these are the branches of the claim l, and m is what is left of it by the first choice that is not noted as refuted;
--- no bound of m is above 2^54
-pub record IsBelow (I : Instance) (l m : Claim) (b : Branches) (n : Notes) : Type 0 where
-  pub branches : AreBranches I l b
-  pub standing : IsStanding I l (tried_of I l n) m
-  pub low : IsBoundedBy (2 ^ 54) m
-
 -- ---- what is kept
 -- what is noted of the choices
 abbrev pub notes_of : List Kept → List Notes
@@ -73,10 +71,11 @@ notes_of kept = map (λ (k : Kept). k.notes) kept
 abbrev pub claim_no : List Claim → ℕ → Claim
 claim_no claims i = slice_index_or claims i []
 
--- branches that are kept are those of the claim l, and m is what is left of it by the first choice that is not refuted,
--- the one that is kept
+-- levels and choices that are kept are those of the claim l, and m is what is left of it by the first choice that is
+-- not refuted, the one that is kept
 pub record IsKeptOf (I : Instance) (l m : Claim) (k : Kept) : Type 0 where
-  pub branches : IfSome k.branches (AreBranches I l)
+  pub levels : IfSome k.levels (AreLevels I l)
+  pub order : IfSome k.order (IsOrderOf I l)
   pub standing : IsStanding I l (tried_of I l k.notes) m
   pub chosen : k.chosen ≡ chosen_of (tried_of I l k.notes)
 
@@ -106,7 +105,7 @@ pub record IsAbove (frames : List Tried) (above : Above) : Type 0 where
   pub levels : above.levels.now ≡ f.levels
   pub chosen : above.chosen ≡ chosen_of f
 
--- where there is a pair, it has the branches of the claim of that number
-abbrev pub IsNearest : Instance → List Claim → List Kept → Option (ℕ × Branches) → Type 0
+-- where there is a pair, it has the levels of the claim of that number
+abbrev pub IsNearest : Instance → List Claim → List Kept → Option (ℕ × List ℕ) → Type 0
 IsNearest I claims kept found =
-    IfSome found (λ p. (p.0 ≤ length kept) × AreBranches I (claim_no claims p.0) p.1)
+    IfSome found (λ p. (p.0 ≤ length kept) × AreLevels I (claim_no claims p.0) p.1)

@@ -3,12 +3,11 @@
 ghost use Rattle.std.specs.Prelude.{◌≡◌, IfOk};
 ghost use Rattle.dsa_terms.specs.Claims.{Claim as ClaimTerm};
 ghost use Rattle.canonical_order.specs.Levels.{AreLevels};
-ghost use Rattle.search_core.specs.Ways.{AreBranches, IsBelow};
+ghost use Rattle.search_core.specs.Ways.{AreBranches};
 
 use crate::choice::choices;
 use crate::leveled::Leveled;
 use crate::levels::Levels;
-use crate::notes::Notes;
 use crate::task::Task;
 use dsa_model::NoMemory;
 use std::alloc::Global;
@@ -36,22 +35,5 @@ impl Branches {
         };
         let order = choices(alloc, &view, task.twins)?;
         Ok(Branches { order, levels })
-    }
-
-    /// The branches of the child by the first choice that is not noted as refuted. No sections are
-    /// gone over.
-    pub(crate) fn child(
-        &self,
-        alloc: Global,
-        task: &Task,
-        notes: &Notes,
-    ) -> Result<Branches, NoMemory>
-        requires { (l m : ClaimTerm) × IsBelow task.now.instance.now l m self.now notes.now }
-        ensures { let I = task.now.instance.now in
-            (l m : ClaimTerm) → IsBelow I l m self.now notes.now → IfOk result (AreBranches I m) }
-    {
-        let chosen = self.order[notes.refuted.len()];
-        let child = self.levels.child(alloc, task.instance, chosen)?;
-        Branches::of(alloc, task, child.levels)
     }
 }

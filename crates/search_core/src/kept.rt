@@ -2,16 +2,18 @@
 
 ghost use Rattle.std.specs.Prelude.{◌≡◌, None, Some};
 
-use crate::branches::Branches;
+use crate::levels::Levels;
 use crate::notes::Notes;
 
-/// What is noted of the choices of a claim, the choice that was taken, and the claim's branches,
-/// where they were not dropped: these can be made again.
+/// What is noted of the choices of a claim, the choice that was taken, all choices in order, where
+/// they were needed so far, and the claim's levels. Order and levels can be dropped, and made
+/// again.
 #[derive(Drop)]
 pub(crate) struct Kept {
     pub(crate) notes: Notes,
     pub(crate) chosen: u32,
-    pub(crate) branches: Option<Branches>,
+    pub(crate) order: Option<Vec<u32>>,
+    pub(crate) levels: Option<Levels>,
 }
 
 impl Kept {
@@ -22,25 +24,28 @@ impl Kept {
         self.chosen
     }
 
-    /// Drops the branches.
+    /// Drops the order and the levels.
     pub(crate) fn forget(&mut self)
         ensures { self.new ≡ record {
           notes = self.old.notes;
           chosen = self.old.chosen;
-          branches = None;
+          order = None;
+          levels = None;
         } }
     {
-        self.branches = None;
+        self.order = None;
+        self.levels = None;
     }
 
-    /// Keeps the branches.
-    pub(crate) fn remember(&mut self, branches: Branches)
+    /// Keeps the levels.
+    pub(crate) fn remember(&mut self, levels: Levels)
         ensures { self.new ≡ record {
           notes = self.old.notes;
           chosen = self.old.chosen;
-          branches = Some branches;
+          order = self.old.order;
+          levels = Some levels;
         } }
     {
-        self.branches = Some(branches);
+        self.levels = Some(levels);
     }
 }

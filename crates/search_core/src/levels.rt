@@ -101,7 +101,8 @@ impl Levels {
     }
 
     /// The levels of the child by the buffer, which is in the claim. They are made from those of
-    /// the claim in one walk along it, and no sections are gone over.
+    /// the claim in one walk along it, and no sections are gone over. Most stay as they are: these
+    /// are copied together.
     pub(crate) fn child(
         &self,
         alloc: Global,
@@ -116,11 +117,18 @@ impl Levels {
     {
         let pairs = self.ground.pairs();
         let mut raising = Raising::of(alloc, &self.numbers, pairs.len())?;
-        for pair in pairs {
-            let (c, low) = *pair;
-            let level = child_level(instance, self, b, c, low + 1);
-            raising.put(c, low + 1, level)?;
+        let mut from = 0;
+        for i in 0..pairs.len() {
+            let (c, low) = pairs[i];
+            let before = low + 1;
+            let level = child_level(instance, self, b, c, before);
+            if level != before {
+                raising.keep(&pairs[from..i])?;
+                raising.put(c, before, level)?;
+                from = i + 1;
+            }
         }
+        raising.keep(&pairs[from..])?;
         let Raising {
             numbers,
             pairs,

@@ -13,6 +13,7 @@ mod draws;
 mod ending;
 mod found;
 mod frame;
+mod fresh;
 mod gather;
 mod grounds;
 mod kept;

@@ -10,8 +10,7 @@ ghost use Rattle.search_core.specs.Opened.{AreAllAsked, IfChoices, IsOpened, Unl
 ghost use Rattle.search_core.specs.Watches.{AreRaisedFrom, AreWatched, AreWatchedAt};
 ghost use Rattle.skyline.specs.Skies.{last_claim};
 
-use crate::branches::Branches;
-use crate::frame::Frame;
+use crate::fresh::Fresh;
 use crate::learned::Learned;
 use crate::levels::Levels;
 use crate::lines::append;
@@ -30,8 +29,8 @@ use std::alloc::Global;
 pub(crate) enum Opened {
     /// The number of a line that covers it: it has no layout.
     Line(u64),
-    /// Its choices, of which it has to be seen whether one has a layout.
-    Choices(Frame),
+    /// Its first choice: it has to be seen whether one of its choices has a layout.
+    Choices(Fresh),
     /// That it has no buffers, and so the empty layout.
     Empty,
     /// Nothing, since the budget is spent.
@@ -140,7 +139,6 @@ pub(crate) fn open(
     if let Some(line) = over_line(alloc, task, path.sky(), claim, &levels)? {
         return Ok(Opened::Line(append(alloc, task, log, line)?));
     }
-    let branches = Branches::of(alloc, task, levels)?;
     let asked = log.log().len();
-    Ok(Opened::Choices(Frame::new(alloc, branches, asked)))
+    Ok(Opened::Choices(Fresh::of(task, levels, asked)))
 }

@@ -6,13 +6,17 @@ ghost use Rattle.dsa_terms.specs.Search.{choices, not_excluded};
 ghost use Rattle.canonical_order.specs.Claims.{HasBuffer, entry_of};
 ghost use Rattle.canonical_order.specs.Levels.{AreLevels};
 ghost use Rattle.canonical_order.specs.Stands.{Stands};
+ghost use Rattle.search_core.specs.Fresh.{IsFresh, tries_at};
 ghost use Rattle.search_core.specs.Tries.{IsLeft, chosen_of};
-ghost use Rattle.search_core.specs.Ways.{AreBranches, IsAbove, IsBackBy, IsBackFrom, tried_of};
+ghost use Rattle.search_core.specs.Ways.{IsAbove, IsBackBy, IsBackFrom, IsOrderOf, tried_of};
 ghost use Rattle.skyline.specs.Skies.{last_claim};
 
+use crate::branches::Branches;
 use crate::frame::Frame;
+use crate::fresh::Fresh;
 use crate::kept::Kept;
 use crate::levels::Levels;
+use crate::notes::Notes;
 use crate::remaking::made_again;
 use crate::task::Task;
 use canonical_order::Lows;
@@ -21,18 +25,22 @@ use skyline::Skyline;
 use std::alloc::Global;
 use std::marker::Model;
 
-/// The branches of the last claims above the one that the search is at are kept, as many as have
-/// about so many levels together.
-const NEAR_LEVELS: u32 = 1 << 17;
+/// The levels of the last claims above the one that the search is at are kept: of so many claims,
+/// and of as many more as this number has squares of the count of buffers.
+const NEAR: usize = 4;
 
-/// Of the claims above these the branches of one in so many are kept.
+const NEAR_SQUARES: u32 = 1 << 26;
+
+/// Of the claims above these the levels of one in so many are kept.
 const STRIDE: usize = 128;
 
-/// How many claims of the instance have about as many levels as are kept.
+/// How many of the last claims of the instance have their levels kept. Where there are many
+/// buffers these are few, so that their levels stay where the processor finds them at once.
 fn near_claims(instance: &Instance) -> usize
     ensures { 0 < result }
 {
-    (NEAR_LEVELS / (instance.len() + 1)) as usize + 1
+    let count = instance.len() + 1;
+    NEAR + (NEAR_SQUARES / count / count) as usize
 }
 
 /// The claim above the one that a search is at: its levels, and the choice that was taken.
@@ -94,9 +102,9 @@ impl<'a> Path<'a> {
         ensures { IfSome result (IsAbove self.now.frames) }
     {
         match self.kept.last() {
-            Some(kept) => match &kept.branches {
-                Some(branches) => Some(Above {
-                    levels: &branches.levels,
+            Some(kept) => match &kept.levels {
+                Some(levels) => Some(Above {
+                    levels,
                     chosen: kept.chosen,
                 }),
                 None => None,
@@ -118,6 +126,38 @@ impl<'a> Path<'a> {
         }
     }
 
+    /// Puts the tries of the claim that the search is at, which was just opened, on the stack, and
+    /// goes down to the child by its first choice.
+    pub(crate) fn go_first(&mut self, alloc: Global, fresh: Fresh) -> Result<(), NoMemory>
+        requires has { HasBuffer (last_claim self.old.sky.claims) fresh.chosen }
+        requires first { IsFresh self.old.sky.instance (last_claim self.old.sky.claims) fresh }
+        requires levels { let l = last_claim self.old.sky.claims in
+            AreLevels self.old.sky.instance l fresh.levels }
+        ensures instance { OnOk result (self.new.sky.instance ≡ self.old.sky.instance) }
+        ensures claims { let I = self.old.sky.instance in let l = last_claim self.old.sky.claims in
+            let e = entry_of l fresh.chosen in
+            OnOk result (self.new.sky.claims ≡ self.old.sky.claims ++ child I l e ∷ []) }
+        ensures frames { let I = self.old.sky.instance in let l = last_claim self.old.sky.claims in
+            OnOk result (self.new.frames ≡ self.old.frames ++ tries_at I l fresh ∷ []) }
+    {
+        self.forget();
+        let Fresh {
+            levels,
+            chosen,
+            asked,
+        } = fresh;
+        let refuted = Vec::new(alloc);
+        let kept = Kept {
+            notes: Notes { refuted, asked },
+            chosen,
+            order: None,
+            levels: Some(levels),
+        };
+        self.kept.push(kept)?;
+        self.sky.push(chosen);
+        Ok(())
+    }
+
     /// Puts the frame of the claim that the search is at on the stack, and goes down to the child
     /// by its first choice that is not refuted.
     pub(crate) fn go_down(&mut self, frame: Frame) -> Result<(), NoMemory>
@@ -136,33 +176,59 @@ impl<'a> Path<'a> {
         self.forget();
         let b = frame.chosen();
         let (branches, notes) = frame.parts();
+        let Branches { order, levels } = branches;
         self.kept.push(Kept {
             notes,
             chosen: b,
-            branches: Some(branches),
+            order: Some(order),
+            levels: Some(levels),
         })?;
         self.sky.push(b);
         Ok(())
     }
 
+    /// The levels of the claim that the search is at: those that were kept of it, or made again.
+    fn levels_of(
+        &mut self,
+        alloc: Global,
+        task: &Task,
+        kept: Option<Levels>,
+    ) -> Result<Levels, NoMemory>
+        requires subject { self.old.sky.instance ≡ task.now.instance.now }
+        requires kept { let l = last_claim self.old.sky.claims in
+            IfSome kept (AreLevels self.old.sky.instance l) }
+        ensures levels { let l = last_claim self.old.sky.claims in
+            IfOk result (AreLevels self.old.sky.instance l) }
+        ensures unchanged { self.new ≡ self.old }
+    {
+        match kept {
+            Some(levels) => Ok(levels),
+            None => Ok(made_again(alloc, task, &self.sky, &mut self.kept)?),
+        }
+    }
+
     /// The frame of the claim that the search is at, by what was kept of it.
     fn frame_of(&mut self, alloc: Global, task: &Task, kept: Kept) -> Result<Frame, NoMemory>
         requires subject { self.old.sky.instance ≡ task.now.instance.now }
-        requires kept { let l = last_claim self.old.sky.claims in
-            IfSome kept.branches (AreBranches self.old.sky.instance l) }
+        requires levels { let l = last_claim self.old.sky.claims in
+            IfSome kept.levels (AreLevels self.old.sky.instance l) }
+        requires order { let I = self.old.sky.instance in let l = last_claim self.old.sky.claims in
+            IfSome kept.order (IsOrderOf I l) }
         ensures value { let I = self.old.sky.instance in let l = last_claim self.old.sky.claims in
             IfOk result (λ frame. frame ≡ tried_of I l kept.notes) }
         ensures unchanged { self.new ≡ self.old }
     {
         let Kept {
             notes,
-            branches,
+            order,
+            levels,
             ..
         } = kept;
-        match branches {
-            Some(branches) => Ok(Frame::of(branches, notes)),
+        let levels = self.levels_of(alloc, task, levels)?;
+        match order {
+            Some(order) => Ok(Frame::of(Branches { order, levels }, notes)),
             None => {
-                let branches = made_again(alloc, task, &self.sky, &mut self.kept)?;
+                let branches = Branches::of(alloc, task, levels)?;
                 Ok(Frame::of(branches, notes))
             }
         }

@@ -31,6 +31,16 @@ impl Raising {
         })
     }
 
+    /// Takes buffers whose lows stay as they are.
+    pub(crate) fn keep(&mut self, pairs: &[(u32, u64)]) -> Result<(), NoMemory>
+        ensures numbers { OnOk result (self.new.numbers.items ≡ self.old.numbers.items) }
+        ensures pairs { OnOk result (self.new.pairs.items ≡ self.old.pairs.items ++ pairs.now) }
+        ensures raised { OnOk result (self.new.raised.items ≡ self.old.raised.items) }
+    {
+        self.pairs.extend_from_slice(pairs)?;
+        Ok(())
+    }
+
     /// Takes the level of the buffer in the child, beside that in the claim.
     pub(crate) fn put(&mut self, b: u32, before: u64, level: u64) -> Result<(), NoMemory>
         requires { b < length self.old.numbers.items }

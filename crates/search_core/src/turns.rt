@@ -86,8 +86,8 @@ impl<'a> Walk<'a> {
                     self.line = Some(k);
                     Ok(Turn::On)
                 }
-                Opened::Choices(frame) => {
-                    self.proceed(alloc, task, log, frame)?;
+                Opened::Choices(fresh) => {
+                    self.begin(alloc, task, log, fresh)?;
                     Ok(Turn::On)
                 }
                 Opened::Empty => {

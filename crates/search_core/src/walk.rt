@@ -3,6 +3,7 @@
 ghost use Rattle.std.specs.Prelude.{◌≡◌, ◌+◌, ◌≤◌, OnOk, map};
 ghost use Rattle.canonical_order.specs.Claims.{entry_of};
 ghost use Rattle.search_core.specs.Descents.{IsTrying, claim_at, through};
+ghost use Rattle.search_core.specs.Fresh.{IsFresh, tries_at};
 ghost use Rattle.search_core.specs.Logs.{Extends, IsSearchLog};
 ghost use Rattle.search_core.specs.Tries.{rest_of};
 ghost use Rattle.search_core.specs.Turns.{IsAhead, IsAtChoices, IsUncovered};
@@ -11,6 +12,7 @@ ghost use Rattle.search_core.specs.Watches.{AreWatched};
 
 use crate::cases::refute;
 use crate::frame::Frame;
+use crate::fresh::Fresh;
 use crate::learned::Learned;
 use crate::path::Path;
 use crate::recent::Recent;
@@ -122,6 +124,47 @@ impl<'a> Walk<'a> {
     {
         self.pass_over(task, log, &mut frame)?;
         self.advance(alloc, task, log, frame)?;
+        Ok(())
+    }
+
+    /// Takes the first choice of the claim that the search is at, which was just opened, or where a
+    /// line is at hand for it, the next choice for which there is none, as `advance` does.
+    pub(crate) fn begin(
+        &mut self,
+        alloc: Global,
+        task: &Task,
+        log: &mut Learned,
+        fresh: Fresh,
+    ) -> Result<(), NoMemory>
+        requires log { IsSearchLog task.now.instance.now task.now.capacity log.old }
+        requires first { IsFresh task.now.instance.now (claim_at (place_of self.old)) fresh }
+        requires ready { let I = task.now.instance.now in
+            let f = tries_at I (claim_at (place_of self.old)) fresh in
+            IsUncovered I task.now.capacity log.old.lines (place_of self.old) f }
+        ensures log { OnOk result (IsSearchLog task.now.instance.now task.now.capacity log.new) }
+        ensures grown { let l = claim_at (place_of self.old) in
+            OnOk result (Extends l log.old.lines log.new.lines) }
+        ensures ahead { let I = task.now.instance.now in let C = task.now.capacity in
+            let f = tries_at I (claim_at (place_of self.old)) fresh in
+            let after = log.new.lines in
+            OnOk result (IsAhead I C after (place_of self.old) f (place_of self.new)) }
+        ensures watched { HasWatches log.old.lines self.old →
+            AreWatched log.old.lines self.old.watches fresh.levels fresh.asked →
+            OnOk result (HasWatches log.new.lines self.new) }
+        ensures counted { let due = due_lines log.old.lines self.old.path in
+            OnOk result (due_lines log.new.lines self.new.path ≤ due + 1) }
+    {
+        let _count = self.path.instance().len();
+        let line = self
+            .recent
+            .find(log.log(), task.instance, &fresh.levels, fresh.chosen);
+        if line.is_some() {
+            let frame = fresh.frame(alloc, task)?;
+            self.proceed(alloc, task, log, frame)?;
+            return Ok(());
+        }
+        self.path.go_first(alloc, fresh)?;
+        self.line = None;
         Ok(())
     }
 

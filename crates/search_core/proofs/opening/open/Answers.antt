@@ -1,13 +1,14 @@
-use Rattle.std.proofs.Common.{◌≡◌, ◌+◌, ◌≤◌, ◌∙◌, ℕ, [], ap, arith, length, refl, sym}
+use Rattle.std.proofs.Common.{◌≡◌, ◌≢◌, ◌+◌, ◌≤◌, ◌∙◌, ℕ, [], ap, arith, length, refl, sym}
 use Rattle.dsa_terms.specs.Claims.{Claim}
 use Rattle.dsa_terms.specs.Logs.{claim_of}
 use Rattle.search_core.specs.Lifted.{lifted}
+use Rattle.search_core.specs.Ways.{order_of}
 use Rattle.refute_log.specs.Lines.{line_value}
 use Rattle.skyline.specs.Skies.{last_claim}
 use Rattle.search_core.proofs.Counting.{counted_one_more}
 use Rattle.search_core.proofs.Descent.{is_instance}
 use Rattle.search_core.proofs.Leveling.{lifted_levels}
-use Rattle.search_core.proofs.LiftedChoices.{lifted_nothing}
+use Rattle.search_core.proofs.LiftedChoices.{lifted_nothing, order_entries}
 use Rattle.search_core.proofs.Searching.{are_choices, first_of_nothing}
 use Rattle.search_core.proofs.Taking.{none_covers}
 use Rattle.search_core.proofs.Uncovered.{covered_has_none, covers_less}
@@ -119,30 +120,47 @@ returns-in-Some-2-clause-watched c =
     (rw c.log.ensures at c.in_ok-entered.ensures.watched)
 
 -- ---- the choices
+some_buffer : (c : goal.After-of) → last_claim c.args.path.now.sky.claims ≢ []
+some_buffer c none =
+    let I = c.args.task.now.instance.now in
+    let l = last_claim c.args.path.now.sky.claims in
+    let q = c.ground-claim.ensures.value I l (c.in_ok-entered.ensures.levels) in
+    c.if-len-eq0.false (c.len.ensures.value ∙ ap length q ∙ ap (λ (k : Claim). length (lifted I k)) none)
+
+pub of-requires : goal.of-requires
+of-requires c = (
+  last_claim c.args.path.now.sky.claims,
+  c.in_ok-entered.ensures.levels,
+  λ none.
+      let I = c.args.task.now.instance.now in
+      let l = last_claim c.args.path.now.sky.claims in
+      let q = c.ground-claim.ensures.value I l (c.in_ok-entered.ensures.levels) in
+      c.if-len-eq0.false (c.len.ensures.value ∙ ap length q ∙ ap (λ (k : Claim). length (lifted I k)) none),
+)
+
 pub returns-clause-opened : goal.returns-clause-opened
 returns-clause-opened c =
     let I = c.args.task.now.instance.now in
     let C = c.args.task.now.capacity in
     let l = last_claim c.args.path.now.sky.claims in
     let s = rw (c.instance.ensures.value, c.requires.subject) at c.instance.ensures.stands in
-    let q = c.ground-claim.ensures.value I l (c.in_ok-entered.ensures.levels) in
     let a = c.in_ok-entered.ensures.levels in
-    let b = c.in_ok-branches.ensures.branches l a in
-    let none = rw (c.in_default-2.is, c.sky.ensures) at c.in_ok-line.ensures.none in
-    rw c.new.ensures
-    (are_choices I C l c.args.log.now.lines c.in_ok-branches.branches.order.items c.in_ok-branches.branches.levels
-    c.len-asked.result s.claim
-    (λ e. c.if-len-eq0.false (c.len.ensures.value ∙ ap length q ∙ ap (λ (k : Claim). length (lifted I k)) e)) none
-    b.order b.levels
-    (watched_none I c.args.log.now.lines c.enter.new.watches l c.in_ok-entered.entered.levels a
-    (rw (c.in_default.is, c.log.ensures) at c.in_ok-entered.ensures.none)))
+    let some = some_buffer c in
+    let none = rw (c.in_default-2.is, c.sky.ensures) at c.in_ok-line.ensures.none in (
+      c.of.ensures.first l a some,
+      rw (c.of.ensures.levels, c.of.ensures.asked)
+          (are_choices I C l c.args.log.now.lines (order_of I l) c.in_ok-entered.entered.levels c.len-asked.result
+          s.claim some none (order_entries I l s.claim.rises) a
+          (watched_none I c.args.log.now.lines c.enter.new.watches l c.in_ok-entered.entered.levels a
+          (rw (c.in_default.is, c.log.ensures) at c.in_ok-entered.ensures.none))),
+    )
 
 pub returns-clause-asked : goal.returns-clause-asked
 returns-clause-asked c =
     let asked = rw c.log-2.ensures at c.len-asked.ensures.value in
-    rw c.new.ensures (record {
-      asked = asked;
-      watched = rw c.in_ok-branches.ensures.levels
+    record {
+      asked = c.of.ensures.asked ∙ asked;
+      watched = rw (c.of.ensures.levels, c.of.ensures.asked)
           (watched_to c.args.log.now.lines c.enter.new.watches c.in_ok-entered.entered.levels c.len-asked.result asked
           (rw (c.in_default.is, c.log.ensures) at c.in_ok-entered.ensures.none));
-    })
+    }

@@ -1,7 +1,5 @@
-use Rattle.std.proofs.Common.{◌≡◌, ◌∙◌, ◌^◌, ◌≤◌, arith, length, sym}
-use Rattle.dsa_terms.specs.Claims.{Entry, up}
-use Rattle.dsa_terms.specs.Buffers.{buffer}
-use Rattle.dsa_terms.specs.Search.{is_tall}
+use Rattle.std.proofs.Common.{sym}
+use Rattle.dsa_terms.specs.Claims.{Entry}
 use Rattle.search_core.proofs.Tall.{fits_within, tall_is}
 use Rattle.search_core.proofs.over.is_tall.Goals as goal
 

@@ -1,7 +1,6 @@
-use Rattle.std.proofs.Common.{◌∙◌, ◌+◌, ◌<◌, Some, ap, length, refl, sym, arith}
+use Rattle.std.proofs.Common.{◌∙◌, ◌<◌, Some, ap, length, refl, slice_index_or, sym, arith}
 use Rattle.search_core.specs.declared.kept.Kept.{Kept}
-use Rattle.search_core.specs.Ways.{claim_no}
-use Rattle.search_core.proofs.MadeAgain.{all_made, below_made, next_made}
+use Rattle.search_core.proofs.MadeAgain.{all_made, child_made, low_made, next_made}
 use Rattle.search_core.proofs.remaking.made_again.Goals as goal
 
 pub loop-i-init : goal.loop-i-init
@@ -11,20 +10,16 @@ loop-i-init c =
       along = c.requires.along;
       notes = refl;
       within = let k = found.0 in omega arith;
-      branches = found.1;
+      are = found.1;
     }
 
 pub child-requires : goal.child-requires
 child-requires c =
-    let claims = c.args.sky.now.claims in
     let i = c.loop-i.i in
-    let lt : i < length c.loop-i.kept = (let n = c.loop-i.auto.kept in let t = c.loop-i-test.true in omega arith) in (
-      claim_no claims i,
-      claim_no claims (i + 1),
-      below_made c.args.sky.now.instance c.args.task.now.instance.now claims c.loop-i.kept c.requires.subject
-          c.loop-i.invariant.along c.depth-depth.ensures.low i c.loop-i.branches c.index-kept-i.result lt
-          c.loop-i.invariant.branches,
-    )
+    let lt : i < length c.loop-i.kept = (let n = c.loop-i.auto.kept in let t = c.loop-i-test.true in omega arith) in
+    low_made c.args.sky.now.instance c.args.task.now.instance.now c.args.sky.now.claims c.loop-i.kept c.requires.subject
+    c.loop-i.invariant.along c.depth-depth.ensures.low i c.loop-i.levels
+    (slice_index_or c.loop-i.kept i c.index-kept-i.result) c.index-kept-i.result lt refl c.loop-i.invariant.are
 
 pub loop-i-preserved : goal.loop-i-preserved
 loop-i-preserved c =
@@ -32,18 +27,21 @@ loop-i-preserved c =
     let i = c.loop-i.i in
     let n = c.loop-i.auto.kept in
     let lt : i < length c.loop-i.kept = (let t = c.loop-i-test.true in omega arith) in
-    next_made c.args.sky.now.instance claims c.args.kept.now c.loop-i.kept i c.loop-i.branches
-    c.in_ok-child-in-Some.child c.remember.new.self c.index-kept-i-in-loop-i.result c.loop-i.invariant n lt
+    next_made c.args.sky.now.instance claims c.args.kept.now c.loop-i.kept i c.loop-i.levels
+    c.in_ok-child-in-Some.child.levels c.remember.new.self c.index-kept-i-in-loop-i.result c.loop-i.invariant n lt
     c.index-kept-i-in-loop-i.is
     (c.remember.ensures
-    ∙ ap (λ (k : Kept). let r : Kept = record { notes = k.notes; chosen = k.chosen; branches = Some c.loop-i.branches }
-    in
-    r)
+    ∙ ap (λ (k : Kept). let r : Kept = record {
+      notes = k.notes;
+      chosen = k.chosen;
+      order = k.order;
+      levels = Some c.loop-i.levels;
+    } in r)
     (sym c.index-kept-i-in-loop-i.is))
-    (rw c.requires.subject (c.in_ok-child-in-Some.ensures (claim_no claims i) (claim_no claims (i + 1))
-    (below_made c.args.sky.now.instance c.args.task.now.instance.now claims c.loop-i.kept c.requires.subject
-    c.loop-i.invariant.along c.depth-depth.ensures.low i c.loop-i.branches c.index-kept-i.result lt
-    c.loop-i.invariant.branches)))
+    (child_made c.args.sky.now.instance c.args.task.now.instance.now claims c.loop-i.kept c.requires.subject
+    c.loop-i.invariant.along c.depth-depth.ensures.low i c.loop-i.levels
+    (slice_index_or c.loop-i.kept i c.index-kept-i.result) c.index-kept-i.result lt refl c.loop-i.invariant.are
+    c.in_ok-child-in-Some.child.levels c.in_ok-child-in-Some.ensures.levels)
 
 pub returns-in_err-child-in-Some-clause-along : goal.returns-in_err-child-in-Some-clause-along
 returns-in_err-child-in-Some-clause-along c = c.loop-i.invariant.along
@@ -57,7 +55,7 @@ returns-after-loop-i-clause-along c = c.loop-i.invariant.along
 pub returns-after-loop-i-clause-notes : goal.returns-after-loop-i-clause-notes
 returns-after-loop-i-clause-notes c = c.loop-i.invariant.notes
 
-pub returns-after-loop-i-clause-branches : goal.returns-after-loop-i-clause-branches
-returns-after-loop-i-clause-branches c =
-    all_made c.args.sky.now.instance c.args.sky.now.claims c.args.kept.now c.loop-i.kept c.loop-i.i c.loop-i.branches
+pub returns-after-loop-i-clause-levels : goal.returns-after-loop-i-clause-levels
+returns-after-loop-i-clause-levels c =
+    all_made c.args.sky.now.instance c.args.sky.now.claims c.args.kept.now c.loop-i.kept c.loop-i.i c.loop-i.levels
     c.loop-i.invariant c.loop-i.auto.kept (λ lt. let t = c.loop-i-test.false in omega arith)

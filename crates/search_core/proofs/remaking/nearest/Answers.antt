@@ -1,28 +1,28 @@
-use Rattle.std.proofs.Common.{◌+◌, ◌-◌, ◌<◌, length, arith}
-use Rattle.search_core.specs.Ways.{claim_no}
-use Rattle.search_core.proofs.MadeAgain.{below_kept}
+use Rattle.std.proofs.Common.{◌-◌, ◌<◌, length, refl, slice_index_or, arith}
+use Rattle.search_core.proofs.MadeAgain.{child_made, kept_levels, low_made}
 use Rattle.search_core.proofs.remaking.nearest.Goals as goal
 
 pub child-requires : goal.child-requires
 child-requires c =
-    let claims = c.args.sky.now.claims in
     let i = c.loop-i.i - 1 in
-    let lt : i < length c.args.kept.now = (let n = c.loop-i.auto.i in let t = c.loop-i-test.true in omega arith) in (
-      claim_no claims i,
-      claim_no claims (i + 1),
-      below_kept c.args.sky.now.instance c.args.task.now.instance.now claims c.args.kept.now c.requires.subject
-          c.requires.along c.depth-depth.ensures.low i c.in-Some.branches c.index-kept-i.result
-          c.index-kept-i-in-Some.result lt c.in-Some.is,
-    )
+    let lt : i < length c.args.kept.now = (let n = c.loop-i.auto.i in let t = c.loop-i-test.true in omega arith) in
+    let claims = c.args.sky.now.claims in
+    let levels = kept_levels c.args.sky.now.instance claims c.args.kept.now i c.in-Some.levels c.index-kept-i.result
+    c.requires.along lt c.in-Some.is in
+    low_made c.args.sky.now.instance c.args.task.now.instance.now claims c.args.kept.now c.requires.subject
+    c.requires.along c.depth-depth.ensures.low i c.in-Some.levels
+    (slice_index_or c.args.kept.now i c.index-kept-i-in-Some.result) c.index-kept-i-in-Some.result lt refl levels
 
 pub returns-in-Some : goal.returns-in-Some
 returns-in-Some c =
-    let claims = c.args.sky.now.claims in
     let i = c.loop-i.i - 1 in
-    let lt : i < length c.args.kept.now = (let n = c.loop-i.auto.i in let t = c.loop-i-test.true in omega arith) in (
+    let lt : i < length c.args.kept.now = (let n = c.loop-i.auto.i in let t = c.loop-i-test.true in omega arith) in
+    let claims = c.args.sky.now.claims in
+    let levels = kept_levels c.args.sky.now.instance claims c.args.kept.now i c.in-Some.levels c.index-kept-i.result
+    c.requires.along lt c.in-Some.is in (
       omega arith,
-      rw c.requires.subject (c.in_ok-child.ensures (claim_no claims i) (claim_no claims (i + 1))
-          (below_kept c.args.sky.now.instance c.args.task.now.instance.now claims c.args.kept.now c.requires.subject
-          c.requires.along c.depth-depth.ensures.low i c.in-Some.branches c.index-kept-i.result
-          c.index-kept-i-in-Some.result lt c.in-Some.is)),
+      child_made c.args.sky.now.instance c.args.task.now.instance.now claims c.args.kept.now c.requires.subject
+          c.requires.along c.depth-depth.ensures.low i c.in-Some.levels
+          (slice_index_or c.args.kept.now i c.index-kept-i-in-Some.result) c.index-kept-i-in-Some.result lt refl levels
+          c.in_ok-child.child.levels c.in_ok-child.ensures.levels,
     )

@@ -5,14 +5,14 @@ use Rattle.search_core.specs.Ways.{Way}
 use Rattle.search_core.proofs.MadeAgain.{is_above}
 use Rattle.search_core.proofs.path.Path.above.Goals as goal
 
-pub returns-in-Some-branches : goal.returns-in-Some-branches
-returns-in-Some-branches c =
+pub returns-in-Some-levels : goal.returns-in-Some-levels
+returns-in-Some-levels c =
     let sky = c.self.inside.sky in
     let kept = c.self.inside.kept.items in
     let k = c.in-Some.kept.now in
     let got : slice_get kept (length kept - 1) ≡ Some k =
     sym (c.in-Some.ensures.value ∙ ap (λ (ks : List Kept). slice_get ks (length ks - 1)) c.deref.ensures.value) in
-    is_above sky.instance sky.claims kept c.args.self.now.frames k c.in-Some-branches.branches _ c.self.invariant
+    is_above sky.instance sky.claims kept c.args.self.now.frames k c.in-Some-levels.levels _ c.self.invariant
     (ap (λ (w : Way). w.frames) c.self.view_is)
     (let lt = slice_get_within kept (length kept - 1) k got in omega arith)
-    (sym (get_or_from_slice_get kept (length kept - 1) k k got)) c.in-Some-branches.is refl refl
+    (sym (get_or_from_slice_get kept (length kept - 1) k k got)) c.in-Some-levels.is refl refl

@@ -1,4 +1,4 @@
-use Rattle.std.proofs.Common.{◌≡◌, ◌∙◌, [], ◌∷◌, ◌++◌, List, ℕ, ap, inl, refl, subst, sym}
+use Rattle.std.proofs.Common.{◌≡◌, [], ◌∷◌, ap, inl, refl, subst, sym}
 use Rattle.dsa_terms.specs.Claims.{IsIn}
 use Rattle.dsa_terms.proofs.Lists.{left_append, right_append}
 use Rattle.search_core.proofs.raising.Raising.put.Goals as goal

@@ -136,10 +136,13 @@ returns-in_err-k-in-None-clause-used c =
     s.claim in
     omega (arith, o, c.open.ensures.one)
 
-pub proceed-requires-clause-ready : goal.proceed-requires-clause-ready
-proceed-requires-clause-ready c =
+pub begin-requires-clause-first : goal.begin-requires-clause-first
+begin-requires-clause-first c = (rw c.in-Choices.is at c.in_ok-k-in-None.ensures.opened).0
+
+pub begin-requires-clause-ready : goal.begin-requires-clause-ready
+begin-requires-clause-ready c =
     let here = place_of c.args.self.now in
-    let choices = rw c.in-Choices.is at c.in_ok-k-in-None.ensures.opened in
+    let choices = (rw c.in-Choices.is at c.in_ok-k-in-None.ensures.opened).1 in
     let all = rw c.in-Choices.is at c.in_ok-k-in-None.ensures.asked in
     record {
       opened = record {
@@ -185,14 +188,14 @@ returns-in-Line-clause-turned c =
     c.in-Line.k c.args.meter.now c.open.new.meter c.in-None.is s.claim c.in_ok-k-in-None.ensures.grown
     (rw c.in-Line.is at c.in_ok-k-in-None.ensures.opened) c.open.ensures.one
 
-pub returns-in_ok-proceed-in-Choices-clause-grown : goal.returns-in_ok-proceed-in-Choices-clause-grown
-returns-in_ok-proceed-in-Choices-clause-grown c =
+pub returns-in_ok-begin-in-Choices-clause-grown : goal.returns-in_ok-begin-in-Choices-clause-grown
+returns-in_ok-begin-in-Choices-clause-grown c =
     let here = place_of c.args.self.now in
     let l = claim_at here in
-    grown_below c.args.task.now.instance.now c.args.task.now.capacity c.args.log.now.lines c.proceed.new.log.lines here
+    grown_below c.args.task.now.instance.now c.args.task.now.capacity c.args.log.now.lines c.begin.new.log.lines here
     c.requires.place.path
-    (extends_along l l c.args.log.now.lines c.open.new.log.lines c.proceed.new.log.lines (λ b h. h)
-    c.in_ok-k-in-None.ensures.grown c.in_ok-proceed-in-Choices.ensures.grown)
+    (extends_along l l c.args.log.now.lines c.open.new.log.lines c.begin.new.log.lines (λ b h. h)
+    c.in_ok-k-in-None.ensures.grown c.in_ok-begin-in-Choices.ensures.grown)
 
 pub returns-in_ok-seats-in-Empty-clause-grown : goal.returns-in_ok-seats-in-Empty-clause-grown
 returns-in_ok-seats-in-Empty-clause-grown c =
@@ -228,17 +231,17 @@ returns-in-Spent-clause-turned c =
 pub returns-in-Line-clause-taken : goal.returns-in-Line-clause-taken
 returns-in-Line-clause-taken c _ e = rw c.in-Line.is at c.in_ok-k-in-None.ensures.taken e
 
-pub returns-in_ok-proceed-in-Choices-clause-taken : goal.returns-in_ok-proceed-in-Choices-clause-taken
-returns-in_ok-proceed-in-Choices-clause-taken c _ e = rw c.in-Choices.is at c.in_ok-k-in-None.ensures.taken e
+pub returns-in_ok-begin-in-Choices-clause-taken : goal.returns-in_ok-begin-in-Choices-clause-taken
+returns-in_ok-begin-in-Choices-clause-taken c _ e = rw c.in-Choices.is at c.in_ok-k-in-None.ensures.taken e
 
 pub returns-in_ok-seats-in-Empty-clause-taken : goal.returns-in_ok-seats-in-Empty-clause-taken
 returns-in_ok-seats-in-Empty-clause-taken c _ e = rw c.in-Empty.is at c.in_ok-k-in-None.ensures.taken e
 
-pub returns-in_ok-proceed-in-Choices-clause-watched : goal.returns-in_ok-proceed-in-Choices-clause-watched
-returns-in_ok-proceed-in-Choices-clause-watched c =
+pub returns-in_ok-begin-in-Choices-clause-watched : goal.returns-in_ok-begin-in-Choices-clause-watched
+returns-in_ok-begin-in-Choices-clause-watched c =
     let h = c.in_ok-k-in-None.ensures.watched in
     let a = rw c.in-Choices.is at c.in_ok-k-in-None.ensures.asked in
-    c.in_ok-proceed-in-Choices.ensures.watched h a.watched
+    c.in_ok-begin-in-Choices.ensures.watched h a.watched
 
 pub returns-in_ok-seats-in-Empty-clause-counted : goal.returns-in_ok-seats-in-Empty-clause-counted
 returns-in_ok-seats-in-Empty-clause-counted c =

@@ -1,0 +1,37 @@
+use Rattle.std.proofs.Common.{◌≡◌, ◌∙◌, ◌++◌, ◌∷◌, [], None, Some, refl, subst}
+use Rattle.dsa_terms.specs.Claims.{child}
+use Rattle.canonical_order.specs.Claims.{entry_of}
+use Rattle.skyline.specs.Skies.{last_claim}
+use Rattle.search_core.specs.declared.kept.Kept.{Kept}
+use Rattle.search_core.specs.declared.notes.Notes.{Notes}
+use Rattle.search_core.specs.Fresh.{tries_at}
+use Rattle.search_core.specs.Ways.{Way}
+use Rattle.search_core.proofs.Going.{IsWayTo, down}
+use Rattle.search_core.proofs.Keeping.{fresh_are}
+use Rattle.search_core.proofs.path.Path.go_first.Goals as goal
+
+-- the tries are put on the stack
+pushed : (c : goal.After-push-2) → IsWayTo c.push-2.new.self c.push.new.self.items (c.args.self.now.frames
+    ++ tries_at c.args.self.now.sky.instance (last_claim c.args.self.now.sky.claims) c.args.fresh ∷ [])
+pushed c =
+    let I = c.args.self.now.sky.instance in
+    let l = last_claim c.args.self.now.sky.claims in
+    let x = c.args.fresh in
+    let n : Notes = record { refuted = c.new-refuted.result; asked = x.asked } in
+    let k : Kept = record { notes = n; chosen = x.chosen; order = None; levels = Some x.levels } in
+    down c.args.self.now c.self.inside.sky c.push-2.new.self c.self.inside.kept.items c.push.new.self.items
+    (tries_at I l x) k (c.self.view_is ∙ c.forget.ensures) c.self.invariant
+    (fresh_are I l x n c.requires.levels c.new-refuted.ensures.items refl) c.requires.first.chosen c.requires.first.left
+    c.requires.levels tt c.push-2.ensures.instance c.push-2.ensures.claims c.in_ok-push.ensures.items
+
+pub invariant_of-self-2 : goal.invariant_of-self-2
+invariant_of-self-2 c = (pushed c).along
+
+pub returns-clause-claims : goal.returns-clause-claims
+returns-clause-claims c =
+    subst (λ (w : Way). let l = last_claim w.sky.claims in
+    c.push-2.new.self.claims ≡ w.sky.claims ++ child w.sky.instance l (entry_of l c.args.fresh.chosen) ∷ [])
+    (c.self.view_is ∙ c.forget.ensures) c.push-2.ensures.claims
+
+pub returns-clause-frames : goal.returns-clause-frames
+returns-clause-frames c = (pushed c).tries

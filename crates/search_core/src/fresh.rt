@@ -1,0 +1,59 @@
+//! A claim that was just opened.
+
+ghost use Rattle.std.specs.Prelude.{◌≡◌, ◌≢◌, [], IfOk};
+ghost use Rattle.dsa_terms.specs.Claims.{Claim as ClaimTerm};
+ghost use Rattle.canonical_order.specs.Levels.{AreLevels};
+ghost use Rattle.search_core.specs.Fresh.{IsFresh, tries_at};
+
+use crate::branches::Branches;
+use crate::choice::first_choice;
+use crate::frame::Frame;
+use crate::leveled::Leveled;
+use crate::levels::Levels;
+use crate::task::Task;
+use dsa_model::NoMemory;
+use std::alloc::Global;
+
+/// The levels of a claim, none of whose choices was tried, and the first choice. Below the number
+/// `asked` no line of the log covers the claim. The other choices are found once they are needed.
+#[derive(Drop)]
+pub(crate) struct Fresh {
+    pub(crate) levels: Levels,
+    pub(crate) chosen: u32,
+    pub(crate) asked: u64,
+}
+
+impl Fresh {
+    /// The claim of the levels, which has some buffer.
+    pub(crate) fn of(task: &Task, levels: Levels, asked: u64) -> Fresh
+        requires { (l : ClaimTerm) × AreLevels task.now.instance.now l levels × (l ≢ []) }
+        ensures first { let I = task.now.instance.now in (l : ClaimTerm) →
+            AreLevels I l levels → l ≢ [] → IsFresh I l result }
+        ensures levels { result.levels ≡ levels }
+        ensures asked { result.asked ≡ asked }
+    {
+        let _count = task.instance.len();
+        let view = Leveled {
+            instance: task.instance,
+            claim: levels.ground(),
+            levels: &levels,
+        };
+        let chosen = first_choice(&view);
+        Fresh {
+            levels,
+            chosen,
+            asked,
+        }
+    }
+
+    /// The same with all choices of the claim.
+    pub(crate) fn frame(self, alloc: Global, task: &Task) -> Result<Frame, NoMemory>
+        requires { (l : ClaimTerm) × AreLevels task.now.instance.now l self.levels }
+        ensures { let I = task.now.instance.now in (l : ClaimTerm) →
+            AreLevels I l self.levels → IfOk result (λ frame. frame ≡ tries_at I l self) }
+    {
+        let Fresh { levels, asked, .. } = self;
+        let branches = Branches::of(alloc, task, levels)?;
+        Ok(Frame::new(alloc, branches, asked))
+    }
+}
