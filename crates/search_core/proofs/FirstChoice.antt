@@ -4,13 +4,13 @@ use Rattle.std.proofs.lemmas.Bool.Decides.{nat_tests}
 use Rattle.dsa_terms.specs.Buffers.{Instance, IsInstance}
 use Rattle.dsa_terms.specs.Claims.{Claim, Entry, IsIn, Rises, buffers_of, up}
 use Rattle.dsa_terms.specs.Logs.{ends_below, is_twin}
-use Rattle.dsa_terms.specs.Search.{comes_before, in_order, not_excluded, put_in}
-use Rattle.dsa_terms.proofs.Lists.{from_filter, from_order, into_filter, true_or_false}
+use Rattle.dsa_terms.specs.Sorts.{ordered_by, put_by}
+use Rattle.dsa_terms.specs.Search.{comes_before, not_excluded}
+use Rattle.dsa_terms.proofs.Lists.{from_filter, from_ordered_by, into_filter, true_or_false}
 use Rattle.dsa_terms.proofs.Moments.{sound}
-use Rattle.dsa_search_laws.specs.Choosing.{IsBefore}
 use Rattle.dsa_search_laws.proofs.Moves.{below_is, twin_is}
 use Rattle.dsa_search_laws.proofs.Placing.{in_buffers}
-use Rattle.search_core.specs.Keys.{IsFirst}
+use Rattle.search_core.specs.Keys.{IsBefore, IsFirst}
 use Rattle.search_core.specs.Lifted.{IsAtLows}
 use Rattle.search_core.specs.Ways.{order_of}
 use Rattle.search_core.proofs.Ends.{no_any}
@@ -120,35 +120,36 @@ one_way I e f (inr p) (inr q) = let k = p.1 in let l = q.1 in omega arith
 
 -- what is before all others stands first in order
 abbrev StandsFirst : Instance → Entry → List Entry → Type 0
-StandsFirst I f es = (rest : List Entry) × (in_order I es ≡ f ∷ rest)
+StandsFirst I f es = (rest : List Entry) × (ordered_by (comes_before I) es ≡ f ∷ rest)
 
 stands_first : (I : Instance) (f : Entry) (es : List Entry) → IsIn f es →
     ((e : Entry) → IsIn e es → (e ≡ f) ⊎ IsBefore I f e) → StandsFirst I f es
 stands_first I f [] i h = absurd i
-stands_first I f (e ∷ es) (inl p) h = here (in_order I es) (λ g j. h g (inr (from_order I es g j)))
+stands_first I f (e ∷ es) (inl p) h =
+    here (ordered_by (comes_before I) es) (λ g j. h g (inr (from_ordered_by (comes_before I) es g j)))
   where
     here : (gs : List Entry) → ((g : Entry) → IsIn g gs → (g ≡ f) ⊎ IsBefore I f g) →
-        (rest : List Entry) × (put_in I e gs ≡ f ∷ rest)
+        (rest : List Entry) × (put_by (comes_before I) e gs ≡ f ∷ rest)
     here [] k = ([], ap (λ (x : Entry). x ∷ []) (sym p))
     here (g ∷ gs) k = go (comes_before I e g) refl
       where
         go : (t : Bool) → comes_before I e g ≡ t →
-            (rest : List Entry) × (cond t (e ∷ g ∷ gs) (g ∷ put_in I e gs) ≡ f ∷ rest)
+            (rest : List Entry) × (cond t (e ∷ g ∷ gs) (g ∷ put_by (comes_before I) e gs) ≡ f ∷ rest)
         go true q = (g ∷ gs, ap (λ (x : Entry). x ∷ g ∷ gs) (sym p))
         go false q = (
-          put_in I e gs,
-          ap (λ (x : Entry). x ∷ put_in I e gs) (elim (k g (inl refl)) [
+          put_by (comes_before I) e gs,
+          ap (λ (x : Entry). x ∷ put_by (comes_before I) e gs) (elim (k g (inl refl)) [
             | inl same ↦ same
             | inr b ↦ absurd (not_before I e g q (subst (λ (x : Entry). IsBefore I x g) p b))
           ]),
         )
 stands_first I f (e ∷ es) (inr i) h =
     let r = stands_first I f es i (λ g j. h g (inr j)) in
-    subst (λ (gs : List Entry). (rest : List Entry) × (put_in I e gs ≡ f ∷ rest)) (sym r.1)
+    subst (λ (gs : List Entry). (rest : List Entry) × (put_by (comes_before I) e gs ≡ f ∷ rest)) (sym r.1)
     (go r.0 (comes_before I e f) refl)
   where
     go : (fs : List Entry) (t : Bool) → comes_before I e f ≡ t →
-        (rest : List Entry) × (cond t (e ∷ f ∷ fs) (f ∷ put_in I e fs) ≡ f ∷ rest)
+        (rest : List Entry) × (cond t (e ∷ f ∷ fs) (f ∷ put_by (comes_before I) e fs) ≡ f ∷ rest)
     go fs true q = (
       f ∷ fs,
       ap (λ (x : Entry). x ∷ f ∷ fs) (elim (h e (inl refl)) [
@@ -156,7 +157,7 @@ stands_first I f (e ∷ es) (inr i) h =
         | inr b ↦ absurd (one_way I f e b (before_is I e f q))
       ]),
     )
-    go fs false q = (put_in I e fs, refl)
+    go fs false q = (put_by (comes_before I) e fs, refl)
 
 module _ (I : Instance) (l : Claim) (b : ℕ) (s : IsInstance I) (h : IsFirst I l b) where
   no_higher : (g : Entry) → IsIn g l → up I h.f ≤ up I g

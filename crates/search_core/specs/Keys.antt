@@ -1,12 +1,15 @@
 -- What the choices of a claim are ordered by.
-use Rattle.std.specs.Prelude.{◌≡◌, ◌⊎◌, ℕ}
+use Rattle.std.specs.Prelude.{◌≡◌, ◌<◌, ◌⊎◌, ℕ}
 use Rattle.dsa_terms.specs.Buffers.{Instance}
 use Rattle.dsa_terms.specs.Claims.{Claim, Entry, IsIn, up}
-use Rattle.dsa_search_laws.specs.Choosing.{IsBefore}
 
 -- an entry by its up and its number
 abbrev pub key_of : Instance → Entry → ℕ × ℕ
 key_of I e = (up I e, e.0)
+
+-- the up of e is lower than that of f, or as high, with the smaller number
+abbrev pub IsBefore : Instance → Entry → Entry → Type 0
+IsBefore I e f = (up I e < up I f) ⊎ ((up I e ≡ up I f) × (e.0 < f.0))
 
 -- the buffer is that of an entry of the claim which is before all others
 pub record IsFirst (I : Instance) (l : Claim) (b : ℕ) : Type 0 where
