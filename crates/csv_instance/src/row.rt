@@ -1,6 +1,6 @@
 //! A row of an instance file.
 
-ghost use Rattle.std.specs.Prelude.{◌≡◌, ◌∷◌, ◌++◌, ◌≤◌, [], List, ℕ, Ok, Err, Some, None, IfOk, MatchResult, map, length, slice_index_or};
+ghost use Rattle.std.specs.Prelude.{◌≡◌, ◌∷◌, ◌++◌, ◌≤◌, if◌then◌else◌, [], List, ℕ, Ok, Err, Some, None, IfOk, MatchResult, map, length, slice_index_or};
 ghost use Rattle.csv.specs.Records.{fields_of};
 ghost use Rattle.dsa_model.specs.Fails.{UnlessNoMemory};
 ghost use Rattle.csv_instance.specs.Columns.{field_of};
@@ -10,7 +10,9 @@ ghost use Rattle.csv_instance.specs.Numbers.{time_limit};
 ghost use Rattle.csv_instance.specs.Parse.{bad_column, content_fault, id_fault, number_or, row_buffer};
 ghost use Rattle.csv_instance.specs.Row.{AreNumbers, length_fault};
 ghost use Rattle.csv_instance.specs.Rows.{AreKeptValues, form_fault, value_of};
+ghost use Rattle.std.specs.List.{list_any};
 ghost use Rattle.std.specs.Option.{option_map_or};
+ghost use Rattle.std.specs.Str.{bytes_eq};
 ghost use Rattle.dsa_model.specs.Buffer.{buffer_limit};
 ghost use Rattle.csv_instance.specs.declared.columns.Column.TheVariants.{Id};
 
@@ -73,6 +75,50 @@ pub(crate) fn check_id(
         }),
         None => None,
     }
+}
+
+/// The id of a row, or the first fault of its length and id.
+pub(crate) fn read_id(
+    alloc: Global,
+    header: &ByteRecord,
+    places: &ColumnPlaces,
+    ids: &IndexSet<Vec<u8>>,
+    rows: &Vec<ByteRecord>,
+    row: &ByteRecord,
+) -> Result<Vec<u8>, Fail<InstanceFault>>
+    requires places { places.now ≡ column_places (fields_of header.now) }
+    requires ids { map (λ k. k.items) ids.now.keys
+        ≡ map (λ e. field_of (fields_of header.now) (fields_of e) Id) rows.now.items }
+    requires few { length rows.now.items ≤ buffer_limit }
+    ensures { let h = fields_of header.now in let before = map fields_of rows.now.items in
+        UnlessNoMemory result
+        (λ id. (id_fault h before (fields_of row.now) ≡ None)
+        × (id.items ≡ field_of h (fields_of row.now) Id))
+        (λ f. id_fault h before (fields_of row.now) ≡ Some f) }
+{
+    if let Some(fault) = check_id(header, places, ids, rows, row) {
+        return Err(Fail::Fault(fault));
+    }
+    match Vec::from_slice(alloc, field_under(row, places.id)) {
+        Ok(id) => Ok(id),
+        Err(_) => Err(Fail::NoMemory),
+    }
+}
+
+/// Puts a row last, and its id unless it is there. A failure may leave one without the other.
+pub(crate) fn keep(
+    rows: &mut Vec<ByteRecord>,
+    ids: &mut IndexSet<Vec<u8>>,
+    id: Vec<u8>,
+    row: ByteRecord,
+) -> Result<(), NoMemory>
+    ensures rows { IfOk result (λ _. rows.new.items ≡ rows.old.items ++ row ∷ []) }
+    ensures ids { let keys = ids.old.keys in IfOk result (λ _. ids.new.keys
+        ≡ (if list_any (λ k. bytes_eq id.items k.items) keys then keys else keys ++ id ∷ [])) }
+{
+    ids.insert(id)?;
+    rows.push(row)?;
+    Ok(())
 }
 
 /// The number of a row under a column that need not be there: the default where it gives none.

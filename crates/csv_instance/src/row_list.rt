@@ -10,10 +10,10 @@ ghost use Rattle.csv_instance.specs.Places.{column_places};
 ghost use Rattle.csv_instance.specs.Records.{HasShortFields, Record};
 ghost use Rattle.csv_instance.specs.Rows.{parse_rows, values_of};
 
-use crate::columns::{ColumnPlaces, field_under, find_columns};
+use crate::columns::{ColumnPlaces, find_columns};
 use crate::fault::InstanceFault;
 use crate::header::check_header;
-use crate::row::{RowValues, check_id, read_values};
+use crate::row::{RowValues, keep, read_id, read_values};
 use csv::ByteRecord;
 use dsa_model::Fail;
 use indexmap::IndexSet;
@@ -80,24 +80,19 @@ impl Rows {
             mut ids,
             mut values,
         } = self;
-        if let Some(fault) = check_id(&header, &places, &ids, &rows, &row) {
-            return Err(Fail::Fault(fault));
-        }
+        let id = match read_id(alloc, &header, &places, &ids, &rows, &row) {
+            Ok(id) => id,
+            Err(failure) => return Err(failure),
+        };
         let number = rows.len() as u32;
         let value = match read_values(alloc, &places, number, &row) {
             Ok(value) => value,
             Err(failure) => return Err(failure),
         };
-        let Ok(id) = Vec::from_slice(alloc, field_under(&row, places.id)) else {
-            return Err(Fail::NoMemory);
-        };
-        if ids.insert(id).is_err() {
-            return Err(Fail::NoMemory);
-        }
         if values.push(value).is_err() {
             return Err(Fail::NoMemory);
         }
-        if rows.push(row).is_err() {
+        if keep(&mut rows, &mut ids, id, row).is_err() {
             return Err(Fail::NoMemory);
         }
         Ok(Rows {

@@ -12,7 +12,7 @@ ghost use Rattle.csv_instance.specs.Parse.{parse};
 use crate::columns::{ColumnPlaces, field_at, field_under, find_columns};
 use crate::fault::InstanceFault;
 use crate::header::check_header;
-use crate::row::{check_id, read_buffer};
+use crate::row::{keep, read_buffer, read_id};
 use csv::ByteRecord;
 use dsa_model::{Fail, Instance};
 use indexmap::IndexSet;
@@ -79,24 +79,19 @@ impl Table {
             mut ids,
             mut instance,
         } = self;
-        if let Some(fault) = check_id(&header, &places, &ids, &rows, &row) {
-            return Err(Fail::Fault(fault));
-        }
+        let id = match read_id(alloc, &header, &places, &ids, &rows, &row) {
+            Ok(id) => id,
+            Err(failure) => return Err(failure),
+        };
         let number = rows.len() as u32;
         let buffer = match read_buffer(alloc, &places, number, &row) {
             Ok(buffer) => buffer,
             Err(failure) => return Err(failure),
         };
-        let Ok(id) = Vec::from_slice(alloc, field_under(&row, places.id)) else {
-            return Err(Fail::NoMemory);
-        };
-        if ids.insert(id).is_err() {
-            return Err(Fail::NoMemory);
-        }
         if instance.push(buffer).is_err() {
             return Err(Fail::NoMemory);
         }
-        if rows.push(row).is_err() {
+        if keep(&mut rows, &mut ids, id, row).is_err() {
             return Err(Fail::NoMemory);
         }
         Ok(Table {
