@@ -1,7 +1,15 @@
 //! `report`: what lies where at the tightest moment of a layout.
 
-ghost use Rattle.judging.specs.Judging.{report};
+ghost use Rattle.std.specs.Prelude.{◌≡◌, ◌^◌, Ok, IfOk};
+ghost use Rattle.dsa_terms.specs.Buffers.{Instance};
+ghost use Rattle.csv_instance.specs.Parse.{parse};
+ghost use Rattle.dsa_outside.specs.Faults.{NoneFell};
+ghost use Rattle.run_course.specs.Course.{Comes, Concludes};
+ghost use Rattle.run_course.specs.Prepares.{outcome_of};
+ghost use Rattle.readings.specs.Judging.{judged};
+ghost use Rattle.judging.specs.Judging.{ShowsLayout, report};
 
+use csv_instance::Table;
 use dsa_model::NoMemory;
 use dsa_outside::Files;
 use readings::{Input, Judged, open_input, read_judged_layout};
@@ -19,6 +27,30 @@ pub struct Report<'a> {
     pub layout: &'a str,
 }
 
+/// What is told once the input is open.
+fn report_judged<'a, F: Files>(
+    alloc: Global,
+    files: &mut F,
+    words: &Report<'a>,
+    table: &Table,
+) -> Result<Prepared<'a>, NoMemory>
+    ensures comes { IfOk result (λ p. (I : Instance) × (parse table.now ≡ Ok I) ×
+        Comes (F.seen files.old) (F.seen files.new)
+        (judged words.now.layout.now table.now I (2 ^ 60)
+        (λ offsets. Concludes (ShowsLayout table.now I offsets)))
+        (outcome_of p)) }
+    ensures files { (F.seen files.new).held ≡ (F.seen files.old).held }
+    ensures counts { NoneFell (F.seen files.old).faults (F.seen files.new).faults }
+{
+    match read_judged_layout(alloc, files, words.layout, table, MOST_CAPACITY)? {
+        Judged::Layout(offsets) => {
+            let text = layout_report::report(alloc, table, offsets.as_slice())?;
+            Ok(shown(text))
+        }
+        Judged::NoLayout(status) => silent(alloc, status),
+    }
+}
+
 impl<'a> Command<'a> for Report<'a> {
     ghost course = { λ r. report r.input.now r.layout.now };
 
@@ -27,12 +59,6 @@ impl<'a> Command<'a> for Report<'a> {
             Input::Table(table) => table,
             Input::Missing(status) => return silent(alloc, status),
         };
-        let judged = read_judged_layout(alloc, files, self.layout, &table, MOST_CAPACITY)?;
-        let offsets = match judged {
-            Judged::Layout(offsets) => offsets,
-            Judged::NoLayout(status) => return silent(alloc, status),
-        };
-        let text = layout_report::report(alloc, &table, offsets.as_slice())?;
-        Ok(shown(text))
+        report_judged(alloc, files, self, &table)
     }
 }
