@@ -14,7 +14,8 @@ pub fn word_text(alloc: Global, word: &str) -> Result<String, NoMemory>
 
 /// A word and a number, with a space between them.
 pub fn number_text(alloc: Global, word: &str, number: u64) -> Result<String, NoMemory>
-    ensures text { IfOk result (λ text. string_bytes text ≡ word.now ++ codes " " ++ decimal number) }
+    ensures text { IfOk result
+        (λ text. string_bytes text ≡ word.now ++ codes " " ++ decimal number) }
 {
     Ok(format!(in alloc; "{word} {number}")?)
 }

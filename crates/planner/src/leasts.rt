@@ -1,7 +1,9 @@
 //! The least capacity of an instance.
 
 ghost use Rattle.std.specs.Prelude.{IfOk};
+ghost use Rattle.lifetime.specs.SectionList.{AreSectionsOf};
 ghost use Rattle.min_capacity.specs.Brackets.{bracket_of};
+ghost use Rattle.planner.specs.FirstBracket.{IsFirstBracket};
 ghost use Rattle.planner.specs.LeastCapacity.{FindsLeast, HasHalved, IsByBoundAtLow};
 ghost use Rattle.planner.specs.LeastCapacity.{IsWithinSteps};
 
@@ -11,7 +13,7 @@ use crate::searching::budget_of;
 use crate::starting::best_of_starts;
 use dsa_model::{Instance, NoMemory};
 use lifetime::Sections;
-use min_capacity::{Least, least};
+use min_capacity::{Bracket, Least, least};
 use search_core::Search;
 use split_sections::parts;
 use std::alloc::Global;
@@ -32,13 +34,32 @@ pub fn least_capacity(
     ensures steps { IfOk result (λ found. IsWithinSteps instance.now steps (bracket_of found)) }
     ensures by_bound { IfOk result (λ found. IsByBoundAtLow instance.now (bracket_of found)) }
 {
-    let _count = instance.len();
     let best = best_of_starts(alloc, instance)?;
     let sections = Sections::build(alloc, instance)?;
     let bound = bound_of(alloc, instance, &sections)?;
     let start = first_bracket(alloc, instance, bound, best)?;
+    least_from(alloc, instance, &sections, start, steps)
+}
+
+/// The least capacity, sought from the first bracket. The caller owes that the sections are the
+/// instance's.
+fn least_from(
+    alloc: Global,
+    instance: &Instance,
+    sections: &Sections,
+    start: Bracket,
+    steps: Option<u64>,
+) -> Result<Least, NoMemory>
+    requires sections { AreSectionsOf instance.now sections.now }
+    requires start { IsFirstBracket instance.now start }
+    ensures value { IfOk result (FindsLeast instance.now steps) }
+    ensures left { IfOk result (HasHalved instance.now steps) }
+    ensures steps { IfOk result (λ found. IsWithinSteps instance.now steps (bracket_of found)) }
+    ensures by_bound { IfOk result (λ found. IsByBoundAtLow instance.now (bracket_of found)) }
+{
+    let _count = instance.len();
     let parts = parts(alloc, instance)?;
-    let mut search = Search::new(alloc, instance, &sections, &parts, budget_of(steps))?;
+    let mut search = Search::new(alloc, instance, sections, &parts, budget_of(steps))?;
     let found = least(instance, start, &mut search)?;
     let _used = search.used();
     Ok(found)

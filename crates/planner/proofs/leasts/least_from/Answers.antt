@@ -2,7 +2,7 @@ use Rattle.std.proofs.Common.{arith}
 use Rattle.min_capacity.specs.Brackets.{bracket_of}
 use Rattle.planner.proofs.Finding.{finds}
 use Rattle.planner.proofs.Halving.{by_bound_at_low, has_halved, is_within_steps}
-use Rattle.planner.proofs.leasts.least_capacity.Goals as goal
+use Rattle.planner.proofs.leasts.least_from.Goals as goal
 
 pub returns : goal.returns
 returns c =
@@ -11,16 +11,16 @@ returns c =
     let n = c.used-used.ensures.within in
     let b = c.budget_of.ensures.value in
     let s = c.in_ok-search.ensures in
-    let steps = is_within_steps c.args.instance.now c.args.steps c.budget_of.result c.in_ok-start.start
-    c.in_ok-search.search c.least.new.decider (bracket_of c.in_ok-found.found) c.in_ok-start.ensures s b
+    let steps = is_within_steps c.args.instance.now c.args.steps c.budget_of.result c.args.start
+    c.in_ok-search.search c.least.new.decider (bracket_of c.in_ok-found.found) c.requires.start s b
     c.budget_of.ensures.range c.least.ensures.allowance n h.narrowed h.charged in
     record {
-      value = finds c.args.instance.now c.args.steps c.budget_of.result c.in_ok-start.start c.in_ok-search.search
-          c.least.new.decider.units.used c.in_ok-found.found c.len-count.ensures.buffers c.in_ok-start.ensures
+      value = finds c.args.instance.now c.args.steps c.budget_of.result c.args.start c.in_ok-search.search
+          c.least.new.decider.units.used c.in_ok-found.found c.len-count.ensures.buffers c.requires.start
           c.in_ok-search.ensures c.budget_of.ensures.value h.narrowed h.exact h.least h.open h.exhausted h.fewer
           (let range = c.used-used.type_inv in omega arith);
-      left = has_halved c.args.instance.now c.args.steps c.budget_of.result c.in_ok-start.start c.in_ok-search.search
-          c.least.new.decider.units.used c.in_ok-found.found c.len-count.ensures.buffers c.in_ok-start.ensures s b
+      left = has_halved c.args.instance.now c.args.steps c.budget_of.result c.args.start c.in_ok-search.search
+          c.least.new.decider.units.used c.in_ok-found.found c.len-count.ensures.buffers c.requires.start s b
           h.narrowed h.exhausted h.left;
       steps = steps;
       by_bound = by_bound_at_low c.args.instance.now c.args.steps (bracket_of c.in_ok-found.found) steps;

@@ -15,7 +15,7 @@ use Rattle.csv_instance.specs.declared.columns.Column.TheVariants.{Id}
 use Rattle.csv_instance.proofs.IdLemmas.{if_ok, ids-more, new_id, none_any, same-place}
 use Rattle.csv_instance.proofs.RowLemmas.{rows-fault, form-id, form-content, form-more}
 use Rattle.csv_instance.proofs.Short.{all_cons}
-use Rattle.csv_instance.proofs.TableLemmas.{none_left, room}
+use Rattle.csv_instance.proofs.TableLemmas.{room}
 use Rattle.csv_instance.proofs.row_list.Rows.with_row.Goals as goal
 
 vec_items : {A B : Type 0} (v : Vec A B) → vec_len v ≡ length v.items

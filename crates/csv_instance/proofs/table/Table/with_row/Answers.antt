@@ -12,7 +12,7 @@ use Rattle.csv_instance.specs.declared.fault.InstanceFault.{InstanceFault}
 use Rattle.csv_instance.proofs.FailLemmas.{IfFault-map}
 use Rattle.csv_instance.specs.declared.columns.Column.TheVariants.{Id}
 use Rattle.csv_instance.proofs.IdLemmas.{if_ok, ids-more, new_id, none_any, same-place}
-use Rattle.csv_instance.proofs.TableLemmas.{none_left, parse-fault, row-id, row-content, rows-more, room}
+use Rattle.csv_instance.proofs.TableLemmas.{parse-fault, row-id, row-content, rows-more, room}
 use Rattle.csv_instance.proofs.table.Table.with_row.Goals as goal
 
 vec_items : {A B : Type 0} (v : Vec A B) → vec_len v ≡ length v.items
