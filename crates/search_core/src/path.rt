@@ -51,7 +51,7 @@ pub(crate) struct Above<'a> {
 }
 
 /// The claims down to the one that the search is at, the last one, and for each claim above it a
-/// frame with its choices. The branches of most claims far above are dropped, and made again where
+/// frame with its choices. The levels of most claims far above are dropped, and made again where
 /// the search comes back to them.
 #[derive(Drop)]
 pub(crate) struct Path<'a> {
@@ -97,7 +97,7 @@ impl<'a> Path<'a> {
         self.sky.instance()
     }
 
-    /// The claim above the one that the search is at, if there is one whose branches are kept.
+    /// The claim above the one that the search is at, if there is one whose levels are kept.
     pub(crate) fn above(&self) -> Option<Above<'_>>
         ensures { IfSome result (IsAbove self.now.frames) }
     {
@@ -113,7 +113,7 @@ impl<'a> Path<'a> {
         }
     }
 
-    /// Drops the branches of a claim that is far above.
+    /// Drops the levels of a claim that is far above.
     fn forget(&mut self)
         ensures { self.new ≡ self.old }
     {
