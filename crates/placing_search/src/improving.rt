@@ -3,7 +3,7 @@
 ghost use Rattle.std.specs.Prelude.{◌≡◌, ◌<◌, ◌≤◌, IfOk};
 ghost use Rattle.first_fit.specs.Starts.{IsStart};
 
-use crate::beginnings::{BEGINNINGS, beginning, first_beginning};
+use crate::beginnings::{beginning, first_beginning, is_snug, next_beginning};
 use crate::climbing::climb;
 use crate::draws::Draws;
 use crate::meetings::Meetings;
@@ -50,7 +50,6 @@ pub fn improve(
     let meetings = Meetings::of(alloc, instance)?;
     let (mut number, mut made) = first_beginning(alloc, instance, &meetings, &best, passes)?;
     let mut draws = Draws::new();
-    let mut snug = true;
     while made < passes && floor < best.height {
         let order = beginning(alloc, instance, &best, number)?;
         let climbed = climb(
@@ -58,7 +57,7 @@ pub fn improve(
             instance,
             &meetings,
             order,
-            snug,
+            is_snug(number),
             &mut draws,
             floor,
             passes - made,
@@ -67,8 +66,7 @@ pub fn improve(
         if climbed.start.height < best.height {
             best = climbed.start;
         }
-        number = (number + 1) % BEGINNINGS;
-        snug = !snug;
+        number = next_beginning(number);
     }
     Ok(Improved {
         start: best,
