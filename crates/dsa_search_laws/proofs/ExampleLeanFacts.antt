@@ -1,5 +1,5 @@
 -- The sample log is lean; lines and logs that are not.
-use Rattle.std.proofs.Common.{◌≡◌, ℕ, zero, suc, ◌-◌, ◌<◌, ◌≤◌, ◌⊎◌, inl, inr, Bool, true, false, not, ◌&&◌, ◌||◌, ◌==◌, List, [], ◌∷◌, map, length, slice_get, take, nat_lt, Option, Some, None, sym, refl, ◌∙◌, arith}
+use Rattle.std.proofs.Common.{◌≡◌, ℕ, zero, suc, ◌-◌, ◌<◌, ◌≤◌, ◌⊎◌, inl, inr, Bool, true, false, not, ◌&&◌, ◌||◌, ◌==◌, List, [], ◌∷◌, map, length, slice_get, take, nat_lt, Option, Some, None, sym, refl, arith}
 use Rattle.std.specs.List.{list_any, list_all, AllZip}
 use Rattle.dsa_terms.specs.Buffers.{Instance, buffer, is_live, have_same_moments, some_before}
 use Rattle.dsa_terms.specs.Claims.{Entry, Claim, IsIn, up, Covers}

@@ -171,8 +171,9 @@ work_of_bounds I C (suc k) l c n = go (work_of_bounds I C k) (list_any (is_tall 
           (choices I rule l)
           (λ e i. (ih (child I l e) (claim-child I l e c)
           (let len = length-child I l e c.rises (from_choices I rule l e i) in omega arith)).1) in
-          let count : length (choices I rule l) ≤ suc k = (let a = length-ordered_by (comes_before I) (filter (rule l) l) in
-          let b = length-filter_le (rule l) l in omega arith) in
+          let a = length-ordered_by (comes_before I) (filter (rule l) l) in
+          let b = length-filter_le (rule l) l in
+          let count : length (choices I rule l) ≤ suc k = omega arith in
           let more : length (choices I rule l) * most_work k ≤ suc k * most_work k = mul-le-mul_right
           (most_work k) count in
           omega arith),

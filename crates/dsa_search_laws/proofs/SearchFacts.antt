@@ -1,5 +1,5 @@
 -- Searches of small claims without exclusions, heights, the most work, buffers of one part, and entries in order.
-use Rattle.std.proofs.Common.{◌≡◌, ℕ, inl, inr, true, List, [], ◌∷◌, map, Some, None, subst, refl, arith}
+use Rattle.std.proofs.Common.{◌≡◌, ℕ, inl, inr, true, List, [], ◌∷◌, map, Some, None, subst, refl}
 use Rattle.dsa_terms.specs.Buffers.{is_live, buffer, do_share, some_before}
 use Rattle.dsa_terms.specs.Claims.{Claim, Entry, IsIn, up, step, child}
 use Rattle.dsa_terms.specs.Sorts.{IsOrdered}

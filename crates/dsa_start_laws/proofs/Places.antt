@@ -1,11 +1,11 @@
 -- Where first-fit and best-fit put one buffer it is aligned, at or above its lowest, and apart from the others.
-use Rattle.std.proofs.Common.{◌≡◌, ℕ, zero, suc, ◌+◌, ◌%◌, ◌<◌, ◌≤◌, ◌⊎◌, inl, inr, Bool, true, false, cond, ◌&&◌, ◌||◌, max, List, [], ◌∷◌, filter, nat_lt, nat_le, Option, Some, None, refl, ap, arith}
+use Rattle.std.proofs.Common.{◌≡◌, ℕ, zero, suc, ◌+◌, ◌%◌, ◌<◌, ◌≤◌, ◌⊎◌, inl, inr, Bool, true, false, cond, ◌&&◌, ◌||◌, max, List, filter, nat_lt, nat_le, Option, Some, None, refl, ap, arith}
 use native.Mathlib.Nat.{mod_self}
 use Rattle.std.proofs.lemmas.Bool.Decides.{nat_tests}
 use Rattle.dsa_terms.specs.Buffers.{Instance, buffer, IsInstance, floor}
 use Rattle.dsa_terms.specs.Layouts.{IsApart}
 use Rattle.dsa_terms.specs.Claims.{Entry, IsIn}
-use Rattle.dsa_terms.specs.Fits.{top, highest, is_free, first_passing, FitRule, first_place, Range, stretches, free_ranges, least_from, holds, is_tighter, tightest, start_in, best_place}
+use Rattle.dsa_terms.specs.Fits.{top, highest, is_free, first_passing, FitRule, first_place, Range, stretches, free_ranges, least_from, holds, tightest, start_in, best_place}
 use Rattle.dsa_terms.proofs.Numbers.{next_is_least, next_is_multiple, multiple_sum, multiple_steps}
 use Rattle.dsa_terms.proofs.Lists.{from_filter, all_at, all_from}
 use Rattle.dsa_terms.proofs.Moments.{and_true, sound}

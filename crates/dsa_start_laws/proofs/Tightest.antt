@@ -70,7 +70,8 @@ none_in (x ∷ xs) s h i = go (tightest_in_turn xs) h
     go None q = cc
     go (Some y) q = pick (is_tighter y x) y q
 
-none_tighter_in_turn : (rs : List Range) (r s : Range) → tightest_in_turn rs ≡ Some r → IsIn s rs → is_tighter s r ≡ false
+none_tighter_in_turn : (rs : List Range) (r s : Range) → tightest_in_turn rs ≡ Some r → IsIn s rs →
+    is_tighter s r ≡ false
 none_tighter_in_turn [] r s h i = absurd i
 none_tighter_in_turn (x ∷ xs) r s h i = go (tightest_in_turn xs) refl (none_tighter_in_turn xs) h i
   where
@@ -139,7 +140,8 @@ found [] test h = refl
 found (x ∷ xs) test h = go (tightest_in_turn xs) refl (found xs test)
   where
     is_first : ((s : Range) → IsIn s xs → is_tighter s x ≡ false) → test x ≡ true
-    is_first none = h x (inl refl) ∙ gives_least (x ∷ xs) x (λ s i. elim i [ inl q ↦ rw q (not_itself x) | inr j ↦ none s j ])
+    is_first none = h x (inl refl) ∙ gives_least (x ∷ xs) x
+        (λ s i. elim i [ inl q ↦ rw q (not_itself x) | inr j ↦ none s j ])
 
     not_first : (y : Range) → IsIn y xs → is_tighter y x ≡ true → test x ≡ false
     not_first y i t = h x (inl refl) ∙ beaten (is_least (x ∷ xs) x) refl

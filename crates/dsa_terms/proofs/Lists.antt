@@ -128,7 +128,8 @@ into_ordered_by before (e ∷ es) x (inr q) =
 pub from_ordered_by : {X : Type 0} (before : X → X → Bool) (es : List X) (x : X) → IsIn x (ordered_by before es) →
     IsIn x es
 from_ordered_by before [] x h = h
-from_ordered_by {X} before (e ∷ es) x h = go (from_ordered_by before es x) (from_put_by before e (ordered_by before es) x h)
+from_ordered_by {X} before (e ∷ es) x h =
+    go (from_ordered_by before es x) (from_put_by before e (ordered_by before es) x h)
   where
     go : (IsIn x (ordered_by before es) → IsIn x es) → IsIn x (e ∷ ordered_by before es) → IsIn x (e ∷ es)
     go ih (inl q) = inl q
