@@ -1,7 +1,7 @@
 -- How the commands go that check a log's file.
-use Rattle.std.specs.Prelude.{[], ◌∷◌, length}
+use Rattle.std.specs.Prelude.{◌≡◌, [], ◌∷◌, length}
 use Rattle.dsa_terms.specs.Logs.{Log}
-use Rattle.dsa_terms.specs.Trims.{trimmed}
+use Rattle.dsa_terms.specs.Trims.{IsTrimOf}
 use Rattle.log_text.specs.Spellings.{log_text2}
 use Rattle.log_text.specs.Text.{log_text}
 use Rattle.command_words.specs.Options.{Word}
@@ -13,16 +13,18 @@ use Rattle.readings.specs.Checking.{checked}
 
 -- how `refute` goes
 abbrev pub refute : (input log : Word) → Course
-refute input log = opened input (λ table I. checked log I (λ log. says (Accepted log.capacity)))
+refute input log = opened input (λ table I. checked log I (λ log o. o ≡ says (Accepted log.capacity)))
 
--- the log of an accepted log's needed lines is written to the output
-abbrev pub trimming : Word → Log → Outcome
-trimming output log = writes (record { role = role.Output; name = output; bytes = log_text (trimmed log) } ∷ [])
-    (Trimmed (length log.lines) (length (trimmed log).lines))
+-- the log of an accepted log's kept lines alone is written to the output
+pub record Trims (output : Word) (log : Log) (o : Outcome) : Type 0 where
+  pub trim : Log
+  pub is_trim : IsTrimOf log trim
+  pub outcome : o ≡ writes (record { role = role.Output; name = output; bytes = log_text trim } ∷ [])
+      (Trimmed (length log.lines) (length trim.lines))
 
 -- how `trim` goes
 abbrev pub trim : (input log output : Word) → Course
-trim input log output = opened input (λ table I. checked log I (trimming output))
+trim input log output = opened input (λ table I. checked log I (Trims output))
 
 -- an accepted log is written to the output in version 2
 abbrev pub upgrading : Word → Log → Outcome
@@ -31,4 +33,4 @@ upgrading output log = writes (record { role = role.Output; name = output; bytes
 
 -- how `upgrade` goes
 abbrev pub upgrade : (input log output : Word) → Course
-upgrade input log output = opened input (λ table I. checked log I (upgrading output))
+upgrade input log output = opened input (λ table I. checked log I (λ log o. o ≡ upgrading output log))

@@ -30,7 +30,7 @@ fn refute_checked<'a, F: Files>(
     instance: &Instance,
 ) -> Result<Prepared<'a>, NoMemory>
     ensures comes { IfOk result (λ p. Comes (F.seen files.old) (F.seen files.new)
-        (checked words.now.log.now instance.now (λ log. says (Accepted log.capacity)))
+        (checked words.now.log.now instance.now (λ log o. o ≡ says (Accepted log.capacity)))
         (outcome_of p)) }
     ensures files { (F.seen files.new).held ≡ (F.seen files.old).held }
     ensures counts { NoneFell (F.seen files.old).faults (F.seen files.new).faults }

@@ -6,7 +6,7 @@ ghost use Rattle.dsa_outside.specs.Faults.{NoneFell};
 ghost use Rattle.run_course.specs.Course.{Comes};
 ghost use Rattle.run_course.specs.Prepares.{outcome_of};
 ghost use Rattle.readings.specs.Checking.{checked};
-ghost use Rattle.checking.specs.Checking.{trim, trimming};
+ghost use Rattle.checking.specs.Checking.{Trims, trim};
 
 use dsa_model::{Instance, NoMemory};
 use dsa_outside::Files;
@@ -35,7 +35,7 @@ fn needed_lines<'a>(
     output: &'a str,
 ) -> Result<Prepared<'a>, NoMemory>
     requires { IsAccepted instance.now original.now }
-    ensures { IfOk result (λ p. outcome_of p ≡ trimming output.entry.now original.now) }
+    ensures { IfOk result (λ p. Trims output.entry.now original.now (outcome_of p)) }
 {
     let trimmed = log_trim::trim(alloc, instance, original)?;
     let status = Status::Trimmed {
@@ -58,7 +58,7 @@ fn trim_checked<'a, F: Files>(
     instance: &Instance,
 ) -> Result<Prepared<'a>, NoMemory>
     ensures comes { IfOk result (λ p. Comes (F.seen files.old) (F.seen files.new)
-        (checked words.now.log.now instance.now (trimming words.now.output.now)) (outcome_of p)) }
+        (checked words.now.log.now instance.now (Trims words.now.output.now)) (outcome_of p)) }
     ensures files { (F.seen files.new).held ≡ (F.seen files.old).held }
     ensures counts { NoneFell (F.seen files.old).faults (F.seen files.new).faults }
 {

@@ -52,7 +52,8 @@ fn upgrade_checked<'a, F: Files>(
     instance: &Instance,
 ) -> Result<Prepared<'a>, NoMemory>
     ensures comes { IfOk result (λ p. Comes (F.seen files.old) (F.seen files.new)
-        (checked words.now.log.now instance.now (upgrading words.now.output.now)) (outcome_of p)) }
+        (checked words.now.log.now instance.now (λ log o. o ≡ upgrading words.now.output.now log))
+        (outcome_of p)) }
     ensures files { (F.seen files.new).held ≡ (F.seen files.old).held }
     ensures counts { NoneFell (F.seen files.old).faults (F.seen files.new).faults }
 {

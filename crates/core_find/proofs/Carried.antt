@@ -6,7 +6,7 @@ use Rattle.dsa_terms.specs.Buffers.{Instance, buffer}
 use Rattle.dsa_terms.specs.Claims.{Claim, Entry, IsIn, IsWhole, Rises, buffers_of}
 use Rattle.dsa_terms.specs.Logs.{IsAccepted, IsLegal, Line, Log, claim_of}
 use Rattle.dsa_terms.specs.Parts.{numbers}
-use Rattle.dsa_terms.specs.Trims.{trimmed}
+use Rattle.dsa_trim_laws.specs.Trimmed.{trimmed}
 use Rattle.dsa_terms.proofs.Lists.{from_map, into_map, same_some}
 use Rattle.dsa_terms.proofs.Places.{get_map}
 use Rattle.dsa_terms.proofs.Ranges.{rises-range}

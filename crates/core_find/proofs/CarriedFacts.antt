@@ -2,7 +2,7 @@
 use Rattle.std.proofs.Common.{◌≡◌, ◌-◌, [], ◌∷◌, map, refl}
 use Rattle.dsa_terms.specs.Logs.{ByLine, Below, Twin, Over, Cases, Log}
 use Rattle.dsa_terms.specs.Parts.{has}
-use Rattle.dsa_terms.specs.Trims.{with_cited, needed, renumbered, kept_lines, trimmed}
+use Rattle.dsa_trim_laws.specs.Trimmed.{with_cited, needed, renumbered, kept_lines, trimmed}
 use Rattle.core_find.specs.Carried.{carried, place_among, places_among, renamed_cite, renamed_claim, renamed_entry, renamed_line, renamed_log}
 
 -- ---- places among three members, and among two of four

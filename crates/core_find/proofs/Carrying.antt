@@ -7,12 +7,13 @@ use Rattle.std.specs.List.{position_or_len}
 use Rattle.dsa_terms.specs.Buffers.{Instance, buffer}
 use Rattle.dsa_terms.specs.Claims.{Claim, Entry, IsIn, IsWhole, Rises, buffers_of}
 use Rattle.dsa_terms.specs.Logs.{Cite, ByLine, Below, Twin, IsLegal, Line, Log, Over, Cases, claim_of}
-use Rattle.dsa_terms.specs.Trims.{trimmed}
+use Rattle.dsa_terms.specs.Trims.{IsTrimOf}
 use Rattle.dsa_terms.proofs.Lists.{from_map}
 use Rattle.dsa_terms.proofs.NumberTests.{below_or_from, not_less}
 use Rattle.dsa_terms.proofs.Places.{all_from_in, get_map, in_from_all}
 use Rattle.dsa_model.specs.Buffer.{buffer_limit}
 use Rattle.dsa_trim_laws.proofs.Picked.{get_in}
+use Rattle.dsa_trim_laws.proofs.Trims.{trim_is}
 use Rattle.dsa_model.specs.Chosen.{some_of}
 use Rattle.canonical_order.specs.Claims.{IsBoundedBy}
 use Rattle.refute_log.specs.Lines.{IsCiteWithin, IsWithin}
@@ -177,17 +178,20 @@ pub record IsReady (K : Instance) (log : Log) (numbers : List ℕ) : Type 0 wher
       × IsWhole K (claim_of line)
 
 pub is_ready : (I some : Instance) (before members numbers : List ℕ) (log kept : Log) → some ≡ some_of I members →
-    kept ≡ trimmed log → numbers ≡ places_among before members → Rises members → NeedsOnly I before members log →
+    IsTrimOf log kept → numbers ≡ places_among before members → Rises members → NeedsOnly I before members log →
     IsReady some kept numbers
 unfolding carried
-is_ready I some before members numbers log kept is trim places r needs =
+is_ready I some before members numbers log kept is of places r needs =
+    let trim = trim_is (some_of I before) log kept needs.accepted of in
     let a = carried_is_accepted I before members log r needs in
     rw (is, trim, places) record { belongs = record { same_count = refl; legal = a.legal }; end = a.whole }
 
 pub ended_is_carried : (I some : Instance) (before members numbers : List ℕ) (log kept closed : Log) (renamed : OpenLog)
-    (end : ℕ) → some ≡ some_of I members → kept ≡ trimmed log → numbers ≡ places_among before members →
+    (end : ℕ) → some ≡ some_of I members → NeedsOnly I before members log → IsTrimOf log kept →
+    numbers ≡ places_among before members →
     renamed ≡ renamed_log (length some) (slice_index numbers) kept → end ≡ kept.final → closed ≡ ended renamed end →
     closed ≡ carried before members log
 unfolding carried
-ended_is_carried I some before members numbers log kept closed renamed end is trim places all at closing =
+ended_is_carried I some before members numbers log kept closed renamed end is needs of places all at closing =
+    let trim = trim_is (some_of I before) log kept needs.accepted of in
     closing ∙ rw (all, at, places, trim, is, length-map members (buffer I)) refl

@@ -4,8 +4,10 @@ use Rattle.std.specs.List.{AllZip, flat_map}
 use Rattle.dsa_terms.specs.Buffers.{Instance}
 use Rattle.dsa_terms.specs.Claims.{Claim, Covers, Entry, IsIn, buffers_of, child, step, up}
 use Rattle.dsa_terms.specs.Logs.{Cite, ByLine, Below, Twin, IsAccepted, IsLegalCite, IsLegalReason, Line, Log, Over, Cases, claim_of}
-use Rattle.dsa_terms.specs.Trims.{cited, cited_line, IsCited, trimmed}
+use Rattle.dsa_terms.specs.Trims.{IsCited}
+use Rattle.dsa_trim_laws.specs.Trimmed.{cited, cited_line, trimmed}
 use Rattle.dsa_terms.proofs.Lists.{from_append, from_filter, from_map, into_map, same_some}
+use Rattle.dsa_trim_laws.proofs.Needed.{cites_are}
 use Rattle.dsa_trim_laws.proofs.Picked.{get_in, into_take}
 use Rattle.dsa_trim_laws.proofs.Trims.{trimmed_end, trimmed_is_accepted, trimmed_is_cited}
 use Rattle.core_find.specs.Carried.{IsEnd}
@@ -71,7 +73,7 @@ names_from J log last a end final later (suc n) k le line at =
     cited_by : (c : IsCited log.lines k) → AreAmong (buffers_of (claim_of line)) (buffers_of (claim_of c.line))
     cited_by c =
         line_names J log.capacity (take c.number log.lines) c.line k
-        (a.legal c.number c.line c.there).reason c.cites line
+        (a.legal c.number c.line c.there).reason ((cites_are c.line k).0 c.cites) line
         (into_take log.lines c.number k line at c.later)
 
     go : ((j : ℕ) → length log.lines ≤ j + n → NamesOnly log.lines j (buffers_of (claim_of last))) →

@@ -4,7 +4,7 @@ use Rattle.std.specs.List.{position_or_len}
 use Rattle.dsa_terms.specs.Buffers.{Instance}
 use Rattle.dsa_terms.specs.Claims.{Claim, Entry, Rises}
 use Rattle.dsa_terms.specs.Logs.{Cite, ByLine, Below, Twin, IsAccepted, Line, Over, Cases, Log, claim_of}
-use Rattle.dsa_terms.specs.Trims.{trimmed}
+use Rattle.dsa_trim_laws.specs.Trimmed.{trimmed}
 use Rattle.dsa_model.specs.Chosen.{some_of}
 use Rattle.refute_log.specs.Logs.{OpenLog, ended}
 use Rattle.core_find.specs.Cores.{AreAmong}

@@ -4,9 +4,9 @@ use Rattle.dsa_terms.specs.Buffers.{is_live, IsLive, buffer, do_share, have_same
 use Rattle.dsa_terms.specs.Claims.{Entry, Claim, IsIn, up, step, child, Covers}
 use Rattle.dsa_terms.specs.Logs.{is_stacked, rounded, rounding, ends_below, is_twin, ByLine, Below, Twin, Line, Over, Cases, claim_of, IsLegalCite, IsLegalReason, IsLegal, Log}
 use Rattle.dsa_terms.specs.Lean.{IsOwnCite, IsLeanOver}
-use Rattle.dsa_terms.specs.Parts.{has}
-use Rattle.dsa_terms.specs.Trims.{cited_line, cited, IsKept, at_end, by_cite, with_cited, needed_from, moved_cite, moved_line, picked, IsCited}
+use Rattle.dsa_terms.specs.Trims.{Cites, IsKept, at_end, by_cite, rank, moved_cite, moved_line, picked, IsTrimOf, IsCited}
 use Rattle.dsa_terms.proofs.Examples.{evens, over_2, over_1, case_12, over_01, case_all, sample}
+use Rattle.dsa_terms.proofs.NumberTests.{equal}
 
 abbrev all_three : Claim
 all_three = (0, 0) ∷ (1, 0) ∷ (2, 0) ∷ []
@@ -146,11 +146,18 @@ not_lean_over : IsLeanOver evens 4 [] ((2, 4) ∷ []) 0 4 1 → ⊥
 not_lean_over o = elim o.lowest [ inl q ↦ omega arith | inr f ↦ f legal_at_3 ]
 
 -- ---- what lines cite
-cited_lines : map cited_line (ByLine 3 ∷ Below 3 ∷ Twin 3 ∷ []) ≡ (3 ∷ []) ∷ [] ∷ [] ∷ []
-cited_lines = refl
+all_cites : Cites case_all 2 × Cites case_all 3
+all_cites = (inl refl, inr (inr (inl refl)))
 
-cited_by_all : cited case_all ≡ 2 ∷ 3 ∷ []
-cited_by_all = refl
+-- a twin cite names a buffer, and an Over line cites nothing
+not_the_twin : Cites case_all 0 → ⊥
+not_the_twin (inl q) = absurd cc
+not_the_twin (inr (inl q)) = absurd cc
+not_the_twin (inr (inr (inl q))) = absurd cc
+not_the_twin (inr (inr (inr i))) = i
+
+over_cites_none : Cites over_01 0 → ⊥
+over_cites_none h = h
 
 -- the end is kept, which cites line 2, and that one cites line 0
 end_is_kept : IsKept sample 4
@@ -166,14 +173,24 @@ zero_is_kept = by_cite 2 0 case_12 two_is_kept refl (inl refl)
 abbrev with_rest : Log
 with_rest = record { count = 3; capacity = 4; lines = over_2 ∷ over_1 ∷ []; final = 0 }
 
-rest_goes : (k : ℕ) → IsKept with_rest k → k ≡ 1 → ⊥
-rest_goes k at_end q = differ 0 1 (λ h. omega arith) q
-rest_goes k (by_cite j i line before got cites) q = none j line got cites
-  where
-    none : (j : ℕ) (line : Line) → slice_get with_rest.lines j ≡ Some line → IsIn i (cited line) → ⊥
-    none zero line got cites = let e : over_2 ≡ line = cc in subst (λ (l : Line). IsIn i (cited l)) (sym e) cites
-    none (suc zero) line got cites = let e : over_1 ≡ line = cc in subst (λ (l : Line). IsIn i (cited l)) (sym e) cites
-    none (suc (suc j)) line got cites = cc
+none_cites : (j k : ℕ) (line : Line) → slice_get with_rest.lines j ≡ Some line → Cites line k → ⊥
+none_cites zero k line got cites = let e : over_2 ≡ line = cc in subst (λ (l : Line). Cites l k) (sym e) cites
+none_cites (suc zero) k line got cites = let e : over_1 ≡ line = cc in subst (λ (l : Line). Cites l k) (sym e) cites
+none_cites (suc (suc j)) k line got cites = absurd cc
+
+end_alone : (k : ℕ) → IsKept with_rest k → k ≡ 0
+end_alone k at_end = refl
+end_alone k (by_cite j i line before got cites) = absurd (none_cites j i line got cites)
+
+rest_goes : IsTrimOf with_rest (record { count = 3; capacity = 4; lines = over_2 ∷ []; final = 0 })
+rest_goes = record {
+  is_kept = λ k. k == 0;
+  kept = λ k. (λ t. rw (equal k 0 t) at_end, λ h. rw (end_alone k h) refl);
+  count = refl;
+  capacity = refl;
+  lines = refl;
+  last = refl;
+}
 
 -- line 2 is cited by line 4, and the end by none
 two_is_cited : IsCited sample.lines 2
@@ -190,30 +207,16 @@ end_is_not_cited c = none c.number c.later c.there
     none (suc (suc (suc (suc zero)))) lt got = omega arith
     none (suc (suc (suc (suc (suc n))))) lt got = cc
 
--- ---- what is needed: the end 4, its lines 2 and 3, and the lines 0 and 1 of line 2
-all_needed : needed_from 4 0 sample.lines ≡ 0 ∷ 1 ∷ 2 ∷ 3 ∷ 4 ∷ []
-unfolding with_cited has
-all_needed = refl
-
-needed_by_three : needed_from 3 0 (over_2 ∷ over_1 ∷ case_12 ∷ over_01 ∷ []) ≡ 3 ∷ []
-unfolding with_cited has
-needed_by_three = refl
-
--- of lines 2 to 4, and of line 4 alone
-needed_from_two : needed_from 3 2 (case_12 ∷ over_01 ∷ case_all ∷ []) ≡ 3 ∷ []
-unfolding with_cited has
-needed_from_two = refl
-
-needed_by_end : needed_from 4 4 (case_all ∷ []) ≡ 2 ∷ 3 ∷ 4 ∷ []
-unfolding with_cited has
-needed_by_end = refl
-
 -- ---- renumbered and picked: the numbers of lines alone change, and the first line has number 2
 moved_cites : map (moved_cite (λ k. k + 7)) (ByLine 2 ∷ Below 2 ∷ Twin 2 ∷ []) ≡ ByLine 9 ∷ Below 2 ∷ Twin 2 ∷ []
 moved_cites = refl
 
 moved_case : moved_line (λ k. k + 7) case_all ≡ Cases all_three (ByLine 9 ∷ Twin 0 ∷ ByLine 10 ∷ [])
 moved_case = refl
+
+ranks : map (rank (nat_le 2)) (1 ∷ 2 ∷ 3 ∷ 4 ∷ []) ≡ 0 ∷ 0 ∷ 1 ∷ 2 ∷ []
+unfolding rank
+ranks = refl
 
 moved_over : moved_line (λ k. k + 7) over_01 ≡ over_01
 moved_over = refl

@@ -1,4 +1,4 @@
 pub mod Picked
 pub mod Needed
 pub mod Trims
-mod ExampleFacts
+pub mod ExampleFacts

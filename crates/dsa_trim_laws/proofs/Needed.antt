@@ -5,9 +5,28 @@ use Rattle.dsa_terms.specs.Buffers.{Instance}
 use Rattle.dsa_terms.specs.Claims.{Entry, Claim, IsIn, Covers, child}
 use Rattle.dsa_terms.specs.Logs.{Cite, ByLine, Below, Twin, Line, Over, Cases, claim_of, IsLegalCite, IsLegalReason, IsLegal, Log, IsAccepted}
 use Rattle.dsa_terms.specs.Parts.{has}
-use Rattle.dsa_terms.specs.Trims.{cited_line, cited, IsKept, at_end, by_cite, with_cited, needed_from, needed, moved_cite, moved_line}
+use Rattle.dsa_terms.specs.Trims.{Cites, IsKept, at_end, by_cite, moved_cite, moved_line}
+use Rattle.dsa_trim_laws.specs.Trimmed.{cited_line, cited, with_cited, needed_from, needed}
 use Rattle.dsa_search_laws.proofs.Logs.{from_take}
-use Rattle.dsa_terms.proofs.Lists.{from_append, has_in, in_has, left_append, right_append}
+use Rattle.dsa_terms.proofs.Lists.{from_append, has_in, in_has, into_map, left_append, right_append}
+
+-- ---- what a line cites
+into_cited : (cites : List Cite) (k : ℕ) → IsIn (ByLine k) cites → IsIn k (flat_map cited_line cites)
+into_cited [] k i = absurd i
+into_cited (c ∷ cs) k (inl q) = subst (λ (c : Cite). IsIn k (cited_line c ++ flat_map cited_line cs)) q (inl refl)
+into_cited (c ∷ cs) k (inr i) = right_append (cited_line c) (flat_map cited_line cs) k (into_cited cs k i)
+
+from_cited : (cites : List Cite) (k : ℕ) → IsIn k (flat_map cited_line cites) → IsIn (ByLine k) cites
+from_cited [] k i = absurd i
+from_cited (ByLine j ∷ cs) k (inl q) = inl (ap ByLine q)
+from_cited (ByLine j ∷ cs) k (inr i) = inr (from_cited cs k i)
+from_cited (Below c ∷ cs) k i = inr (from_cited cs k i)
+from_cited (Twin c ∷ cs) k i = inr (from_cited cs k i)
+
+-- the numbers of the cited lines are those of the lines that the line cites
+pub cites_are : (line : Line) (k : ℕ) → Cites line k ↔ IsIn k (cited line)
+cites_are (Over l T H G) k = (λ i. i, λ i. i)
+cites_are (Cases l cites) k = (into_cited cites k, from_cited cites k)
 
 -- ---- what is needed
 -- each line cites earlier lines alone
@@ -93,7 +112,8 @@ needed_is_kept log n (x ∷ xs) j h i = go (λ k m. needed_is_kept log (n + 1) x
     go : ((k : ℕ) → IsIn k (needed_from log.final (n + 1) xs) → IsKept log k) →
         ((has n (needed_from log.final (n + 1) xs) ≡ true) × IsIn j (cited x))
         ⊎ IsIn j (needed_from log.final (n + 1) xs) → IsKept log j
-    go ih (inl k) = by_cite n j x (ih n (has_in n (needed_from log.final (n + 1) xs) k.0)) here k.1
+    go ih (inl k) =
+        by_cite n j x (ih n (has_in n (needed_from log.final (n + 1) xs) k.0)) here ((cites_are x j).1 k.1)
     go ih (inr k) = ih j k
 
 pub kept_up_to : (final n : ℕ) (lines : List Line) (j : ℕ) → CitesEarlier n lines → IsIn j (needed_from final n lines) →
@@ -145,32 +165,27 @@ unfolding needed
 kept_needed log c k at_end = end_needed log.final 0 log.lines
 kept_needed log c k (by_cite j n line h q i) =
     let e : 0 + j ≡ j = omega arith in
-    cited_needed log.final 0 log.lines j line k c q (rw e (kept_needed log c j h)) i
+    cited_needed log.final 0 log.lines j line k c q (rw e (kept_needed log c j h)) ((cites_are line k).0 i)
 
-pub kept_exactly : (I : Instance) (log : Log) (k : ℕ) → IsAccepted I log → IsKept log k ↔ (has k (needed log) ≡ true)
+pub kept_by : (log : Log) (k : ℕ) → CitesEarlier 0 log.lines → IsKept log k ↔ (has k (needed log) ≡ true)
 unfolding needed
-kept_exactly I log k a = (
-  λ h. in_has k (needed log) (kept_needed log (cites_earlier I log a) k h),
+kept_by log k c = (
+  λ h. in_has k (needed log) (kept_needed log c k h),
   λ t. needed_is_kept log 0 log.lines k (λ i line q. let e : 0 + i ≡ i = omega arith in
       rw e q) (has_in k (needed log) t),
 )
+
+pub kept_exactly : (I : Instance) (log : Log) (k : ℕ) → IsAccepted I log → IsKept log k ↔ (has k (needed log) ≡ true)
+kept_exactly I log k a = kept_by log k (cites_earlier I log a)
 
 -- ---- a line whose cites are renumbered
 pub claim_of-moved : (to : ℕ → ℕ) (line : Line) → claim_of (moved_line to line) ≡ claim_of line
 claim_of-moved to (Over l T H G) = refl
 claim_of-moved to (Cases l cites) = refl
 
-cited_lines-moved : (to : ℕ → ℕ) (cites : List Cite) (k : ℕ) → IsIn k (flat_map cited_line cites) →
-    IsIn (to k) (flat_map cited_line (map (moved_cite to) cites))
-cited_lines-moved to [] k i = absurd i
-cited_lines-moved to (ByLine j ∷ cs) k (inl q) = inl (ap to q)
-cited_lines-moved to (ByLine j ∷ cs) k (inr i) = inr (cited_lines-moved to cs k i)
-cited_lines-moved to (Below c ∷ cs) k i = cited_lines-moved to cs k i
-cited_lines-moved to (Twin c ∷ cs) k i = cited_lines-moved to cs k i
-
-pub cited-moved : (to : ℕ → ℕ) (line : Line) (k : ℕ) → IsIn k (cited line) → IsIn (to k) (cited (moved_line to line))
-cited-moved to (Over l T H G) k i = absurd i
-cited-moved to (Cases l cites) k i = cited_lines-moved to cites k i
+pub cites-moved : (to : ℕ → ℕ) (line : Line) (k : ℕ) → Cites line k → Cites (moved_line to line) (to k)
+cites-moved to (Over l T H G) k i = absurd i
+cites-moved to (Cases l cites) k i = into_map (moved_cite to) cites (ByLine k) i
 
 -- the lines that are cited stand where the renumbered cites say
 abbrev pub StandsMoved : (ℕ → ℕ) → List Line → List Line → List ℕ → Type 0

@@ -1,17 +1,18 @@
 -- A trimmed log is accepted, and trimming it again changes nothing.
-use Rattle.std.proofs.Common.{◌≡◌, ℕ, zero, suc, ◌+◌, ◌-◌, ◌<◌, ◌≤◌, inl, inr, true, false, List, [], ◌∷◌, map, length, slice_get, take, Some, sym, refl, ap, ◌∙◌, subst, arith}
+use Rattle.std.proofs.Common.{◌≡◌, ℕ, zero, suc, ◌+◌, ◌-◌, ◌<◌, ◌≤◌, ◌↔◌, inl, inr, Bool, true, false, List, [], ◌∷◌, map, length, filter, slice_get, take, Some, sym, refl, ap, ◌∙◌, subst, arith}
 use Rattle.std.specs.List.{flat_map}
 use Rattle.dsa_terms.specs.Buffers.{Instance}
 use Rattle.dsa_terms.specs.Claims.{IsIn, IsWhole}
 use Rattle.dsa_terms.specs.Logs.{Cite, ByLine, Below, Twin, Line, Over, Cases, claim_of, IsLegal, Log, IsAccepted}
-use Rattle.dsa_terms.specs.Parts.{has}
-use Rattle.dsa_terms.specs.Trims.{cited_line, cited, IsKept, at_end, by_cite, needed, renumbered, moved_cite, moved_line, picked, kept_lines, trimmed, IsCited}
+use Rattle.dsa_terms.specs.Parts.{has, numbers}
+use Rattle.dsa_terms.specs.Trims.{IsKept, at_end, by_cite, rank, moved_cite, moved_line, picked, IsTrimOf, IsCited}
+use Rattle.dsa_trim_laws.specs.Trimmed.{cited_line, cited, needed, renumbered, kept_lines, trimmed}
 use Rattle.dsa_search_laws.proofs.Logs.{from_take}
 use Rattle.dsa_terms.proofs.Lists.{has_in, left_append, right_append, true_or_false}
 use Rattle.dsa_terms.proofs.Places.{get_map}
 use Rattle.std.proofs.lemmas.List.{length-map}
 use Rattle.dsa_trim_laws.proofs.Picked.{get_in, into_take, of_get_map, passing, passing_less, passing_ends, passing_last, passing_all, length-picked, picked_at, picked_from, picked_all}
-use Rattle.dsa_trim_laws.proofs.Needed.{CitesEarlier, later_cites, kept_up_to, cites_earlier, kept_exactly, claim_of-moved, cited-moved, StandsMoved, legal-moved}
+use Rattle.dsa_trim_laws.proofs.Needed.{CitesEarlier, later_cites, kept_up_to, cites_earlier, kept_exactly, claim_of-moved, cites_are, cites-moved, StandsMoved, legal-moved}
 
 -- ---- the trimmed log
 rank_is : (log : Log) (k : ℕ) → renumbered (needed log) k ≡ passing (λ j. has j (needed log)) 0 k
@@ -64,7 +65,7 @@ stands : (I : Instance) (log : Log) (k : ℕ) (line : Line) → IsAccepted I log
 stands I log k line a h t j other i q =
     let r = from_take log.lines k j other q in
     let m = kept_exactly I log j a in
-    let kj = m.0 (by_cite k j line ((kept_exactly I log k a).1 t) h i) in
+    let kj = m.0 (by_cite k j line ((kept_exactly I log k a).1 t) h ((cites_are line j).1 i)) in
     into_take (kept_lines (needed log) log.lines) (renumbered (needed log) k) (renumbered (needed log) j)
     (moved_line (renumbered (needed log)) other) (kept_at log j other r.0 kj) (rank_less log j k r.1 kj)
 
@@ -133,7 +134,7 @@ kept-trimmed I log a k at_end = subst (λ (n : ℕ). IsKept (trimmed log) n) las
 kept-trimmed I log a k (by_cite j n line h q i) =
     by_cite (renumbered (needed log) j) (renumbered (needed log) k) (moved_line (renumbered (needed log)) line)
     (kept-trimmed I log a j h)
-    (kept_at log j line q ((kept_exactly I log j a).0 h)) (cited-moved (renumbered (needed log)) line k i)
+    (kept_at log j line q ((kept_exactly I log j a).0 h)) (cites-moved (renumbered (needed log)) line k i)
 
 pub get_some : {X : Type 0} (xs : List X) (k : ℕ) → k < length xs → (x : X) × (slice_get xs k ≡ Some x)
 get_some [] k lt = absurd (omega arith)
@@ -199,7 +200,7 @@ cited_later I log k a lt (by_cite j n line h q i) =
     record {
       number = j;
       line = line;
-      later = (let z = cites_earlier I log a j line k q i in omega arith);
+      later = (let z = cites_earlier I log a j line k q ((cites_are line k).0 i) in omega arith);
       there = q;
       cites = i;
     }
@@ -224,3 +225,79 @@ trimmed_end I log line a h =
       rw last (kept_at log log.final line h ((kept_exactly I log log.final a).0 at_end)),
       claim_of-moved (renumbered (needed log)) line,
     )
+
+-- ---- it is the log's trim
+pub trims : (I : Instance) (log : Log) → IsAccepted I log → IsTrimOf log (trimmed log)
+unfolding trimmed kept_lines renumbered rank
+trims I log a = record {
+  is_kept = λ k. has k (needed log);
+  kept = λ k. (let e = kept_exactly I log k a in (e.1, e.0));
+  count = refl;
+  capacity = refl;
+  lines = refl;
+  last = (let n = last_kept I log a in omega arith);
+}
+
+pub trims_itself : (I : Instance) (log : Log) → IsAccepted I log → IsTrimOf (trimmed log) (trimmed log)
+trims_itself I log a = subst (λ (t : Log). IsTrimOf (trimmed log) t) (trimmed_stays I log a)
+    (trims I (trimmed log) (trimmed_is_accepted I log a))
+
+-- ---- a log has no other trim
+same_test : (a b : Bool) (K : Type 0) → (a ≡ true) ↔ K → (b ≡ true) ↔ K → a ≡ b
+same_test true true K p q = refl
+same_test true false K p q = sym (q.1 (p.0 refl))
+same_test false true K p q = p.1 (q.0 refl)
+same_test false false K p q = refl
+
+same_picked : {X : Type 0} (p q : ℕ → Bool) (n : ℕ) (xs : List X) → ((k : ℕ) → p k ≡ q k) →
+    picked p n xs ≡ picked q n xs
+same_picked p q n [] h = refl
+same_picked p q n (x ∷ xs) h = rw (h n, same_picked p q (n + 1) xs h) refl
+
+same_filter : (p q : ℕ → Bool) (xs : List ℕ) → ((k : ℕ) → p k ≡ q k) → filter p xs ≡ filter q xs
+same_filter p q [] h = refl
+same_filter p q (x ∷ xs) h = rw (h x, same_filter p q xs h) refl
+
+same_rank : (p q : ℕ → Bool) (k : ℕ) → ((k : ℕ) → p k ≡ q k) → rank p k ≡ rank q k
+unfolding rank
+same_rank p q k h = ap length (same_filter p q (numbers k) h)
+
+same_cites : (f g : ℕ → ℕ) (cites : List Cite) → ((k : ℕ) → f k ≡ g k) →
+    map (moved_cite f) cites ≡ map (moved_cite g) cites
+same_cites f g [] h = refl
+same_cites f g (ByLine k ∷ cs) h = rw (h k, same_cites f g cs h) refl
+same_cites f g (Below c ∷ cs) h = rw (same_cites f g cs h) refl
+same_cites f g (Twin c ∷ cs) h = rw (same_cites f g cs h) refl
+
+same_lines : (f g : ℕ → ℕ) (lines : List Line) → ((k : ℕ) → f k ≡ g k) →
+    map (moved_line f) lines ≡ map (moved_line g) lines
+same_lines f g [] h = refl
+same_lines f g (Over l T H G ∷ ls) h = rw (same_lines f g ls h) refl
+same_lines f g (Cases l cites ∷ ls) h = rw (same_cites f g cites h, same_lines f g ls h) refl
+
+abbrev log_of : (count capacity : ℕ) → List Line → (final : ℕ) → Log
+log_of n c xs e = record { count = n; capacity = c; lines = xs; final = e }
+
+same_log : (n m c d e f : ℕ) (xs ys : List Line) → n ≡ m → c ≡ d → xs ≡ ys → e ≡ f → log_of n c xs e ≡ log_of m d ys f
+same_log n m c d e f xs ys p q r s = rw (p, q, r, s) refl
+
+pub one_trim : (log t u : Log) → IsTrimOf log t → IsTrimOf log u → t ≡ u
+one_trim log t u p q =
+    same_log t.count u.count t.capacity u.capacity t.final u.final t.lines u.lines (p.count ∙ sym q.count)
+    (p.capacity ∙ sym q.capacity) lines (let a = p.last in let b = q.last in let c = ap length lines in omega arith)
+  where
+    tests : (k : ℕ) → p.is_kept k ≡ q.is_kept k
+    tests k = same_test (p.is_kept k) (q.is_kept k) (IsKept log k) (p.kept k) (q.kept k)
+
+    lines : t.lines ≡ u.lines
+    lines = p.lines ∙ (rw (same_picked p.is_kept q.is_kept 0 log.lines tests)
+        (same_lines (rank p.is_kept) (rank q.is_kept) (picked q.is_kept 0 log.lines)
+        (λ k. same_rank p.is_kept q.is_kept k tests)) ∙ sym q.lines)
+
+-- the trim of an accepted log is the trimmed one
+pub trim_is : (I : Instance) (log t : Log) → IsAccepted I log → IsTrimOf log t → t ≡ trimmed log
+trim_is I log t a h = one_trim log t (trimmed log) h (trims I log a)
+
+pub trim_is_accepted : (I : Instance) (log t : Log) → IsAccepted I log → IsTrimOf log t → IsAccepted I t
+trim_is_accepted I log t a h =
+    subst (λ (t : Log). IsAccepted I t) (sym (trim_is I log t a h)) (trimmed_is_accepted I log a)

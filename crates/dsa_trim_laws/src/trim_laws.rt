@@ -4,13 +4,16 @@ ghost use Rattle.std.specs.Prelude.{◌≡◌, true, ℕ, ◌+◌, ◌<◌, ◌�
 ghost use Rattle.dsa_terms.specs.Buffers.{Instance};
 ghost use Rattle.dsa_terms.specs.Logs.{IsAccepted, Line, Log, claim_of};
 ghost use Rattle.dsa_terms.specs.Parts.{has};
-ghost use Rattle.dsa_terms.specs.Trims.{IsCited, IsKept, needed, trimmed};
+ghost use Rattle.dsa_terms.specs.Trims.{IsCited, IsKept, IsTrimOf};
+ghost use Rattle.dsa_trim_laws.specs.Trimmed.{needed, trimmed};
 
-/// Trimming an accepted log leaves an accepted one, of the lines that the end needs alone; trimming
-/// it again changes nothing.
+/// A log has one trim at most, and an accepted log has one: it is accepted, has the lines that the
+/// end needs alone, and is its own trim.
 pub fn trimming()
     ensures kept { (I : Instance) (log : Log) (k : ℕ) → IsAccepted I log →
         IsKept log k ↔ (has k (needed log) ≡ true) }
+    ensures trim { (I : Instance) (log : Log) → IsAccepted I log → IsTrimOf log (trimmed log) }
+    ensures one { (log t u : Log) → IsTrimOf log t → IsTrimOf log u → t ≡ u }
     ensures accepted { (I : Instance) (log : Log) → IsAccepted I log → IsAccepted I (trimmed log) }
     ensures end { (I : Instance) (log : Log) (line : Line) → IsAccepted I log →
         slice_get log.lines log.final ≡ Some line →

@@ -3,7 +3,7 @@ use Rattle.std.proofs.Common.{◌≡◌, ℕ, ◌-◌, ◌≤◌, length, slice_
 use Rattle.dsa_terms.specs.Buffers.{Instance}
 use Rattle.dsa_terms.specs.Claims.{Claim, IsWhole}
 use Rattle.dsa_terms.specs.Logs.{IsAccepted, Line, Log, claim_of}
-use Rattle.dsa_terms.specs.Trims.{kept_lines, needed, trimmed}
+use Rattle.dsa_trim_laws.specs.Trimmed.{kept_lines, needed, trimmed}
 use Rattle.dsa_trim_laws.proofs.Picked.{get_in}
 use Rattle.refute_log.specs.Logs.{Belongs, OpenLog, ended}
 use Rattle.log_trim.specs.Ends.{IsEndClaim}

@@ -3,7 +3,7 @@ use Rattle.std.proofs.Common.{◌≡◌, ℕ, zero, suc, ◌<◌, inl, inr, true
 use Rattle.dsa_terms.specs.Claims.{IsIn}
 use Rattle.dsa_terms.specs.Logs.{ByLine, Twin, Line, Over, Cases, Log}
 use Rattle.dsa_terms.specs.Parts.{has}
-use Rattle.dsa_terms.specs.Trims.{cited, needed, with_cited}
+use Rattle.dsa_trim_laws.specs.Trimmed.{cited, needed, with_cited}
 use Rattle.dsa_terms.proofs.Examples.{over_2, over_1, over_01}
 use Rattle.log_trim.specs.Ends.{IsEndClaim}
 use Rattle.log_trim.specs.Marks.{AreMarkedToo, CiteEarlier, marks_of}

@@ -7,7 +7,8 @@ use Rattle.dsa_terms.specs.Buffers.{Instance}
 use Rattle.dsa_terms.specs.Claims.{IsIn}
 use Rattle.dsa_terms.specs.Logs.{Cite, ByLine, Below, Twin, Line, Over, Cases, Log, IsAccepted, IsLegal}
 use Rattle.dsa_terms.specs.Parts.{has, numbers}
-use Rattle.dsa_terms.specs.Trims.{cited, cited_line, kept_lines, moved_cite, moved_line, needed, picked, renumbered, trimmed}
+use Rattle.dsa_terms.specs.Trims.{moved_cite, moved_line, picked}
+use Rattle.dsa_trim_laws.specs.Trimmed.{cited, cited_line, kept_lines, needed, renumbered, trimmed}
 use Rattle.dsa_terms.proofs.Lists.{left_append, right_append, length-filter_le}
 use Rattle.refute_log.specs.Lines.{IsCiteWithin, IsWithin}
 use Rattle.refute_log.specs.Logs.{Belongs, OpenLog}

@@ -7,7 +7,7 @@ use Rattle.std.proofs.lemmas.List.FromFn.{fill_by_all, get_or-map-range_with_len
 use Rattle.dsa_terms.specs.Claims.{IsIn}
 use Rattle.dsa_terms.specs.Logs.{Cite, Line, Log}
 use Rattle.dsa_terms.specs.Parts.{has}
-use Rattle.dsa_terms.specs.Trims.{cited, cited_line, needed, needed_from, with_cited}
+use Rattle.dsa_trim_laws.specs.Trimmed.{cited, cited_line, needed, needed_from, with_cited}
 use Rattle.dsa_terms.proofs.Lists.{left_append, right_append}
 use Rattle.dsa_terms.proofs.NumberTests.{apart, same_or_not}
 use Rattle.dsa_trim_laws.proofs.Picked.{get_in}

@@ -3,7 +3,7 @@ use Rattle.std.specs.Prelude.{◌≡◌, ℕ, ◌<◌, Bool, List, ◌++◌, map
 use Rattle.dsa_terms.specs.Claims.{IsIn}
 use Rattle.dsa_terms.specs.Logs.{Line}
 use Rattle.dsa_terms.specs.Parts.{has, numbers}
-use Rattle.dsa_terms.specs.Trims.{cited}
+use Rattle.dsa_trim_laws.specs.Trimmed.{cited}
 
 -- each line cites earlier ones alone
 abbrev pub CiteEarlier : List Line → Type 0

@@ -3,7 +3,7 @@
 ghost use Rattle.std.specs.Prelude.{◌≡◌, ℕ, ◌<◌, length, map, IfOk};
 ghost use Rattle.std.specs.List.{flat_map};
 ghost use Rattle.dsa_terms.specs.Claims.{IsIn};
-ghost use Rattle.dsa_terms.specs.Trims.{cited, cited_line, needed};
+ghost use Rattle.dsa_trim_laws.specs.Trimmed.{cited, cited_line, needed};
 ghost use Rattle.refute_log.specs.Lines.{cite_value, line_value};
 ghost use Rattle.log_trim.specs.Marks.{AreMarkedToo, CiteEarlier, marks_of};
 

@@ -3,7 +3,8 @@
 ghost use Rattle.std.specs.Prelude.{◌≡◌, ℕ, ◌<◌, length, map, slice_index, IfOk};
 ghost use Rattle.std.specs.List.{flat_map};
 ghost use Rattle.dsa_terms.specs.Claims.{IsIn};
-ghost use Rattle.dsa_terms.specs.Trims.{cited, cited_line, moved_cite, moved_line};
+ghost use Rattle.dsa_terms.specs.Trims.{moved_cite, moved_line};
+ghost use Rattle.dsa_trim_laws.specs.Trimmed.{cited, cited_line};
 ghost use Rattle.refute_log.specs.Lines.{cite_value, line_value};
 
 use dsa_model::NoMemory;

@@ -3,7 +3,8 @@
 ghost use Rattle.std.specs.Prelude.{◌≡◌, ◌++◌, ◌∷◌, [], ℕ, ◌+◌, ◌<◌, length, IfOk, OnOk};
 ghost use Rattle.dsa_terms.specs.Claims.{Claim as ClaimTerm};
 ghost use Rattle.dsa_terms.specs.Logs.{IsAccepted, IsLegal};
-ghost use Rattle.dsa_terms.specs.Trims.{IsCited, kept_lines, needed, trimmed};
+ghost use Rattle.dsa_terms.specs.Trims.{IsCited, IsTrimOf};
+ghost use Rattle.dsa_trim_laws.specs.Trimmed.{kept_lines, needed, trimmed};
 ghost use Rattle.refute_log.specs.Lines.{IsWithin, line_value};
 ghost use Rattle.refute_log.specs.Logs.{Belongs};
 ghost use Rattle.log_trim.specs.Ends.{IsEndClaim};
@@ -65,13 +66,13 @@ fn kept(
 /// caller owes that the log is accepted for the instance.
 pub fn trim(alloc: Global, instance: &Instance, log: &ClosedLog) -> Result<ClosedLog, NoMemory>
     requires { IsAccepted instance.now log.now }
-    ensures value { IfOk result (λ t. t ≡ trimmed log.now) }
+    ensures value { IfOk result (IsTrimOf log.now) }
     ensures accepted { IfOk result (λ t. IsAccepted instance.now t) }
     ensures capacity { IfOk result (λ t. t.capacity ≡ log.now.capacity) }
     ensures end { (l : ClaimTerm) → IsEndClaim log.now l → IfOk result (λ t. IsEndClaim t l) }
     ensures last { IfOk result (λ t. t.final + 1 ≡ length t.lines) }
     ensures cited { IfOk result (λ t. (k : ℕ) → k + 1 < length t.lines → IsCited t.lines k) }
-    ensures again { IfOk result (λ t. trimmed t ≡ t) }
+    ensures again { IfOk result (λ t. IsTrimOf t t) }
 {
     dsa_trim_laws::trimming();
     let marks = needed(alloc, log)?;

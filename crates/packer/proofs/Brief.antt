@@ -1,12 +1,11 @@
 -- Logs without needless lines, and brackets with such a log.
-use Rattle.std.proofs.Common.{◌≡◌, ℕ, ◌+◌, ◌-◌, ◌≤◌, inl, inr, Bool, true, false, cond, List, [], ◌∷◌, length, Option, None, Some, sym, ap, subst, arith}
+use Rattle.std.proofs.Common.{◌≡◌, ℕ, ◌+◌, ◌-◌, ◌≤◌, inl, inr, Bool, true, false, cond, List, [], ◌∷◌, length, Option, None, Some, sym, ap, ◌∙◌, subst, arith}
 use Rattle.std.proofs.lemmas.List.{length-map}
 use Rattle.dsa_terms.specs.Buffers.{Instance, IsInstance}
 use Rattle.dsa_terms.specs.Bounds.{stack_log}
 use Rattle.dsa_terms.specs.Layouts.{IsInfeasible}
 use Rattle.dsa_terms.specs.Logs.{IsAccepted, Log}
-use Rattle.dsa_terms.specs.Parts.{has}
-use Rattle.dsa_terms.specs.Trims.{kept_lines, moved_line, needed, picked, renumbered, trimmed}
+use Rattle.dsa_terms.specs.Trims.{IsTrimOf, moved_line, picked, rank}
 use Rattle.dsa_search_laws.proofs.Logs.{accepted_is_infeasible}
 use Rattle.dsa_trim_laws.proofs.Picked.{get_in}
 use Rattle.min_capacity.specs.Brackets.{Refutes}
@@ -25,11 +24,10 @@ picked_fewer p n (x ∷ xs) = go (picked_fewer p (n + 1) xs) (p n)
     go h true = omega arith
     go h false = omega arith
 
-pub trimmed_fewer : (log : Log) → length (trimmed log).lines ≤ length log.lines
-unfolding trimmed kept_lines
-trimmed_fewer log =
-    let e = length-map (picked (λ k. has k (needed log)) 0 log.lines) (moved_line (renumbered (needed log))) in
-    let le = picked_fewer (λ k. has k (needed log)) 0 log.lines in
+pub trim_fewer : (log t : Log) → IsTrimOf log t → length t.lines ≤ length log.lines
+trim_fewer log t h =
+    let e = ap length h.lines ∙ length-map (picked h.is_kept 0 log.lines) (moved_line (rank h.is_kept)) in
+    let le = picked_fewer h.is_kept 0 log.lines in
     omega arith
 
 -- ---- a log of one line

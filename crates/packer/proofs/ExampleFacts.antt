@@ -6,7 +6,7 @@ use Rattle.dsa_terms.specs.Claims.{IsIn}
 use Rattle.dsa_terms.specs.Layouts.{IsLayout, IsLeast}
 use Rattle.dsa_terms.specs.Logs.{IsAccepted, Line, Log}
 use Rattle.dsa_terms.specs.Plans.{layout_height}
-use Rattle.dsa_terms.specs.Trims.{IsCited, cited}
+use Rattle.dsa_terms.specs.Trims.{Cites, IsCited}
 use Rattle.dsa_terms.proofs.Examples.{case_12, case_all, evens, five, over_1, over_2, sample, small_below}
 use Rattle.dsa_terms.proofs.ExamplePlanFacts.{five_plan_at_11, five_plan_at_12}
 use Rattle.dsa_search_laws.proofs.Logs.{accepted_is_infeasible}
@@ -32,7 +32,7 @@ sample_is_cited (suc zero) lt =
 sample_is_cited (suc (suc zero)) lt =
     record { number = 4; line = case_all; later = lit< tt; there = refl; cites = inl refl }
 sample_is_cited (suc (suc (suc zero))) lt =
-    record { number = 4; line = case_all; later = lit< tt; there = refl; cites = inr (inl refl) }
+    record { number = 4; line = case_all; later = lit< tt; there = refl; cites = inr (inr (inl refl)) }
 sample_is_cited (suc (suc (suc (suc k)))) lt = absurd (omega arith)
 
 pub sample_is_trimmed : IsTrimmed sample
@@ -45,9 +45,9 @@ with_needless = record { count = 3; capacity = 4; lines = over_2 ∷ over_1 ∷ 
 with_needless_is_not : IsTrimmed with_needless → ⊥
 with_needless_is_not h = go (h.cited 0 (lit< tt))
   where
-    at : (n : ℕ) (line : Line) → 0 < n → slice_get with_needless.lines n ≡ Some line → IsIn 0 (cited line) → ⊥
+    at : (n : ℕ) (line : Line) → 0 < n → slice_get with_needless.lines n ≡ Some line → Cites line 0 → ⊥
     at zero line lt e i = omega (arith, lt)
-    at (suc zero) line lt e i = let q : over_1 ≡ line = cc in subst (λ (l : Line). IsIn 0 (cited l)) (sym q) i
+    at (suc zero) line lt e i = let q : over_1 ≡ line = cc in subst (λ (l : Line). Cites l 0) (sym q) i
     at (suc (suc n)) line lt e i = absurd cc
 
     go : IsCited with_needless.lines 0 → ⊥

@@ -23,7 +23,7 @@ IsNone old new name I s = IsUnreadable old new role.Log name log_limit s
     ⊎ HoldsNoText old name s ⊎ HoldsNoRefutation old name I s
 
 -- the file gives no accepted log, so the course ends here
-pub no_log : (old new : FilesSeen) (name : Word) (I : Instance) (s : Status) (accepted : Log → Outcome) →
+pub no_log : (old new : FilesSeen) (name : Word) (I : Instance) (s : Status) (accepted : Log → Outcome → Type 0) →
     IsNone old new name I s → Comes old new (checked name I accepted) (says s)
 no_log old new name I s accepted (inl failed) = inl (failed, refl)
 no_log old new name I s accepted (inr (inl holds)) =
@@ -46,22 +46,22 @@ no_log old new name I s accepted (inr (inr holds)) =
     )
 
 -- the file gives an accepted log, by which the course concludes
-pub with_log : (old new : FilesSeen) (name : Word) (I : Instance) (g : Log) (accepted : Log → Outcome) →
-    HoldsAccepted old name I g → (o : Outcome) → IsSpoken o.status → o ≡ accepted g →
+pub with_log : (old new : FilesSeen) (name : Word) (I : Instance) (g : Log) (accepted : Log → Outcome → Type 0) →
+    HoldsAccepted old name I g → (o : Outcome) → IsSpoken o.status → accepted g o →
     Comes old new (checked name I accepted) o
 with_log old new name I g accepted holds o spoken is =
     inr (holds.bytes, holds.whole, (spoken, is_accepted g holds.says holds.accepted is))
 
 -- the input gives an instance, and then the log's file is checked
-module _ (old mid new : FilesSeen) (input log : Word) (accepted : Log → Outcome) (table : List Record) (J : Instance)
-    (given : (I : Instance) × IsInput old input table I) (parsed : parse table ≡ Ok J) (same : mid.held ≡ old.held)
-    (none : NoneFell old.faults mid.faults) where
+module _ (old mid new : FilesSeen) (input log : Word) (accepted : Log → Outcome → Type 0)
+    (table : List Record) (J : Instance) (given : (I : Instance) × IsInput old input table I)
+    (parsed : parse table ≡ Ok J) (same : mid.held ≡ old.held) (none : NoneFell old.faults mid.faults) where
   pub not_checked : (s : Status) → IsNone mid new log J s →
       Comes old new (opened input (λ t I. checked log I accepted)) (says s)
   not_checked s gives = with_input old mid new input table J (λ t I. checked log I accepted) given parsed same none
       (says s) (no_log mid new log J s accepted gives)
 
-  pub then_checked : (g : Log) → HoldsAccepted mid log J g → (o : Outcome) → IsSpoken o.status → o ≡ accepted g →
+  pub then_checked : (g : Log) → HoldsAccepted mid log J g → (o : Outcome) → IsSpoken o.status → accepted g o →
       Comes old new (opened input (λ t I. checked log I accepted)) o
   then_checked g holds o spoken is = with_input old mid new input table J (λ t I. checked log I accepted) given parsed
       same none o (with_log mid new log J g accepted holds o spoken is)

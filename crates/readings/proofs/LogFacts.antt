@@ -33,10 +33,10 @@ no_header = fault.no_header (λ version count capacity rest h. none h.text)
     none : {x : ℕ} {xs : List ℕ} → [] ≡ x ∷ xs → ⊥
     none e = cc
 
-module _ (bytes : List ℕ) (accepted : Log → Outcome) where
-  sample_goes_on : IsAccepted evens sample → Says bytes (raw_log_of sample) →
-      Checks evens bytes accepted (accepted sample)
-  sample_goes_on legal is = is_accepted sample is legal refl
+module _ (bytes : List ℕ) (accepted : Log → Outcome → Type 0) where
+  sample_goes_on : (o : Outcome) → IsAccepted evens sample → Says bytes (raw_log_of sample) → accepted sample o →
+      Checks evens bytes accepted o
+  sample_goes_on o legal is has = is_accepted sample is legal has
 
   forged_is_refused : Says bytes forged →
       Checks evens bytes accepted (says (status.LogRefused (cause.Check (check.Illegal 0 reason.NotOver))))

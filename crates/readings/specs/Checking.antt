@@ -20,15 +20,15 @@ abbrev pub log_limit : ℕ
 log_limit = 2 ^ 40
 
 -- the bytes say no log, or a log that is not accepted for the instance, each told by its first fault; or they say an
--- accepted log, from which this follows
-pub data Checks (I : Instance) (bytes : List ℕ) (accepted : Log → Outcome) (o : Outcome) : Type 0 where
+-- accepted log, which has such an outcome
+pub data Checks (I : Instance) (bytes : List ℕ) (accepted : Log → Outcome → Type 0) (o : Outcome) : Type 0 where
   no_text : (fault : TextFault) → IsFirstFault bytes fault → o ≡ says (LogRefused (Text fault)) →
       Checks I bytes accepted o
   not_accepted : (raw : RawLog) (fault : CheckFault) → Says bytes raw → check_fault I raw ≡ Some fault →
       o ≡ says (LogRefused (Check fault)) → Checks I bytes accepted o
-  is_accepted : (log : Log) → Says bytes (raw_log_of log) → IsAccepted I log → o ≡ accepted log →
+  is_accepted : (log : Log) → Says bytes (raw_log_of log) → IsAccepted I log → accepted log o →
       Checks I bytes accepted o
 
--- reads a log's file, and concludes by the accepted log that it says
-abbrev pub checked : Word → Instance → (Log → Outcome) → Course
+-- reads a log's file, and concludes with an outcome of the accepted log that it says
+abbrev pub checked : Word → Instance → (Log → Outcome → Type 0) → Course
 checked name I accepted = Reads role.Log name log_limit (λ bytes. Concludes (Checks I bytes accepted))

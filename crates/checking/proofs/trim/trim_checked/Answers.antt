@@ -1,26 +1,23 @@
-use Rattle.std.proofs.Common.{refl}
-use Rattle.run_course.proofs.Silently.{concluded, silently}
+use Rattle.run_course.proofs.Silently.{silently}
 use Rattle.readings.specs.Checking.{checked}
-use Rattle.readings.proofs.CheckedLogs.{no_log, with_log}
-use Rattle.checking.specs.Checking.{trimming}
+use Rattle.readings.proofs.CheckedLogs.{no_log}
+use Rattle.checking.specs.Checking.{Trims}
+use Rattle.checking.proofs.TrimmedLogs.{trims_come}
 use Rattle.checking.proofs.trim.trim_checked.Goals as goal
 
 pub returns-in-Accepted-clause-comes : goal.returns-in-Accepted-clause-comes
 returns-in-Accepted-clause-comes g c =
     let found = rw c.in-Accepted.is at c.in_ok-original.ensures.checked in
-    concluded (g.F.Files.seen c.args.files.now) (g.F.Files.seen c.read_checked_log.new.files)
-    (checked c.args.words.now.log.now c.args.instance.now (trimming c.args.words.now.output.now))
-    (trimming c.args.words.now.output.now c.in-Accepted.original) c.needed_lines.result c.needed_lines.ensures
-    (with_log (g.F.Files.seen c.args.files.now) (g.F.Files.seen c.read_checked_log.new.files)
-    c.args.words.now.log.now c.args.instance.now c.in-Accepted.original (trimming c.args.words.now.output.now) found
-    (trimming c.args.words.now.output.now c.in-Accepted.original) tt refl)
+    trims_come (g.F.Files.seen c.args.files.now) (g.F.Files.seen c.read_checked_log.new.files)
+    c.args.words.now.log.now c.args.words.now.output.now c.args.instance.now c.in-Accepted.original
+    c.needed_lines.result found c.needed_lines.ensures
 
 pub returns-in-Unaccepted-clause-comes : goal.returns-in-Unaccepted-clause-comes
 returns-in-Unaccepted-clause-comes g c =
     let found = rw c.in-Unaccepted.is at c.in_ok-original.ensures.checked in
     silently (g.F.Files.seen c.args.files.now) (g.F.Files.seen c.read_checked_log.new.files)
-    (checked c.args.words.now.log.now c.args.instance.now (trimming c.args.words.now.output.now))
+    (checked c.args.words.now.log.now c.args.instance.now (Trims c.args.words.now.output.now))
     c.in-Unaccepted.status
     c.silent.result c.silent.ensures
     (no_log (g.F.Files.seen c.args.files.now) (g.F.Files.seen c.read_checked_log.new.files)
-    c.args.words.now.log.now c.args.instance.now c.in-Unaccepted.status (trimming c.args.words.now.output.now) found)
+    c.args.words.now.log.now c.args.instance.now c.in-Unaccepted.status (Trims c.args.words.now.output.now) found)

@@ -33,8 +33,8 @@ is_carried : (c : goal.After-drop-all-inside-2) →
 is_carried c =
     ended_is_carried c.args.instance.now c.in_ok-some.some c.args.before.now c.args.members.now c.deref.result.now
     c.args.log.now c.in_ok-log.log c.in-Ok.closed c.in_ok-renamed.renamed c.end.result c.in_ok-some.ensures.value
-    c.in_ok-log.ensures.value (c.deref.ensures.value ∙ c.in_ok-places.ensures) c.in_ok-renamed.ensures.value
-    c.end.ensures.value c.in-Ok.ensures.closed
+    c.requires.needs c.in_ok-log.ensures.value (c.deref.ensures.value ∙ c.in_ok-places.ensures)
+    c.in_ok-renamed.ensures.value c.end.ensures.value c.in-Ok.ensures.closed
 
 pub returns-clause-value : goal.returns-clause-value
 returns-clause-value c = is_carried c

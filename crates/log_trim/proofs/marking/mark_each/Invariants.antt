@@ -1,6 +1,6 @@
 use Rattle.std.proofs.Common.{map, take}
 use Rattle.std.specs.List.{flat_map}
-use Rattle.dsa_terms.specs.Trims.{cited_line}
+use Rattle.dsa_trim_laws.specs.Trimmed.{cited_line}
 use Rattle.refute_log.specs.Lines.{cite_value}
 use Rattle.log_trim.specs.Marks.{AreMarkedToo}
 use Rattle.log_trim.proofs.marking.mark_each.Given as goal

@@ -1,5 +1,5 @@
 use Rattle.std.proofs.Common.{◌≡◌, ◌∙◌, true, false, length, ap, arith}
-use Rattle.dsa_terms.specs.Trims.{needed}
+use Rattle.dsa_trim_laws.specs.Trimmed.{needed}
 use Rattle.dsa_trim_laws.proofs.Needed.{cites_earlier}
 use Rattle.refute_log.specs.Lines.{line_value}
 use Rattle.refute_log.specs.Logs.{OpenLog}

@@ -1,6 +1,7 @@
 use Rattle.std.proofs.Common.{◌≡◌, arith}
-use Rattle.dsa_terms.specs.Trims.{trimmed}
+use Rattle.dsa_trim_laws.specs.Trimmed.{trimmed}
 use Rattle.dsa_trim_laws.proofs.Needed.{cites_earlier}
+use Rattle.dsa_trim_laws.proofs.Trims.{trims_itself}
 use Rattle.log_trim.proofs.Ended.{closed_is, end_claim, some_lines, whole_last}
 use Rattle.log_trim.proofs.trimming.trim.Goals as goal
 
@@ -30,7 +31,7 @@ is_trimmed c = closed_is c.args.instance.now c.args.log.now c.in_ok-kept.kept c.
     c.len-end.ensures.value c.in-Ok.ensures.closed
 
 pub returns-clause-value : goal.returns-clause-value
-returns-clause-value c = is_trimmed c
+returns-clause-value c = rw (is_trimmed c) (c.trimming.ensures.trim _ _ c.requires)
 
 pub returns-clause-end : goal.returns-clause-end
 returns-clause-end c l h = end_claim c.args.log.now c.in-Ok.trimmed l (is_trimmed c)
@@ -42,4 +43,4 @@ returns-clause-cited c =
 
 pub returns-clause-again : goal.returns-clause-again
 returns-clause-again c =
-    rw (is_trimmed c) (c.trimming.ensures.stays c.args.instance.now c.args.log.now c.requires)
+    rw (is_trimmed c) (trims_itself c.args.instance.now c.args.log.now c.requires)
