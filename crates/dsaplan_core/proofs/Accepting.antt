@@ -65,12 +65,12 @@ module _ (words : List Word) (old new : FilesSeen) (before after : SinkSeen) (pa
 
   refuted : (o : Outcome) → Comes old new (course_with verb.Refute pairs) o → P o
   refuted = opened_served old new before after I request ready calm (inl refl, λ same. cc) P
-      (λ table J. checked (word_at pairs option.Log) J (λ log. says (status.Accepted log.capacity)))
+      (λ table J. checked (word_at pairs option.Log) J (λ log o. o ≡ says (status.Accepted log.capacity)))
       (λ table. checked_served old new before after I request ready calm (inr (inl refl)) P
-      (λ log. says (status.Accepted log.capacity))
+      (λ log o. o ≡ says (status.Accepted log.capacity))
       (λ fault read. absurd (is_said old (word_at pairs option.Log) I g holds _ read))
       (λ fault read. absurd (is_accepted old (word_at pairs option.Log) I g holds _ read))
-      (λ log read. at_capacity old (word_at pairs option.Log) I g holds log read))
+      (λ log read o told. subst P (sym told) (at_capacity old (word_at pairs option.Log) I g holds log read)))
 
   -- the answer is that it is accepted at its capacity, or memory runs out
   pub accepts : (s : Status) → Answers (course words) old new before after s → IsAcceptedAt g.capacity s

@@ -20,7 +20,7 @@ use Rattle.readings.specs.Judging.{judged}
 use Rattle.readings.specs.Checking.{checked}
 use Rattle.judging.specs.Judging.{ShowsLayout}
 use Rattle.judging.specs.Drawing.{drawing}
-use Rattle.checking.specs.Checking.{trimming, upgrading}
+use Rattle.checking.specs.Checking.{Trims, upgrading}
 use Rattle.fact_reports.specs.Reporting.{ShowsColumns, ShowsFacts}
 use Rattle.trace_import.specs.Faults.{trace_of}
 use Rattle.trace_import.specs.Traces.{Trace}
@@ -179,21 +179,24 @@ module _ (old new : FilesSeen) (before after : SinkSeen) (I : Instance) where
   done verb.Refute pairs (ready, calm) =
       let r : Request = record { verb = verb.Refute; pairs = pairs } in
       opened_served old new before after I r ready calm (inl refl, λ same. cc) (IsDone verb.Refute pairs)
-      (λ table J. checked (word_at pairs option.Log) J (λ log. says (status.Accepted log.capacity)))
+      (λ table J. checked (word_at pairs option.Log) J (λ log o. o ≡ says (status.Accepted log.capacity)))
       (λ table. checked_served old new before after I r ready calm (inr (inl refl)) (IsDone verb.Refute pairs)
-      (λ log. says (status.Accepted log.capacity)) (λ fault bad. tt) (λ fault bad. tt) (λ log holds. tt))
+      (λ log o. o ≡ says (status.Accepted log.capacity)) (λ fault bad. tt) (λ fault bad. tt)
+      (λ log holds o told. subst (IsDone verb.Refute pairs) (sym told) tt))
   done verb.Trim pairs (ready, calm) =
       let r : Request = record { verb = verb.Trim; pairs = pairs } in
       opened_served old new before after I r ready calm (inl refl, λ same. cc) (IsDone verb.Trim pairs)
-      (λ table J. checked (word_at pairs option.Log) J (trimming (word_at pairs option.Output)))
+      (λ table J. checked (word_at pairs option.Log) J (Trims (word_at pairs option.Output)))
       (λ table. checked_served old new before after I r ready calm (inr (inl refl)) (IsDone verb.Trim pairs)
-      (trimming (word_at pairs option.Output)) (λ fault bad. tt) (λ fault bad. tt) (λ log holds. tt))
+      (Trims (word_at pairs option.Output)) (λ fault bad. tt) (λ fault bad. tt)
+      (λ log holds o done. subst (IsDone verb.Trim pairs) (sym done.outcome) tt))
   done verb.Upgrade pairs (ready, calm) =
       let r : Request = record { verb = verb.Upgrade; pairs = pairs } in
       opened_served old new before after I r ready calm (inl refl, λ same. cc) (IsDone verb.Upgrade pairs)
-      (λ table J. checked (word_at pairs option.Log) J (upgrading (word_at pairs option.Output)))
+      (λ table J. checked (word_at pairs option.Log) J (λ log o. o ≡ upgrading (word_at pairs option.Output) log))
       (λ table. checked_served old new before after I r ready calm (inr (inl refl)) (IsDone verb.Upgrade pairs)
-      (upgrading (word_at pairs option.Output)) (λ fault bad. tt) (λ fault bad. tt) (λ log holds. tt))
+      (λ log o. o ≡ upgrading (word_at pairs option.Output) log) (λ fault bad. tt) (λ fault bad. tt)
+      (λ log holds o told. subst (IsDone verb.Upgrade pairs) (sym told) tt))
   done verb.Bounds pairs (ready, calm) =
       opened_served old new before after I (record { verb = verb.Bounds; pairs = pairs }) ready calm
       (inl refl, λ same. cc)

@@ -96,13 +96,13 @@ module _ (old new : FilesSeen) (P : Outcome → Type 0) where
           (inl (record { bytes = bytes; fault = fault; told = refl; whole = whole; refused = is })))
 
   -- a course that checks a log's file
-  pub checked_gives : (name : Word) (I : Instance) (accepted : Log → Outcome) →
+  pub checked_gives : (name : Word) (I : Instance) (accepted : Log → Outcome → Type 0) →
       IfUnreadable role.Log name log_limit →
       ((fault : TextFault) → HoldsNoText old name (status.LogRefused (refused.Text fault)) →
       P (says (status.LogRefused (refused.Text fault)))) →
       ((fault : CheckFault) → HoldsNoRefutation old name I (status.LogRefused (refused.Check fault)) →
       P (says (status.LogRefused (refused.Check fault)))) →
-      ((log : Log) → HoldsAccepted old name I log → P (accepted log)) →
+      ((log : Log) → HoldsAccepted old name I log → (o : Outcome) → accepted log o → P o) →
       (o : Outcome) → Comes old new (checked name I accepted) o → P o
   checked_gives name I accepted unread no_log no_proof given o (inl failed) =
       unreadable role.Log name log_limit unread o failed.0 failed.1
@@ -120,8 +120,8 @@ module _ (old new : FilesSeen) (P : Outcome → Type 0) where
         says = said;
         refused = first;
       }))
-      told (is_accepted log said accepted is) = subst P (sym is)
-          (given log (record { bytes = bytes; whole = whole; says = said; accepted = accepted }))
+      told (is_accepted log said accepted is) =
+          given log (record { bytes = bytes; whole = whole; says = said; accepted = accepted }) o is
 
   -- a trial
   pub trial_gives : (seed count steps : ℕ) → (buffer_limit < count → P (says (status.TooMany count))) →

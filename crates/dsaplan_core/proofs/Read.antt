@@ -2,7 +2,7 @@
 use Rattle.std.proofs.Common.{◌≡◌, ◌≤◌, ◌^◌, ℕ, List, length, arith, Ok, refl, sym, subst, inl, inr}
 use Rattle.dsa_terms.specs.Logs.{Log}
 use Rattle.dsa_search_laws.proofs.Logs.{accepted_is_infeasible}
-use Rattle.dsa_trim_laws.proofs.Trims.{trimmed_is_accepted}
+use Rattle.dsa_trim_laws.proofs.Trims.{trim_is_accepted}
 use Rattle.dsa_model.proofs.LayoutFaults.{layout_exactly}
 use Rattle.log_text.specs.Text.{raw_log_of}
 use Rattle.log_text.proofs.SaidLogs.{says_again}
@@ -12,7 +12,7 @@ use Rattle.readings.specs.Judging.{judged}
 use Rattle.readings.specs.Checking.{checked}
 use Rattle.judging.specs.Judging.{ShowsLayout}
 use Rattle.judging.specs.Drawing.{drawing}
-use Rattle.checking.specs.Checking.{trimming, upgrading}
+use Rattle.checking.specs.Checking.{Trims, upgrading}
 use Rattle.dsa_outside.specs.Seen.{FilesSeen}
 use Rattle.command_words.specs.Options.{Word}
 use Rattle.command_words.specs.Pairs.{Pair, word_at, number_at}
@@ -28,7 +28,7 @@ use Rattle.dsaplan_core.proofs.Promises.{Promises, asked}
 use Rattle.dsaplan_core.proofs.Refusals.{checked_promises, judged_promises, opened_promises}
 use Rattle.dsaplan_core.specs.Theorem.{GivesLayoutAt, GivesLog}
 use Rattle.dsaplan_core.proofs.ParsedInstances.{parsed_is_instance}
-use Rattle.dsaplan_core.proofs.TrimmedTexts.{trimmed_reads_back}
+use Rattle.dsaplan_core.proofs.TrimmedTexts.{trim_reads_back}
 
 -- a log's file is short
 short_bytes : (bytes : List ℕ) → length bytes ≤ 2 ^ 40 → length bytes ≤ 2 ^ 60
@@ -134,10 +134,10 @@ module _ (words : List Word) (old new : FilesSeen) where
     refute_promises is =
         let name = word_at pairs option.Log in
         opened_promises words old new (r verb.Refute) is (inl refl, λ same. cc)
-        (λ table I. checked name I (λ log. says (status.Accepted log.capacity)))
+        (λ table I. checked name I (λ log o. o ≡ says (status.Accepted log.capacity)))
         (λ table I input. checked_promises words old new (r verb.Refute) is (inr (inl refl)) table I
-        (λ log. says (status.Accepted log.capacity)) input tt
-        (λ log holds. (
+        (λ log o. o ≡ says (status.Accepted log.capacity)) input tt
+        (λ log holds o told. subst (Promises words old new (r verb.Refute)) (sym told) (
           λ files.
               let a = asked words old (r verb.Refute) is table I input in
               ((a, refl, (log, gives_log a log holds, refl), files), tt, tt, tt),
@@ -150,10 +150,10 @@ module _ (words : List Word) (old new : FilesSeen) where
         let name = word_at pairs option.Log in
         let output = word_at pairs option.Output in
         opened_promises words old new (r verb.Trim) is (inl refl, λ same. cc)
-        (λ table I. checked name I (trimming output))
+        (λ table I. checked name I (Trims output))
         (λ table I input. checked_promises words old new (r verb.Trim) is (inr (inl refl)) table I
-        (trimming output) input tt
-        (λ log holds. (
+        (Trims output) input tt
+        (λ log holds o done. subst (Promises words old new (r verb.Trim)) (sym done.outcome) (
           λ files.
               let a = asked words old (r verb.Trim) is table I input in (
                 (
@@ -163,10 +163,12 @@ module _ (words : List Word) (old new : FilesSeen) where
                     log,
                     gives_log a log holds,
                     refl,
-                    refl,
                     record {
-                      accepted = trimmed_is_accepted I log holds.accepted;
-                      readable = trimmed_reads_back I log holds.bytes holds.accepted holds.says;
+                      trim = done.trim;
+                      is_trim = done.is_trim;
+                      count = refl;
+                      accepted = trim_is_accepted I log done.trim holds.accepted done.is_trim;
+                      readable = trim_reads_back I log done.trim holds.bytes holds.accepted holds.says done.is_trim;
                       files = files;
                     },
                   ),
@@ -184,10 +186,10 @@ module _ (words : List Word) (old new : FilesSeen) where
         let name = word_at pairs option.Log in
         let output = word_at pairs option.Output in
         opened_promises words old new (r verb.Upgrade) is (inl refl, λ same. cc)
-        (λ table I. checked name I (upgrading output))
-        (λ table I input. checked_promises words old new (r verb.Upgrade) is (inr (inl refl)) table I (upgrading output)
-        input tt
-        (λ log holds. (
+        (λ table I. checked name I (λ log o. o ≡ upgrading output log))
+        (λ table I input. checked_promises words old new (r verb.Upgrade) is (inr (inl refl)) table I
+        (λ log o. o ≡ upgrading output log) input tt
+        (λ log holds o told. subst (Promises words old new (r verb.Upgrade)) (sym told) (
           λ files.
               let a = asked words old (r verb.Upgrade) is table I input in (
                 (

@@ -104,9 +104,9 @@ module _ (words : List Word) (old new : FilesSeen) (r : Request) (is : request_o
   )
 
   pub checked_promises : IsIn option.Log (reads_of r.verb) → (table : List Record) (I : Instance)
-      (accepted : Log → Outcome) → IsInput old (word_at r.pairs option.Input) table I →
+      (accepted : Log → Outcome → Type 0) → IsInput old (word_at r.pairs option.Input) table I →
       IsChecking r.verb →
-      ((log : Log) → HoldsAccepted old (word_at r.pairs option.Log) I log → P (accepted log)) →
+      ((log : Log) → HoldsAccepted old (word_at r.pairs option.Log) I log → (o : Outcome) → accepted log o → P o) →
       (o : Outcome) → Comes old new (checked (word_at r.pairs option.Log) I accepted) o → P o
   checked_promises read table I accepted input checks =
       checked_gives old new P (word_at r.pairs option.Log) I accepted (unreadable role.Log read)

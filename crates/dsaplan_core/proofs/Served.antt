@@ -104,14 +104,14 @@ module _ (old new : FilesSeen) (before after : SinkSeen) (I : Instance) (r : Req
       judged_gives old new P (word_at r.pairs option.Layout) table I C next (served P role.Layout option.Layout among)
       (λ cause wrong. wrongly cause) (λ offsets gives. given offsets)
 
-  pub checked_served : IsIn option.Log (reads_of r.verb) → (P : Outcome → Type 0) (accepted : Log → Outcome) →
+  pub checked_served : IsIn option.Log (reads_of r.verb) → (P : Outcome → Type 0) (accepted : Log → Outcome → Type 0) →
       ((fault : TextFault) →
       HoldsNoText old (word_at r.pairs option.Log) (status.LogRefused (refused.Text fault)) →
       P (says (status.LogRefused (refused.Text fault)))) →
       ((fault : CheckFault) →
       HoldsNoRefutation old (word_at r.pairs option.Log) I (status.LogRefused (refused.Check fault)) →
       P (says (status.LogRefused (refused.Check fault)))) →
-      ((log : Log) → HoldsAccepted old (word_at r.pairs option.Log) I log → P (accepted log)) →
+      ((log : Log) → HoldsAccepted old (word_at r.pairs option.Log) I log → (o : Outcome) → accepted log o → P o) →
       (o : Outcome) → Comes old new (checked (word_at r.pairs option.Log) I accepted) o → P o
   checked_served among P accepted =
       checked_gives old new P (word_at r.pairs option.Log) I accepted (served P role.Log option.Log among)

@@ -1,5 +1,5 @@
 -- The text of a trimmed log reads back, where bytes say the log.
-use Rattle.std.proofs.Common.{◌≡◌, ◌≢◌, ◌≤◌, ◌+◌, ℕ, suc, Bool, true, false, not, cond, List, [], ◌∷◌, map, length, zip, All, refl, ap, subst, inl, inr, arith}
+use Rattle.std.proofs.Common.{◌≡◌, ◌≢◌, ◌≤◌, ◌+◌, ℕ, suc, Bool, true, false, not, cond, List, [], ◌∷◌, map, length, zip, All, refl, sym, ap, subst, inl, inr, arith}
 use Rattle.std.specs.List.{range_with_len}
 use Rattle.std.proofs.lemmas.List.{length-map}
 use Rattle.std.proofs.lemmas.List.Filters.{length-filter_both}
@@ -9,10 +9,12 @@ use Rattle.dsa_terms.specs.Buffers.{Instance}
 use Rattle.dsa_terms.specs.Claims.{Rises, buffers_of}
 use Rattle.dsa_terms.specs.Logs.{Cite, ByLine, Below, Twin, Line, Over, Cases, Log, IsAccepted}
 use Rattle.dsa_terms.specs.Parts.{has}
-use Rattle.dsa_terms.specs.Trims.{kept_lines, moved_cite, moved_line, needed, picked, renumbered, trimmed}
+use Rattle.dsa_terms.specs.Trims.{IsTrimOf, moved_cite, moved_line, picked}
+use Rattle.dsa_trim_laws.specs.Trimmed.{kept_lines, needed, renumbered, trimmed}
 use Rattle.dsa_terms.proofs.Lists.{has_in, true_or_false}
 use Rattle.dsa_trim_laws.proofs.Picked.{get_in, length-picked, passing, passing_ends}
 use Rattle.dsa_trim_laws.proofs.Needed.{cites_earlier, kept_up_to}
+use Rattle.dsa_trim_laws.proofs.Trims.{trim_is}
 use Rattle.log_text.specs.RawTexts.{HasCite, IsTextOf}
 use Rattle.log_text.specs.Says.{Says}
 use Rattle.log_text.specs.RawLogs.{IsRawCiteWithin, IsRawLineKept}
@@ -109,7 +111,7 @@ module _ (to : ℕ → ℕ) (less : (k : ℕ) → to k ≤ k) where
       go false rest = rest
 
 -- ---- the log
-pub trimmed_reads_back : (I : Instance) (log : Log) (bytes : List ℕ) → IsAccepted I log →
+trimmed_reads_back : (I : Instance) (log : Log) (bytes : List ℕ) → IsAccepted I log →
     Says bytes (raw_log_of log) → IsTextOf (log_text (trimmed log)) (raw_log_of (trimmed log))
 unfolding trimmed kept_lines
 trimmed_reads_back I log bytes accepted says =
@@ -130,3 +132,9 @@ trimmed_reads_back I log bytes accepted says =
           (says_cited bytes (raw_log_of log) says);
       text = refl;
     }
+
+pub trim_reads_back : (I : Instance) (log t : Log) (bytes : List ℕ) → IsAccepted I log →
+    Says bytes (raw_log_of log) → IsTrimOf log t → IsTextOf (log_text t) (raw_log_of t)
+trim_reads_back I log t bytes accepted says is =
+    subst (λ (t : Log). IsTextOf (log_text t) (raw_log_of t)) (sym (trim_is I log t accepted is))
+    (trimmed_reads_back I log bytes accepted says)

@@ -7,7 +7,7 @@ use Rattle.dsa_terms.specs.Buffers.{Instance}
 use Rattle.dsa_terms.specs.Claims.{IsIn}
 use Rattle.dsa_terms.specs.Layouts.{IsLayout, IsInfeasible, IsLeast}
 use Rattle.dsa_terms.specs.Logs.{Log, IsAccepted}
-use Rattle.dsa_terms.specs.Trims.{trimmed}
+use Rattle.dsa_terms.specs.Trims.{IsTrimOf}
 use Rattle.dsa_outside.specs.Held.{file_at, with_file}
 use Rattle.dsa_outside.specs.Seen.{FilesSeen}
 use Rattle.csv_instance.specs.Records.{Record, file_limit, table_of}
@@ -88,12 +88,15 @@ pub record GivesLog {words : List Word} {old : FilesSeen} (a : Asked words old) 
   pub accepted : IsAccepted a.instance log
   pub infeasible : IsInfeasible a.instance log.capacity
 
--- the output holds the text of the log's needed lines alone, which is accepted too
+-- the output holds the text of the log trimmed, which has that many lines and is accepted too
 pub record HoldsTrimmed {words : List Word} {old : FilesSeen} (a : Asked words old) (new : FilesSeen)
-    (log : Log) : Type 0 where
-  pub accepted : IsAccepted a.instance (trimmed log)
-  pub readable : IsTextOf (log_text (trimmed log)) (raw_log_of (trimmed log))
-  pub files : new.held ≡ with_file old.held (word_at a.pairs option.Output) (log_text (trimmed log))
+    (log : Log) (lines : ℕ) : Type 0 where
+  pub trim : Log
+  pub is_trim : IsTrimOf log trim
+  pub count : length trim.lines ≡ lines
+  pub accepted : IsAccepted a.instance trim
+  pub readable : IsTextOf (log_text trim) (raw_log_of trim)
+  pub files : new.held ≡ with_file old.held (word_at a.pairs option.Output) (log_text trim)
 
 -- what the status promises of the files
 abbrev pub Headline : List Word → FilesSeen → FilesSeen → Status → Type 0
@@ -109,6 +112,5 @@ Headline words old new status.Right = (a : Asked words old) × (a.verb ≡ verb.
 Headline words old new (status.Accepted C) = (a : Asked words old) × (a.verb ≡ verb.Refute)
     × ((log : Log) × GivesLog a log × (log.capacity ≡ C)) × (new.held ≡ old.held)
 Headline words old new (status.Trimmed before after) = (a : Asked words old) × (a.verb ≡ verb.Trim)
-    × ((log : Log) × GivesLog a log × (length log.lines ≡ before) × (length (trimmed log).lines ≡ after)
-    × HoldsTrimmed a new log)
+    × ((log : Log) × GivesLog a log × (length log.lines ≡ before) × HoldsTrimmed a new log after)
 Headline words old new status = Unit {0}
