@@ -4,7 +4,7 @@ ghost use Rattle.std.specs.Prelude.{◌≡◌, IfOk, string_bytes};
 ghost use Rattle.log_check.specs.FaultTexts.{check_text, count_text, end_fault_text, illegal_text};
 
 use crate::CheckFault;
-use dsa_model::NoMemory;
+use dsa_model::{NoMemory, number_text};
 use std::alloc::Global;
 
 /// A count that a log says, and the instance's.
@@ -39,7 +39,7 @@ impl CheckFault {
                 let text = reason.text(alloc)?;
                 illegal_text(alloc, line, text.as_str())
             }
-            CheckFault::EndRange { end } => Ok(format!(in alloc; "end {end}")?),
+            CheckFault::EndRange { end } => number_text(alloc, "end", end),
             CheckFault::EndNotWhole { end, buffer } => end_text(alloc, end, buffer),
         }
     }
