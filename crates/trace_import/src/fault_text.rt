@@ -4,7 +4,7 @@ ghost use Rattle.std.specs.Prelude.{◌≡◌, IfOk, string_bytes};
 ghost use Rattle.trace_import.specs.FaultTexts.{still_live_text, trace_fault_text};
 
 use crate::TraceFault;
-use dsa_model::NoMemory;
+use dsa_model::{NoMemory, number_text};
 use std::alloc::Global;
 
 /// A line that allocates what an earlier one holds.
@@ -20,14 +20,20 @@ impl TraceFault {
         ensures text { IfOk result (λ text. string_bytes text ≡ trace_fault_text self) }
     {
         match self {
-            TraceFault::BadLine { line } => Ok(format!(in alloc; "bad line {line}")?),
-            TraceFault::BadSize { line } => Ok(format!(in alloc; "bad size {line}")?),
-            TraceFault::BadAlignment { line } => Ok(format!(in alloc; "bad alignment {line}")?),
+            TraceFault::BadLine { line } => number_text(alloc, "bad line", u64::from(line)),
+            TraceFault::BadSize { line } => number_text(alloc, "bad size", u64::from(line)),
+            TraceFault::BadAlignment { line } => number_text(
+                alloc,
+                "bad alignment",
+                u64::from(line),
+            ),
             TraceFault::StillLive { line, earlier } => still_live_text(alloc, line, earlier),
-            TraceFault::NotLive { line } => Ok(format!(in alloc; "not live {line}")?),
-            TraceFault::TooManyBuffers { line } => {
-                Ok(format!(in alloc; "too many buffers {line}")?)
-            }
+            TraceFault::NotLive { line } => number_text(alloc, "not live", u64::from(line)),
+            TraceFault::TooManyBuffers { line } => number_text(
+                alloc,
+                "too many buffers",
+                u64::from(line),
+            ),
         }
     }
 }
