@@ -27,7 +27,7 @@ pub(crate) struct Stack {
     /// For each buffer that is not stacked yet, by number, the least offset at which it does not
     /// meet those that are; `STACKED` for one that is.
     lows: Vec<u64>,
-    /// How high the stack is in each column, in bytes.
+    /// Where the buffer that was stacked last in each column ends, in bytes.
     tops: Vec<u64>,
     /// Whether of the buffers that can start lowest one with fewer open sides comes first.
     snug: bool,
@@ -86,7 +86,7 @@ impl Stack {
         open
     }
 
-    /// The columns of the buffer are as high as its end.
+    /// The columns of the buffer are as high as its end, in a snug stack: no other asks for them.
     fn top_up(&mut self, instance: &Instance, sides: &Sides, b: u32, end: u64)
         requires stack { IsStackOf instance.now self.old }
         requires sides { AreSidesOf instance.now sides.now }
@@ -94,6 +94,9 @@ impl Stack {
         ensures { IsStackOf instance.now self.new }
     {
         let _count = instance.len();
+        if !self.snug {
+            return;
+        }
         for column in sides.left[b as usize] + 1..sides.right[b as usize] {
             self.tops[column] = end;
         }
@@ -186,9 +189,9 @@ impl Stack {
 
     /// Stacks all buffers anew: of those that are left always the one that can start lowest goes
     /// where it can start, in a snug stack of equals one with fewest open sides, and of equals the
-    /// one of the first place in the ranking. This is the rule of
-    /// the lowest gap in strip packing (Burke, Kendall and Whitwell), the places in time being
-    /// given. Tells the height, in bytes; none where it would be above the limit.
+    /// one of the first place in the ranking. The lowest gap is filled first in the strip packing
+    /// of Burke, Kendall and Whitwell too; here the places in time are given. Tells the height, in
+    /// bytes; none where it would be above the limit.
     ///
     /// First-fit in the order in which they were stacked puts no buffer higher.
     ///

@@ -25,10 +25,11 @@ use skyline::Skyline;
 use std::alloc::Global;
 use std::marker::Model;
 
-/// The levels of the last claims above the one that the search is at are kept: of so many claims,
-/// and of as many more as this number has squares of the count of buffers.
+/// Of so many of the last claims above the one that the search is at the levels are kept, however
+/// many buffers there are.
 const NEAR: usize = 4;
 
+/// And of as many more as this number has squares of the count of buffers.
 const NEAR_SQUARES: u32 = 1 << 26;
 
 /// Of the claims above these the levels of one in so many are kept.
@@ -113,7 +114,7 @@ impl<'a> Path<'a> {
         }
     }
 
-    /// Drops the levels of a claim that is far above.
+    /// Drops the levels and the order of a claim that is far above.
     fn forget(&mut self)
         ensures { self.new ≡ self.old }
     {
