@@ -113,21 +113,29 @@ fn packed_within<'a>(
 }
 
 /// What is written and told of the table's instance, by searches in several orders of its buffers.
+/// They use no more steps than those that are not for placings, and where the least capacity or the
+/// capacity that is given stays open they have used all of these.
 fn packed<'a>(
     alloc: Global,
     words: &Pack<'a>,
     table: &Table,
     instance: &Instance,
+    tries: &mut Portfolio,
 ) -> Result<Prepared<'a>, NoMemory>
     requires capacity { IfSome words.now.capacity (λ C. C ≤ number_limit) }
     requires steps { words.now.steps ≤ number_limit }
     requires count { length table.now ≡ length instance.now + 1 }
-    ensures { IfOk result (λ p. Packs (pack_of words.now) table.now instance.now (outcome_of p)) }
+    requires unused { tries.old ≡ at_start instance.now }
+    ensures value { IfOk result (λ p. Packs (pack_of words.now) table.now instance.now
+        (outcome_of p)) }
+    ensures used { tries.new.units ≤ tries.old.units +
+        (words.now.steps - placing_steps words.now.steps) }
+    ensures exhausted { IfOk result (λ p.
+        IfLeavesOpen (outcome_of p) (AreUsedUp words.now.steps tries.old.units tries.new.units)) }
 {
-    let mut tries = Portfolio::new(alloc, instance)?;
     match words.capacity {
-        Some(capacity) => packed_within(alloc, words, capacity, table, instance, &mut tries),
-        None => packed_least(alloc, words, table, instance, &mut tries),
+        Some(capacity) => packed_within(alloc, words, capacity, table, instance, tries),
+        None => packed_least(alloc, words, table, instance, tries),
     }
 }
 
@@ -142,6 +150,8 @@ impl<'a> Command<'a> for Pack<'a> {
             Input::Table(table) => table,
             Input::Missing(status) => return silent(alloc, status),
         };
-        packed(alloc, self, &table, table.instance())
+        let instance = table.instance();
+        let mut tries = Portfolio::new(alloc, instance)?;
+        packed(alloc, self, &table, instance, &mut tries)
     }
 }

@@ -15,6 +15,6 @@ pub returns-clause-comes : goal.returns-clause-comes
 returns-clause-comes g c =
     let words = pack_of c.args.self.now in
     concluded (g.F.Files.seen c.args.files.now) (g.F.Files.seen c.open_input.new.files) c.args.self.now.input.now
-    c.in-Table.table c.instance.result.now (Packs words) (rw c.in-Table.is at c.in_ok-table.ensures.input)
-    c.instance.ensures.parsed c.in_ok-table.ensures.files c.in_ok-table.ensures.counts
-    (packed_spoken words c.in-Table.table c.instance.result.now) c.packed.result c.packed.ensures
+    c.in-Table.table c.instance-instance.result.now (Packs words) (rw c.in-Table.is at c.in_ok-table.ensures.input)
+    c.instance-instance.ensures.parsed c.in_ok-table.ensures.files c.in_ok-table.ensures.counts
+    (packed_spoken words c.in-Table.table c.instance-instance.result.now) c.packed.result c.packed.ensures.value
