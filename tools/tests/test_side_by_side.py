@@ -15,14 +15,6 @@ side_by_side = importlib.util.module_from_spec(importlib.util.spec_from_loader("
 loader.exec_module(side_by_side)
 
 
-class Parts:
-    """Stands in for the module of rt."""
-
-    @staticmethod
-    def files_of(folder):
-        return [os.path.abspath(__file__)]
-
-
 class Library:
     """A library that takes a moment to build, and notes what was built when it began."""
 
@@ -51,9 +43,10 @@ class SideBySide(unittest.TestCase):
         left, right = Library("left", low), Library("right", low)
         self.all = [low, left, right, Library("top", left, right)]
 
-    def build(self, crates, count=4):
-        with contextlib.redirect_stdout(io.StringIO()) as said:
-            done = side_by_side.Build(Parts, crates, count).run()
+    def build(self, crates, count=4, memory=100, print_to=None):
+        said = io.StringIO()
+        needs = {it.name: 10 for it in crates}
+        done = side_by_side.Build(crates, needs, count, memory, print_to or said).run()
         return done, said.getvalue().splitlines()
 
     def test_each_library_comes_after_its_own(self):
@@ -70,6 +63,23 @@ class SideBySide(unittest.TestCase):
         self.assertTrue(self.build(crates, 3)[0])
         self.assertEqual(Library.most, 3)
 
+    def test_no_more_are_built_at_a_time_than_memory_is_there_for(self):
+        self.assertTrue(self.build([Library(f"l{k}") for k in range(9)], 4, memory=25)[0])
+        self.assertEqual(Library.most, 2)
+
+    def test_a_library_that_needs_more_than_there_is_is_built_alone(self):
+        self.assertTrue(self.build([Library(f"l{k}") for k in range(3)], 4, memory=5)[0])
+        self.assertEqual(Library.most, 1)
+
+    def test_a_reader_that_is_gone_ends_the_build(self):
+        reader, writer = os.pipe()
+        os.close(reader)
+        with os.fdopen(writer, "w") as gone:
+            self.assertFalse(self.build(self.all, print_to=gone)[0])
+            self.assertNotIn("top", Library.built)
+            with contextlib.suppress(BrokenPipeError):
+                gone.close()
+
     def test_nothing_is_built_over_a_library_that_fails(self):
         self.all[1].fails = True
         done, said = self.build(self.all)
@@ -81,7 +91,7 @@ class SideBySide(unittest.TestCase):
         self.all[2].build_rlib = None
         done, said = self.build(self.all)
         self.assertFalse(done)
-        self.assertTrue(any(line.startswith("error: right: TypeError") for line in said))
+        self.assertTrue(any(line.startswith("side by side: right: TypeError") for line in said))
 
 
 if __name__ == "__main__":
