@@ -11,7 +11,8 @@ pub returns-in-Accepted-clause-comes : goal.returns-in-Accepted-clause-comes
 returns-in-Accepted-clause-comes g c =
     let found = rw c.in-Accepted.is at c.in_ok-log.ensures.checked in
     silently (g.F.Files.seen c.args.files.now) (g.F.Files.seen c.read_checked_log.new.files)
-    (checked c.args.words.now.log.now c.args.instance.now (λ (log : Log) (o : Outcome). o ≡ says (status.Accepted log.capacity)))
+    (checked c.args.words.now.log.now c.args.instance.now
+    (λ (log : Log) (o : Outcome). o ≡ says (status.Accepted log.capacity)))
     (status.Accepted c.capacity-capacity.result) c.silent.result c.silent.ensures
     (with_log (g.F.Files.seen c.args.files.now) (g.F.Files.seen c.read_checked_log.new.files)
     c.args.words.now.log.now c.args.instance.now c.in-Accepted.log
@@ -23,7 +24,8 @@ pub returns-in-Unaccepted-clause-comes : goal.returns-in-Unaccepted-clause-comes
 returns-in-Unaccepted-clause-comes g c =
     let found = rw c.in-Unaccepted.is at c.in_ok-log.ensures.checked in
     silently (g.F.Files.seen c.args.files.now) (g.F.Files.seen c.read_checked_log.new.files)
-    (checked c.args.words.now.log.now c.args.instance.now (λ (log : Log) (o : Outcome). o ≡ says (status.Accepted log.capacity)))
+    (checked c.args.words.now.log.now c.args.instance.now
+    (λ (log : Log) (o : Outcome). o ≡ says (status.Accepted log.capacity)))
     c.in-Unaccepted.status
     c.silent-in-Unaccepted.result c.silent-in-Unaccepted.ensures
     (no_log (g.F.Files.seen c.args.files.now) (g.F.Files.seen c.read_checked_log.new.files)

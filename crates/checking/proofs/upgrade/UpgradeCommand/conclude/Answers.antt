@@ -9,7 +9,9 @@ use Rattle.checking.proofs.upgrade.UpgradeCommand.conclude.Goals as goal
 pub returns-in-Missing-clause-comes : goal.returns-in-Missing-clause-comes
 returns-in-Missing-clause-comes g c =
     missing (g.F.Files.seen c.args.files.now) (g.F.Files.seen c.open_input.new.files) c.args.self.now.input.now
-    c.in-Missing.status (λ t I. checked c.args.self.now.log.now I (λ (log : Log) (o : Outcome). o ≡ upgrading c.args.self.now.output.now log))
+    c.in-Missing.status
+    (λ t I. checked c.args.self.now.log.now I
+    (λ (log : Log) (o : Outcome). o ≡ upgrading c.args.self.now.output.now log))
     c.silent.result
     (rw c.in-Missing.is at c.in_ok-table.ensures.input) c.silent.ensures
 
@@ -17,7 +19,8 @@ pub returns-clause-comes : goal.returns-clause-comes
 returns-clause-comes g c =
     goes_on (g.F.Files.seen c.args.files.now) (g.F.Files.seen c.open_input.new.files)
     (g.F.Files.seen c.upgrade_checked.new.files) c.args.self.now.input.now c.in-Table.table c.instance.result.now
-    (λ t I. checked c.args.self.now.log.now I (λ (log : Log) (o : Outcome). o ≡ upgrading c.args.self.now.output.now log))
+    (λ t I. checked c.args.self.now.log.now I
+    (λ (log : Log) (o : Outcome). o ≡ upgrading c.args.self.now.output.now log))
     (rw c.in-Table.is at c.in_ok-table.ensures.input)
     c.instance.ensures.parsed c.in_ok-table.ensures.files c.in_ok-table.ensures.counts c.upgrade_checked.result
     c.upgrade_checked.ensures.comes
