@@ -1,14 +1,19 @@
 -- What an iterator over the records of a slice is to give.
-use Rattle.std.proofs.Common.{◌≡◌, ◌<◌, ◌∷◌, ◌++◌, ◌∙◌, ℕ, List, true, false, Some, None, [], refl, sym, ap, inl, inr, append_assoc, Bor}
-use Rattle.csv.specs.Reading.{Reached, ReadRecord, default_config, source_of, strip_bom}
+use Rattle.std.proofs.Common.{Result, Ok, Err, IfOk, ◌≡◌, ◌<◌, ◌∷◌, ◌++◌, ◌∙◌, ℕ, List, true, false, Some, None, [], refl, sym, ap, inl, inr, append_assoc, Bor}
+use Rattle.dsa_terms.proofs.Lists.{same_some}
+use Rattle.std.specs.List.{All}
+use Rattle.csv.specs.Records.{Row, fields_of}
+use Rattle.csv.specs.Reading.{Reached, ReadRecord, RowStep, default_config, source_of, strip_bom}
+use Rattle.csv.specs.declared.error.Error.{Error}
 use Rattle.csv.specs.declared.iter.ByteRecordsIntoIter.{ByteRecordsIntoIter}
 use Rattle.csv.specs.declared.reader.Reader.{Reader}
 use Rattle.csv.specs.declared.reader.Trim.TheVariants as trim
 use Rattle.csv.specs.declared.parser.State.TheVariants as st
 use Rattle.csv.proofs.ReadFacts.{rows-end, rows-more}
-use Rattle.csv_instance.specs.Records.{Record, table_of}
-use Rattle.csv_instance.specs.Gives.{Gives, records_left}
+use Rattle.csv_instance.specs.Records.{HasShortFields, Record, table_of}
+use Rattle.csv_instance.specs.Gives.{GaveRecord, Gives, records_left}
 use Rattle.csv_instance.proofs.Left.{left-first, left-none}
+use Rattle.csv_instance.proofs.Short.{all_middle}
 
 -- a step that gives a record gives the first of them
 pub gives-some : (a b : ByteRecordsIntoIter (Bor (List ℕ))) (left : List Record) (fields : Record) → Gives a left
@@ -42,6 +47,29 @@ pub gives-none : (a b : ByteRecordsIntoIter (Bor (List ℕ))) (left : List Recor
 gives-none a b left g read =
     g.gives ∙ left-none default_config a.rdr.state g.rest
     (rows-end (λ (s : Bor (List ℕ)). Some s.now) a.rdr b.rdr [] default_config g.rest g.config g.source read)
+
+-- what was given next, if it is a record that has P, is the first of the records that were left
+pub gave-first : (a b : ByteRecordsIntoIter (Bor (List ℕ))) (left : List Record) (row : Result Row Error)
+    (P : Record → Type 0) → Gives a left → RowStep (λ (s : Bor (List ℕ)). Some s.now) a.rdr b.rdr b.left (Some row)
+    → GaveRecord row P → (fields : Record) × P fields × (more : List Record) × (left ≡ fields ∷ more) × Gives b more
+gave-first a b left (Ok row) P g s h = let (more, first, on) = gives-some a b left (fields_of row) g s.0 s.1 s.2 in
+    (fields_of row, h, more, first, on)
+gave-first a b left (Err e) P g s h = absurd h
+
+-- and no longer than those
+pub gave-short : (a b : ByteRecordsIntoIter (Bor (List ℕ))) (left : List Record) (row : Result Row Error) → Gives a left
+    → RowStep (λ (s : Bor (List ℕ)). Some s.now) a.rdr b.rdr b.left (Some row) → All HasShortFields left
+    → IfOk row (λ r. HasShortFields (fields_of r))
+gave-short a b left (Ok row) g s short =
+    let (more, first, on) = gives-some a b left (fields_of row) g s.0 s.1 s.2 in
+    all_middle HasShortFields [] (fields_of row) more (rw first at short)
+gave-short a b left (Err e) g s short = tt
+
+-- it gives one list of records
+pub gives-same : (it : ByteRecordsIntoIter (Bor (List ℕ))) (left other : List Record) → Gives it left → Gives it other
+    → left ≡ other
+gives-same it left other g h = g.gives ∙ ap (records_left default_config it.rdr.state)
+    (same_some (sym g.source ∙ h.source)) ∙ sym h.gives
 
 -- an iterator over a fresh reader of a slice gives the records of the slice
 pub gives-all : (it : ByteRecordsIntoIter (Bor (List ℕ))) (r : Reader (Bor (List ℕ))) (bytes : List ℕ) → it.rdr ≡ r

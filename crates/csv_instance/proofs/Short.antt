@@ -21,13 +21,17 @@ pub all_cons : {X : Type 0} (P : X → Type 0) (x : X) (xs : List X) → P x →
 all_cons P x xs h t zero d k = h
 all_cons P x xs h t (suc i) d k = t i d (omega arith)
 
-all_tail : {X : Type 0} (P : X → Type 0) (x : X) (xs : List X) → All P (x ∷ xs) → All P xs
+pub all_tail : {X : Type 0} (P : X → Type 0) (x : X) (xs : List X) → All P (x ∷ xs) → All P xs
 all_tail P x xs h i d k = h (suc i) d (omega arith)
 
 pub all_middle : {X : Type 0} (P : X → Type 0) (front : List X) (x : X) (more : List X) → All P (front ++ x ∷ more)
     → P x
 all_middle P [] x more h = h 0 x (omega arith)
 all_middle P (y ∷ front) x more h = all_middle P front x more (all_tail P y (front ++ x ∷ more) h)
+
+pub all_later : {X : Type 0} (P : X → Type 0) (front more : List X) → All P (front ++ more) → All P more
+all_later P [] more h = h
+all_later P (y ∷ front) more h = all_later P front more (all_tail P y (front ++ more) h)
 
 one_more : (n : ℕ) (fields : List (List ℕ)) (field : List ℕ) → Within n fields → length field ≤ n
     → Within n (fields ++ field ∷ [])

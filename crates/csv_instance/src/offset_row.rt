@@ -4,6 +4,7 @@ ghost use Rattle.std.specs.Prelude.{◌≡◌, ◌<◌, ◌^◌, ◌++◌, ◌�
 ghost use Rattle.csv.specs.Records.{fields_of};
 ghost use Rattle.dsa_model.specs.Fails.{UnlessNoMemory};
 ghost use Rattle.csv_instance.specs.Found.{AreColumns, AreOf};
+ghost use Rattle.csv_instance.specs.Gives.{GaveRecord};
 ghost use Rattle.csv_instance.specs.Offsets.{layout_header_fault, layout_row_fault, offset_in};
 ghost use Rattle.csv_instance.specs.Records.{Record};
 
@@ -89,7 +90,7 @@ fn read_offset(
 }
 
 /// Puts the id and the offset of a row behind those of the rows before it.
-pub(crate) fn note_row(
+fn note_row(
     alloc: Global,
     ids: &IndexSet<Vec<u8>>,
     columns: &OffsetColumns,
@@ -115,4 +116,27 @@ pub(crate) fn note_row(
         return Err(Fail::NoMemory);
     }
     Ok(())
+}
+
+/// Does so with a record, and wants memory where the record could not be read.
+pub(crate) fn note_next(
+    alloc: Global,
+    ids: &IndexSet<Vec<u8>>,
+    columns: &OffsetColumns,
+    row: Result<ByteRecord, csv::Error>,
+    found: &mut IndexMap<Vec<u8>, u64>,
+) -> Result<(), Fail<OffsetsFault>>
+    requires { length found.old.entries < 2 ^ 32 }
+    ensures { let known = map (λ k. k.items) ids.now.keys in
+        (header : Record) → (before : List Record) → AreColumns header columns.now
+        → AreOf header before found.old.entries → UnlessNoMemory result
+        (λ _. GaveRecord row (λ fields. (layout_row_fault known header before fields ≡ None)
+        × AreOf header (before ++ fields ∷ []) found.new.entries))
+        (λ fault. GaveRecord row
+        (λ fields. layout_row_fault known header before fields ≡ Some fault)) }
+{
+    match row {
+        Ok(row) => note_row(alloc, ids, columns, &row, found),
+        Err(_) => Err(Fail::NoMemory),
+    }
 }

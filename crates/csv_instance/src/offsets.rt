@@ -1,21 +1,69 @@
 //! A layout file, read.
 
-ghost use Rattle.std.specs.Prelude.{◌≡◌, ◌≤◌, ◌+◌, List, ℕ, IfOk, Ok, Err, Some, length, map, not, is_some, option_map, position};
+ghost use Rattle.std.specs.Prelude.{◌≡◌, ◌∷◌, ◌<◌, ◌≤◌, ◌+◌, ◌^◌, List, ℕ, IfOk, Ok, Err, Some, None, length, map, not, is_some, option_map, position};
 ghost use Rattle.dsa_model.specs.Buffer.{buffer_limit};
 ghost use Rattle.dsa_model.specs.Fails.{UnlessNoMemory};
-ghost use Rattle.csv_instance.specs.Found.{AreFound, by_buffer};
+ghost use Rattle.csv_instance.specs.Found.{AreColumns, AreFound, by_buffer};
+ghost use Rattle.csv_instance.specs.Gives.{Gives};
 ghost use Rattle.csv_instance.specs.Layout.{layout_text};
-ghost use Rattle.csv_instance.specs.Offsets.{AreOffsets, ids_of, parsed_offsets};
-ghost use Rattle.csv_instance.specs.Records.{table_of};
+ghost use Rattle.csv_instance.specs.Offsets.{AreOffsets, ids_of, layout_header_fault, parsed_offsets};
+ghost use Rattle.csv_instance.specs.Records.{Record, table_of};
 ghost use Rattle.csv_instance.specs.declared.fault.OffsetsFault.TheVariants as fault;
 
 use crate::fault::OffsetsFault;
-use crate::offset_row::{find_offset_columns, note_row};
-use crate::records::records;
+use crate::offset_row::{OffsetColumns, find_offset_columns, note_next};
+use crate::records::{first_record, records};
 use crate::table::Table;
-use dsa_model::Fail;
+use csv::ByteRecordsIntoIter;
+use dsa_model::{Fail, NoMemory};
 use indexmap::{IndexMap, IndexSet};
 use std::alloc::Global;
+
+/// The columns of a layout file, whose header is the first of the records, or the header's fault.
+fn read_columns(
+    records: &mut ByteRecordsIntoIter<&[u8]>,
+) -> Result<OffsetColumns, Fail<OffsetsFault>>
+    ensures { (ids : List (List ℕ)) (left : List Record) → Gives records.old left
+        → UnlessNoMemory result
+        (λ columns. (header : Record) × (rows : List Record) × (left ≡ header ∷ rows)
+        × Gives records.new rows × (layout_header_fault header ≡ None) × AreColumns header columns)
+        (λ fault. parsed_offsets ids left ≡ Err fault) }
+{
+    match first_record(records) {
+        Ok(Some(header)) => match find_offset_columns(&header) {
+            Ok(columns) => Ok(columns),
+            Err(fault) => Err(Fail::Fault(fault)),
+        },
+        Ok(None) => Err(Fail::Fault(OffsetsFault::NoHeader)),
+        Err(NoMemory) => Err(Fail::NoMemory),
+    }
+}
+
+/// The offsets of the rows that are left by their ids, or the first fault of these rows.
+fn note_rows(
+    alloc: Global,
+    ids: &IndexSet<Vec<u8>>,
+    columns: &OffsetColumns,
+    records: ByteRecordsIntoIter<&[u8]>,
+) -> Result<IndexMap<Vec<u8>, u64>, Fail<OffsetsFault>>
+    requires { (header : Record) × (rows : List Record) × Gives records rows
+        × (layout_header_fault header ≡ None) × AreColumns header columns.now
+        × (length rows < 2 ^ 32) }
+    ensures { let known = map (λ k. k.items) ids.now.keys in
+        (header : Record) (rows : List Record) → Gives records.entry rows
+        → layout_header_fault header ≡ None → AreColumns header columns.now → UnlessNoMemory result
+        (λ found. AreFound known (header ∷ rows) found.entries)
+        (λ fault. parsed_offsets known (header ∷ rows) ≡ Err fault) }
+{
+    let mut found = IndexMap::new(alloc);
+    for row in records {
+        match note_next(alloc, ids, columns, row, &mut found) {
+            Ok(()) => {}
+            Err(failure) => return Err(failure),
+        }
+    }
+    Ok(found)
+}
 
 /// The offsets of a layout file by their ids, or the first fault of its header and its rows.
 fn read_rows(
@@ -29,26 +77,10 @@ fn read_rows(
         (λ fault. parsed_offsets known (table_of bytes.now) ≡ Err fault) }
 {
     let mut records = records(alloc, bytes);
-    let header = match records.next() {
-        Some(Ok(header)) => header,
-        Some(Err(_)) => return Err(Fail::NoMemory),
-        None => return Err(Fail::Fault(OffsetsFault::NoHeader)),
-    };
-    let columns = match find_offset_columns(&header) {
-        Ok(columns) => columns,
-        Err(fault) => return Err(Fail::Fault(fault)),
-    };
-    let mut found = IndexMap::new(alloc);
-    for row in records {
-        let Ok(row) = row else {
-            return Err(Fail::NoMemory);
-        };
-        match note_row(alloc, ids, &columns, &row, &mut found) {
-            Ok(()) => {}
-            Err(failure) => return Err(failure),
-        }
+    match read_columns(&mut records) {
+        Ok(columns) => note_rows(alloc, ids, &columns, records),
+        Err(failure) => Err(failure),
     }
-    Ok(found)
 }
 
 /// The offsets of the ids in their order, or the first id without one.

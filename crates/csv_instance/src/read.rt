@@ -1,18 +1,60 @@
 //! An instance file, read: as an instance, or as rows alone.
 
-ghost use Rattle.std.specs.Prelude.{◌≡◌, ◌≤◌, List, Ok, Err, IfOk, length};
+ghost use Rattle.std.specs.Prelude.{◌≡◌, ◌∷◌, ◌++◌, ◌≤◌, [], List, Ok, Err, IfOk, length};
+ghost use Rattle.std.specs.List.{All};
+ghost use Rattle.csv.specs.Records.{fields_of};
 ghost use Rattle.dsa_terms.specs.Buffers.{Buffer};
 ghost use Rattle.dsa_model.specs.Fails.{UnlessNoMemory};
+ghost use Rattle.csv_instance.specs.Gives.{Gives};
 ghost use Rattle.csv_instance.specs.Parse.{parse};
-ghost use Rattle.csv_instance.specs.Records.{table_of};
+ghost use Rattle.csv_instance.specs.Records.{HasShortFields, Record, table_of};
 ghost use Rattle.csv_instance.specs.Rows.{parse_rows, values_of};
 
 use crate::fault::InstanceFault;
-use crate::records::records;
+use crate::records::{first_record, records};
 use crate::row_list::Rows;
 use crate::table::Table;
-use dsa_model::Fail;
+use csv::ByteRecordsIntoIter;
+use dsa_model::{Fail, NoMemory};
 use std::alloc::Global;
+
+/// A table with no rows yet, whose header is the first of the records, or the fault of the header.
+fn start_table(
+    alloc: Global,
+    records: &mut ByteRecordsIntoIter<&[u8]>,
+) -> Result<Table, Fail<InstanceFault>>
+    ensures { (left : List Record) → Gives records.old left → UnlessNoMemory result
+        (λ table. (more : List Record) × (left ≡ table ++ more) × Gives records.new more)
+        (λ fault. parse left ≡ Err fault) }
+{
+    match first_record(records) {
+        Ok(Some(header)) => Table::start(alloc, header),
+        Ok(None) => Err(Fail::Fault(InstanceFault::NoHeader)),
+        Err(NoMemory) => Err(Fail::NoMemory),
+    }
+}
+
+/// The table with the records that are left as further rows, or the first fault of them.
+fn fill_table(
+    alloc: Global,
+    start: Table,
+    records: ByteRecordsIntoIter<&[u8]>,
+) -> Result<Table, Fail<InstanceFault>>
+    requires { (left : List Record) × Gives records left × All HasShortFields left }
+    ensures read { (left : List Record) → Gives records.entry left → UnlessNoMemory result
+        (λ table. table ≡ start ++ left) (λ fault. parse (start ++ left) ≡ Err fault) }
+    ensures sound { IfOk result (λ table. (buffers : List Buffer) × (parse table ≡ Ok buffers)) }
+{
+    let mut table = start;
+    for row in records {
+        table = match table.with_next(alloc, row) {
+            Ok(longer) => longer,
+            Err(failure) => return Err(failure),
+        };
+    }
+    let _instance = table.instance();
+    Ok(table)
+}
 
 /// The table of an instance file, or the file's first fault: that of the header, or else that of
 /// the first row that has one. The caller owes at most 67108864 bytes. The form is MiniMalloc's,
@@ -24,26 +66,48 @@ pub fn read_instance(alloc: Global, bytes: &[u8]) -> Result<Table, Fail<Instance
     ensures sound { IfOk result (λ table. (buffers : List Buffer) × (parse table ≡ Ok buffers)) }
 {
     let mut records = records(alloc, bytes);
-    let header = match records.next() {
-        Some(Ok(header)) => header,
-        Some(Err(_)) => return Err(Fail::NoMemory),
-        None => return Err(Fail::Fault(InstanceFault::NoHeader)),
-    };
-    let mut table = match Table::start(alloc, header) {
-        Ok(table) => table,
-        Err(fault) => return Err(Fail::Fault(fault)),
-    };
+    match start_table(alloc, &mut records) {
+        Ok(table) => fill_table(alloc, table, records),
+        Err(failure) => Err(failure),
+    }
+}
+
+/// No rows yet, with the first of the records as their header, or the fault of the header.
+fn start_rows(
+    alloc: Global,
+    records: &mut ByteRecordsIntoIter<&[u8]>,
+) -> Result<Rows, Fail<InstanceFault>>
+    ensures { (left : List Record) → Gives records.old left → UnlessNoMemory result
+        (λ rows. (more : List Record) × (left ≡ rows ++ more) × Gives records.new more)
+        (λ fault. parse_rows left ≡ Err fault) }
+{
+    match first_record(records) {
+        Ok(Some(header)) => Rows::start(alloc, header),
+        Ok(None) => Err(Fail::Fault(InstanceFault::NoHeader)),
+        Err(NoMemory) => Err(Fail::NoMemory),
+    }
+}
+
+/// The rows with the records that are left as further rows, or the first fault of them.
+fn fill_rows(
+    alloc: Global,
+    start: Rows,
+    records: ByteRecordsIntoIter<&[u8]>,
+) -> Result<Rows, Fail<InstanceFault>>
+    requires { (left : List Record) × Gives records left × All HasShortFields left }
+    ensures read { (left : List Record) → Gives records.entry left → UnlessNoMemory result
+        (λ rows. rows ≡ start ++ left) (λ fault. parse_rows (start ++ left) ≡ Err fault) }
+    ensures sound { IfOk result (λ rows. parse_rows rows ≡ Ok (values_of rows)) }
+{
+    let mut rows = start;
     for row in records {
-        let Ok(row) = row else {
-            return Err(Fail::NoMemory);
-        };
-        table = match table.with_row(alloc, row) {
+        rows = match rows.with_next(alloc, row) {
             Ok(longer) => longer,
             Err(failure) => return Err(failure),
         };
     }
-    let _instance = table.instance();
-    Ok(table)
+    let _count = rows.count();
+    Ok(rows)
 }
 
 /// The rows of an instance file as they are read, or the first fault of the header and of all rows
@@ -56,24 +120,8 @@ pub fn read_rows(alloc: Global, bytes: &[u8]) -> Result<Rows, Fail<InstanceFault
     ensures sound { IfOk result (λ rows. parse_rows rows ≡ Ok (values_of rows)) }
 {
     let mut records = records(alloc, bytes);
-    let header = match records.next() {
-        Some(Ok(header)) => header,
-        Some(Err(_)) => return Err(Fail::NoMemory),
-        None => return Err(Fail::Fault(InstanceFault::NoHeader)),
-    };
-    let mut rows = match Rows::start(alloc, header) {
-        Ok(rows) => rows,
-        Err(fault) => return Err(Fail::Fault(fault)),
-    };
-    for row in records {
-        let Ok(row) = row else {
-            return Err(Fail::NoMemory);
-        };
-        rows = match rows.with_row(alloc, row) {
-            Ok(longer) => longer,
-            Err(failure) => return Err(failure),
-        };
+    match start_rows(alloc, &mut records) {
+        Ok(rows) => fill_rows(alloc, rows, records),
+        Err(failure) => Err(failure),
     }
-    let _count = rows.count();
-    Ok(rows)
 }

@@ -1,12 +1,14 @@
 //! The rows of an instance file as they are read.
 
-ghost use Rattle.std.specs.Prelude.{◌≡◌, ◌∷◌, ◌++◌, ◌+◌, ◌<◌, ◌≤◌, ◌^◌, [], List, Ok, Err, MatchResult, length, map};
+ghost use Rattle.std.specs.Prelude.{◌≡◌, ◌∷◌, ◌++◌, ◌+◌, ◌<◌, ◌≤◌, ◌^◌, [], List, Ok, Err, IfOk, length, map};
 ghost use Rattle.csv.specs.Records.{fields_of};
 ghost use Rattle.dsa_terms.specs.Buffers.{buffer};
 ghost use Rattle.dsa_model.specs.Buffer.{buffer_limit};
 ghost use Rattle.dsa_model.specs.Fails.{UnlessNoMemory};
+ghost use Rattle.csv_instance.specs.KeptRows.{AreKept};
 ghost use Rattle.csv_instance.specs.Numbers.{time_limit};
 ghost use Rattle.csv_instance.specs.Places.{column_places};
+ghost use Rattle.csv_instance.specs.Gives.{GaveRecord};
 ghost use Rattle.csv_instance.specs.Records.{HasShortFields, Record};
 ghost use Rattle.csv_instance.specs.Rows.{parse_rows, values_of};
 
@@ -15,7 +17,7 @@ use crate::fault::InstanceFault;
 use crate::header::check_header;
 use crate::row::{RowValues, keep, read_id, read_values};
 use csv::ByteRecord;
-use dsa_model::Fail;
+use dsa_model::{Fail, NoMemory};
 use indexmap::IndexSet;
 use std::alloc::Global;
 use std::marker::Model;
@@ -46,12 +48,12 @@ impl Model for Rows {
 
 impl Rows {
     /// No rows yet, or the header's fault, which is the file's whatever comes after.
-    pub(crate) fn start(alloc: Global, header: ByteRecord) -> Result<Rows, InstanceFault>
-        ensures { MatchResult result (λ t. t ≡ fields_of header ∷ [])
+    pub(crate) fn start(alloc: Global, header: ByteRecord) -> Result<Rows, Fail<InstanceFault>>
+        ensures { UnlessNoMemory result (λ t. t ≡ fields_of header ∷ [])
             (λ f. (rest : List Record) → parse_rows (fields_of header ∷ rest) ≡ Err f) }
     {
         if let Some(fault) = check_header(&header) {
-            return Err(fault);
+            return Err(Fail::Fault(fault));
         }
         let places = find_columns(&header);
         Ok(Rows {
@@ -80,28 +82,43 @@ impl Rows {
             mut ids,
             mut values,
         } = self;
-        let id = match read_id(alloc, &header, &places, &ids, &rows, &row) {
-            Ok(id) => id,
-            Err(failure) => return Err(failure),
-        };
-        let number = rows.len() as u32;
-        let value = match read_values(alloc, &places, number, &row) {
-            Ok(value) => value,
-            Err(failure) => return Err(failure),
-        };
-        if values.push(value).is_err() {
-            return Err(Fail::NoMemory);
+        match add_row(
+            alloc,
+            &header,
+            &places,
+            &mut rows,
+            &mut ids,
+            &mut values,
+            row,
+        ) {
+            Ok(()) => Ok(Rows {
+                header,
+                places,
+                rows,
+                ids,
+                values,
+            }),
+            Err(failure) => Err(failure),
         }
-        if keep(&mut rows, &mut ids, id, row).is_err() {
-            return Err(Fail::NoMemory);
+    }
+
+    /// A record as one more row, or the row's fault, and want of memory where the record could not
+    /// be read.
+    pub(crate) fn with_next(
+        self,
+        alloc: Global,
+        row: Result<ByteRecord, csv::Error>,
+    ) -> Result<Rows, Fail<InstanceFault>>
+        requires { IfOk row (λ r. HasShortFields (fields_of r)) }
+        ensures { UnlessNoMemory result
+            (λ t. GaveRecord row (λ fields. t ≡ self ++ fields ∷ []))
+            (λ f. GaveRecord row
+            (λ fields. (rest : List Record) → parse_rows (self ++ fields ∷ rest) ≡ Err f)) }
+    {
+        match row {
+            Ok(row) => self.with_row(alloc, row),
+            Err(_) => Err(Fail::NoMemory),
         }
-        Ok(Rows {
-            header,
-            places,
-            rows,
-            ids,
-            values,
-        })
     }
 
     /// The header, where its columns stand, and the rows.
@@ -176,5 +193,41 @@ impl Rows {
         ensures few { length result.now < 2 ^ 31 }
     {
         self.values[r as usize].gaps.as_slice()
+    }
+}
+
+/// Puts a row last, with its id and what it says, or tells the row's fault. After a failure some of
+/// them may be there without the others.
+fn add_row(
+    alloc: Global,
+    header: &ByteRecord,
+    places: &ColumnPlaces,
+    rows: &mut Vec<ByteRecord>,
+    ids: &mut IndexSet<Vec<u8>>,
+    values: &mut Vec<RowValues>,
+    row: ByteRecord,
+) -> Result<(), Fail<InstanceFault>>
+    requires kept { AreKept header.now places.now rows.old.items ids.old.keys values.old.items }
+    requires short { HasShortFields (fields_of row) }
+    ensures { let before = fields_of header.now ∷ map fields_of rows.old.items in UnlessNoMemory result
+        (λ _. AreKept header.now places.now rows.new.items ids.new.keys values.new.items
+        × (rows.new.items ≡ rows.old.items ++ row ∷ []))
+        (λ f. (rest : List Record) → parse_rows (before ++ fields_of row ∷ rest) ≡ Err f) }
+{
+    let id = match read_id(alloc, header, places, ids, rows, &row) {
+        Ok(id) => id,
+        Err(failure) => return Err(failure),
+    };
+    let number = rows.len() as u32;
+    let value = match read_values(alloc, places, number, &row) {
+        Ok(value) => value,
+        Err(failure) => return Err(failure),
+    };
+    if values.push(value).is_err() {
+        return Err(Fail::NoMemory);
+    }
+    match keep(rows, ids, id, row) {
+        Ok(()) => Ok(()),
+        Err(NoMemory) => Err(Fail::NoMemory),
     }
 }
