@@ -18,3 +18,7 @@ pub if_ok-of : {T E : Type 0} {P R : T → Type 0} (Q : E → Type 0) (r : Resul
     → UnlessNoMemory r P Q → IfOk r R
 if_ok-of Q (Ok x) g h = g x h
 if_ok-of Q (Err f) g h = tt
+
+pub IfOk-map : {T E : Type 0} {P R : T → Type 0} (r : Result T E) → ((x : T) → P x → R x) → IfOk r P → IfOk r R
+IfOk-map (Ok x) g h = g x h
+IfOk-map (Err f) g h = tt

@@ -13,10 +13,10 @@ ghost use Rattle.csv_instance.specs.Rows.{parse_rows, values_of};
 ghost use Rattle.csv_instance.specs.Wrote.{Wrote};
 ghost use Rattle.csv_instance.specs.declared.columns.Column.TheVariants.{Lower, Upper};
 
-use crate::chosen_rows::write_record;
 use crate::columns::{Column, ColumnPlaces, column_name, field_under};
 use crate::layout::{all_fields, write_with};
 use crate::row_list::Rows;
+use crate::writing::write_record;
 use csv::{ByteRecord, Writer, WriterBuilder};
 use dsa_model::NoMemory;
 use std::alloc::Global;

@@ -1,30 +1,36 @@
 //! Some rows of an instance, written.
 
-ghost use Rattle.std.specs.Prelude.{◌≡◌, ◌+◌, ◌<◌, ◌++◌, ℕ, List, All, IfOk, OnOk, Ok, length};
+ghost use Rattle.std.specs.Prelude.{◌≡◌, ◌+◌, ◌<◌, ◌++◌, ℕ, List, All, IfOk, OnOk, Ok, length, map};
 ghost use Rattle.csv.specs.Records.{fields_of};
-ghost use Rattle.csv.specs.Writing.{default_writer, row_text};
 ghost use Rattle.dsa_terms.specs.Buffers.{Buffer as BufferTerm};
 ghost use Rattle.dsa_terms.specs.Claims.{Rises};
 ghost use Rattle.dsa_model.specs.Chosen.{some_of};
-ghost use Rattle.csv_instance.specs.Chosen.{chosen_records, chosen_text};
+ghost use Rattle.csv_instance.specs.Chosen.{chosen_records, chosen_text, rows_at};
+ghost use Rattle.csv_instance.specs.Layout.{text_of};
 ghost use Rattle.csv_instance.specs.Parse.{parse};
 ghost use Rattle.csv_instance.specs.Records.{table_of};
 ghost use Rattle.csv_instance.specs.Wrote.{Wrote};
 
 use crate::table::Table;
-use csv::{ByteRecord, Writer, WriterBuilder};
+use crate::writing::{text_writer, write_record, written_text};
+use csv::{ByteRecord, Writer};
 use dsa_model::NoMemory;
 use std::alloc::Global;
 
-/// Writes a record as it is.
-pub(crate) fn write_record(writer: &mut Writer<Vec<u8>>, row: &ByteRecord) -> Result<(), NoMemory>
+/// Writes the rows of these numbers. The caller owes numbers below the count of rows.
+fn write_members(
+    writer: &mut Writer<Vec<u8>>,
+    rows: &[ByteRecord],
+    members: &[u32],
+) -> Result<(), NoMemory>
+    requires { All (λ b. b < length rows.now) members.now }
     ensures { (text : List ℕ) → Wrote writer.old text → OnOk result
-        (Wrote writer.new (text ++ row_text default_writer (fields_of row.now))) }
+        (Wrote writer.new (text ++ text_of (rows_at (map fields_of rows.now) members.now))) }
 {
-    match writer.write_byte_record(row) {
-        Ok(()) => Ok(()),
-        Err(_) => Err(NoMemory),
+    for &member in members {
+        write_record(writer, &rows[member as usize])?;
     }
+    Ok(())
 }
 
 /// The text of the rows of these buffers under the table's header, each record as it was read. It
@@ -41,13 +47,8 @@ pub fn write_rows(alloc: Global, table: &Table, members: &[u32]) -> Result<Vec<u
         parse (table_of text.items) ≡ Ok (some_of I members.now)) }
 {
     let (header, rows) = table.records();
-    let mut writer = WriterBuilder::new().from_writer(Vec::new(alloc));
+    let mut writer = text_writer(alloc);
     write_record(&mut writer, header)?;
-    for &member in members {
-        write_record(&mut writer, &rows[member as usize])?;
-    }
-    match writer.into_inner() {
-        Ok(text) => Ok(text),
-        Err(_) => Err(NoMemory),
-    }
+    write_members(&mut writer, rows, members)?;
+    written_text(writer)
 }

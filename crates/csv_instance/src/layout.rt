@@ -3,14 +3,15 @@
 ghost use Rattle.std.specs.Prelude.{◌≡◌, ◌+◌, ◌∷◌, ◌++◌, [], ℕ, List, IfOk, OnOk, Ok, length, map};
 ghost use Rattle.csv.specs.Records.{fields_of};
 ghost use Rattle.csv.specs.Writing.{default_writer, row_text};
-ghost use Rattle.csv_instance.specs.Layout.{layout_text};
+ghost use Rattle.csv_instance.specs.Layout.{layout_text, rows_with, text_of};
 ghost use Rattle.csv_instance.specs.Wrote.{Wrote};
 ghost use Rattle.csv_instance.specs.Offsets.{AreOffsets, ids_of, parsed_offsets};
 ghost use Rattle.csv_instance.specs.Records.{table_of};
 
 use crate::columns::{Column, column_name, field_at};
 use crate::table::Table;
-use csv::{ByteRecord, Writer, WriterBuilder};
+use crate::writing::{text_writer, write_fields, written_text};
+use csv::{ByteRecord, Writer};
 use dsa_model::NoMemory;
 use std::alloc::Global;
 
@@ -53,10 +54,26 @@ pub(crate) fn write_with(
         (Wrote writer.new (text ++ row_text default_writer (fields_of row.now ++ last.now ∷ []))) }
 {
     let fields = fields_and(alloc, row, last)?;
-    match writer.write_fields(fields.as_slice()) {
-        Ok(()) => Ok(()),
-        Err(_) => Err(NoMemory),
+    write_fields(writer, fields.as_slice())
+}
+
+/// Writes each row with its offset in decimal put last. The caller owes an offset for each row.
+fn write_offsets(
+    alloc: Global,
+    writer: &mut Writer<Vec<u8>>,
+    rows: &[ByteRecord],
+    offsets: &[u64],
+) -> Result<(), NoMemory>
+    requires { length rows.now ≡ length offsets.now }
+    ensures { (text : List ℕ) → Wrote writer.old text → OnOk result
+        (Wrote writer.new (text ++ text_of (rows_with (map fields_of rows.now) offsets.now))) }
+{
+    for place in 0..rows.len() {
+        let mut digits = itoa::Buffer::new();
+        let offset = digits.format(offsets[place]);
+        write_with(alloc, writer, &rows[place], offset.as_bytes())?;
     }
+    Ok(())
 }
 
 /// The text of a layout: the table's records as they were read, the header with the name `offset`
@@ -69,15 +86,8 @@ pub fn write_layout(alloc: Global, table: &Table, offsets: &[u64]) -> Result<Vec
         → parsed_offsets (ids_of table.now) (table_of text.items) ≡ Ok offsets.now) }
 {
     let (header, rows) = table.records();
-    let mut writer = WriterBuilder::new().from_writer(Vec::new(alloc));
+    let mut writer = text_writer(alloc);
     write_with(alloc, &mut writer, header, column_name(Column::Offset))?;
-    for place in 0..rows.len() {
-        let mut digits = itoa::Buffer::new();
-        let offset = digits.format(offsets[place]);
-        write_with(alloc, &mut writer, &rows[place], offset.as_bytes())?;
-    }
-    match writer.into_inner() {
-        Ok(text) => Ok(text),
-        Err(_) => Err(NoMemory),
-    }
+    write_offsets(alloc, &mut writer, rows, offsets)?;
+    written_text(writer)
 }

@@ -23,6 +23,7 @@ mod row_list;
 mod table;
 #[cfg(test)]
 mod tests;
+mod writing;
 
 pub use changed::write_changed;
 pub use chosen_rows::write_rows;

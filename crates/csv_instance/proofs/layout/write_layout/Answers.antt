@@ -1,40 +1,28 @@
-use Rattle.std.proofs.Common.{◌≡◌, ◌<◌, ◌+◌, ◌++◌, ◌∷◌, ◌∙◌, [], ℕ, List, length, map, drop, get_or, sym, ap, append_assoc, arith, add-one}
+use Rattle.std.proofs.Common.{IfOk, ◌≡◌, ◌+◌, ◌∙◌, [], length, map, sym, ap, add-one, arith}
 use Rattle.std.proofs.lemmas.List.{length-map}
-use Rattle.std.proofs.lemmas.Grind.{common_steps}
-use Rattle.std.specs.Fmt.{decimal}
 use Rattle.csv.specs.Records.{fields_of}
-use Rattle.csv.specs.Writing.{default_writer, row_text}
-use Rattle.csv_instance.specs.Layout.{layout_text, rows_with, text_of}
+use Rattle.csv_instance.specs.Layout.{layout_text}
+use Rattle.csv_instance.proofs.FailLemmas.{IfOk-map}
 use Rattle.csv_instance.proofs.LayoutLaw.{layout-back}
-use Rattle.csv_instance.proofs.LayoutLemmas.{rows_text-at}
 use Rattle.csv_instance.proofs.layout.write_layout.Goals as goal
 
-pub loop-place-preserved : goal.loop-place-preserved
-loop-place-preserved c =
-    let (text, wrote, is) = c.loop-place.invariant in
+pub write_offsets-requires : goal.write_offsets-requires
+write_offsets-requires c =
     let rows = c.records.result.1.now in
-    let offsets = c.args.offsets.now in
-    let p = c.loop-place.place in
-    let more = text_of (rows_with (drop (p + 1) (map fields_of rows)) (drop (p + 1) offsets)) in
-    let within : p < length rows = omega arith in
     let count : length c.args.table.now ≡ length rows + 1 = ap length c.records.ensures.records
     ∙ sym (add-one (length (map fields_of rows))) ∙ ap (λ n. n + 1) (length-map rows fields_of) in
-    let given : p < length offsets = omega (arith, count, c.requires) in
-    let last : c.as_bytes.result.now ≡ decimal (get_or offsets p 0) = c.as_bytes.ensures.value
-    ∙ c.format-offset.ensures.text in
-    let row : List ℕ = row_text default_writer (fields_of c.index-rows-place.result ++ c.as_bytes.result.now ∷ []) in
-    let next : text_of (rows_with (drop p (map fields_of rows)) (drop p offsets)) ≡ row ++ more =
-    rows_text-at fields_of rows offsets p c.index-rows-place.result within given c.index-rows-place.is
-    ∙ ap (λ (t : List ℕ). row_text default_writer (fields_of c.index-rows-place.result ++ t ∷ []) ++ more)
-    (sym last) in (
-      text ++ row,
-      c.in_ok-write_with-2.ensures text wrote,
-      is ∙ ap (λ (t : List ℕ). text ++ t) next
-          ∙ sym (append_assoc text row more),
-    )
+    omega (arith, count, c.requires)
 
-pub returns-in-Ok-clause-back : goal.returns-in-Ok-clause-back
-returns-in-Ok-clause-back c = λ small.
-    let text : c.in-Ok.text.items ≡ layout_text c.args.table.now c.args.offsets.now = grind (arith, common_steps) in
-    rw text (layout-back c.args.table.now c.records.ensures.parsed.0 c.args.offsets.now c.records.ensures.parsed.1 small
-    c.requires)
+pub returns-clause-text : goal.returns-clause-text
+returns-clause-text c =
+    let wrote = c.in_ok-write_offsets.ensures _ (c.in_ok-write_with.ensures [] c.text_writer-writer.ensures) in
+    rw c.records.ensures.records (rw c.column_name.ensures at (c.written_text.ensures _ wrote))
+
+pub returns-clause-back : goal.returns-clause-back
+returns-clause-back c =
+    let wrote = c.in_ok-write_offsets.ensures _ (c.in_ok-write_with.ensures [] c.text_writer-writer.ensures) in
+    let text : IfOk c.written_text.result (λ made. made.items ≡ layout_text c.args.table.now c.args.offsets.now) =
+    rw c.records.ensures.records (rw c.column_name.ensures at (c.written_text.ensures _ wrote)) in
+    IfOk-map c.written_text.result
+    (λ made is small. rw is (layout-back c.args.table.now c.records.ensures.parsed.0 c.args.offsets.now
+    c.records.ensures.parsed.1 small c.requires)) text

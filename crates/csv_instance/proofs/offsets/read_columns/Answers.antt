@@ -12,7 +12,8 @@ returns-in-Ok c = λ ids left g.
 pub returns-in-Ok-Some : goal.returns-in-Ok-Some
 returns-in-Ok-Some c = λ ids left g.
     let (more, first, on) = rw c.in-Ok-Some.field-0-is at (c.in-Ok-Some.ensures left g) in
-    rw first (offsets-header ids (fields_of c.in-Ok-Some.header) more c.in-Err-find_offset_columns.fault c.in-Err-find_offset_columns.ensures)
+    let bad = c.in-Err-find_offset_columns in
+    rw first (offsets-header ids (fields_of c.in-Ok-Some.header) more bad.fault bad.ensures)
 
 pub returns-in-Ok-None : goal.returns-in-Ok-None
 returns-in-Ok-None c = λ ids left g. ap (parsed_offsets ids) (rw c.in-Ok-None.field-0-is at (c.in-Ok-None.ensures left g))
