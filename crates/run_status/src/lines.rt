@@ -40,33 +40,20 @@ fn refused_line(alloc: Global, cause: LogCause) -> Result<String, NoMemory>
     }
 }
 
-/// The line of a bracket that is left open.
-fn open_line(alloc: Global, low: u64, high: u64) -> Result<String, NoMemory>
-    ensures { IfOk result (λ text. string_bytes text ≡ line (Status.Open low high)) }
-{
-    Ok(format!(in alloc; "open {low} {high}\n")?)
-}
-
-/// The line of a log that was trimmed.
-fn trimmed_line(alloc: Global, before: u64, after: u64) -> Result<String, NoMemory>
-    ensures { IfOk result (λ text. string_bytes text ≡ line (Status.Trimmed before after)) }
-{
-    Ok(format!(in alloc; "trimmed {before} {after}\n")?)
-}
-
-/// The line of a plan by size class.
-fn classes_line(alloc: Global, height: u64, load: u64) -> Result<String, NoMemory>
-    ensures { IfOk result (λ text. string_bytes text ≡ line (Status.Classed height load)) }
-{
-    Ok(format!(in alloc; "classes {height} {load}\n")?)
-}
-
 /// The line of a word and a number.
 fn number_line(alloc: Global, word: &str, number: u64) -> Result<String, NoMemory>
     ensures { let number = codes " " ++ decimal number ++ codes "\n" in
         IfOk result (λ text. string_bytes text ≡ word.now ++ number) }
 {
     Ok(format!(in alloc; "{word} {number}\n")?)
+}
+
+/// The line of a word and two numbers.
+fn pair_line(alloc: Global, word: &str, first: u64, second: u64) -> Result<String, NoMemory>
+    ensures { let numbers = codes " " ++ decimal first ++ codes " " ++ decimal second ++ codes "\n" in
+        IfOk result (λ text. string_bytes text ≡ word.now ++ numbers) }
+{
+    Ok(format!(in alloc; "{word} {first} {second}\n")?)
 }
 
 /// The line of a word and a text.
@@ -99,15 +86,15 @@ pub fn status_line(alloc: Global, status: Status) -> Result<String, NoMemory>
         Status::Feasible { capacity } => number_line(alloc, "feasible", capacity),
         Status::Infeasible { capacity } => number_line(alloc, "infeasible", capacity),
         Status::Least { capacity } => number_line(alloc, "least", capacity),
-        Status::Open { low, high } => open_line(alloc, low, high),
-        Status::Trimmed { before, after } => trimmed_line(alloc, before, after),
+        Status::Open { low, high } => pair_line(alloc, "open", low, high),
+        Status::Trimmed { before, after } => pair_line(alloc, "trimmed", before, after),
         Status::Upgraded { lines } => number_line(alloc, "upgraded", lines),
         Status::Drawn { rectangles } => number_line(alloc, "drawn", rectangles),
         Status::Imported { buffers } => number_line(alloc, "imported", u64::from(buffers)),
         Status::TraceRefused(fault) => fault_line(alloc, "trace", fault.text(alloc)),
         Status::Unrolled { buffers } => number_line(alloc, "unrolled", u64::from(buffers)),
         Status::CycleRefused(fault) => fault_line(alloc, "cycle", fault.text(alloc)),
-        Status::Classed { height, load } => classes_line(alloc, height, load),
+        Status::Classed { height, load } => pair_line(alloc, "classes", height, load),
         Status::NotPlain { buffer } => number_line(alloc, "not plain", u64::from(buffer)),
         Status::Core { members } => number_line(alloc, "core", u64::from(members)),
         Status::NoCore { capacity } => number_line(alloc, "no core", capacity),

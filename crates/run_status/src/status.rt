@@ -12,7 +12,7 @@ use log_text::TextFault;
 use trace_import::TraceFault;
 
 /// A file's part in a command, named by its option.
-#[derive(Clone, Copy, Debug, PartialEq, Eq)]
+#[derive(Clone, Copy)]
 pub enum Role {
     /// `--input`: the instance.
     Input,
@@ -27,7 +27,7 @@ pub enum Role {
 }
 
 /// Why a layout file is wrong.
-#[derive(Clone, Copy, Debug, PartialEq, Eq)]
+#[derive(Clone, Copy)]
 pub enum WrongCause {
     /// It gives no offsets for the instance.
     Offsets(OffsetsFault),
@@ -36,7 +36,7 @@ pub enum WrongCause {
 }
 
 /// Why a log is refused.
-#[derive(Clone, Copy, Debug, PartialEq, Eq)]
+#[derive(Clone, Copy)]
 pub enum LogCause {
     /// Its bytes are no log's text.
     Text(TextFault),
@@ -47,7 +47,7 @@ pub enum LogCause {
 /// How a run ends. The step that comes first decides: words, the count of a trial, reading the
 /// input, its length, its records, reading the second file, its length, its content, deciding,
 /// writing the output, writing the log, printing.
-#[derive(Clone, Copy, Debug, PartialEq, Eq)]
+#[derive(Clone, Copy)]
 pub enum Status {
     /// A layout within the capacity (bytes) is written.
     Feasible { capacity: u64 },

@@ -1,12 +1,8 @@
 //! Runs over files in memory that are read and judged.
 
 use crate::tests::{FIVE, FIVE_AT_12, FIVE_OVER_11, THREE, THREE_AT_5, words_of};
-use csv_instance::{Column, InstanceFault, OffsetsFault};
-use dsa_model::LayoutFault;
 use dsa_outside::{SoundFiles, SoundSink};
-use dsaplan_core::{LogCause, Role, Status, UsageFault, WrongCause, run};
-use log_check::CheckFault;
-use log_text::TextFault;
+use dsaplan_core::run;
 use std::test::Fail;
 
 const THREE_REPORT: &str = "moment 0 load 4 height 5\nplace,size,id\n0,2,C\n2,1,A\n3,1,\n4,1,B\n";
@@ -38,106 +34,61 @@ const MADE_IN_0: &str = "buffers 2\npeak 2 65\nparts 1\nbound 65 1\nbest 66\nope
 #[test]
 fn what_is_read_is_judged(rt: HostRuntime) -> Result<(), Fail> {
     let alloc = rt.alloc();
-    let overlap = LayoutFault::Overlap {
-        first: 0,
-        second: 4,
-        moment: 0,
-    };
     let cases = [
         (
             "bounds --input five",
-            Status::Shown,
+            0,
             "buffers 5\npeak 0 12\nparts 1\nbound 12 1\nbest 12\n",
         ),
-        (
-            "bounds --input log",
-            Status::Malformed(InstanceFault::MissingColumn { column: Column::Id }),
-            "malformed missing column id\n",
-        ),
-        (
-            "bounds --input none",
-            Status::ReadFault(Role::Input),
-            "unread --input\n",
-        ),
-        ("inspect --input three", Status::Shown, THREE_COLUMNS),
-        ("inspect --input misspelt", Status::Shown, MISSPELT_COLUMNS),
-        (
-            "inspect --input right",
-            Status::Malformed(InstanceFault::OffsetColumn),
-            "malformed offset column\n",
-        ),
+        ("bounds --input log", 4, "malformed missing column id\n"),
+        ("bounds --input none", 5, "unread --input\n"),
+        ("inspect --input three", 0, THREE_COLUMNS),
+        ("inspect --input misspelt", 0, MISSPELT_COLUMNS),
+        ("inspect --input right", 4, "malformed offset column\n"),
         (
             "verify --capacity 12 --input five --layout log",
-            Status::Wrong(WrongCause::Offsets(OffsetsFault::MissingColumn { column: Column::Id })),
+            1,
             "wrong missing column id\n",
         ),
-        (
-            "refute --input three --log log",
-            Status::LogRefused(LogCause::Check(CheckFault::WrongCount { said: 5, actual: 3 })),
-            "refused count 5 3\n",
-        ),
+        ("refute --input three --log log", 1, "refused count 5 3\n"),
         (
             "verify --capacity 12 --input five --layout right",
-            Status::Right,
+            0,
             "right\n",
         ),
         (
             "verify --capacity 12 --input five --layout wrong",
-            Status::Wrong(WrongCause::Layout(overlap)),
+            1,
             "wrong overlap 0 4 0\n",
         ),
-        (
-            "refute --input five --log log",
-            Status::Accepted { capacity: 11 },
-            "accepted 11\n",
-        ),
-        (
-            "refute --input five --log five",
-            Status::Usage(UsageFault::SameName),
-            "usage same name\n",
-        ),
-        (
-            "refute --input five --log right",
-            Status::LogRefused(LogCause::Text(TextFault::NotLog)),
-            "refused not a log\n",
-        ),
-        (
-            "report --input three --layout placed",
-            Status::Shown,
-            THREE_REPORT,
-        ),
+        ("refute --input five --log log", 0, "accepted 11\n"),
+        ("refute --input five --log five", 3, "usage same name\n"),
+        ("refute --input five --log right", 1, "refused not a log\n"),
+        ("report --input three --layout placed", 0, THREE_REPORT),
         (
             "report --input five --layout wrong",
-            Status::Wrong(WrongCause::Layout(overlap)),
+            1,
             "wrong overlap 0 4 0\n",
         ),
         (
             "draw --input five --layout right --output o",
-            Status::Drawn { rectangles: 5 },
+            0,
             "drawn 5\n",
         ),
         (
             "draw --input five --layout wrong --output o",
-            Status::Wrong(WrongCause::Layout(overlap)),
+            1,
             "wrong overlap 0 4 0\n",
         ),
-        (
-            "trial --seed 1 --count 2 --steps 1000",
-            Status::Shown,
-            MADE_IN_1000,
-        ),
-        (
-            "trial --seed 1 --count 2 --steps 0",
-            Status::Shown,
-            MADE_IN_0,
-        ),
+        ("trial --seed 1 --count 2 --steps 1000", 0, MADE_IN_1000),
+        ("trial --seed 1 --count 2 --steps 0", 0, MADE_IN_0),
         (
             "trial --seed 1 --count 4097 --steps 1000",
-            Status::TooMany { count: 4097 },
+            3,
             "too many 4097\n",
         ),
     ];
-    for (line, status, printed) in cases {
+    for (line, code, printed) in cases {
         let mut files = SoundFiles::new(alloc);
         files.insert("five", FIVE.as_bytes())?;
         files.insert("right", FIVE_AT_12.as_bytes())?;
@@ -151,7 +102,10 @@ fn what_is_read_is_judged(rt: HostRuntime) -> Result<(), Fail> {
         files.insert("placed", THREE_AT_5.as_bytes())?;
         let mut out = SoundSink::new(alloc);
         let words = words_of(alloc, line)?;
-        assert_eq!(rt; run(alloc, words.as_slice(), &mut files, &mut out), status);
+        assert_eq!(rt;
+            run(alloc, words.as_slice(), &mut files, &mut out).code(),
+            code
+        );
         assert!(rt; out.content() == printed.as_bytes());
     }
     Ok(())

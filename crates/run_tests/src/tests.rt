@@ -1,9 +1,7 @@
 //! Runs over files and sinks in memory: what is written, and what fails outside.
 
-use cyclic_plan::CycleFault;
 use dsa_outside::{MemoryFiles, MemorySink, SoundFiles, SoundSink};
-use dsaplan_core::{LogCause, Role, Status, UsageFault, run};
-use log_check::CheckFault;
+use dsaplan_core::run;
 use std::alloc::{AllocError, Global};
 use std::test::Fail;
 
@@ -84,7 +82,7 @@ fn what_is_decided_is_written(rt: HostRuntime) -> Result<(), Fail> {
         (
             "solve --capacity 12 --input i --output o --log l",
             FIVE,
-            Status::Feasible { capacity: 12 },
+            0,
             "feasible 12\n",
             Some(FIVE_AT_12),
             None,
@@ -92,7 +90,7 @@ fn what_is_decided_is_written(rt: HostRuntime) -> Result<(), Fail> {
         (
             "solve --capacity 11 --input i --output o --log l",
             FIVE,
-            Status::Infeasible { capacity: 11 },
+            1,
             "infeasible 11\n",
             None,
             Some(FIVE_OVER_11),
@@ -100,7 +98,7 @@ fn what_is_decided_is_written(rt: HostRuntime) -> Result<(), Fail> {
         (
             "solve --capacity x --input i --output o --log l",
             FIVE,
-            Status::Usage(UsageFault::BadValue { word: 1 }),
+            3,
             "usage bad value 1\n",
             None,
             None,
@@ -108,7 +106,7 @@ fn what_is_decided_is_written(rt: HostRuntime) -> Result<(), Fail> {
         (
             LEAST,
             FIVE,
-            Status::Least { capacity: 12 },
+            0,
             "least 12\n",
             Some(FIVE_AT_12),
             Some(FIVE_OVER_11),
@@ -116,7 +114,7 @@ fn what_is_decided_is_written(rt: HostRuntime) -> Result<(), Fail> {
         (
             "least --input i --output o --log l --steps 0",
             THREE,
-            Status::Open { low: 4, high: 5 },
+            2,
             "open 4 5\n",
             Some(THREE_AT_5),
             Some(THREE_OVER_3),
@@ -124,7 +122,7 @@ fn what_is_decided_is_written(rt: HostRuntime) -> Result<(), Fail> {
         (
             "pack --input i --output o --log l --steps 0",
             FIVE,
-            Status::Least { capacity: 12 },
+            0,
             "least 12\n",
             Some(FIVE_AT_12),
             Some(FIVE_OVER_11),
@@ -132,7 +130,7 @@ fn what_is_decided_is_written(rt: HostRuntime) -> Result<(), Fail> {
         (
             "pack --capacity 4 --input i --output o --log l --steps 0",
             THREE,
-            Status::Open { low: 4, high: 5 },
+            2,
             "open 4 5\n",
             Some(THREE_AT_5),
             Some(THREE_OVER_3),
@@ -140,7 +138,7 @@ fn what_is_decided_is_written(rt: HostRuntime) -> Result<(), Fail> {
         (
             "solve --capacity 4 --input i --output o --log l --steps 0",
             THREE,
-            Status::Open { low: 4, high: 5 },
+            2,
             "open 4 5\n",
             Some(THREE_AT_5),
             Some(THREE_OVER_3),
@@ -148,7 +146,7 @@ fn what_is_decided_is_written(rt: HostRuntime) -> Result<(), Fail> {
         (
             "trim --input i --log waste --output o",
             FIVE,
-            Status::LogRefused(LogCause::Check(CheckFault::WrongCount { said: 3, actual: 5 })),
+            1,
             "refused count 3 5\n",
             None,
             None,
@@ -156,10 +154,7 @@ fn what_is_decided_is_written(rt: HostRuntime) -> Result<(), Fail> {
         (
             "trim --input i --log waste --output o",
             THREE,
-            Status::Trimmed {
-                before: 6,
-                after: 5,
-            },
+            0,
             "trimmed 6 5\n",
             Some(THREE_OVER_4),
             None,
@@ -167,10 +162,7 @@ fn what_is_decided_is_written(rt: HostRuntime) -> Result<(), Fail> {
         (
             "classes --input i --output o",
             FIVE,
-            Status::Classed {
-                height: 12,
-                load: 12,
-            },
+            0,
             "classes 12 12\n",
             Some(FIVE_AT_12),
             None,
@@ -178,7 +170,7 @@ fn what_is_decided_is_written(rt: HostRuntime) -> Result<(), Fail> {
         (
             "classes --input i --output o",
             THREE,
-            Status::NotPlain { buffer: 0 },
+            4,
             "not plain 0\n",
             None,
             None,
@@ -186,7 +178,7 @@ fn what_is_decided_is_written(rt: HostRuntime) -> Result<(), Fail> {
         (
             "core --capacity 11 --input i --output o --log l",
             FIVE,
-            Status::Core { members: 3 },
+            1,
             "core 3\n",
             Some(CORE_OF_FIVE),
             Some(CORE_OVER_11),
@@ -194,7 +186,7 @@ fn what_is_decided_is_written(rt: HostRuntime) -> Result<(), Fail> {
         (
             "core --capacity 12 --input i --output o --log l",
             FIVE,
-            Status::NoCore { capacity: 12 },
+            0,
             "no core 12\n",
             None,
             None,
@@ -202,7 +194,7 @@ fn what_is_decided_is_written(rt: HostRuntime) -> Result<(), Fail> {
         (
             "upgrade --input i --log waste --output o",
             THREE,
-            Status::Upgraded { lines: 6 },
+            0,
             "upgraded 6\n",
             Some(THREE_UPGRADED),
             None,
@@ -210,7 +202,7 @@ fn what_is_decided_is_written(rt: HostRuntime) -> Result<(), Fail> {
         (
             "unroll --period 10 --input i --output o",
             "id,lower,upper,size\nA,8,2,4\nB,2,8,4\n",
-            Status::Unrolled { buffers: 2 },
+            0,
             "unrolled 2\n",
             Some("id,lower,upper,size,gaps\nA,0,10,4,2-8\nB,2,8,4,\n"),
             None,
@@ -218,7 +210,7 @@ fn what_is_decided_is_written(rt: HostRuntime) -> Result<(), Fail> {
         (
             "unroll --period 10 --input i --output o",
             "id,lower,upper,size\nA,10,2,4\n",
-            Status::CycleRefused(CycleFault::Outside { row: 0 }),
+            4,
             "cycle row 0 outside\n",
             None,
             None,
@@ -226,19 +218,22 @@ fn what_is_decided_is_written(rt: HostRuntime) -> Result<(), Fail> {
         (
             "import --trace i --output o",
             "alloc a 4 1\nfree a\n",
-            Status::Imported { buffers: 1 },
+            0,
             "imported 1\n",
             Some("id,lower,upper,size,alignment,name\na0,0,1,4,1,a\n"),
             None,
         ),
     ];
-    for (line, input, status, printed, output, log) in cases {
+    for (line, input, code, printed, output, log) in cases {
         let mut files = SoundFiles::new(alloc);
         files.insert("i", input.as_bytes())?;
         files.insert("waste", THREE_OVER_4_WITH_WASTE.as_bytes())?;
         let mut out = SoundSink::new(alloc);
         let words = words_of(alloc, line)?;
-        assert_eq!(rt; run(alloc, words.as_slice(), &mut files, &mut out), status);
+        assert_eq!(rt;
+            run(alloc, words.as_slice(), &mut files, &mut out).code(),
+            code
+        );
         assert!(rt; out.content() == printed.as_bytes());
         assert!(rt; holds(files.get("o"), output));
         assert!(rt; holds(files.get("l"), log));
@@ -250,48 +245,16 @@ fn what_is_decided_is_written(rt: HostRuntime) -> Result<(), Fail> {
 fn faults_outside_are_told(rt: HostRuntime) -> Result<(), Fail> {
     let alloc = rt.alloc();
     let cases = [
-        (
-            LEAST,
-            0,
-            9,
-            Status::ReadFault(Role::Input),
-            "unread --input\n",
-            None,
-            None,
-        ),
-        (
-            LEAST,
-            1,
-            9,
-            Status::WriteFault(Role::Output),
-            "unwritten --output\n",
-            None,
-            None,
-        ),
-        (
-            LEAST,
-            2,
-            9,
-            Status::WriteFault(Role::Log),
-            "unwritten --log\n",
-            Some(FIVE_AT_12),
-            None,
-        ),
-        (
-            LEAST,
-            9,
-            0,
-            Status::PrintFault,
-            "",
-            Some(FIVE_AT_12),
-            Some(FIVE_OVER_11),
-        ),
-        (LEAST, 0, 0, Status::PrintFault, "", None, None),
+        (LEAST, 0, 9, 5, "unread --input\n", None, None),
+        (LEAST, 1, 9, 5, "unwritten --output\n", None, None),
+        (LEAST, 2, 9, 5, "unwritten --log\n", Some(FIVE_AT_12), None),
+        (LEAST, 9, 0, 5, "", Some(FIVE_AT_12), Some(FIVE_OVER_11)),
+        (LEAST, 0, 0, 5, "", None, None),
         (
             "refute --input i --log log",
             1,
             9,
-            Status::ReadFault(Role::Log),
+            5,
             "unread --log\n",
             None,
             None,
@@ -300,7 +263,7 @@ fn faults_outside_are_told(rt: HostRuntime) -> Result<(), Fail> {
             "trim --input i --log log --output o",
             2,
             9,
-            Status::WriteFault(Role::Output),
+            5,
             "unwritten --output\n",
             None,
             None,
@@ -309,7 +272,7 @@ fn faults_outside_are_told(rt: HostRuntime) -> Result<(), Fail> {
             "draw --input i --layout right --output o",
             2,
             9,
-            Status::WriteFault(Role::Output),
+            5,
             "unwritten --output\n",
             None,
             None,
@@ -318,7 +281,7 @@ fn faults_outside_are_told(rt: HostRuntime) -> Result<(), Fail> {
             "verify --capacity 12 --input i --layout right",
             1,
             9,
-            Status::ReadFault(Role::Layout),
+            5,
             "unread --layout\n",
             None,
             None,
@@ -327,20 +290,23 @@ fn faults_outside_are_told(rt: HostRuntime) -> Result<(), Fail> {
             "report --input i --layout right",
             1,
             9,
-            Status::ReadFault(Role::Layout),
+            5,
             "unread --layout\n",
             None,
             None,
         ),
     ];
-    for (line, failing_call, failing_put, status, printed, output, log) in cases {
+    for (line, failing_call, failing_put, code, printed, output, log) in cases {
         let mut files = MemoryFiles::new(alloc, vec![in alloc; failing_call]?);
         files.insert("i", FIVE.as_bytes())?;
         files.insert("log", FIVE_OVER_11.as_bytes())?;
         files.insert("right", FIVE_AT_12.as_bytes())?;
         let mut out = MemorySink::new(alloc, vec![in alloc; failing_put]?);
         let words = words_of(alloc, line)?;
-        assert_eq!(rt; run(alloc, words.as_slice(), &mut files, &mut out), status);
+        assert_eq!(rt;
+            run(alloc, words.as_slice(), &mut files, &mut out).code(),
+            code
+        );
         assert!(rt; out.content() == printed.as_bytes());
         assert!(rt; holds(files.get("o"), output));
         assert!(rt; holds(files.get("l"), log));
