@@ -64,3 +64,21 @@ pub prepared_for : (old new : FilesSeen) (table : List Record) (J : Instance) (n
 prepared_for old new table J next o (Ok p) parsed is comes =
     (J, parsed, subst (λ o. Comes old new (next table J) o) (sym is) comes)
 prepared_for old new table J next o (Err e) parsed is comes = tt
+
+-- the same, where it is known which instance that is
+pub told_by : (old new : FilesSeen) (table : List Record) (J : Instance) (next : List Record → Instance → Course)
+    (r : Result Prepared NoMemory) → parse table ≡ Ok J →
+    IfOk r (λ p. Comes old new (next table J) (outcome_of p)) →
+    IfOk r (λ p. (I : Instance) × (parse table ≡ Ok I) × Comes old new (next table I) (outcome_of p))
+told_by old new table J next (Ok p) parsed comes = (J, parsed, comes)
+told_by old new table J next (Err e) parsed comes = tt
+
+-- this is concluded of the instance that the table tells of
+pub concluded_of : (old new : FilesSeen) (table : List Record) (J : Instance)
+    (allowed : List Record → Instance → Outcome → Type 0) → parse table ≡ Ok J →
+    ((o : Outcome) → allowed table J o → IsSpoken o.status) →
+    (r : Result Prepared NoMemory) → IfOk r (λ p. allowed table J (outcome_of p)) →
+    IfOk r (λ p. (I : Instance) × (parse table ≡ Ok I) × Comes old new (Concludes (allowed table I)) (outcome_of p))
+concluded_of old new table J allowed parsed spoken (Ok p) holds =
+    (J, parsed, (spoken (outcome_of p) holds, holds))
+concluded_of old new table J allowed parsed spoken (Err e) holds = tt
