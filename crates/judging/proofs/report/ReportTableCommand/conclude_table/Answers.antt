@@ -6,7 +6,7 @@ use Rattle.readings.specs.Judging.{judged}
 use Rattle.readings.proofs.AfterInput.{prepared_for}
 use Rattle.readings.proofs.JudgedLayouts.{no_layout, with_layout}
 use Rattle.judging.specs.Judging.{ShowsLayout}
-use Rattle.judging.proofs.report.report_judged.Goals as goal
+use Rattle.judging.proofs.report.ReportTableCommand.conclude_table.Goals as goal
 
 pub report-requires : goal.report-requires
 report-requires g c =
@@ -20,7 +20,7 @@ report-requires g c =
 pub returns-in_ok-text-in-Layout-clause-comes : goal.returns-in_ok-text-in-Layout-clause-comes
 returns-in_ok-text-in-Layout-clause-comes g c =
     let found = rw c.in-Layout.is at c.in_ok-offsets.ensures.judged in
-    let words = c.args.words.now in
+    let words = c.args.self.now in
     let table = c.args.table.now in
     let before = g.F.Files.seen c.args.files.now in
     let after = g.F.Files.seen c.read_judged_layout.new.files in
@@ -47,7 +47,7 @@ returns-in_ok-text-in-Layout-clause-comes g c =
 pub returns-in-NoLayout-clause-comes : goal.returns-in-NoLayout-clause-comes
 returns-in-NoLayout-clause-comes g c =
     let found = rw c.in-NoLayout.is at c.in_ok-offsets.ensures.judged in
-    let words = c.args.words.now in
+    let words = c.args.self.now in
     let table = c.args.table.now in
     let before = g.F.Files.seen c.args.files.now in
     let after = g.F.Files.seen c.read_judged_layout.new.files in

@@ -7,7 +7,7 @@ use Rattle.readings.proofs.AfterInput.{prepared_for}
 use Rattle.readings.proofs.JudgedLayouts.{no_layout, with_layout}
 use Rattle.judging.specs.Drawing.{drawing}
 use Rattle.judging.proofs.Drawn.{ends_within_of, told}
-use Rattle.judging.proofs.draw.draw_judged.Goals as goal
+use Rattle.judging.proofs.draw.DrawTableCommand.conclude_table.Goals as goal
 
 pub drawing-requires : goal.drawing-requires
 drawing-requires g c = λ J read.
@@ -20,7 +20,7 @@ drawing-requires g c = λ J read.
 pub returns-in-Layout-clause-comes : goal.returns-in-Layout-clause-comes
 returns-in-Layout-clause-comes g c =
     let found = rw c.in-Layout.is at c.in_ok-offsets.ensures.judged in
-    let words = c.args.words.now in
+    let words = c.args.self.now in
     let table = c.args.table.now in
     let before = g.F.Files.seen c.args.files.now in
     let after = g.F.Files.seen c.read_judged_layout.new.files in
@@ -37,7 +37,7 @@ returns-in-Layout-clause-comes g c =
 pub returns-in-NoLayout-clause-comes : goal.returns-in-NoLayout-clause-comes
 returns-in-NoLayout-clause-comes g c =
     let found = rw c.in-NoLayout.is at c.in_ok-offsets.ensures.judged in
-    let words = c.args.words.now in
+    let words = c.args.self.now in
     let table = c.args.table.now in
     let before = g.F.Files.seen c.args.files.now in
     let after = g.F.Files.seen c.read_judged_layout.new.files in

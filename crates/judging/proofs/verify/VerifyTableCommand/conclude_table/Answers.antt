@@ -4,12 +4,12 @@ use Rattle.run_course.specs.Course.{Ends, says}
 use Rattle.readings.specs.Judging.{judged}
 use Rattle.readings.proofs.AfterInput.{prepared_for}
 use Rattle.readings.proofs.JudgedLayouts.{no_layout, with_layout}
-use Rattle.judging.proofs.verify.verify_judged.Goals as goal
+use Rattle.judging.proofs.verify.VerifyTableCommand.conclude_table.Goals as goal
 
 pub returns-clause-comes : goal.returns-clause-comes
 returns-clause-comes g c =
     let found = rw c.in-Layout.is at c.in_ok-judged.ensures.judged in
-    let words = c.args.words.now in
+    let words = c.args.self.now in
     let table = c.args.table.now in
     let before = g.F.Files.seen c.args.files.now in
     let after = g.F.Files.seen c.read_judged_layout.new.files in
@@ -23,7 +23,7 @@ returns-clause-comes g c =
 pub returns-in-NoLayout-clause-comes : goal.returns-in-NoLayout-clause-comes
 returns-in-NoLayout-clause-comes g c =
     let found = rw c.in-NoLayout.is at c.in_ok-judged.ensures.judged in
-    let words = c.args.words.now in
+    let words = c.args.self.now in
     let table = c.args.table.now in
     let before = g.F.Files.seen c.args.files.now in
     let after = g.F.Files.seen c.read_judged_layout.new.files in
