@@ -8,9 +8,10 @@ ghost use Rattle.run_course.specs.Prepares.{outcome_of};
 ghost use Rattle.readings.specs.Checking.{checked};
 ghost use Rattle.checking.specs.Checking.{refute};
 
+use csv_instance::Table;
 use dsa_model::{Instance, NoMemory};
 use dsa_outside::Files;
-use readings::{Checked, Input, open_input, read_checked_log};
+use readings::{Checked, TableCommand, conclude_input, read_checked_log};
 use run_course::{Command, Prepared, silent};
 use run_status::Status;
 use std::alloc::Global;
@@ -44,14 +45,23 @@ fn refute_checked<'a, F: Files>(
     }
 }
 
+impl<'a> TableCommand<'a> for Refute<'a> {
+    ghost after = { λ r _ I. checked r.log.now I (λ log o. o ≡ says (Accepted log.capacity)) };
+
+    fn conclude_table<F: Files>(
+        &self,
+        alloc: Global,
+        files: &mut F,
+        table: &Table,
+    ) -> Result<Prepared<'a>, NoMemory> {
+        refute_checked(alloc, files, self, table.instance())
+    }
+}
+
 impl<'a> Command<'a> for Refute<'a> {
     ghost course = { λ r. refute r.input.now r.log.now };
 
     fn conclude<F: Files>(&self, alloc: Global, files: &mut F) -> Result<Prepared<'a>, NoMemory> {
-        let table = match open_input(alloc, files, self.input)? {
-            Input::Table(table) => table,
-            Input::Missing(status) => return silent(alloc, status),
-        };
-        refute_checked(alloc, files, self, table.instance())
+        conclude_input(alloc, files, self.input, self)
     }
 }

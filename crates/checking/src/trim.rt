@@ -8,10 +8,11 @@ ghost use Rattle.run_course.specs.Prepares.{outcome_of};
 ghost use Rattle.readings.specs.Checking.{checked};
 ghost use Rattle.checking.specs.Checking.{Trims, trim};
 
+use csv_instance::Table;
 use dsa_model::{Instance, NoMemory};
 use dsa_outside::Files;
 use log_text::write_log;
-use readings::{Checked, Input, open_input, read_checked_log};
+use readings::{Checked, TableCommand, conclude_input, read_checked_log};
 use refute_log::ClosedLog;
 use run_course::{Command, Prepared, Writing, one_write, silent};
 use run_status::{Role, Status};
@@ -68,14 +69,23 @@ fn trim_checked<'a, F: Files>(
     }
 }
 
+impl<'a> TableCommand<'a> for Trim<'a> {
+    ghost after = { λ t _ I. checked t.log.now I (Trims t.output.now) };
+
+    fn conclude_table<F: Files>(
+        &self,
+        alloc: Global,
+        files: &mut F,
+        table: &Table,
+    ) -> Result<Prepared<'a>, NoMemory> {
+        trim_checked(alloc, files, self, table.instance())
+    }
+}
+
 impl<'a> Command<'a> for Trim<'a> {
     ghost course = { λ t. trim t.input.now t.log.now t.output.now };
 
     fn conclude<F: Files>(&self, alloc: Global, files: &mut F) -> Result<Prepared<'a>, NoMemory> {
-        let table = match open_input(alloc, files, self.input)? {
-            Input::Table(table) => table,
-            Input::Missing(status) => return silent(alloc, status),
-        };
-        trim_checked(alloc, files, self, table.instance())
+        conclude_input(alloc, files, self.input, self)
     }
 }

@@ -7,10 +7,11 @@ ghost use Rattle.run_course.specs.Prepares.{outcome_of};
 ghost use Rattle.readings.specs.Checking.{checked};
 ghost use Rattle.checking.specs.Checking.{upgrade, upgrading};
 
+use csv_instance::Table;
 use dsa_model::{Instance, NoMemory};
 use dsa_outside::Files;
 use log_text::write_log2;
-use readings::{Checked, Input, open_input, read_checked_log};
+use readings::{Checked, TableCommand, conclude_input, read_checked_log};
 use refute_log::ClosedLog;
 use run_course::{Command, Prepared, Writing, one_write, silent};
 use run_status::{Role, Status};
@@ -63,14 +64,23 @@ fn upgrade_checked<'a, F: Files>(
     }
 }
 
+impl<'a> TableCommand<'a> for Upgrade<'a> {
+    ghost after = { λ u _ I. checked u.log.now I (λ log o. o ≡ upgrading u.output.now log) };
+
+    fn conclude_table<F: Files>(
+        &self,
+        alloc: Global,
+        files: &mut F,
+        table: &Table,
+    ) -> Result<Prepared<'a>, NoMemory> {
+        upgrade_checked(alloc, files, self, table.instance())
+    }
+}
+
 impl<'a> Command<'a> for Upgrade<'a> {
     ghost course = { λ u. upgrade u.input.now u.log.now u.output.now };
 
     fn conclude<F: Files>(&self, alloc: Global, files: &mut F) -> Result<Prepared<'a>, NoMemory> {
-        let table = match open_input(alloc, files, self.input)? {
-            Input::Table(table) => table,
-            Input::Missing(status) => return silent(alloc, status),
-        };
-        upgrade_checked(alloc, files, self, table.instance())
+        conclude_input(alloc, files, self.input, self)
     }
 }
