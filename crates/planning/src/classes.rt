@@ -1,13 +1,14 @@
 //! `classes`: a plan by size class.
 
 ghost use Rattle.std.specs.Prelude.{◌≡◌, ◌+◌, IfOk, length};
+ghost use Rattle.run_course.specs.Course.{Concludes};
 ghost use Rattle.run_course.specs.Prepares.{outcome_of};
 ghost use Rattle.planning.specs.Planning.{Plans, classes};
 
 use csv_instance::Table;
 use dsa_model::{Fail, Instance, NoMemory};
 use dsa_outside::Files;
-use readings::{Input, open_input};
+use readings::{TableCommand, conclude_input};
 use run_course::{Command, Prepared, one_write, silent};
 use run_status::Status;
 use std::alloc::Global;
@@ -47,14 +48,23 @@ fn planned<'a>(
     one_write(alloc, file, status)
 }
 
+impl<'a> TableCommand<'a> for Classes<'a> {
+    ghost after = { λ c table I. Concludes (Plans c.output.now table I) };
+
+    fn conclude_table<F: Files>(
+        &self,
+        alloc: Global,
+        _files: &mut F,
+        table: &Table,
+    ) -> Result<Prepared<'a>, NoMemory> {
+        planned(alloc, self, table, table.instance())
+    }
+}
+
 impl<'a> Command<'a> for Classes<'a> {
     ghost course = { λ c. classes c.input.now c.output.now };
 
     fn conclude<F: Files>(&self, alloc: Global, files: &mut F) -> Result<Prepared<'a>, NoMemory> {
-        let table = match open_input(alloc, files, self.input)? {
-            Input::Table(table) => table,
-            Input::Missing(status) => return silent(alloc, status),
-        };
-        planned(alloc, self, &table, table.instance())
+        conclude_input(alloc, files, self.input, self)
     }
 }
