@@ -21,8 +21,6 @@ mod records;
 mod row;
 mod row_list;
 mod table;
-#[cfg(test)]
-mod tests;
 mod writing;
 
 pub use changed::write_changed;

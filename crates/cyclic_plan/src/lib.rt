@@ -5,8 +5,6 @@
 mod fault;
 mod fault_text;
 mod laws;
-#[cfg(test)]
-mod tests;
 mod unrolling;
 
 pub use fault::CycleFault;

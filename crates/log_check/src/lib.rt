@@ -12,5 +12,3 @@ mod narrowing;
 pub use checker::check;
 pub use fault::CheckFault;
 
-#[cfg(test)]
-mod tests;

@@ -7,6 +7,10 @@ mod canonical_order_tests;
 #[cfg(test)]
 mod command_words_tests;
 #[cfg(test)]
+mod csv_instance_tests;
+#[cfg(test)]
+mod cyclic_plan_tests;
+#[cfg(test)]
 mod dsa_model_tests;
 #[cfg(test)]
 mod layout_report_tests;

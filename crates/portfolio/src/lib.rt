@@ -3,8 +3,6 @@
 
 mod elsewhere;
 mod searching;
-#[cfg(test)]
-mod tests;
 mod turns;
 
 pub use turns::Portfolio;

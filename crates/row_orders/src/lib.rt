@@ -5,8 +5,6 @@
 mod carrying;
 mod laws;
 mod orders;
-#[cfg(test)]
-mod tests;
 
 pub use carrying::carry_back;
 pub use laws::orders_change_nothing;

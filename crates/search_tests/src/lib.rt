@@ -1,4 +1,5 @@
-//! Tests of the starts, of the bound, of what the search goes by, and of the planner.
+//! Tests of the starts, of orders of rows, of the bound, of what the search goes by, and of the
+//! planner and the portfolio.
 #![tactic(auto)]
 
 #[cfg(test)]
@@ -11,5 +12,9 @@ mod lower_bounds_tests;
 mod min_capacity_tests;
 #[cfg(test)]
 mod planner_tests;
+#[cfg(test)]
+mod portfolio_tests;
+#[cfg(test)]
+mod row_orders_tests;
 #[cfg(test)]
 mod skyline_tests;

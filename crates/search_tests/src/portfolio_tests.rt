@@ -3,11 +3,11 @@
 ghost use Rattle.std.specs.Prelude.{◌+◌, ◌<◌, ◌≤◌, ◌^◌, IfOk};
 ghost use Rattle.min_capacity.specs.Brackets.{IsBracket};
 
-use crate::Portfolio;
 use dsa_model::{BUFFER_LIMIT, Buffer, BufferFault, Fail, Instance, NoMemory, height};
 use first_fit::first_fit;
 use min_capacity::{Bracket, Least};
 use narrowing::{Tries, narrow, settle};
+use portfolio::Portfolio;
 use refute_log::Decided;
 use row_orders::{Order, in_order};
 use std::alloc::Global;

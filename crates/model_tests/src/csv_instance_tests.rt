@@ -2,7 +2,7 @@
 
 ghost use Rattle.std.specs.Prelude.{◌≤◌, length};
 
-use crate::{
+use csv_instance::{
     Column, InstanceFault, OffsetsFault, read_instance, read_offsets, read_rows, write_changed,
     write_layout, write_rows,
 };

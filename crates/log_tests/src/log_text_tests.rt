@@ -2,9 +2,9 @@
 
 ghost use Rattle.refute_log.specs.Lines.{IsWithin, line_value};
 
-use crate::{RawLine, TextFault, read_log, write_log, write_log2};
 use canonical_order::Claim;
 use dsa_model::{BUFFER_LIMIT, Buffer, Fail, Instance};
+use log_text::{RawLine, TextFault, read_log, write_log, write_log2};
 use refute_log::{Line, Log};
 use std::alloc::Global;
 use std::process::Abort;

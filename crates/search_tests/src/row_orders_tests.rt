@@ -1,7 +1,7 @@
 //! The orders of six buffers, and offsets carried back from one.
 
-use crate::{Order, carry_back, in_order};
 use dsa_model::{BUFFER_LIMIT, Buffer, Instance, NoMemory};
+use row_orders::{Order, carry_back, in_order};
 use std::alloc::Global;
 
 /// Buffers without gaps, of alignment 1, by lower, upper and size.

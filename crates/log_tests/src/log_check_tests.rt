@@ -1,7 +1,7 @@
 //! Texts of logs, read and checked.
 
-use crate::{CheckFault, check};
 use dsa_model::{BUFFER_LIMIT, Buffer, Fail, Instance};
+use log_check::{CheckFault, check};
 use log_text::read_log;
 use refute_log::Reason;
 use std::alloc::Global;

@@ -2,8 +2,8 @@
 
 ghost use Rattle.std.specs.Prelude.{◌≤◌, length};
 
-use crate::{CycleFault, unroll};
 use csv_instance::InstanceFault;
+use cyclic_plan::{CycleFault, unroll};
 use dsa_model::{BufferFault, Fail, NoMemory};
 use std::alloc::Global;
 use std::test::Fail as TestFail;
