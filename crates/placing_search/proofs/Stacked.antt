@@ -22,26 +22,31 @@ floor_is_low b h = let le = h.within_lowest in raised_is_low b b.lowest h (omega
 -- two places of a stack's order change what stands there, and the offset of one buffer to one that is not too large
 pub stack_swapped : (I : Instance) (s t : Stack) (a b k low : ℕ) → a < length I → b < length I → low ≤ 2 ^ 61 →
     t.order.items ≡ swap s.order.items a b → length t.ends.items ≡ length I → t.lows.items ≡ set s.lows.items k low →
-    t.tops.items ≡ s.tops.items → IsStackOf I s → IsStackOf I t
-stack_swapped I s t a b k low la lb le e f g i h =
+    t.unstacked.items ≡ s.unstacked.items → t.tops.items ≡ s.tops.items → t.loads.items ≡ s.loads.items →
+    IsStackOf I s → IsStackOf I t
+stack_swapped I s t a b k low la lb le e f g j i o h =
     let m = h.each_once.count in
     record {
       each_once = order_swapped I s.order.items t.order.items a b (omega arith) (omega arith) e h.each_once;
       end_count = f;
       count = ap length g ∙ length-set s.lows.items k low ∙ h.count;
+      bits = ap length j ∙ h.bits;
       columns = ap length i ∙ h.columns;
+      load_count = ap length o ∙ h.load_count;
       limit = rw g (All-set (λ (low : ℕ). low ≤ 2 ^ 61) s.lows.items k low le h.limit);
     }
 
 -- the offset of one buffer changes to one that is not too large
 pub stack_set : (I : Instance) (s t : Stack) (k low : ℕ) → low ≤ 2 ^ 61 → t.order.items ≡ s.order.items →
-    t.ends.items ≡ s.ends.items → t.lows.items ≡ set s.lows.items k low → t.tops.items ≡ s.tops.items →
-    IsStackOf I s → IsStackOf I t
-stack_set I s t k low le e f g i h = record {
+    t.ends.items ≡ s.ends.items → t.lows.items ≡ set s.lows.items k low → t.unstacked.items ≡ s.unstacked.items →
+    t.tops.items ≡ s.tops.items → t.loads.items ≡ s.loads.items → IsStackOf I s → IsStackOf I t
+stack_set I s t k low le e f g j i o h = record {
   each_once = subst (IsOrderOf I) (sym e) h.each_once;
   end_count = ap length f ∙ h.end_count;
   count = ap length g ∙ length-set s.lows.items k low ∙ h.count;
+  bits = ap length j ∙ h.bits;
   columns = ap length i ∙ h.columns;
+  load_count = ap length o ∙ h.load_count;
   limit = rw g (All-set (λ (low : ℕ). low ≤ 2 ^ 61) s.lows.items k low le h.limit);
 }
 

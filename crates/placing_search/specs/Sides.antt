@@ -11,3 +11,4 @@ pub record AreSidesOf (I : Instance) (s : Sides) : Type 0 where
   pub left : All (λ column. column < 2 * length I + 2) s.left.items
   pub right : All (λ column. column < 2 * length I + 2) s.right.items
   pub columns : length s.bare.items ≡ 2 * length I + 2
+  pub load_count : length s.loads.items ≡ 2 * length I + 2

@@ -17,6 +17,8 @@ pub(crate) struct Sides {
     /// How high the columns are before a buffer is stacked, in bytes: 0 where one has to stand
     /// there, and above all buffers where none has.
     pub(crate) bare: Vec<u64>,
+    /// The sum of the sizes of the buffers without gaps in each column, in bytes.
+    pub(crate) loads: Vec<u64>,
 }
 
 /// A height above that of all stacks, in bytes.
@@ -51,16 +53,28 @@ impl Sides {
         let mut left = vec![in alloc; 0usize; count]?;
         let mut right = vec![in alloc; 0usize; count]?;
         let mut bare = vec![in alloc; WALL; 2 * count + 2]?;
+        let mut loads = vec![in alloc; 0u64; 2 * count + 2]?;
         for b in 0..instance.len() {
             let buffer = instance.buffer(b);
             let before = count_before(&ends, buffer.lower(), 2 * count);
             let after = count_before(&ends, buffer.upper(), 2 * count) + 1;
             left[b as usize] = before;
             right[b as usize] = after;
+            let load = if buffer.gaps().is_empty() {
+                buffer.size()
+            } else {
+                0
+            };
             for column in before + 1..after {
                 bare[column] = 0;
+                loads[column] = loads[column].saturating_add(load);
             }
         }
-        Ok(Sides { left, right, bare })
+        Ok(Sides {
+            left,
+            right,
+            bare,
+            loads,
+        })
     }
 }

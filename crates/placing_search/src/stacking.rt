@@ -27,8 +27,13 @@ pub(crate) struct Stack {
     /// For each buffer that is not stacked yet, by number, the least offset at which it does not
     /// meet those that are; `STACKED` for one that is.
     lows: Vec<u64>,
+    /// A bit for each buffer, by number; that of one that is stacked is not set.
+    unstacked: Vec<u64>,
     /// Where the buffer that was stacked last in each column ends, in bytes.
     tops: Vec<u64>,
+    /// The sum of the sizes of the buffers without gaps that are still to be stacked in each column,
+    /// in bytes.
+    loads: Vec<u64>,
     /// Whether of the buffers that can start lowest one with fewer open sides comes first.
     snug: bool,
 }
@@ -48,7 +53,9 @@ impl Stack {
             order: order.to_vec(alloc)?,
             ends: vec![in alloc; 0u64; instance.len() as usize]?,
             lows: vec![in alloc; 0u64; instance.len() as usize]?,
+            unstacked: vec![in alloc; 0u64; instance.len() as usize / 64 + 1]?,
             tops: vec![in alloc; 0u64; 2 * instance.len() as usize + 2]?,
+            loads: vec![in alloc; 0u64; 2 * instance.len() as usize + 2]?,
             snug,
         })
     }
@@ -62,7 +69,19 @@ impl Stack {
         for b in 0..instance.len() {
             self.lows[b as usize] = instance.buffer(b).floor();
         }
+        self.unstacked.fill(u64::MAX);
         self.tops.copy_from_slice(&sides.bare);
+        self.loads.copy_from_slice(&sides.loads);
+    }
+
+    /// The buffer is stacked: its low rises no more.
+    fn mark(&mut self, instance: &Instance, b: u32)
+        requires stack { IsStackOf instance.now self.old }
+        requires in_range { b < length instance.now }
+        ensures { IsStackOf instance.now self.new }
+    {
+        let _count = instance.len();
+        self.unstacked[b as usize / 64] &= !(1 << (b % 64));
     }
 
     /// How many sides of the buffer are open where it can start now, in a snug stack: those where
@@ -100,6 +119,28 @@ impl Stack {
         for column in sides.left[b as usize] + 1..sides.right[b as usize] {
             self.tops[column] = end;
         }
+    }
+
+    /// Takes the buffer off the loads of its columns. Tells whether what is left of each is at most
+    /// `room`, in bytes: the buffers that are still to come there all go above this one.
+    fn take_off(&mut self, instance: &Instance, sides: &Sides, b: u32, room: u64) -> bool
+        requires stack { IsStackOf instance.now self.old }
+        requires sides { AreSidesOf instance.now sides.now }
+        requires in_range { b < length instance.now }
+        ensures { IsStackOf instance.now self.new }
+    {
+        let buffer = instance.buffer(b);
+        if !buffer.gaps().is_empty() {
+            return true;
+        }
+        let size = buffer.size();
+        let mut most = 0;
+        for column in sides.left[b as usize] + 1..sides.right[b as usize] {
+            let left = self.loads[column].saturating_sub(size);
+            self.loads[column] = left;
+            most = left.max(most);
+        }
+        most <= room
     }
 
     /// The place from `from` on of the buffer that can start lowest, of equals the one with fewest
@@ -160,7 +201,11 @@ impl Stack {
             rest &= rest.wrapping_sub(1);
             if c < instance.len() && self.lows[c as usize] < end {
                 let buffer = instance.buffer(c);
-                let low = buffer.least_offset(end);
+                let low = if buffer.alignment() == 1 {
+                    end
+                } else {
+                    buffer.least_offset(end)
+                };
                 if low + buffer.size() > limit {
                     return false;
                 }
@@ -180,6 +225,7 @@ impl Stack {
     {
         let _count = instance.len();
         for (place, &word) in row.iter().enumerate() {
+            let word = word & self.unstacked[place];
             if !self.raise_some(instance, word, 64 * place as u32, end, limit) {
                 return false;
             }
@@ -191,7 +237,8 @@ impl Stack {
     /// where it can start, in a snug stack of equals one with fewest open sides, and of equals the
     /// one of the first place in the ranking. The lowest gap is filled first in the strip packing
     /// of Burke, Kendall and Whitwell too; here the places in time are given. Tells the height, in
-    /// bytes; none where it would be above the limit.
+    /// bytes; none where it would be above the limit, as soon as a buffer would end there, or those
+    /// that are still to come in a column.
     ///
     /// First-fit in the order in which they were stacked puts no buffer higher.
     ///
@@ -224,6 +271,10 @@ impl Stack {
             self.ends[k] = end;
             self.lows[b as usize] = STACKED;
             self.top_up(instance, &meetings.sides, b, end);
+            self.mark(instance, b);
+            if !self.take_off(instance, &meetings.sides, b, limit - end) {
+                return None;
+            }
             if !self.raise(instance, meetings.with(instance, b), end, limit) {
                 return None;
             }

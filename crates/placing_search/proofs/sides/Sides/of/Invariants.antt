@@ -9,6 +9,8 @@ invariant-loop-b l =
     × All (λ column. column < 2 * length l.instance + 2) l.left.items
     × All (λ column. column < 2 * length l.instance + 2) l.right.items
     × (length l.bare.items ≡ 2 * length l.instance + 2)
+    × (length l.loads.items ≡ 2 * length l.instance + 2)
 
 abbrev pub invariant-loop-column : goal.invariant-loop-column
-invariant-loop-column l = length l.bare.items ≡ 2 * length l.instance + 2
+invariant-loop-column l =
+    (length l.bare.items ≡ 2 * length l.instance + 2) × (length l.loads.items ≡ 2 * length l.instance + 2)

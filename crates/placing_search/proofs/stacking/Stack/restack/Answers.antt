@@ -7,4 +7,4 @@ pub top_up-requires-clause-stack : goal.top_up-requires-clause-stack
 top_up-requires-clause-stack c =
     stack_swapped c.args.instance.now c.loop-k.self _ c.loop-k.k c.lowest_from-lowest.result c.index-b.result.now
     (2 ^ 61) (omega arith) c.lowest_from-lowest.ensures (omega arith) c.swap.ensures.items
-    (length-set _ _ _ ∙ c.loop-k.invariant.0.end_count) refl refl c.loop-k.invariant.0
+    (length-set _ _ _ ∙ c.loop-k.invariant.0.end_count) refl refl refl refl c.loop-k.invariant.0
