@@ -1,6 +1,7 @@
 //! `least`: the least capacity that has a layout.
 
 ghost use Rattle.std.specs.Prelude.{◌≡◌, ◌+◌, IfOk, length};
+ghost use Rattle.run_course.specs.Course.{Concludes};
 ghost use Rattle.run_course.specs.Prepares.{outcome_of};
 ghost use Rattle.deciding.specs.Deciding.{Finds, least};
 ghost use Rattle.deciding.specs.Words.{least_of};
@@ -11,8 +12,8 @@ use dsa_model::{Instance, NoMemory};
 use dsa_outside::Files;
 use min_capacity::Least as Found;
 use planner::least_capacity;
-use readings::{Input, open_input};
-use run_course::{Command, Prepared, silent};
+use readings::{TableCommand, conclude_input};
+use run_course::{Command, Prepared};
 use run_status::Status;
 use std::alloc::Global;
 
@@ -53,14 +54,23 @@ fn found<'a>(
     }
 }
 
+impl<'a> TableCommand<'a> for Least<'a> {
+    ghost after = { λ l table I. Concludes (Finds (least_of l) table I) };
+
+    fn conclude_table<F: Files>(
+        &self,
+        alloc: Global,
+        _files: &mut F,
+        table: &Table,
+    ) -> Result<Prepared<'a>, NoMemory> {
+        found(alloc, self, table, table.instance())
+    }
+}
+
 impl<'a> Command<'a> for Least<'a> {
     ghost course = { λ l. least (least_of l) };
 
     fn conclude<F: Files>(&self, alloc: Global, files: &mut F) -> Result<Prepared<'a>, NoMemory> {
-        let table = match open_input(alloc, files, self.input)? {
-            Input::Table(table) => table,
-            Input::Missing(status) => return silent(alloc, status),
-        };
-        found(alloc, self, &table, table.instance())
+        conclude_input(alloc, files, self.input, self)
     }
 }

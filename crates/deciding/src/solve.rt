@@ -2,6 +2,7 @@
 
 ghost use Rattle.std.specs.Prelude.{◌≡◌, ◌+◌, ◌≤◌, IfOk, length};
 ghost use Rattle.command_words.specs.Options.{number_limit};
+ghost use Rattle.run_course.specs.Course.{Concludes};
 ghost use Rattle.run_course.specs.Prepares.{outcome_of};
 ghost use Rattle.deciding.specs.Deciding.{Solves, solve};
 ghost use Rattle.deciding.specs.Words.{solve_of};
@@ -11,8 +12,8 @@ use csv_instance::Table;
 use dsa_model::{Instance, NoMemory};
 use dsa_outside::Files;
 use planner::{Decision, plan};
-use readings::{Input, open_input};
-use run_course::{Command, Prepared, one_write, silent};
+use readings::{TableCommand, conclude_input};
+use run_course::{Command, Prepared, one_write};
 use run_status::Status;
 use std::alloc::Global;
 use writings::{layout_file, log_file};
@@ -61,16 +62,27 @@ fn solved<'a>(
     }
 }
 
+impl<'a> TableCommand<'a> for Solve<'a> {
+    ghost after = { λ s table I. Concludes (Solves (solve_of s) table I) };
+
+    ghost is_known = { λ s. s.capacity ≤ number_limit };
+
+    fn conclude_table<F: Files>(
+        &self,
+        alloc: Global,
+        _files: &mut F,
+        table: &Table,
+    ) -> Result<Prepared<'a>, NoMemory> {
+        solved(alloc, self, table, table.instance())
+    }
+}
+
 impl<'a> Command<'a> for Solve<'a> {
     ghost course = { λ s. solve (solve_of s) };
 
     ghost is_asked = { λ s. s.capacity ≤ number_limit };
 
     fn conclude<F: Files>(&self, alloc: Global, files: &mut F) -> Result<Prepared<'a>, NoMemory> {
-        let table = match open_input(alloc, files, self.input)? {
-            Input::Table(table) => table,
-            Input::Missing(status) => return silent(alloc, status),
-        };
-        solved(alloc, self, &table, table.instance())
+        conclude_input(alloc, files, self.input, self)
     }
 }
