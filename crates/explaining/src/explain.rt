@@ -3,6 +3,7 @@
 ghost use Rattle.std.specs.Prelude.{◌≡◌, ◌≤◌, ◌+◌, IfOk, Ok, length};
 ghost use Rattle.command_words.specs.Options.{number_limit};
 ghost use Rattle.csv_instance.specs.Parse.{parse};
+ghost use Rattle.run_course.specs.Course.{Concludes};
 ghost use Rattle.run_course.specs.Prepares.{outcome_of};
 ghost use Rattle.explaining.specs.Explaining.{ExplainsOrFits, core};
 ghost use Rattle.explaining.specs.Words.{core_of};
@@ -12,7 +13,7 @@ use core_find::{Found, find_core};
 use csv_instance::{Table, write_rows};
 use dsa_model::{Instance, NoMemory};
 use dsa_outside::Files;
-use readings::{Input, open_input};
+use readings::{TableCommand, conclude_input};
 use run_course::{Command, Prepared, Writing, silent, two_writes};
 use run_status::{Role, Status};
 use std::alloc::Global;
@@ -57,16 +58,27 @@ fn explained<'a>(
     two_writes(alloc, rows, log, Status::Core { members })
 }
 
+impl<'a> TableCommand<'a> for Core<'a> {
+    ghost after = { λ k table I. Concludes (ExplainsOrFits (core_of k) table I) };
+
+    ghost is_known = { λ k. k.capacity ≤ number_limit };
+
+    fn conclude_table<F: Files>(
+        &self,
+        alloc: Global,
+        _files: &mut F,
+        table: &Table,
+    ) -> Result<Prepared<'a>, NoMemory> {
+        explained(alloc, self, table, table.instance())
+    }
+}
+
 impl<'a> Command<'a> for Core<'a> {
     ghost course = { λ k. core (core_of k) };
 
     ghost is_asked = { λ k. k.capacity ≤ number_limit };
 
     fn conclude<F: Files>(&self, alloc: Global, files: &mut F) -> Result<Prepared<'a>, NoMemory> {
-        let table = match open_input(alloc, files, self.input)? {
-            Input::Table(table) => table,
-            Input::Missing(status) => return silent(alloc, status),
-        };
-        explained(alloc, self, &table, table.instance())
+        conclude_input(alloc, files, self.input, self)
     }
 }
