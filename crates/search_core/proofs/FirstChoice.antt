@@ -1,5 +1,5 @@
 -- The entry of a claim that is before all others: the first choice.
-use Rattle.std.proofs.Common.{◌≡◌, ◌⊎◌, ℕ, ◌<◌, ◌≤◌, ◌==◌, ◌||◌, ◌&&◌, inl, inr, Bool, true, false, cond, nat_lt, List, [], ◌∷◌, filter, length, slice_index, slice_index_or, refl, sym, ap, ◌∙◌, subst, arith}
+use Rattle.std.proofs.Common.{◌≡◌, ◌≢◌, ◌⊎◌, ℕ, ◌+◌, ◌<◌, ◌≤◌, ◌==◌, ◌||◌, ◌&&◌, inl, inr, Bool, true, false, cond, nat_lt, List, [], ◌∷◌, filter, length, slice_index, slice_index_or, refl, sym, ap, ◌∙◌, subst, arith}
 use Rattle.std.proofs.lemmas.Bool.Decides.{nat_tests}
 use Rattle.dsa_terms.specs.Buffers.{Instance, IsInstance}
 use Rattle.dsa_terms.specs.Claims.{Claim, Entry, IsIn, Rises, buffers_of, up}
@@ -10,92 +10,62 @@ use Rattle.dsa_terms.proofs.Lists.{from_filter, from_ordered_by, into_filter, tr
 use Rattle.dsa_terms.proofs.Moments.{sound}
 use Rattle.dsa_search_laws.proofs.Moves.{below_is, twin_is}
 use Rattle.dsa_search_laws.proofs.Placing.{in_buffers}
+use Rattle.dsa_terms.proofs.NumberTests.{same_or_not}
+use Rattle.canonical_order.specs.Claims.{HasBuffer, entry_of}
+use Rattle.canonical_order.specs.Levels.{AreLevels}
+use Rattle.canonical_order.proofs.Entries.{entry_in, is_entry}
+use Rattle.canonical_order.proofs.LevelLemmas.{has_level, level_inside}
 use Rattle.search_core.specs.Keys.{IsBefore, IsFirst}
-use Rattle.search_core.specs.Lifted.{IsAtLows}
+use Rattle.search_core.specs.Levels.{IsLeastLevel}
 use Rattle.search_core.specs.Ways.{order_of}
 use Rattle.search_core.proofs.Ends.{no_any}
 use Rattle.search_core.proofs.Least.{no_rule_excludes}
 
--- ---- the loop over the entries
--- x is no later by bound and number than the entries of the claim but for those that are left, and none of these has a
--- smaller number
-pub record IsFirstBut (l left : Claim) (x : Entry) : Type 0 where
-  pub among : IsIn x l
-  pub before : (e : Entry) → IsIn e l → IsIn e left ⊎ (e ≡ x) ⊎ (x.1 < e.1) ⊎ ((x.1 ≡ e.1) × (x.0 < e.0))
-  pub later : (e : Entry) → IsIn e left → (e ≡ x) ⊎ (x.0 < e.0)
+-- ---- the first one by levels
+some_entry : (l : Claim) → l ≢ [] → (e : Entry) × IsIn e l
+some_entry [] some = absurd (some refl)
+some_entry (x ∷ xs) some = (x, inl refl)
 
-pub first_at_start : (l : Claim) → (l ≡ [] → ⊥) → Rises (buffers_of l) → IsFirstBut l l (slice_index_or l 0 (0, 0))
-first_at_start [] some r = absurd (some refl)
-first_at_start (x ∷ rest) some r = record {
-  among = inl refl;
-  before = λ e i. inl i;
-  later = λ e i. elim i [
-    | inl p ↦ inl p
-    | inr j ↦ inr (r.0 e.0 (in_buffers rest e j))
-  ];
-}
-
-module _ (l left rest : Claim) (e x : Entry) (s : left ≡ e ∷ rest) (h : IsFirstBut l left x) where
-  pub first_keep : x.1 ≤ e.1 → IsFirstBut l rest x
-  first_keep le = record {
-    among = h.among;
-    before = λ f i. elim (h.before f i) [
-      | inl j ↦ elim (subst (IsIn f) s j) [
-        | inl p ↦ inr (passed f p (h.later f j))
-        | inr k ↦ inl k
-      ]
-      | inr p ↦ inr p
-    ];
-    later = λ f i. h.later f (subst (IsIn f) (sym s) (inr i));
-  }
-    where
-      compare : (m n : ℕ) → m ≤ n → (m < n) ⊎ (m ≡ n)
-      compare m n le = grind arith
-
-      passed : (f : Entry) → f ≡ e → (f ≡ x) ⊎ (x.0 < f.0) →
-          (f ≡ x) ⊎ (x.1 < f.1) ⊎ ((x.1 ≡ f.1) × (x.0 < f.0))
-      passed f p (inl q) = inl q
-      passed f p (inr lt) = elim (compare x.1 f.1 (subst (λ (g : Entry). x.1 ≤ g.1) (sym p) le)) [
-        | inl less ↦ inr (inl less)
-        | inr same ↦ inr (inr (same, lt))
-      ]
-
-  pub first_take : Rises (buffers_of left) → IsIn e l → e.1 < x.1 → IsFirstBut l rest e
-  first_take r i less = record {
-    among = i;
-    before = λ f j. elim (h.before f j) [
-      | inl k ↦ elim (subst (IsIn f) s k) [
-        | inl p ↦ inr (inl p)
-        | inr m ↦ inl m
-      ]
-      | inr p ↦ inr (inr (inl (higher f p)))
-    ];
-    later = λ f j. inr ((subst (λ (k : Claim). Rises (buffers_of k)) s r).0 f.0 (in_buffers rest f j));
-  }
-    where
-      higher : (f : Entry) → (f ≡ x) ⊎ (x.1 < f.1) ⊎ ((x.1 ≡ f.1) × (x.0 < f.0)) → e.1 < f.1
-      higher f (inl p) = subst (λ (g : Entry). e.1 < g.1) (sym p) less
-      higher f (inr (inl q)) = omega (arith, less, q)
-      higher f (inr (inr q)) = let k = q.0 in omega (arith, less, k)
-
-pub first_of_all : (I : Instance) (l left : Claim) (x : Entry) → left ≡ [] → IsAtLows I l → IsFirstBut l left x →
-    IsFirst I l x.0
-first_of_all I l left x none lows h = record {
-  f = x;
-  among = h.among;
+pub first_by_level : (I : Instance) (l : Claim) (levels : List ℕ) (b : ℕ) → AreLevels I l levels →
+    IsLeastLevel levels b → l ≢ [] → IsFirst I l b
+first_by_level I l levels b h least some = record {
+  f = entry_of l b;
+  among = entry_in l b has;
   is = refl;
-  before = λ e i. elim (h.before e i) [
-    | inl j ↦ absurd (subst (IsIn e) none j)
-    | inr p ↦ before e i p
-  ];
+  before = before;
 }
   where
-    before : (e : Entry) → IsIn e l → (e ≡ x) ⊎ (x.1 < e.1) ⊎ ((x.1 ≡ e.1) × (x.0 < e.0)) → (e ≡ x) ⊎ IsBefore I x e
-    before e i (inl p) = inl p
-    before e i (inr (inl q)) =
-        let m = lows.each x h.among in let n = lows.each e i in inr (inl (omega (arith, q, m, n)))
-    before e i (inr (inr q)) =
-        let m = lows.each x h.among in let n = lows.each e i in inr (inr (m ∙ q.0 ∙ sym n, q.1))
+    has : HasBuffer l b
+    has =
+        let r = some_entry l some in
+        let q = level_inside I l levels h r.0.0 (in_buffers l r.0 r.1) in
+        has_level I l levels h b (least.some r.0.0 (omega (arith, q)))
+
+    before : (e : Entry) → IsIn e l → (e ≡ entry_of l b) ⊎ IsBefore I (entry_of l b) e
+    before e i =
+        let q : e ≡ entry_of l e.0 = is_entry l e h.claim.rises i in
+        let u : up I e ≡ up I (entry_of l e.0) = ap (up I) q in
+        let p = level_inside I l levels h e.0 (in_buffers l e i) in
+        let m = level_inside I l levels h b has in
+        elim (least.before e.0 (omega (arith, p))) [
+          | inl lt ↦ inr (inl (omega (arith, u, p, m, lt)))
+          | inr r ↦ elim (same_or_not e.0 b) [
+            | inl n ↦ inl (q ∙ ap (entry_of l) n)
+            | inr ne ↦ (let k = r.0 in let le = r.1 in inr (inr (omega (arith, u, p, m, k), apart e.0 ne le)))
+          ]
+        ]
+      where
+        apart : (c : ℕ) → c ≢ b → b ≤ c → b < c
+        apart c ne le = grind arith
+
+-- a claim without a level has no buffer
+pub nothing_by_level : (I : Instance) (l : Claim) (levels : List ℕ) (b : ℕ) → AreLevels I l levels →
+    IsLeastLevel levels b → slice_index levels b ≡ 0 → l ≡ []
+nothing_by_level I [] levels b h least none = refl
+nothing_by_level I (x ∷ xs) levels b h least none = absurd (
+    let q = level_inside I (x ∷ xs) levels h x.0 (inl refl) in
+    let more = least.some x.0 (omega (arith, q)) in
+    omega (arith, none, more))
 
 -- ---- it is the first choice
 before_is : (I : Instance) (e f : Entry) → comes_before I e f ≡ true → IsBefore I e f

@@ -37,7 +37,9 @@ pub mod Looking
 pub mod WatchFacts
 pub mod WatchTableFacts
 pub mod Rising
+pub mod RaisingSteps
 pub mod Tall
+pub mod TallLevels
 pub mod Along
 pub mod Grounding
 pub mod ChildLevels

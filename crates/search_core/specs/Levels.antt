@@ -1,5 +1,5 @@
 -- What the levels of the search keep.
-use Rattle.std.specs.Prelude.{◌≡◌, ◌^◌, ℕ, ◌+◌, ◌<◌, ◌≤◌, List, length, slice_index}
+use Rattle.std.specs.Prelude.{◌≡◌, ◌^◌, ◌⊎◌, ℕ, ◌+◌, ◌<◌, ◌≤◌, List, length, slice_index}
 use Rattle.std.specs.List.{All}
 use Rattle.dsa_terms.specs.Buffers.{Instance}
 use Rattle.dsa_terms.specs.Claims.{Claim, Entry, IsIn, Rises, buffers_of, child}
@@ -19,6 +19,24 @@ pub record AreKept (levels : List ℕ) (ground : Claim) : Type 0 where
   pub each : (e : Entry) → IsIn e ground → slice_index levels e.0 ≡ e.1 + 1
   -- and each buffer that has a level is in the claim
   pub all : (b : ℕ) → 0 < slice_index levels b → HasBuffer ground b
+
+-- where some buffer has a level, this one has, and it is before all others that have one by level and number
+pub record IsLeastLevel (levels : List ℕ) (b : ℕ) : Type 0 where
+  pub some : (c : ℕ) → 0 < slice_index levels c → 0 < slice_index levels b
+  pub before : (c : ℕ) → 0 < slice_index levels c →
+      (slice_index levels b < slice_index levels c) ⊎ ((slice_index levels b ≡ slice_index levels c) × (b ≤ c))
+
+-- levels, beside the buffer that is before all others and a number that none of them is above
+pub record AreLed (levels : List ℕ) (first top : ℕ) : Type 0 where
+  -- there are no more than buffers may be
+  pub few : length levels ≤ buffer_limit
+  -- none is above 2^55
+  pub low : All (λ level. level ≤ 2 ^ 55) levels
+  -- nor above the number
+  pub under : All (λ level. level ≤ top) levels
+  -- which is low itself
+  pub limit : top ≤ 2 ^ 55
+  pub least : IsLeastLevel levels first
 
 -- the levels are those of a claim that has the buffer, and no bound of the child by it is above 2^54
 pub record HasLowChild (I : Instance) (levels : List ℕ) (b : ℕ) : Type 0 where

@@ -23,3 +23,4 @@ pub mod Watching
 pub mod Looks
 pub mod TwinMarks
 pub mod Seats
+pub mod Raisings

@@ -28,9 +28,10 @@ impl Branches {
         ensures levels { IfOk result (λ branches. branches.levels ≡ levels) }
     {
         let _count = task.instance.len();
+        let ground = levels.ground(alloc)?;
         let view = Leveled {
             instance: task.instance,
-            claim: levels.ground(),
+            claim: &ground,
             levels: &levels,
         };
         let order = choices(alloc, &view, task.twins)?;

@@ -1,6 +1,6 @@
 //! Which buffers of a claim the search takes first, and in which order.
 
-ghost use Rattle.std.specs.Prelude.{◌≡◌, ◌≢◌, [], length, map, not, true, is_some, IfOk, IfSome};
+ghost use Rattle.std.specs.Prelude.{◌≡◌, [], length, map, not, true, is_some, IfOk, IfSome};
 ghost use Rattle.dsa_terms.specs.Claims.{IsIn};
 ghost use Rattle.dsa_terms.specs.Lean.{IsOwnCite};
 ghost use Rattle.dsa_terms.specs.Logs.{IsLegalCite};
@@ -8,7 +8,7 @@ ghost use Rattle.dsa_terms.specs.Search.{choices, not_excluded};
 ghost use Rattle.canonical_order.specs.Claims.{HasBuffer, entry_of};
 ghost use Rattle.refute_log.specs.Lines.{cite_value};
 ghost use Rattle.search_core.specs.Endings.{IsLeastEnding};
-ghost use Rattle.search_core.specs.Keys.{IsFirst, key_of};
+ghost use Rattle.search_core.specs.Keys.{key_of};
 ghost use Rattle.search_core.specs.TwinMarks.{AreTwinMarks};
 
 use crate::ending::{Ending, least_end};
@@ -83,22 +83,6 @@ fn takes(view: &Leveled, twins: &TwinMarks, least: Ending, pair: (u32, u64)) -> 
         return false;
     }
     is_taken(view, twins, least, b)
-}
-
-/// The one of the buffers that the search takes first: the one of least low, and of these the one
-/// of least number. The claim has some buffer.
-pub(crate) fn first_choice(view: &Leveled) -> u32
-    requires { view.now.claim.now ≢ [] }
-    ensures { IsFirst view.now.instance.now view.now.claim.now result }
-{
-    let pairs = view.claim.pairs();
-    let mut first = pairs[0];
-    for pair in pairs {
-        if pair.1 < first.1 {
-            first = *pair;
-        }
-    }
-    first.0
 }
 
 /// The buffers that the search takes: the one of least offset first, and of these the one of least

@@ -6,9 +6,7 @@ ghost use Rattle.canonical_order.specs.Levels.{AreLevels};
 ghost use Rattle.search_core.specs.Fresh.{IsFresh, tries_at};
 
 use crate::branches::Branches;
-use crate::choice::first_choice;
 use crate::frame::Frame;
-use crate::leveled::Leveled;
 use crate::levels::Levels;
 use crate::task::Task;
 use dsa_model::NoMemory;
@@ -24,21 +22,15 @@ pub(crate) struct Fresh {
 }
 
 impl Fresh {
-    /// The claim of the levels, which has some buffer.
+    /// The claim of the levels.
     pub(crate) fn of(task: &Task, levels: Levels, asked: u64) -> Fresh
-        requires { (l : ClaimTerm) × AreLevels task.now.instance.now l levels × (l ≢ []) }
         ensures first { let I = task.now.instance.now in (l : ClaimTerm) →
             AreLevels I l levels → l ≢ [] → IsFresh I l result }
         ensures levels { result.levels ≡ levels }
         ensures asked { result.asked ≡ asked }
     {
         let _count = task.instance.len();
-        let view = Leveled {
-            instance: task.instance,
-            claim: levels.ground(),
-            levels: &levels,
-        };
-        let chosen = first_choice(&view);
+        let chosen = levels.first();
         Fresh {
             levels,
             chosen,

@@ -1,19 +1,18 @@
 //! The lows of a claim, one after another by buffer.
 
-ghost use Rattle.std.specs.Prelude.{◌≡◌, ℕ, ◌^◌, ◌<◌, ◌≤◌, IfOk, length, slice_index};
+ghost use Rattle.std.specs.Prelude.{◌≡◌, ◌≢◌, ℕ, ◌^◌, ◌<◌, ◌≤◌, [], true, false, IfOk, length, slice_index};
 ghost use Rattle.std.specs.List.{All};
 ghost use Rattle.dsa_terms.specs.Buffers.{Instance as InstanceTerm};
 ghost use Rattle.dsa_terms.specs.Claims.{Claim as ClaimTerm, child as child_of};
 ghost use Rattle.dsa_model.specs.Buffer.{buffer_limit};
-ghost use Rattle.canonical_order.specs.Claims.{HasBuffer, IsBoundedBy, entry_of};
+ghost use Rattle.canonical_order.specs.Claims.{IsBoundedBy, entry_of};
 ghost use Rattle.canonical_order.specs.Levels.{AreLevels, IsLevel};
-ghost use Rattle.search_core.specs.Levels.{HasLowChild};
+ghost use Rattle.search_core.specs.Keys.{IsFirst};
+ghost use Rattle.search_core.specs.Levels.{HasLowChild, IsLeastLevel};
 ghost use Rattle.search_core.specs.Lifted.{lifted};
-ghost use Rattle.search_core.specs.Watches.{AreTheRaised};
 ghost use Rattle.skyline.specs.Skies.{last_claim};
 
 use crate::grounds::ground_of;
-use crate::raising::Raising;
 use canonical_order::{Claim, Lows, step};
 use dsa_model::{Instance, NoMemory};
 use skyline::Skyline;
@@ -41,7 +40,7 @@ fn fill(levels: &mut [u64], sky: &Skyline)
 }
 
 /// The level in the child by b of c, which has this level in a claim that has both.
-fn child_level(instance: &Instance, levels: &Levels, b: u32, c: u32, level: u64) -> u64
+pub(crate) fn child_level(instance: &Instance, levels: &Levels, b: u32, c: u32, level: u64) -> u64
     requires low { HasLowChild instance.now levels.now b }
     requires level { level ≡ slice_index levels.now c }
     requires c_in { 0 < level }
@@ -62,81 +61,85 @@ fn child_level(instance: &Instance, levels: &Levels, b: u32, c: u32, level: u64)
     }
 }
 
+/// The greatest of the levels, and 0 for none.
+fn greatest_level(levels: &[u64]) -> u64
+    ensures top { All (λ level. level ≤ result) levels.now }
+    ensures limit { All (λ level. level ≤ 2 ^ 55) levels.now → result ≤ 2 ^ 55 }
+{
+    let mut top = 0;
+    for level in levels {
+        if top < *level {
+            top = *level;
+        }
+    }
+    top
+}
+
+/// The least number of a buffer of least level among those that have one, and 0 where none has.
+fn first_level(levels: &[u64]) -> u32
+    requires few { length levels.now ≤ buffer_limit }
+    requires low { All (λ level. level ≤ 2 ^ 55) levels.now }
+    ensures { IsLeastLevel levels.now result }
+{
+    let mut first = 0;
+    let mut least = u64::MAX;
+    for b in 0..levels.len() {
+        let low = levels[b].wrapping_sub(1);
+        if low < least {
+            least = low;
+            first = b;
+        }
+    }
+    first as u32
+}
+
 /// For each buffer of an instance one more than its low in a claim, and 0 where it is not in the
 /// claim: so the claim meets a bound exactly where the bound is below the buffer's level. Beside
-/// them stands the claim with its lows as bounds. Contracts see the levels by buffer.
+/// them stand the buffer that comes first by level and number, and a number that none is above.
+/// Contracts see the levels by buffer.
 #[derive(Drop)]
 pub(crate) struct Levels {
     numbers: Vec<u64>,
-    ground: Claim,
-}
-
-/// The levels of a child, and which of its buffers are higher there than in the claim above it.
-#[derive(Drop)]
-pub(crate) struct Child {
-    pub(crate) levels: Levels,
-    pub(crate) raised: Vec<u32>,
+    first: u32,
+    top: u64,
 }
 
 impl Model for Levels {
     ghost use Rattle.std.specs.Prelude.{ℕ, List};
-    ghost use Rattle.search_core.specs.Levels.{AreKept};
+    ghost use Rattle.search_core.specs.Levels.{AreLed};
 
     ghost Value = { List ℕ };
 
     ghost view = { λ v. v.numbers.items };
 
-    ghost invariant = { λ v. AreKept v.numbers.items v.ground };
+    ghost invariant = { λ v. AreLed v.numbers.items v.first v.top };
 }
 
 impl Levels {
+    /// These levels, of which none is above the top.
+    pub(crate) fn with(numbers: Vec<u64>, top: u64) -> Levels
+        requires few { length numbers.items ≤ buffer_limit }
+        requires low { All (λ level. level ≤ 2 ^ 55) numbers.items }
+        requires top { All (λ level. level ≤ top) numbers.items }
+        requires limit { top ≤ 2 ^ 55 }
+        ensures { result ≡ numbers.items }
+    {
+        let first = first_level(&numbers);
+        Levels {
+            numbers,
+            first,
+            top,
+        }
+    }
+
     /// The levels of the last claim.
     pub(crate) fn of(alloc: Global, sky: &Skyline) -> Result<Levels, NoMemory>
         ensures { IfOk result (AreLevels sky.now.instance (last_claim sky.now.claims)) }
     {
         let mut numbers = vec![in alloc; 0u64; sky.instance().len() as usize]?;
         fill(&mut numbers, sky);
-        let ground = ground_of(alloc, &numbers)?;
-        Ok(Levels { numbers, ground })
-    }
-
-    /// The levels of the child by the buffer, which is in the claim. They are made from those of
-    /// the claim in one walk along it, and no sections are gone over. Most stay as they are: these
-    /// are copied together.
-    pub(crate) fn child(
-        &self,
-        alloc: Global,
-        instance: &Instance,
-        b: u32,
-    ) -> Result<Child, NoMemory>
-        requires { HasLowChild instance.now self.now b }
-        ensures levels { let I = instance.now in (l : ClaimTerm) → AreLevels I l self.now →
-            IfOk result (λ child. AreLevels I (child_of I l (entry_of l b)) child.levels) }
-        ensures raised { IfOk result
-            (λ child. AreTheRaised self.now child.levels child.raised.items) }
-    {
-        let pairs = self.ground.pairs();
-        let mut raising = Raising::of(alloc, &self.numbers, pairs.len())?;
-        let mut from = 0;
-        for i in 0..pairs.len() {
-            let (c, low) = pairs[i];
-            let before = low + 1;
-            let level = child_level(instance, self, b, c, before);
-            if level != before {
-                raising.keep(&pairs[from..i])?;
-                raising.put(c, before, level)?;
-                from = i + 1;
-            }
-        }
-        raising.keep(&pairs[from..])?;
-        let Raising {
-            numbers,
-            pairs,
-            raised,
-        } = raising;
-        let ground = Claim::from_vec(pairs);
-        let levels = Levels { numbers, ground };
-        Ok(Child { levels, raised })
+        let top = greatest_level(&numbers);
+        Ok(Levels::with(numbers, top))
     }
 
     /// How many there are: one for each buffer of the instance.
@@ -163,29 +166,47 @@ impl Levels {
     /// The levels in order.
     pub(crate) fn as_slice(&self) -> &[u64]
         ensures value { result.now ≡ self.now }
+        ensures few { length result.now ≤ buffer_limit }
         ensures low { All (λ level. level ≤ 2 ^ 55) result.now }
     {
         self.numbers.as_slice()
     }
 
-    /// The claim with each bound at the buffer's low.
-    pub(crate) fn ground(&self) -> &Claim
-        ensures value { (I : InstanceTerm) (l : ClaimTerm) → AreLevels I l self.now →
-            result.now ≡ lifted I l }
-        ensures low { IsBoundedBy (2 ^ 60) result.now }
-        ensures few { (b : ℕ) → HasBuffer result.now b → b < buffer_limit }
-        ensures all { (b : ℕ) → 0 < slice_index self.now b → HasBuffer result.now b }
+    /// A number that no level is above.
+    pub(crate) fn top(&self) -> u64
+        ensures value { All (λ level. level ≤ result) self.now }
+        ensures limit { result ≤ 2 ^ 55 }
     {
-        let _pairs = self.ground.len();
-        &self.ground
+        self.top
     }
 
-    /// The same claim in memory of its own.
-    pub(crate) fn lifted(&self, alloc: Global) -> Result<Claim, NoMemory>
+    /// The buffer of least low, and of these the one of least number, where the claim has one.
+    pub(crate) fn first(&self) -> u32
+        ensures value { IsLeastLevel self.now result }
+        ensures first { (I : InstanceTerm) (l : ClaimTerm) → AreLevels I l self.now → l ≢ [] →
+            IsFirst I l result }
+    {
+        self.first
+    }
+
+    /// Whether the claim has no buffer.
+    pub(crate) fn is_empty(&self) -> bool
+        ensures none { (I : InstanceTerm) (l : ClaimTerm) → AreLevels I l self.now →
+            result ≡ true → l ≡ [] }
+        ensures some { (I : InstanceTerm) (l : ClaimTerm) → AreLevels I l self.now →
+            result ≡ false → l ≢ [] }
+    {
+        let first = self.first();
+        self.at(first as usize) == 0
+    }
+
+    /// The claim with each bound at the buffer's low.
+    pub(crate) fn ground(&self, alloc: Global) -> Result<Claim, NoMemory>
         ensures value { (I : InstanceTerm) (l : ClaimTerm) → AreLevels I l self.now →
             IfOk result (λ claim. claim ≡ lifted I l) }
         ensures low { IfOk result (IsBoundedBy (2 ^ 60)) }
     {
-        self.ground().copy(alloc)
+        let ground = ground_of(alloc, &self.numbers)?;
+        Ok(ground)
     }
 }

@@ -5,6 +5,7 @@
 mod branches;
 mod budget;
 mod cases;
+mod child;
 mod child_cover;
 mod choice;
 mod cites;
@@ -32,6 +33,7 @@ mod raising;
 mod recent;
 mod remaking;
 mod search;
+mod spreading;
 mod task;
 #[cfg(test)]
 mod tests;

@@ -72,7 +72,8 @@ fn enter(
     let _depth = path.sky().depth();
     match path.above() {
         Some(above) => {
-            let child = above.levels.child(alloc, instance, above.chosen)?;
+            let sections = path.sky().sections();
+            let child = above.levels.child(alloc, instance, sections, above.chosen)?;
             let line = watches.find(log, above.levels, &child.levels, &child.raised)?;
             Ok(Entered {
                 levels: child.levels,
@@ -132,11 +133,10 @@ pub(crate) fn open(
     if !taken {
         return Ok(Opened::Spent);
     }
-    let claim = levels.ground();
-    if claim.len() == 0 {
+    if levels.is_empty() {
         return Ok(Opened::Empty);
     }
-    if let Some(line) = over_line(alloc, task, path.sky(), claim, &levels)? {
+    if let Some(line) = over_line(alloc, task, path.sky(), &levels)? {
         return Ok(Opened::Line(append(alloc, task, log, line)?));
     }
     let asked = log.log().len();

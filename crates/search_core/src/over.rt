@@ -1,69 +1,70 @@
 //! Claims that one Over line refutes.
 
-ghost use Rattle.std.specs.Prelude.{◌≡◌, ◌^◌, None, IfNone, IfOk, IfSome};
-ghost use Rattle.dsa_terms.specs.Claims.{IsIn};
+ghost use Rattle.std.specs.Prelude.{◌≡◌, ◌+◌, ◌-◌, ◌^◌, ◌<◌, ◌≤◌, None, true, false, IfNone, IfOk, IfSome, length};
+ghost use Rattle.dsa_terms.specs.Buffers.{buffer as buffer_at};
+ghost use Rattle.dsa_terms.specs.Claims.{Claim as ClaimTerm};
 ghost use Rattle.dsa_terms.specs.Search.{is_tall as is_tall_entry};
-ghost use Rattle.canonical_order.specs.Claims.{IsBoundedBy, least_buffer};
+ghost use Rattle.canonical_order.specs.Claims.{least_buffer};
 ghost use Rattle.canonical_order.specs.Levels.{AreLevels};
 ghost use Rattle.refute_log.specs.Lines.{line_value};
-ghost use Rattle.search_core.specs.Lifted.{lifted};
 ghost use Rattle.search_core.specs.Overs.{RefutesAtOnce};
 ghost use Rattle.skyline.specs.Skies.{last_claim};
 
-use crate::ending::end_of;
-use crate::leveled::Leveled;
 use crate::levels::Levels;
 use crate::lines::tall_line;
 use crate::task::Task;
-use canonical_order::{Claim, Lows};
+use canonical_order::Lows;
 use dsa_model::NoMemory;
 use refute_log::Line;
 use skyline::Skyline;
 use std::alloc::Global;
 
-/// Whether the buffer of the pair ends above the capacity at its low. Where a buffer of the
-/// greatest size does not, its own size is not looked up.
-fn is_tall(view: &Leveled, task: &Task, pair: (u32, u64)) -> bool
-    requires subject { view.now.instance.now ≡ task.now.instance.now }
-    requires pair_in { IsIn pair view.now.claim.now }
-    ensures { result ≡ is_tall_entry view.now.instance.now task.now.capacity pair }
+/// Whether the buffer has a level, and ends above the capacity there. Where one of the greatest
+/// size does not, its own size is not looked up.
+fn is_tall(task: &Task, b: u32, level: u64) -> bool
+    requires b_in { b < length task.now.instance.now }
+    requires limit { level ≤ 2 ^ 55 }
+    ensures some { result ≡ true → (0 < level) ×
+        (task.now.capacity < level - 1 + (buffer_at task.now.instance.now b).size) }
+    ensures none { result ≡ false → 0 < level →
+        level - 1 + (buffer_at task.now.instance.now b).size ≤ task.now.capacity }
 {
-    let _pairs = view.claim.len();
-    if pair.1 + task.size <= task.capacity {
+    if level + task.size <= task.capacity + 1 {
         return false;
     }
-    task.capacity < end_of(view, pair)
+    if level == 0 {
+        return false;
+    }
+    task.capacity < level - 1 + task.instance.buffer(b).size()
 }
 
-/// The least buffer of the claim that ends above the capacity at its low.
-fn tall(view: &Leveled, task: &Task) -> Option<u32>
-    requires { view.now.instance.now ≡ task.now.instance.now }
-    ensures { let I = view.now.instance.now in
-        result ≡ least_buffer (is_tall_entry I task.now.capacity) view.now.claim.now }
+/// The least buffer of the claim that ends above the capacity at its low. Where one of the greatest
+/// size does not at the greatest low, none is looked at.
+fn tall(task: &Task, levels: &Levels) -> Option<u32>
+    ensures { let I = task.now.instance.now in (l : ClaimTerm) → AreLevels I l levels.now →
+        result ≡ least_buffer (is_tall_entry I task.now.capacity) l }
 {
-    for pair in view.claim.pairs() {
-        if is_tall(view, task, *pair) {
-            return Some(pair.0);
+    if levels.top() + task.size <= task.capacity + 1 {
+        return None;
+    }
+    for b in 0..task.instance.len() {
+        if is_tall(task, b, levels.at(b as usize)) {
+            return Some(b);
         }
     }
     None
 }
 
 /// The Over line of a tall buffer of the last claim, or else of its buffers at the start of a
-/// section that is too full; none only where no buffer is tall. The claim is the last one with its
-/// lows as bounds, and the levels are those of both.
+/// section that is too full; none only where no buffer is tall. The levels are those of the claim.
 pub(crate) fn over_line(
     alloc: Global,
     task: &Task,
     sky: &Skyline,
-    claim: &Claim,
     levels: &Levels,
 ) -> Result<Option<Line>, NoMemory>
     requires subject { sky.now.instance ≡ task.now.instance.now }
-    requires lifted { claim.now ≡ lifted task.now.instance.now (last_claim sky.now.claims) }
-    requires levels { AreLevels task.now.instance.now claim.now levels.now }
-    requires own { AreLevels task.now.instance.now (last_claim sky.now.claims) levels.now }
-    requires low { IsBoundedBy (2 ^ 60) claim.now }
+    requires levels { AreLevels task.now.instance.now (last_claim sky.now.claims) levels.now }
     ensures none { let I = task.now.instance.now in let l = last_claim sky.now.claims in
         IfOk result (λ o. IfNone o (None ≡ least_buffer (is_tall_entry I task.now.capacity) l)) }
     ensures some { let I = task.now.instance.now in let l = last_claim sky.now.claims in
@@ -71,18 +72,13 @@ pub(crate) fn over_line(
         RefutesAtOnce I task.now.capacity l (line_value line))) }
 {
     let _count = sky.instance().len();
-    let view = Leveled {
-        instance: task.instance,
-        claim,
-        levels,
-    };
-    if let Some(b) = tall(&view, task) {
+    if let Some(b) = tall(task, levels) {
         return Ok(Some(tall_line(alloc, task, b)?));
     }
-    match sky.overloaded_at(task.capacity, levels.as_slice()) {
+    match sky.overloaded_at(task.capacity, levels.as_slice(), levels.top()) {
         None => Ok(None),
         Some((moment, height)) => {
-            let claim = claim.copy(alloc)?;
+            let claim = levels.ground(alloc)?;
             Ok(Some(Line::Over {
                 claim,
                 moment,

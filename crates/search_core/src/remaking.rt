@@ -27,7 +27,8 @@ fn nearest(
     let _depth = sky.depth();
     for i in (0..kept.len()).rev() {
         if let Some(levels) = &kept[i].levels {
-            let child = levels.child(alloc, task.instance, kept[i].chosen)?;
+            let chosen = kept[i].chosen;
+            let child = levels.child(alloc, task.instance, sky.sections(), chosen)?;
             return Ok(Some((i + 1, child.levels)));
         }
     }
@@ -54,7 +55,8 @@ pub(crate) fn made_again(
         Some((first, found)) => {
             let mut levels = found;
             for i in first..kept.len() {
-                let child = levels.child(alloc, task.instance, kept[i].chosen)?;
+                let chosen = kept[i].chosen;
+                let child = levels.child(alloc, task.instance, sky.sections(), chosen)?;
                 kept[i].remember(levels);
                 levels = child.levels;
             }

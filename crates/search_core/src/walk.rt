@@ -59,7 +59,7 @@ impl<'a> Walk<'a> {
     {
         let _count = self.path.instance().len();
         if frame.is_done() {
-            let claim = frame.levels().lifted(alloc)?;
+            let claim = frame.levels().ground(alloc)?;
             let line = refute(alloc, task, log, claim, frame.levels(), frame.refuted())?;
             self.line = Some(line);
             return Ok(());

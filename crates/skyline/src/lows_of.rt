@@ -1,25 +1,11 @@
 //! Lows by the levels of a claim: one more than a buffer's low, and 0 where it is not in the claim.
 
-ghost use Rattle.std.specs.Prelude.{◌≡◌, ℕ, ◌+◌, ◌<◌, ◌≤◌, ◌^◌, IfNone, IfSome, Some, length};
+ghost use Rattle.std.specs.Prelude.{◌≡◌, ◌+◌, ◌<◌, ◌≤◌, ◌^◌, IfNone, IfSome, Some, length};
 ghost use Rattle.std.specs.List.{All};
 ghost use Rattle.skyline.specs.LowsOf.{least_low};
 ghost use Rattle.skyline.specs.Overloads.{FitsFrom};
 
 use crate::ledges::lesser;
-
-/// The greatest of the levels, and 0 for none.
-pub(crate) fn greatest_level(levels: &[u64]) -> u64
-    ensures top { All (λ level. level ≤ result) levels.now }
-    ensures limit { (most : ℕ) → All (λ level. level ≤ most) levels.now → result ≤ most }
-{
-    let mut top = 0;
-    for level in levels {
-        if top < *level {
-            top = *level;
-        }
-    }
-    top
-}
 
 /// The least low of the buffers that have a level, where there is one and the load on top of it
 /// passes the capacity. The first low from which the load fits decides that it does not.

@@ -11,7 +11,7 @@ ghost use Rattle.skyline.specs.Overloads.{FitsFrom, least_up, over, overloaded};
 ghost use Rattle.skyline.specs.Skies.{AreLow, at_first, last_claim};
 
 use crate::ledges::{ledge_above, lesser};
-use crate::lows_of::{greatest_level, least_low};
+use crate::lows_of::least_low;
 use crate::rooms::{first_loads, make_rows, mark};
 use crate::rows::{burden, highest, lighten, raise, restore, save};
 use dsa_model::{Instance, NoMemory};
@@ -168,18 +168,19 @@ impl<'a> Skyline<'a> {
     }
 
     /// What `overloaded` answers, by the levels of the last claim, which the caller owes: one more
-    /// than a buffer's low, and 0 where it is not in the claim. No low is found anew, and a section
-    /// is passed by where its load fits even from the greatest low.
-    pub fn overloaded_at(&self, capacity: u64, levels: &[u64]) -> Option<(u64, u64)>
+    /// than a buffer's low, and 0 where it is not in the claim. None of them is above `top`. No low
+    /// is found anew, and a section is passed by where its load fits even from `top`.
+    pub fn overloaded_at(&self, capacity: u64, levels: &[u64], top: u64) -> Option<(u64, u64)>
         requires levels { let l = last_claim self.now.claims in
             AreLevels self.now.instance l levels.now }
         requires limit { All (λ level. level ≤ 2 ^ 55) levels.now }
+        requires top { All (λ level. level ≤ top) levels.now }
+        requires top_limit { top ≤ 2 ^ 55 }
         ensures value { let l = last_claim self.now.claims in
             result ≡ overloaded self.now.instance self.now.sections l capacity }
         ensures limit { IfSome result (λ found. found.1 < 2 ^ 55) }
         ensures belongs { AreSectionsOf self.now.instance self.now.sections }
     {
-        let top = greatest_level(levels);
         for s in 0..self.sections.count() {
             let found = self.over_at(s, capacity, levels, top);
             if found.is_some() {
@@ -187,6 +188,14 @@ impl<'a> Skyline<'a> {
             }
         }
         None
+    }
+
+    /// The sections of the instance.
+    pub fn sections(&self) -> &Sections
+        ensures value { result.now ≡ self.now.sections }
+        ensures belongs { AreSectionsOf self.now.instance self.now.sections }
+    {
+        self.sections
     }
 
     /// The instance.

@@ -9,8 +9,8 @@ use Rattle.search_core.proofs.Watched.{all_watched_still, watched_above}
 use Rattle.search_core.proofs.opening.enter.Goals as goal
 use Rattle.search_core.proofs.opening.enter.Goals.{In_ok-line-in-Some}
 
-pub child-requires : goal.child-requires
-child-requires c =
+pub child-requires-clause-low : goal.child-requires-clause-low
+child-requires-clause-low c =
     let I = c.args.instance.now in
     let claims = c.args.path.now.sky.claims in
     let l = last_claim claims in

@@ -1,14 +1,11 @@
-use Rattle.std.proofs.Common.{◌≡◌, ◌≢◌, ◌+◌, ◌≤◌, ◌∙◌, ℕ, [], ap, arith, length, refl, sym}
-use Rattle.dsa_terms.specs.Claims.{Claim}
+use Rattle.std.proofs.Common.{◌≡◌, ◌≢◌, ◌+◌, ◌≤◌, ◌∙◌, ℕ, [], arith, length, refl}
 use Rattle.dsa_terms.specs.Logs.{claim_of}
-use Rattle.search_core.specs.Lifted.{lifted}
 use Rattle.search_core.specs.Ways.{order_of}
 use Rattle.refute_log.specs.Lines.{line_value}
 use Rattle.skyline.specs.Skies.{last_claim}
 use Rattle.search_core.proofs.Counting.{counted_one_more}
 use Rattle.search_core.proofs.Descent.{is_instance}
-use Rattle.search_core.proofs.Leveling.{lifted_levels}
-use Rattle.search_core.proofs.LiftedChoices.{lifted_nothing, order_entries}
+use Rattle.search_core.proofs.LiftedChoices.{order_entries}
 use Rattle.search_core.proofs.Searching.{are_choices, first_of_nothing}
 use Rattle.search_core.proofs.Taking.{none_covers}
 use Rattle.search_core.proofs.Uncovered.{covered_has_none, covers_less}
@@ -37,29 +34,15 @@ returns-in-Some-clause-taken c e =
     (rw (c.in-Some.is, c.log.ensures)
     at c.in_ok-entered.ensures.some))
 
--- ---- the claim with its lows
-pub over_line-requires-clause-lifted : goal.over_line-requires-clause-lifted
-over_line-requires-clause-lifted c =
-    let I = c.args.task.now.instance.now in
-    let l = last_claim c.args.path.now.sky.claims in
-    rw c.sky.ensures (c.ground-claim.ensures.value I l (c.in_ok-entered.ensures.levels))
-
 pub over_line-requires-clause-levels : goal.over_line-requires-clause-levels
-over_line-requires-clause-levels c =
-    let I = c.args.task.now.instance.now in
-    let l = last_claim c.args.path.now.sky.claims in
-    let s = rw (c.instance.ensures.value, c.requires.subject) at c.instance.ensures.stands in
-    let a = c.in_ok-entered.ensures.levels in
-    let q = c.ground-claim.ensures.value I l a in
-    rw q (lifted_levels I l c.in_ok-entered.entered.levels (is_instance I l s) a)
+over_line-requires-clause-levels c = rw c.sky.ensures c.in_ok-entered.ensures.levels
 
 -- ---- no buffer
-pub returns-then-len-eq0-clause-opened : goal.returns-then-len-eq0-clause-opened
-returns-then-len-eq0-clause-opened c =
+pub returns-then-is_empty-clause-opened : goal.returns-then-is_empty-clause-opened
+returns-then-is_empty-clause-opened c =
     let I = c.args.task.now.instance.now in
     let l = last_claim c.args.path.now.sky.claims in
-    let q = c.ground-claim.ensures.value I l (c.in_ok-entered.ensures.levels) in
-    rw (lifted_nothing I l (sym (ap length q) ∙ sym c.len.ensures.value ∙ c.if-len-eq0.true))
+    rw (c.is_empty.ensures.none I l c.in_ok-entered.ensures.levels c.if-is_empty.true)
     (first_of_nothing I c.args.task.now.capacity [] refl)
 
 -- ---- an Over line
@@ -121,22 +104,8 @@ returns-in-Some-2-clause-watched c =
 
 -- ---- the choices
 some_buffer : (c : goal.After-of) → last_claim c.args.path.now.sky.claims ≢ []
-some_buffer c none =
-    let I = c.args.task.now.instance.now in
-    let l = last_claim c.args.path.now.sky.claims in
-    let q = c.ground-claim.ensures.value I l (c.in_ok-entered.ensures.levels) in
-    c.if-len-eq0.false (c.len.ensures.value ∙ ap length q ∙ ap (λ (k : Claim). length (lifted I k)) none)
-
-pub of-requires : goal.of-requires
-of-requires c = (
-  last_claim c.args.path.now.sky.claims,
-  c.in_ok-entered.ensures.levels,
-  λ none.
-      let I = c.args.task.now.instance.now in
-      let l = last_claim c.args.path.now.sky.claims in
-      let q = c.ground-claim.ensures.value I l (c.in_ok-entered.ensures.levels) in
-      c.if-len-eq0.false (c.len.ensures.value ∙ ap length q ∙ ap (λ (k : Claim). length (lifted I k)) none),
-)
+some_buffer c = c.is_empty.ensures.some c.args.task.now.instance.now (last_claim c.args.path.now.sky.claims)
+    c.in_ok-entered.ensures.levels c.if-is_empty.false
 
 pub returns-clause-opened : goal.returns-clause-opened
 returns-clause-opened c =

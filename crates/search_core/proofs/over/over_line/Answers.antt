@@ -1,27 +1,14 @@
-use Rattle.std.proofs.Common.{◌∙◌, sym, subst, arith}
+use Rattle.std.proofs.Common.{◌∙◌, sym, arith}
 use Rattle.dsa_model.proofs.Instances.{sound_buffer}
 use Rattle.dsa_terms.specs.Buffers.{buffer}
 use Rattle.dsa_terms.specs.Logs.{claim_of}
 use Rattle.dsa_terms.proofs.Moments.{live_before}
 use Rattle.refute_log.specs.Lines.{line_value}
 use Rattle.skyline.specs.Skies.{last_claim}
-use Rattle.search_core.specs.Lifted.{IsAtLows}
-use Rattle.search_core.proofs.Descent.{is_instance}
 use Rattle.search_core.proofs.FullSections.{full_is_legal, full_section, some_live}
-use Rattle.search_core.proofs.LiftedChoices.{lifted_tall}
-use Rattle.search_core.proofs.Lifting.{covers_lifted, lifted_at_lows, lifted_stands}
+use Rattle.search_core.proofs.Lifting.{covers_lifted, lifted_stands}
 use Rattle.search_core.proofs.Searching.{tall_covers, tall_in_range}
 use Rattle.search_core.proofs.over.over_line.Goals as goal
-
-pub invariant_of-view : goal.invariant_of-view
-invariant_of-view c =
-    let l = last_claim c.args.sky.now.claims in
-    let s = rw (c.instance.ensures.value, c.requires.subject) at c.instance.ensures.stands in
-    record {
-      at_lows = subst (IsAtLows c.args.task.now.instance.now) (sym c.requires.lifted)
-          (lifted_at_lows c.args.task.now.instance.now l (is_instance c.args.task.now.instance.now l s));
-      leveled = c.requires.levels;
-    }
 
 -- ---- a tall buffer
 pub tall_line-requires : goal.tall_line-requires
@@ -30,8 +17,7 @@ tall_line-requires c =
     let C = c.args.task.now.capacity in
     let l = last_claim c.args.sky.now.claims in
     let s = rw (c.instance.ensures.value, c.requires.subject) at c.instance.ensures.stands in
-    let q = c.requires.lifted in
-    let t = (rw q at c.in-Some.ensures) ∙ lifted_tall I C l (is_instance I l s) in
+    let t = c.in-Some.ensures l c.requires.levels in
     tall_in_range I C l c.in-Some.b s.claim t
 
 pub returns-in-Some-clause-some : goal.returns-in-Some-clause-some
@@ -40,8 +26,7 @@ returns-in-Some-clause-some c =
     let C = c.args.task.now.capacity in
     let l = last_claim c.args.sky.now.claims in
     let s = rw (c.instance.ensures.value, c.requires.subject) at c.instance.ensures.stands in
-    let q = c.requires.lifted in
-    let t = (rw q at c.in-Some.ensures) ∙ lifted_tall I C l (is_instance I l s) in
+    let t = c.in-Some.ensures l c.requires.levels in
     record {
       legal = c.in_ok-tall_line.ensures.legal;
       within = c.in_ok-tall_line.ensures.within;
@@ -52,12 +37,7 @@ returns-in-Some-clause-some c =
 -- ---- no Over line
 pub returns-in-None-clause-none : goal.returns-in-None-clause-none
 returns-in-None-clause-none c =
-    let I = c.args.task.now.instance.now in
-    let C = c.args.task.now.capacity in
-    let l = last_claim c.args.sky.now.claims in
-    let s = rw (c.instance.ensures.value, c.requires.subject) at c.instance.ensures.stands in
-    let q = c.requires.lifted in
-    sym c.in_default.is ∙ (rw q at c.tall.ensures) ∙ lifted_tall I C l (is_instance I l s)
+    sym c.in_default.is ∙ c.tall.ensures (last_claim c.args.sky.now.claims) c.requires.levels
 
 -- ---- a section that is too full
 pub returns-in_ok-claim-in-Some-overloaded_at-clause-some : goal.returns-in_ok-claim-in-Some-overloaded_at-clause-some
@@ -69,17 +49,17 @@ returns-in_ok-claim-in-Some-overloaded_at-clause-some c =
     let T = c.in-Some-overloaded_at.moment in
     let H = c.in-Some-overloaded_at.height in
     let s = rw (c.instance.ensures.value, c.requires.subject) at c.instance.ensures.stands in
-    let q = c.requires.lifted in
+    let q = c.in_ok-claim-in-Some-overloaded_at.ensures.value I l c.requires.levels in
+    let low = rw q at c.in_ok-claim-in-Some-overloaded_at.ensures.low in
     let v = rw c.requires.subject at c.in-Some-overloaded_at.ensures.value in
     let p = rw c.requires.subject at c.in-Some-overloaded_at.ensures.belongs in
     let f = full_section I S l C T H (sym v) in
-    let st = lifted_stands I l s (rw q at c.requires.low) in
+    let st = lifted_stands I l s low in
     let live = some_live I S l C T H f.0 p s f.1 in
     let before = live_before (buffer I live.0) T live.2 in
     let last = (sound_buffer I live.0 s.buffers live.1).upper_limit in
     let h = c.in-Some-overloaded_at.ensures.limit in
-    let low = rw q at c.requires.low in
-    rw (c.in_ok-claim-in-Some-overloaded_at.ensures, q) (record {
+    rw q (record {
       legal = λ earlier. full_is_legal I S l C T H f.0 p s f.1 earlier st.claim;
       within = (low, omega (arith, before, last), omega (arith, h), omega arith);
       covers = covers_lifted I l;

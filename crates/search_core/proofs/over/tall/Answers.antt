@@ -1,32 +1,19 @@
-use Rattle.std.proofs.Common.{◌≡◌, ◌∙◌, ◌+◌, drop, false, slice_index_or, sym, true}
-use Rattle.dsa_terms.specs.Search.{is_tall}
-use Rattle.search_core.proofs.Along.{next_left, place_in}
-use Rattle.search_core.proofs.Tall.{first_is_tall, first_is_not}
+use Rattle.std.proofs.Common.{arith}
+use Rattle.search_core.proofs.TallLevels.{all_fit, first_ends, next_fits, none_ends}
 use Rattle.search_core.proofs.over.tall.Goals as goal
 
-pub is_tall-requires-clause-pair_in : goal.is_tall-requires-clause-pair_in
-is_tall-requires-clause-pair_in c = place_in c.args.view.now.claim.now c.pairs-pair-items.result.now
-    c.loop-pair.pair-index
-    c.pairs-pair-items.ensures.value c.loop-pair-test.true
+pub returns-then-top-task : goal.returns-then-top-task
+returns-then-top-task c = λ k h. all_fit c.args.task.now.instance.now c.args.task.now.capacity k c.args.levels.now h
+    c.top.result c.args.task.now.size c.top.ensures.value c.args.task.now.sized c.if-top-task.true
+
+pub loop-b-preserved : goal.loop-b-preserved
+loop-b-preserved c = λ k h. next_fits c.args.task.now.instance.now c.args.task.now.capacity k c.args.levels.now h
+    c.loop-b.b c.at.result c.at.ensures.value (c.is_tall.ensures.none c.if-is_tall.false) (c.loop-b.invariant k h)
 
 pub returns-then-is_tall : goal.returns-then-is_tall
-returns-then-is_tall c =
-    let I = c.args.view.now.instance.now in
-    let items = c.pairs-pair-items.result.now in
-    let i = c.loop-pair.pair-index in
-    let x = slice_index_or items i (0, 0) in
-    let t : is_tall I c.args.task.now.capacity x ≡ true =
-    sym c.is_tall.ensures ∙ c.if-is_tall.true in
-    first_is_tall (is_tall I c.args.task.now.capacity) x (drop i items) (drop (i + 1) items)
-    (next_left items i c.loop-pair-test.true) t ∙ c.loop-pair.invariant
+returns-then-is_tall c = λ k h. first_ends c.args.task.now.instance.now c.args.task.now.capacity k c.args.levels.now h
+    c.loop-b.b c.at.result c.at.ensures.value (c.is_tall.ensures.some c.if-is_tall.true) (c.loop-b.invariant k h)
 
-pub loop-pair-preserved : goal.loop-pair-preserved
-loop-pair-preserved c =
-    let I = c.args.view.now.instance.now in
-    let items = c.pairs-pair-items.result.now in
-    let i = c.loop-pair.pair-index in
-    let x = slice_index_or items i (0, 0) in
-    let t : is_tall I c.args.task.now.capacity x ≡ false =
-    sym c.is_tall.ensures ∙ c.if-is_tall.false in
-    first_is_not (is_tall I c.args.task.now.capacity) x (drop i items) (drop (i + 1) items)
-    (next_left items i c.loop-pair-test.true) t ∙ c.loop-pair.invariant
+pub returns : goal.returns
+returns c = λ k h. none_ends c.args.task.now.instance.now c.args.task.now.capacity k c.args.levels.now h c.loop-b.b
+    (let n = c.len-b-end.ensures.value in let t = c.loop-b-test.false in omega (arith, n, t)) (c.loop-b.invariant k h)

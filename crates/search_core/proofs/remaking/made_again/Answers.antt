@@ -13,8 +13,8 @@ loop-i-init c =
       are = found.1;
     }
 
-pub child-requires : goal.child-requires
-child-requires c =
+pub child-requires-clause-low : goal.child-requires-clause-low
+child-requires-clause-low c =
     let i = c.loop-i.i in
     let lt : i < length c.loop-i.kept = (let n = c.loop-i.auto.kept in let t = c.loop-i-test.true in omega arith) in
     low_made c.args.sky.now.instance c.args.task.now.instance.now c.args.sky.now.claims c.loop-i.kept c.requires.subject

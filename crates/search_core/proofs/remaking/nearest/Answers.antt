@@ -2,8 +2,8 @@ use Rattle.std.proofs.Common.{◌-◌, ◌<◌, length, refl, slice_index_or, ar
 use Rattle.search_core.proofs.MadeAgain.{child_made, kept_levels, low_made}
 use Rattle.search_core.proofs.remaking.nearest.Goals as goal
 
-pub child-requires : goal.child-requires
-child-requires c =
+pub child-requires-clause-low : goal.child-requires-clause-low
+child-requires-clause-low c =
     let i = c.loop-i.i - 1 in
     let lt : i < length c.args.kept.now = (let n = c.loop-i.auto.i in let t = c.loop-i-test.true in omega arith) in
     let claims = c.args.sky.now.claims in

@@ -1,4 +1,4 @@
-use Rattle.std.proofs.Common.{ap, sym, ◌∙◌, ◌^◌, arith}
+use Rattle.std.proofs.Common.{ap, sym, ◌∙◌, arith}
 use Rattle.skyline.proofs.Bounds.{belongs_of_view}
 use Rattle.skyline.proofs.Overloads.{overloaded_found, overloaded_none}
 use Rattle.lifetime.specs.SectionList.{count_of}
@@ -22,6 +22,3 @@ returns-then-is_some-clause-belongs c = belongs_of_view _ _ _ _ _ _ _ _ _ _ c.se
 
 pub returns-clause-belongs : goal.returns-clause-belongs
 returns-clause-belongs c = belongs_of_view _ _ _ _ _ _ _ _ _ _ c.self.view_is c.self.invariant.sky
-
-pub over_at-found-requires-clause-top_limit : goal.over_at-found-requires-clause-top_limit
-over_at-found-requires-clause-top_limit c = c.greatest_level-top.ensures.limit (2 ^ 55) c.requires.limit

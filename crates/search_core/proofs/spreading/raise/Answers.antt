@@ -1,0 +1,39 @@
+use Rattle.std.proofs.Common.{◌≡◌, ℕ, ◌<◌, ◌^◌, arith, length, slice_index, sym}
+use Rattle.search_core.proofs.Grounding.{some_within}
+use Rattle.search_core.proofs.RaisingSteps.{raised_still, raised_written, raising_next, some_level}
+use Rattle.search_core.proofs.spreading.raise.Goals as goal
+use Rattle.search_core.proofs.spreading.raise.Goals.{In_ok-put}
+
+more : (c : In_ok-put) → 0 < slice_index c.args.levels.now c.args.c
+more c = some_level c.at-before.result (slice_index c.args.levels.now c.args.c) c.at-before.ensures.value
+    c.if-before-eq0.false
+
+within : (c : In_ok-put) → c.args.c < length c.args.raising.now.numbers.items
+within c =
+    let lt = some_within c.args.levels.now c.args.c (more c) in
+    let n = c.requires.raising.count in
+    omega (arith, lt, n)
+
+pub returns-in_ok-put-clause-raising : goal.returns-in_ok-put-clause-raising
+returns-in_ok-put-clause-raising c =
+    let k = (goal.at.returns-in_ok-put-clause-raising c).In_ok-put in
+    raising_next c.args.instance.now c.args.levels.now c.args.b c.args.raising.now c.put.new.self c.args.c
+    c.child_level-level.result (within k) c.in_ok-put.ensures.numbers c.child_level-level.ensures.level (more k)
+    c.in_ok-put.ensures.top
+    (c.in_ok-put.ensures.limit (2 ^ 55) c.requires.raising.limit c.child_level-level.ensures.limit)
+    (λ less. c.in_ok-put.ensures.raised (let q = c.at-before.ensures.value in omega (arith, q, less)))
+    c.in_ok-put.ensures.kept c.requires.raising
+
+pub returns-in_ok-put-clause-done : goal.returns-in_ok-put-clause-done
+returns-in_ok-put-clause-done c =
+    raised_written c.args.instance.now c.args.levels.now c.args.b c.args.raising.now.numbers.items
+    c.put.new.self.numbers.items c.args.c c.child_level-level.result
+    (within (goal.at.returns-in_ok-put-clause-done c).In_ok-put) c.in_ok-put.ensures.numbers
+    c.child_level-level.ensures.level
+
+pub returns-in_ok-put-clause-kept : goal.returns-in_ok-put-clause-kept
+returns-in_ok-put-clause-kept c =
+    raised_still c.args.instance.now c.args.levels.now c.args.b c.args.raising.now.numbers.items
+    c.put.new.self.numbers.items c.args.c c.child_level-level.result
+    (within (goal.at.returns-in_ok-put-clause-kept c).In_ok-put) c.in_ok-put.ensures.numbers
+    c.child_level-level.ensures.level

@@ -1,0 +1,24 @@
+use Rattle.std.proofs.Common.{◌∙◌, ap, inl, inr, subst, sym}
+use Rattle.dsa_terms.specs.Claims.{IsIn}
+use Rattle.lifetime.specs.SectionList.{members_of}
+use Rattle.search_core.proofs.Finding.{next_of, none_of}
+use Rattle.search_core.proofs.spreading.raise_near.Goals as goal
+
+pub loop-i-preserved : goal.loop-i-preserved
+loop-i-preserved c = record {
+  raising = c.in_ok-raise_members.ensures.raising;
+  done = λ s i. elim (c.loop-i.invariant.done s i) [
+    | inl left ↦ elim (subst (IsIn s) (next_of c.args.own.now c.loop-i.i c.loop-i-test.true) left) [
+      | inl q ↦ inr (λ x j. c.in_ok-raise_members.ensures.done x
+          (subst (IsIn x) (ap (members_of c.args.sections.now) q ∙ sym c.members.ensures.value) j))
+      | inr rest ↦ inl rest
+    ]
+    | inr done ↦ inr (λ x j. c.in_ok-raise_members.ensures.kept x (done x j))
+  ];
+}
+
+pub returns-clause-done : goal.returns-clause-done
+returns-clause-done c = λ s x i j. elim (c.loop-i.invariant.done s i) [
+  | inl left ↦ absurd (subst (IsIn s) (none_of c.args.own.now c.loop-i.i c.loop-i-test.false) left)
+  | inr done ↦ done x j
+]

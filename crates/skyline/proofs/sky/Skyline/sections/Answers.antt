@@ -1,0 +1,5 @@
+use Rattle.skyline.proofs.Bounds.{belongs_of_view}
+use Rattle.skyline.proofs.sky.Skyline.sections.Goals as goal
+
+pub returns-clause-belongs : goal.returns-clause-belongs
+returns-clause-belongs c = belongs_of_view _ _ _ _ _ _ _ _ _ _ c.self.view_is c.self.invariant.sky
