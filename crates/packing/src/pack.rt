@@ -2,6 +2,7 @@
 
 ghost use Rattle.std.specs.Prelude.{◌≡◌, ◌+◌, ◌-◌, ◌≤◌, None, Some, IfOk, IfSome, length};
 ghost use Rattle.command_words.specs.Options.{number_limit};
+ghost use Rattle.run_course.specs.Course.{Concludes};
 ghost use Rattle.run_course.specs.Prepares.{outcome_of};
 ghost use Rattle.packer.specs.Packs.{AreUsedUp, placing_steps};
 ghost use Rattle.portfolio.specs.Trials.{at_start};
@@ -17,8 +18,8 @@ use min_capacity::Least;
 use packer::{pack_least, pack_within};
 use planner::Decision;
 use portfolio::Portfolio;
-use readings::{Input, open_input};
-use run_course::{Command, Prepared, one_write, silent};
+use readings::{TableCommand, conclude_input};
+use run_course::{Command, Prepared, one_write};
 use run_status::Status;
 use std::alloc::Global;
 use writings::{layout_file, log_file};
@@ -139,6 +140,24 @@ fn packed<'a>(
     }
 }
 
+impl<'a> TableCommand<'a> for Pack<'a> {
+    ghost after = { λ p table I. Concludes (Packs (pack_of p) table I) };
+
+    ghost is_known = { λ p.
+        IfSome p.capacity (λ C. C ≤ number_limit) × (p.steps ≤ number_limit) };
+
+    fn conclude_table<F: Files>(
+        &self,
+        alloc: Global,
+        _files: &mut F,
+        table: &Table,
+    ) -> Result<Prepared<'a>, NoMemory> {
+        let instance = table.instance();
+        let mut tries = Portfolio::new(alloc, instance)?;
+        packed(alloc, self, table, instance, &mut tries)
+    }
+}
+
 impl<'a> Command<'a> for Pack<'a> {
     ghost course = { λ p. pack (pack_of p) };
 
@@ -146,12 +165,6 @@ impl<'a> Command<'a> for Pack<'a> {
         IfSome p.capacity (λ C. C ≤ number_limit) × (p.steps ≤ number_limit) };
 
     fn conclude<F: Files>(&self, alloc: Global, files: &mut F) -> Result<Prepared<'a>, NoMemory> {
-        let table = match open_input(alloc, files, self.input)? {
-            Input::Table(table) => table,
-            Input::Missing(status) => return silent(alloc, status),
-        };
-        let instance = table.instance();
-        let mut tries = Portfolio::new(alloc, instance)?;
-        packed(alloc, self, &table, instance, &mut tries)
+        conclude_input(alloc, files, self.input, self)
     }
 }
