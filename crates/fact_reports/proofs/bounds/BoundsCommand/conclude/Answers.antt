@@ -1,21 +1,4 @@
-use Rattle.std.proofs.Common.{List}
-use Rattle.dsa_terms.specs.Buffers.{Instance}
-use Rattle.csv_instance.specs.Records.{Record}
-use Rattle.run_course.specs.Course.{Concludes}
-use Rattle.readings.proofs.AfterInput.{concluded, missing}
-use Rattle.fact_reports.specs.Reporting.{ShowsFacts}
-use Rattle.fact_reports.proofs.Shown.{facts_spoken}
 use Rattle.fact_reports.proofs.bounds.BoundsCommand.conclude.Goals as goal
 
-pub returns-in-Missing-clause-comes : goal.returns-in-Missing-clause-comes
-returns-in-Missing-clause-comes g c =
-    missing (g.F.Files.seen c.args.files.now) (g.F.Files.seen c.open_input.new.files) c.args.self.now.input.now
-    c.in-Missing.status (λ t I. Concludes (ShowsFacts I)) c.silent.result
-    (rw c.in-Missing.is at c.in_ok-table.ensures.input) c.silent.ensures
-
 pub returns-clause-comes : goal.returns-clause-comes
-returns-clause-comes g c =
-    concluded (g.F.Files.seen c.args.files.now) (g.F.Files.seen c.open_input.new.files) c.args.self.now.input.now
-    c.in-Table.table c.instance.result.now (λ (t : List Record) (I : Instance). ShowsFacts I)
-    (rw c.in-Table.is at c.in_ok-table.ensures.input) c.instance.ensures.parsed c.in_ok-table.ensures.files
-    c.in_ok-table.ensures.counts (facts_spoken c.instance.result.now) c.facts_report.result c.facts_report.ensures
+returns-clause-comes g c = c.conclude_input.ensures.comes
