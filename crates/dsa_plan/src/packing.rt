@@ -1,11 +1,13 @@
 //! The lowest layout that a number of steps can find.
 
-ghost use Rattle.std.specs.Prelude.{◌≡◌, ◌≢◌, ◌≤◌, ◌^◌, None, length, IfOk};
-ghost use Rattle.packer.specs.Packs.{Packs};
+ghost use Rattle.std.specs.Prelude.{◌≡◌, ◌≢◌, ◌+◌, ◌-◌, ◌≤◌, None, length, IfOk};
+ghost use Rattle.min_capacity.specs.Brackets.{IfOpen};
+ghost use Rattle.packer.specs.Packs.{AreUsedUp, Packs, placing_steps};
+ghost use Rattle.portfolio.specs.Trials.{at_start};
 ghost use Rattle.dsa_plan.specs.Answers.{least_fault, least_height};
 ghost use Rattle.dsa_plan.specs.Arrays.{arrays_of, instance_of, without_gaps};
 ghost use Rattle.dsa_plan.specs.Faults.{arrays_fault};
-ghost use Rattle.dsa_plan.specs.Packed.{IsPackAnswer};
+ghost use Rattle.dsa_plan.specs.Packed.{IsPackAnswer, taken};
 
 use crate::answers::LeastAnswer;
 use crate::arrays::Arrays;
@@ -20,13 +22,31 @@ use std::alloc::Global;
 /// The greatest number of steps that are taken.
 const STEP_LIMIT: u64 = 1 << 60;
 
-/// The lowest layout of the instance that is found in so many steps.
-fn packed(alloc: Global, instance: &Instance, steps: u64) -> Result<Least, NoMemory>
-    requires { steps ≤ 2 ^ 60 }
-    ensures { IfOk result (Packs instance.now steps) }
+/// The lowest layout of the instance that is found in so many steps; more than the limit are taken
+/// as the limit. The searches use no more of them than those that are not for placings, and the
+/// least capacity stays open only where they have used all of these.
+fn packed(
+    alloc: Global,
+    instance: &Instance,
+    steps: u64,
+    tries: &mut Portfolio,
+) -> Result<Least, NoMemory>
+    requires unused { tries.old ≡ at_start instance.now }
+    ensures value { IfOk result (Packs instance.now (taken steps)) }
+    ensures used { tries.new.units ≤ tries.old.units +
+        (taken steps - placing_steps (taken steps)) }
+    ensures exhausted { IfOk result (λ found.
+        IfOpen found (AreUsedUp (taken steps) tries.old.units tries.new.units)) }
+{
+    pack_least(alloc, instance, steps.min(STEP_LIMIT), tries)
+}
+
+/// The same by searches of its own.
+fn packed_anew(alloc: Global, instance: &Instance, steps: u64) -> Result<Least, NoMemory>
+    ensures { IfOk result (Packs instance.now (taken steps)) }
 {
     let mut tries = Portfolio::new(alloc, instance)?;
-    pack_least(alloc, instance, steps, &mut tries)
+    packed(alloc, instance, steps, &mut tries)
 }
 
 impl Arrays<'_> {
@@ -40,7 +60,7 @@ impl Arrays<'_> {
         ensures unchanged { least_height result ≡ None → offsets.new ≡ offsets.old }
     {
         match instance(alloc, self, offsets.len()) {
-            Ok(instance) => written(packed(alloc, &instance, steps.min(STEP_LIMIT)), offsets),
+            Ok(instance) => written(packed_anew(alloc, &instance, steps), offsets),
             Err(failure) => LeastAnswer::from(failure),
         }
     }
