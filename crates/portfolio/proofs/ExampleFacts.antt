@@ -8,7 +8,7 @@ use Rattle.dsa_terms.proofs.Examples.{two_of_four}
 use Rattle.dsa_terms.proofs.ExamplePlanFacts.{two_of_four_plan_at_7}
 use Rattle.dsa_start_laws.proofs.Planned.{planned_is_layout}
 use Rattle.first_fit.specs.Rules.{IsOrderOf}
-use Rattle.portfolio.specs.Elsewhere.{IsCarriedBack}
+use Rattle.portfolio.specs.Elsewhere.{IfNoneFound, IsCarriedBack, left_after}
 use Rattle.portfolio.specs.Trials.{at_start, IsOtherOrder}
 use Rattle.portfolio.specs.declared.elsewhere.Elsewhere.TheVariants.{Layout, Refuted, Spent}
 
@@ -62,3 +62,20 @@ module _ (v : Vec ℕ) where
 
   nothing_where_spent : IsCarriedBack two_of_four 7 Spent
   nothing_where_spent = tt
+
+-- ---- the units of twenty that are left for the instance's own order, where two others have used their shares
+seven_of_twenty : left_after 2 20 ≡ 7
+unfolding left_after
+seven_of_twenty = refl
+
+one_of_one : left_after 2 1 ≡ 1
+unfolding left_after
+one_of_one = refl
+
+all_without_others : left_after 0 20 ≡ 20
+unfolding left_after
+all_without_others = refl
+
+where_none_is_found : IfNoneFound Spent (left_after 2 20 ≡ 7)
+unfolding left_after
+where_none_is_found = refl

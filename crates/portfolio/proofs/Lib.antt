@@ -1,1 +1,2 @@
+mod Shares
 mod ExampleFacts

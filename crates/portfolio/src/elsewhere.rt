@@ -2,7 +2,7 @@
 
 ghost use Rattle.std.specs.Prelude.{◌≡◌, ◌≤◌, ◌^◌, IfOk};
 ghost use Rattle.first_fit.specs.Rules.{IsOrderOf};
-ghost use Rattle.portfolio.specs.Elsewhere.{IsCarriedBack};
+ghost use Rattle.portfolio.specs.Elsewhere.{IfNoneFound, IsCarriedBack};
 
 use crate::searching::{Searched, search};
 use dsa_model::{Instance, NoMemory};
@@ -42,6 +42,8 @@ pub(crate) fn search_in(
     ensures layout { IfOk result (λ found.
         IsCarriedBack instance.now capacity found.elsewhere) }
     ensures used { IfOk result (λ found. found.used ≤ units) }
+    ensures exhausted { IfOk result (λ found.
+        IfNoneFound found.elsewhere (found.used ≡ units)) }
 {
     let _count = instance.len();
     let reordered = instance.some_of(alloc, order)?;

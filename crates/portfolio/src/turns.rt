@@ -1,9 +1,9 @@
 //! The orders in turn.
 
-ghost use Rattle.std.specs.Prelude.{◌≡◌, ◌+◌, ◌<◌, ◌≤◌, ◌^◌, IfOk};
+ghost use Rattle.std.specs.Prelude.{◌≡◌, ◌+◌, ◌-◌, ◌<◌, ◌≤◌, ◌^◌, IfOk};
 ghost use Rattle.refute_log.specs.Decided.{IfSpent, IsRight};
 ghost use Rattle.narrowing.specs.Narrowed.{lines_of};
-ghost use Rattle.portfolio.specs.Elsewhere.{IsCarriedBack};
+ghost use Rattle.portfolio.specs.Elsewhere.{IfNoneFound, IsCarriedBack, left_after};
 ghost use Rattle.portfolio.specs.Trials.{at_start};
 
 use crate::elsewhere::{Elsewhere, Found, search_in};
@@ -27,14 +27,15 @@ pub struct Portfolio<'a> {
 }
 
 impl<'a> Model for Portfolio<'a> {
-    ghost use Rattle.std.specs.Prelude.{All};
+    ghost use Rattle.std.specs.Prelude.{◌≡◌, All, length};
     ghost use Rattle.portfolio.specs.Trials.{IsOtherOrder, Trials};
 
     ghost Value = { Trials };
 
     ghost view = { λ p. record { subject = p.instance.now; units = p.used } };
 
-    ghost invariant = { λ p. All (IsOtherOrder p.instance.now) p.orders.items };
+    ghost invariant = { λ p.
+        All (IsOtherOrder p.instance.now) p.orders.items × (length p.orders.items ≡ 2) };
 }
 
 impl<'a> Portfolio<'a> {
@@ -62,6 +63,8 @@ impl<'a> Portfolio<'a> {
         ensures layout { IfOk result (λ found.
             IsCarriedBack self.now.subject capacity found.elsewhere) }
         ensures used { IfOk result (λ found. found.used ≤ limit) }
+        ensures exhausted { IfOk result (λ found.
+            IfNoneFound found.elsewhere (found.used ≡ limit - left_after 2 limit)) }
     {
         let mut left = limit;
         let mut to_come = self.orders.len() as u64 + 1;
