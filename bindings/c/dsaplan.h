@@ -99,7 +99,7 @@ uint32_t dsaplan_least(
     uint64_t *offsets, size_t offset_count, dsaplan_detail *detail);
 
 /* The lowest layout that is found in `steps` steps: a step is a claim that a search opens, and placing all n buffers
- * anew counts as 1/8 + n^2/2^18 of one. With DSAPLAN_FITS detail->high is the least capacity, with
+ * anew counts as 1/8 + n^2/2^17 of one. With DSAPLAN_FITS detail->high is the least capacity, with
  * DSAPLAN_OPEN the least capacity may be lower; a layout of that height is written with both. More than 2^60 steps are
  * taken as 2^60. All else is as with dsaplan_least. */
 uint32_t dsaplan_pack(

@@ -71,7 +71,7 @@ impl Arrays<'_> {
 /// long as `offsets`; `Arrays` says what they hold. With `Least` and `Open` the offsets are
 /// written, in bytes, one for each buffer; with any other answer they are as before.
 ///
-/// A step is a claim that a search opens; placing all n buffers anew counts as 1/8 + n^2/2^18 of
+/// A step is a claim that a search opens; placing all n buffers anew counts as 1/8 + n^2/2^17 of
 /// one. More than 2^60 steps are taken as 2^60.
 ///
 /// Faults come in this order: `LengthsDiffer`, `TooMany`, `BadBuffer`.

@@ -240,13 +240,13 @@ few_of_many = refl
 eight_a_step_for_none : placings 0 48 ≡ 64
 eight_a_step_for_none = refl
 
-one_a_step_for_478 : placings 478 60000 ≡ 10034
-one_a_step_for_478 = refl
+one_a_step_for_338 : placings 338 60000 ≡ 10033
+one_a_step_for_338 = refl
 
-few_for_4096 : placings 4096 60000 ≡ 155
+few_for_4096 : placings 4096 60000 ≡ 78
 few_for_4096 = refl
 
-pairs_for_512 : placing_pairs 512 ≡ 294912
+pairs_for_512 : placing_pairs 512 ≡ 278528
 pairs_for_512 = refl
 
 ten_of_twelve : AreUsedUp 12 3 13

@@ -61,11 +61,11 @@ placing_steps steps = min (steps / 6) (2 ^ 16)
 
 -- how many pairs of buffers it counts to place n buffers anew once
 abbrev pub placing_pairs : ℕ → ℕ
-placing_pairs n = n * n + 2 ^ 15
+placing_pairs n = n * n + 2 ^ 14
 
--- how often n buffers are placed anew in so many steps, at 2^18 pairs a step
+-- how often n buffers are placed anew in so many steps, at 2^17 pairs a step
 abbrev pub placings : (n steps : ℕ) → ℕ
-placings n steps = placing_steps steps * 2 ^ 18 / placing_pairs n
+placings n steps = placing_steps steps * 2 ^ 17 / placing_pairs n
 
 -- the searches have used all the other steps
 abbrev pub AreUsedUp : (steps before after : ℕ) → Type 0

@@ -17,10 +17,10 @@ use std::alloc::Global;
 const PLACING_LIMIT: u64 = 1 << 16;
 
 /// How many pairs of buffers are looked at for a step.
-const PAIRS: u64 = 1 << 18;
+const PAIRS: u64 = 1 << 17;
 
 /// How many pairs of buffers placing all of them anew counts as, beside those that there are.
-const FURTHER_PAIRS: u64 = 1 << 15;
+const FURTHER_PAIRS: u64 = 1 << 14;
 
 /// How many pairs of buffers placing all of them anew counts as.
 fn placing_pairs(instance: &Instance) -> u64

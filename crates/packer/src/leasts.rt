@@ -17,7 +17,7 @@ use std::alloc::Global;
 /// end at least the lower bound and the upper one at most the best start's height.
 ///
 /// A step is a unit of `tries`, a claim that a search opens; placing all n buffers anew counts as
-/// 1/8 + n^2/2^18 of one. A sixth of `steps` is for placings, but at most 2^16; the tries use
+/// 1/8 + n^2/2^17 of one. A sixth of `steps` is for placings, but at most 2^16; the tries use
 /// no more than the others, and it stays open only where these are used up.
 ///
 /// The caller owes tries of the instance, which may be asked any capacity of at most 2^60, and that

@@ -44,7 +44,7 @@ fn concluded(
 /// A layout of the instance within the capacity, in bytes, or a log by which there is none; where
 /// neither is found in so many steps, the ends that are reached, between which the capacity lies. A
 /// step is a unit of `tries`, a claim that a search opens; placing all n buffers anew counts as
-/// 1/8 + n^2/2^18 of one. A sixth of `steps` is for placings, but at most 2^16; the tries use
+/// 1/8 + n^2/2^17 of one. A sixth of `steps` is for placings, but at most 2^16; the tries use
 /// no more than the others, and it stays open only where these are used up.
 ///
 /// The caller owes a capacity of at most 2^60, tries of the instance, which may be asked any such
