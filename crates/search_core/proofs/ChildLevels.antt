@@ -1,10 +1,10 @@
 -- The levels of a child, from those of the claim above it.
-use Rattle.std.proofs.Common.{◌≡◌, ◌≢◌, ℕ, ◌+◌, ◌-◌, ◌<◌, ◌≤◌, ◌^◌, ◌⊎◌, inl, inr, zero, suc, List, [], ◌∷◌, slice_set, subst, All, max, length, slice_index, ap, sym, ◌∙◌, refl, arith}
+use Rattle.std.proofs.Common.{◌≡◌, ◌≢◌, ℕ, ◌+◌, ◌-◌, ◌<◌, ◌≤◌, ◌^◌, ◌⊎◌, inl, inr, List, slice_set, subst, All, max, length, slice_index, ap, sym, ◌∙◌, refl, arith}
 use Rattle.std.specs.Int.{next_multiple_of}
 use Rattle.std.proofs.lemmas.List.{get_or-set_other, get_or-set_same}
 use Rattle.dsa_terms.specs.Buffers.{Instance, IsInstance, buffer}
 use Rattle.dsa_model.specs.Buffer.{IsBuffer, buffer_limit}
-use Rattle.dsa_terms.specs.Claims.{Claim, Entry, IsClaim, IsIn, child, step, up}
+use Rattle.dsa_terms.specs.Claims.{Claim, Entry, IsClaim, child, step, up}
 use Rattle.dsa_terms.proofs.NumberTests.{below_or_from}
 use Rattle.dsa_search_laws.proofs.Claims.{claim-child}
 use Rattle.canonical_order.specs.Claims.{HasBuffer, IsBoundedBy, entry_of}
@@ -16,7 +16,6 @@ use Rattle.canonical_order.proofs.LevelLemmas.{has_level, level_inside}
 use Rattle.search_core.specs.Descents.{IsUnder}
 use Rattle.search_core.specs.Levels.{HasLowChild}
 use Rattle.search_core.specs.Tries.{Tried, chosen_of}
-use Rattle.search_core.specs.Watches.{AreTheRaised}
 use Rattle.search_core.proofs.Lifting.{up_of_lift}
 use Rattle.search_core.proofs.Rising.{low_of_child}
 
@@ -106,62 +105,6 @@ set_cases xs j v c lt = elim (equal_or_not c j) [
   where
     equal_or_not : (c j : ℕ) → (c ≡ j) ⊎ (c ≢ j)
     equal_or_not c j = grind arith
-
--- a level that is written again changes nothing
-pub set_own : (xs : List ℕ) (j v : ℕ) → v ≡ slice_index xs j → slice_set xs j v ≡ xs
-set_own [] j v q = refl
-set_own (x ∷ xs) zero v q = ap (λ (n : ℕ). n ∷ xs) q
-set_own (x ∷ xs) (suc j) v q = ap (λ (ns : List ℕ). x ∷ ns) (set_own xs j v q)
-
--- the levels of the entries are those of the child, but for those entries that are left
-abbrev pub AreLoweredBut : Instance → List ℕ → ℕ → List ℕ → Claim → Claim → Type 0
-AreLoweredBut I levels b numbers entries left = (e : Entry) → IsIn e entries → IsIn e left
-    ⊎ ((l : Claim) → AreLevels I l levels → IsLevel I (child I l (entry_of l b)) e.0 (slice_index numbers e.0))
-
-module _ (I : Instance) (levels : List ℕ) (b : ℕ) (numbers : List ℕ) (x : Entry) (v : ℕ) (lt : x.0 < length numbers)
-  where
-    pub lowered_next : (entries left rest : Claim) → left ≡ x ∷ rest →
-        ((l : Claim) → AreLevels I l levels → IsLevel I (child I l (entry_of l b)) x.0 v) →
-        AreLoweredBut I levels b numbers entries left → AreLoweredBut I levels b (slice_set numbers x.0 v) entries rest
-    lowered_next entries left rest s is h e i = elim (h e i) [
-      | inl j ↦ elim (subst (IsIn e) s j) [
-        | inl p ↦ inr (λ l a. written e (ap (λ (e : Entry). e.0) p) l a)
-        | inr k ↦ inl k
-      ]
-      | inr old ↦ inr (λ l a. elim (set_cases numbers x.0 v e.0 lt) [
-        | inl r ↦ written e r.0 l a
-        | inr r ↦ subst (IsLevel I (child I l (entry_of l b)) e.0) (sym r.1) (old l a)
-      ])
-    ]
-      where
-        written : (e : Entry) → e.0 ≡ x.0 → (l : Claim) → AreLevels I l levels →
-            IsLevel I (child I l (entry_of l b)) e.0 (slice_index (slice_set numbers x.0 v) e.0)
-        written e q l a = subst (λ (c : ℕ). IsLevel I (child I l (entry_of l b)) c
-            (slice_index (slice_set numbers x.0 v) c)) (sym q)
-            (subst (IsLevel I (child I l (entry_of l b)) x.0) (sym (get_or-set_same numbers x.0 v 0 lt)) (is l a))
-
-    pub low_next : v ≤ 2 ^ 55 → ((c : ℕ) → slice_index numbers c ≤ 2 ^ 55) →
-        (c : ℕ) → slice_index (slice_set numbers x.0 v) c ≤ 2 ^ 55
-    low_next low h c = elim (set_cases numbers x.0 v c lt) [
-      | inl r ↦ (let q = r.1 in omega arith)
-      | inr r ↦ (let q = r.1 in let k = h c in omega arith)
-    ]
-
-    pub raised_next : (old new : List ℕ) →
-        (slice_index levels x.0 < v → IsIn x.0 new) → ((c : ℕ) → IsIn c old → IsIn c new) →
-        AreTheRaised levels numbers old → AreTheRaised levels (slice_set numbers x.0 v) new
-    raised_next old new now kept h c less = elim (set_cases numbers x.0 v c lt) [
-      | inl r ↦ subst (λ c. IsIn c new) (sym r.0)
-          (now (let q = r.1 in let p = ap (slice_index levels) r.0 in omega arith))
-      | inr r ↦ kept c (h c (let q = r.1 in omega arith))
-    ]
-
-    pub outside_next : 0 < slice_index levels x.0 → ((c : ℕ) → slice_index levels c ≡ 0 → slice_index numbers c ≡ 0) →
-        (c : ℕ) → slice_index levels c ≡ 0 → slice_index (slice_set numbers x.0 v) c ≡ 0
-    outside_next more h c z = elim (set_cases numbers x.0 v c lt) [
-      | inl r ↦ absurd (let q = ap (slice_index levels) r.0 in omega arith)
-      | inr r ↦ r.1 ∙ h c z
-    ]
 
 -- ---- the claim that the search is at, under the last frame
 pub low_child : (I : Instance) (f : Tried) (levels : List ℕ) (b : ℕ) (l : Claim) → IsUnder I f l →

@@ -16,7 +16,7 @@ use Rattle.search_core.specs.Tries.{IsLeft, Tried, chosen_of, later_of, noted_by
 use Rattle.search_core.specs.Turns.{IsAhead, debt_of}
 use Rattle.search_core.specs.Watches.{AreRaised, AreRaisedFrom}
 use Rattle.search_core.proofs.Descent.{child_within}
-use Rattle.search_core.proofs.Growing.{covered_still, get_new}
+use Rattle.search_core.proofs.Growing.{get_new}
 use Rattle.search_core.proofs.Rising.{child_raised}
 use Rattle.search_core.proofs.Searching.{choice_refuted, chosen_in, next_choice, rest_of_noted, trying_still}
 use Rattle.search_core.proofs.Stacks.{above_pushed, all_reversed, count_above, reverse_push}
@@ -55,13 +55,6 @@ module _ (I : Instance) (C : ℕ) where
   descends_still k lines after l (p ∷ ps) [] grown d = d
   descends_still k lines after l (p ∷ ps) (f ∷ fs) grown d =
       (d.0, trying_still I C p k lines after f grown d.1, descends_still k lines after p ps fs grown d.2)
-
-  pub known_still : (k l : Claim) (lines after : List Line) (n : ℕ) → Extends k lines after → IsKnown I C lines l n →
-      IsKnown I C after l n
-  known_still k l lines after n grown h = record {
-    none = h.none;
-    covered = covered_still I k l n lines after grown h.covered;
-  }
 
   -- each claim has only buffers of the first one
   pub root_has : (lines : List Line) (l : Claim) (ps : List Claim) (fs : List Tried) (b : ℕ) →

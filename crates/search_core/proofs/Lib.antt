@@ -38,7 +38,6 @@ pub mod WatchFacts
 pub mod WatchTableFacts
 pub mod Rising
 pub mod RaisingSteps
-pub mod Tall
 pub mod TallLevels
 pub mod Along
 pub mod Grounding

@@ -1,33 +1,15 @@
--- The choices and the tall buffers of a claim are those of the claim with its lows as bounds.
-use Rattle.std.proofs.Common.{◌≡◌, ℕ, Bool, true, false, cond, List, [], ◌∷◌, filter, find, length, map, Some, option_map, inl, inr, refl, sym, ap, ◌∙◌}
+-- The choices of a claim are those of the claim with its lows as bounds.
+use Rattle.std.proofs.Common.{◌≡◌, ℕ, Bool, true, false, cond, List, [], ◌∷◌, filter, length, map, inl, inr, refl, sym, ap, ◌∙◌}
 use Rattle.dsa_terms.specs.Buffers.{Instance, IsInstance}
 use Rattle.dsa_terms.specs.Claims.{Claim, Entry, IsIn, Rises, buffers_of}
 use Rattle.dsa_terms.specs.Sorts.{ordered_by, put_by}
-use Rattle.dsa_terms.specs.Search.{choices, comes_before, is_tall, not_excluded}
+use Rattle.dsa_terms.specs.Search.{choices, comes_before, not_excluded}
 use Rattle.dsa_search_laws.proofs.Complete.{from_choices}
-use Rattle.canonical_order.specs.Claims.{entry_of, least_buffer}
+use Rattle.canonical_order.specs.Claims.{entry_of}
 use Rattle.canonical_order.proofs.Entries.{is_entry}
 use Rattle.search_core.specs.Lifted.{lift, lifted}
 use Rattle.search_core.specs.Ways.{order_of}
 use Rattle.search_core.proofs.Lifting.{lifted_excluded, up_of_lift}
-
--- ---- tall buffers
-tall_of_lift : (I : Instance) (C : ℕ) (e : Entry) → IsInstance I → is_tall I C (lift I e) ≡ is_tall I C e
-unfolding is_tall
-tall_of_lift I C e s = rw (up_of_lift I e s) refl
-
-pub lifted_tall : (I : Instance) (C : ℕ) (l : Claim) → IsInstance I →
-    least_buffer (is_tall I C) (lifted I l) ≡ least_buffer (is_tall I C) l
-lifted_tall I C [] s = refl
-lifted_tall I C (x ∷ xs) s = go (is_tall I C (lift I x)) (is_tall I C x) (tall_of_lift I C x s) (lifted_tall I C xs s)
-  where
-    go : (t u : Bool) → t ≡ u → least_buffer (is_tall I C) (lifted I xs) ≡ least_buffer (is_tall I C) xs →
-        option_map (λ (e : Entry). e.0) (cond t (Some (lift I x)) (find (is_tall I C) (lifted I xs)))
-        ≡ option_map (λ (e : Entry). e.0) (cond u (Some x) (find (is_tall I C) xs))
-    go true true e ih = refl
-    go true false e ih = absurd cc
-    go false true e ih = absurd cc
-    go false false e ih = ih
 
 -- ---- the order of entries
 before_lifted : (I : Instance) (e f : Entry) → IsInstance I → comes_before I (lift I e) (lift I f) ≡ comes_before I e f
@@ -96,10 +78,6 @@ entries_again l (e ∷ es) r h =
 pub order_entries : (I : Instance) (l : Claim) → Rises (buffers_of l) →
     map (entry_of l) (order_of I l) ≡ choices I (not_excluded I) l
 order_entries I l r = entries_again l (choices I (not_excluded I) l) r (λ f i. from_choices I (not_excluded I) l f i)
-
-pub order_of_lifted : (I : Instance) (l : Claim) → IsInstance I → order_of I (lifted I l) ≡ order_of I l
-order_of_lifted I l s =
-    ap buffers_of (choices_lifted I l s) ∙ buffers_of_lifts I (choices I (not_excluded I) l)
 
 pub lifted_order : (I : Instance) (l : Claim) (order : List ℕ) → IsInstance I → Rises (buffers_of l) →
     map (entry_of (lifted I l)) order ≡ choices I (not_excluded I) (lifted I l) →

@@ -1,12 +1,12 @@
 -- A claim and the same one with the lows of its buffers as bounds.
-use Rattle.std.proofs.Common.{◌≡◌, ℕ, ◌<◌, ◌≤◌, ◌+◌, ◌%◌, ◌^◌, ◌==◌, Bool, true, false, not, cond, List, [], ◌∷◌, ◌++◌, filter, length, map, max, inl, inr, IfOk, Result, Ok, Err, refl, sym, ap, ◌∙◌, subst, arith}
+use Rattle.std.proofs.Common.{◌≡◌, ℕ, ◌<◌, ◌≤◌, ◌+◌, ◌%◌, ◌^◌, ◌==◌, Bool, true, false, not, cond, List, [], ◌∷◌, filter, length, map, max, inl, inr, refl, sym, ap, ◌∙◌, subst, arith}
 use Rattle.std.specs.Int.{next_multiple_of}
 use Rattle.std.specs.List.{list_any}
 use Rattle.dsa_terms.specs.Buffers.{Instance, IsInstance, buffer}
 use Rattle.dsa_terms.specs.Claims.{Claim, Covers, Entry, IsIn, Rises, buffers_of, child, step, up}
 use Rattle.dsa_terms.specs.Logs.{Line, claim_of, ends_below, is_twin}
 use Rattle.dsa_terms.specs.Search.{not_excluded}
-use Rattle.dsa_terms.proofs.Lists.{from_append, from_map, into_map}
+use Rattle.dsa_terms.proofs.Lists.{from_map, into_map}
 use Rattle.dsa_terms.proofs.Moments.{sound}
 use Rattle.dsa_terms.proofs.Numbers.{next_cases, next_is_multiple}
 use Rattle.dsa_search_laws.proofs.Claims.{buffers_of-map}
@@ -53,18 +53,6 @@ pub lifted_entry : (I : Instance) (l : Claim) (b : ℕ) → Rises (buffers_of l)
 lifted_entry I l b r h =
     is_entry (lifted I l) (lift I (entry_of l b)) (lifted_rises I l r) (into_map (lift I) l (entry_of l b)
     (entry_in l b h))
-
-pub bounded_next : (l after : Claim) (e : Entry) → after ≡ l ++ e ∷ [] → e.1 ≤ 2 ^ 60 → IsBoundedBy (2 ^ 60) l →
-    IsBoundedBy (2 ^ 60) after
-bounded_next l after e q le h f i = elim (from_append l (e ∷ []) f (subst (IsIn f) q i)) [
-  | inl j ↦ h f j
-  | inr j ↦ elim j [ inl p ↦ (let k : f.1 ≡ e.1 = ap (λ (e : Entry). e.1) p in omega arith) | inr j ↦ absurd j ]
-]
-
-pub equal_low : {E : Type 0} (k : Claim) (result : Result Claim E) → IsBoundedBy (2 ^ 60) k →
-    IfOk result (λ claim. claim ≡ k) → IfOk result (IsBoundedBy (2 ^ 60))
-equal_low k (Ok claim) low e = subst (IsBoundedBy (2 ^ 60)) (sym e) low
-equal_low k (Err other) low e = tt
 
 -- ---- children
 child_of_lifted : (I : Instance) (l : Claim) (e : Entry) → IsInstance I →

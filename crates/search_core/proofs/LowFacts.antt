@@ -1,5 +1,5 @@
 -- What the search answers where buffers have a lowest: layouts, and a log whose end has a bound above it.
-use Rattle.std.proofs.Common.{◌≡◌, ℕ, zero, suc, true, [], ◌∷◌, slice_get, take, Some, None, inl, inr, refl, sym, ap, subst, ◌∙◌, arith}
+use Rattle.std.proofs.Common.{◌≡◌, ℕ, zero, suc, true, [], ◌∷◌, slice_get, take, Some, None, inl, inr, refl, sym, subst, arith}
 use Rattle.dsa_terms.specs.Buffers.{Instance, IsLive, buffer, do_share, floor, have_same_moments, is_live, some_before}
 use Rattle.dsa_terms.specs.Claims.{Entry, IsIn, IsWhole, child, step, up}
 use Rattle.dsa_terms.specs.Lean.{IsLeanLine}

@@ -1,6 +1,6 @@
 -- What the levels of a claim say of bounds: the claim meets a bound exactly where it is below the buffer's level.
-use Rattle.std.proofs.Common.{◌≡◌, ℕ, ◌+◌, ◌-◌, ◌<◌, ◌≤◌, inl, inr, List, [], ◌∷◌, ◌++◌, length, slice_index, slice_index_or, ap, subst, arith}
-use Rattle.std.proofs.lemmas.List.{get_or_read, map-append}
+use Rattle.std.proofs.Common.{◌≡◌, ℕ, ◌+◌, ◌<◌, ◌≤◌, inl, inr, List, [], ◌∷◌, ◌++◌, slice_index, ap, subst, arith}
+use Rattle.std.proofs.lemmas.List.{map-append}
 use Rattle.dsa_terms.specs.Buffers.{Instance}
 use Rattle.dsa_terms.specs.Claims.{Claim, Entry, IsIn, Rises, buffers_of, up}
 use Rattle.dsa_terms.proofs.Lists.{from_append, from_map}
@@ -9,7 +9,6 @@ use Rattle.canonical_order.specs.Claims.{CoversEntry, HasBuffer, entry_of}
 use Rattle.canonical_order.specs.Levels.{AreLevels}
 use Rattle.canonical_order.proofs.CoverLemmas.{covers_entry, from_covered}
 use Rattle.canonical_order.proofs.LevelLemmas.{has_level, level_inside}
-use Rattle.search_core.specs.Lifted.{lift}
 
 -- ---- the level of one buffer
 module _ (I : Instance) (l : Claim) (levels : List ℕ) (h : AreLevels I l levels) where
@@ -25,22 +24,6 @@ module _ (I : Instance) (l : Claim) (levels : List ℕ) (h : AreLevels I l level
       let k : slice_index levels e.0 ≡ up I (entry_of l e.0) + 1 = level_inside I l levels h e.0 r.0 in
       let q : e.1 ≤ up I (entry_of l e.0) = r.1 in
       omega arith
-
-  pub lifted_at : (b level : ℕ) → level ≡ slice_index levels b → 0 < level →
-      HasBuffer l b × (◌≡◌ {A = Entry} (b, level - 1) (lift I (entry_of l b)))
-  lifted_at b level q lt =
-      let i : HasBuffer l b = has_level I l levels h b (omega arith) in
-      let k : slice_index levels b ≡ up I (entry_of l b) + 1 = level_inside I l levels h b i in
-      (i, ap (λ (n : ℕ). let e : Entry = (b, n) in e) (let p : level - 1 ≡ up I (entry_of l b) = omega arith in p))
-
-  pub absent_at : (b level : ℕ) → level ≡ slice_index levels b → level ≤ 0 → HasBuffer l b → ⊥
-  absent_at b level q z i =
-      let k : slice_index levels b ≡ up I (entry_of l b) + 1 = level_inside I l levels h b i in omega arith
-
-pub level_read : (numbers levels : List ℕ) (b level : ℕ) → numbers ≡ levels → b < length numbers →
-    level ≡ slice_index_or numbers b level → level ≡ slice_index levels b
-level_read numbers levels b level q lt e =
-    subst (λ (xs : List ℕ). level ≡ slice_index xs b) q (get_or_read numbers b level lt e 0)
 
 -- ---- a claim with one entry more
 pub entries_rise : (l after : Claim) (e : Entry) → after ≡ l ++ e ∷ [] → Rises (buffers_of l) →

@@ -17,7 +17,6 @@ use Rattle.search_core.specs.declared.raising.Raising.{Raising}
 use Rattle.search_core.specs.Levels.{HasLowChild, IsLeastLevel}
 use Rattle.search_core.specs.Raisings.{IsRaised, IsRaising}
 use Rattle.search_core.proofs.ChildLevels.{level_stays, set_cases}
-use Rattle.search_core.proofs.Grounding.{some_within}
 
 -- what holds of each number of a list that none is above
 pub under_each : (levels : List ℕ) (top : ℕ) → All (λ level. level ≤ top) levels → (c : ℕ) → slice_index levels c ≤ top
@@ -27,23 +26,6 @@ under_each levels top under c = elim (below_or_from c (length levels)) [
 ]
 
 module _ (I : Instance) (levels : List ℕ) (b : ℕ) where
-  -- ---- at the start
-  pub raising_none : (r : Raising) → r.numbers.items ≡ levels → All (λ level. level ≤ r.top) levels → r.top ≤ 2 ^ 55 →
-      IsRaising I levels b r
-  raising_none r q under limit = record {
-    count = ap length q;
-    outside = λ c z. ap (λ (xs : List ℕ). slice_index xs c) q ∙ z;
-    each = λ c. inl (ap (λ (xs : List ℕ). slice_index xs c) q);
-    under = λ c. subst (λ (xs : List ℕ). slice_index xs c ≤ r.top) (sym q) (under_each levels r.top under c);
-    limit = limit;
-    raised = λ c more. absurd (let k = ap (λ (xs : List ℕ). slice_index xs c) q in omega (arith, k, more));
-  }
-
-  -- ---- a number that is the level in the child already
-  pub raised_already : (numbers : List ℕ) (c v : ℕ) → v ≡ slice_index numbers c →
-      ((l : Claim) → AreLevels I l levels → IsLevel I (child I l (entry_of l b)) c v) → IsRaised I levels b numbers c
-  raised_already numbers c v q is = λ more l a. subst (IsLevel I (child I l (entry_of l b)) c) q (is l a)
-
   -- ---- a level that is written
   module _ (old new : List ℕ) (c v : ℕ) (lt : c < length old) (q : new ≡ slice_set old c v)
       (is : (l : Claim) → AreLevels I l levels → IsLevel I (child I l (entry_of l b)) c v) where

@@ -1,5 +1,5 @@
 -- A log of one line by which a buffer of size 3 does not fit within 2.
-use Rattle.std.proofs.Common.{◌≡◌, ◌<◌, ◌^◌, ℕ, zero, suc, List, [], ◌∷◌, slice_get, take, Some, inl, inr, refl, sym, ap, subst, ◌∙◌, lit<, lit≤, arith}
+use Rattle.std.proofs.Common.{◌≡◌, ◌<◌, ◌^◌, ℕ, zero, suc, List, [], ◌∷◌, slice_get, take, Some, inl, inr, refl, sym, subst, lit<, lit≤, arith}
 use Rattle.dsa_terms.specs.Buffers.{Instance, IsInstance, IsLive, buffer, do_share, have_same_moments, is_live, some_before}
 use Rattle.dsa_terms.specs.Claims.{Covers, Entry, IsClaim, IsIn, IsWhole, child, step, up}
 use Rattle.dsa_terms.specs.Layouts.{IsLayout}

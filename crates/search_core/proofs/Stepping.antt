@@ -8,7 +8,6 @@ use Rattle.search_core.specs.Cites.{IsCoveredBy}
 use Rattle.search_core.specs.Descents.{Descends, HasAskedAll, IsKnown, IsPath, IsPlace, Place, above_of, claim_at, left_of, owed, sky_root, turns_left}
 use Rattle.search_core.specs.Logs.{Extends}
 use Rattle.search_core.specs.Meters.{Units}
-use Rattle.search_core.specs.Opened.{AreChoices}
 use Rattle.search_core.specs.Tries.{Tried, noted_by}
 use Rattle.search_core.specs.Turns.{IsAhead, IsOn, debt_of}
 use Rattle.search_core.specs.Walks.{place_on}
@@ -71,23 +70,6 @@ module _ (I : Instance) (C : ℕ) (lines : List Line) (here : Place) (p : IsPlac
     where
       old : owed I C here ≡ debt_of I C popped (noted_by f k)
       old = back_debt I C lines here popped f k b (known_line k e) e parted
-
-  -- the last claim was opened, and has these choices
-  pub on_forth : (opened after : List Line) (next : Place) (f : Tried) (before used : Units) → here.line ≡ None →
-      AreChoices I C opened (claim_at here) f → used.used ≤ before.used + 1 → IsAhead I C after here f next →
-      IsOn I C after (record { place = here; units = before }) (record { place = next; units = used })
-  on_forth opened after next f before used e c one a = record {
-    place = a.place;
-    root = a.root;
-    units = let o = a.owed in omega (arith, old, o, one);
-    fewer =
-        let t = a.turns in
-        let m : turns_left I C here ≡ 2 * owed I C here + length here.frames + 0 = turns_of None e in
-        omega (arith, old, t, m);
-  }
-    where
-      old : owed I C here ≡ 1 + debt_of I C here f
-      old = none_known e ∙ (let w = c.work in omega arith)
 
   -- the last claim was opened, and a line covers it
   pub on_line : (after : List Line) (k : ℕ) (before used : Units) → here.line ≡ None → IsClaim I (claim_at here) →

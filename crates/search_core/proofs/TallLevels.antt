@@ -1,11 +1,11 @@
 -- Tall buffers by the levels of a claim.
-use Rattle.std.proofs.Common.{◌≡◌, ◌∙◌, ℕ, ◌+◌, ◌-◌, ◌<◌, ◌≤◌, List, All, true, false, length, slice_index, Some, None, ap, sym, arith}
+use Rattle.std.proofs.Common.{◌≡◌, ℕ, ◌+◌, ◌-◌, ◌<◌, ◌≤◌, List, All, true, false, length, slice_index, Some, None, ap, arith}
 use Rattle.dsa_terms.specs.Buffers.{Instance, buffer}
-use Rattle.dsa_terms.specs.Claims.{Claim, Entry, IsIn, up}
+use Rattle.dsa_terms.specs.Claims.{Claim, Entry, up}
 use Rattle.dsa_terms.specs.Search.{is_tall}
 use Rattle.dsa_terms.proofs.NumberTests.{is_below, not_below}
 use Rattle.dsa_search_laws.proofs.Placing.{in_buffers}
-use Rattle.canonical_order.specs.Claims.{HasBuffer, NonePassBelow, entry_of, least_buffer}
+use Rattle.canonical_order.specs.Claims.{NonePassBelow, entry_of, least_buffer}
 use Rattle.canonical_order.specs.Levels.{AreLevels}
 use Rattle.canonical_order.proofs.CoverLemmas.{first_passes, none_passes_all, pass_below_next}
 use Rattle.canonical_order.proofs.Entries.{is_entry}

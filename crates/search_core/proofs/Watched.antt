@@ -1,5 +1,5 @@
 -- What is watched at the claims of all frames.
-use Rattle.std.proofs.Common.{◌≡◌, ℕ, ◌-◌, List, [], ◌∷◌, ◌++◌, length, slice_index_or, Option, Some, IfSome, Result, Ok, Err, IfOk, OnOk, subst, sym}
+use Rattle.std.proofs.Common.{◌≡◌, ℕ, ◌-◌, List, [], ◌∷◌, ◌++◌, length, slice_index_or, Option, Some, IfSome, subst, sym}
 use Rattle.std.proofs.lemmas.List.Elements.{All-pop, All-push, All-weaker}
 use Rattle.std.proofs.lemmas.Option.{get_or_from_slice_get, slice_get_within}
 use Rattle.dsa_terms.specs.Claims.{Claim, Entry}
@@ -28,16 +28,6 @@ pub all_watched_still : (lines : List Line) (before after : List Entry) (levels 
     AreWatched lines after above n) → AreWatchedAt lines before frames → AreWatchedAt lines after frames
 all_watched_still lines before after levels frames raised kept watched k d lt =
     kept _ _ (raised k d lt) (watched k d lt)
-
--- the same after a call that may fail
-pub all_watched_on : {T E : Type 0} (r : Result T E) (lines : List Line) (before after : List Entry) (levels : List ℕ)
-    (frames : List Tried) → AreRaisedFrom frames levels →
-    ((above : List ℕ) (n : ℕ) → AreRaised above levels → AreWatched lines before above n →
-    IfOk r (λ _. AreWatched lines after above n)) → AreWatchedAt lines before frames →
-    OnOk r (AreWatchedAt lines after frames)
-all_watched_on (Ok x) lines before after levels frames raised kept watched =
-    all_watched_still lines before after levels frames raised kept watched
-all_watched_on (Err e) lines before after levels frames raised kept watched = tt
 
 -- a frame is put last
 pub all_watched_push : (lines : List Line) (watches : List Entry) (frames after : List Tried) (f : Tried) →

@@ -1,4 +1,4 @@
-use Rattle.std.proofs.Common.{◌≡◌, ℕ, ◌<◌, ◌^◌, arith, length, slice_index, sym}
+use Rattle.std.proofs.Common.{◌<◌, ◌^◌, arith, length, slice_index}
 use Rattle.search_core.proofs.Grounding.{some_within}
 use Rattle.search_core.proofs.RaisingSteps.{raised_still, raised_written, raising_next, some_level}
 use Rattle.search_core.proofs.spreading.raise.Goals as goal

@@ -1,4 +1,4 @@
-use Rattle.std.proofs.Common.{ℕ, inl, inr, subst, sym}
+use Rattle.std.proofs.Common.{inl, inr, subst, sym}
 use Rattle.dsa_terms.specs.Claims.{IsIn}
 use Rattle.search_core.specs.Raisings.{IsRaised}
 use Rattle.search_core.proofs.Finding.{next_of}
