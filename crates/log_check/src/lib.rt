@@ -11,4 +11,3 @@ mod narrowing;
 
 pub use checker::check;
 pub use fault::CheckFault;
-
