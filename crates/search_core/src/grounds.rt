@@ -15,7 +15,8 @@ pub(crate) fn ground_of(alloc: Global, levels: &[u64]) -> Result<Claim, NoMemory
     requires low { All (λ level. level ≤ 2 ^ 55) levels.now }
     ensures { IfOk result (AreKept levels.now) }
 {
-    let mut pairs = Vec::new(alloc);
+    let count = levels.iter().filter(|level| **level > 0).count();
+    let mut pairs = Vec::with_capacity(alloc, count)?;
     for b in 0..levels.len() {
         let level = levels[b];
         if level > 0 {

@@ -13,6 +13,7 @@ use dsa_model::{Instance, NoMemory};
 use lifetime::Sections;
 
 /// Writes the level of c in the child by b, if c is in the claim.
+#[inline(always)]
 fn raise(
     raising: &mut Raising,
     instance: &Instance,
