@@ -13,11 +13,11 @@ use Rattle.canonical_order.proofs.Entries.{up_limit}
 use Rattle.canonical_order.specs.Levels.{AreLevels, IsLevel}
 use Rattle.canonical_order.proofs.CoverLemmas.{entry_of_child, from_child, in_child_by}
 use Rattle.canonical_order.proofs.LevelLemmas.{has_level, level_inside}
+use Rattle.line_index.proofs.Rising.{low_of_child}
 use Rattle.search_core.specs.Descents.{IsUnder}
 use Rattle.search_core.specs.Levels.{HasLowChild}
 use Rattle.search_core.specs.Tries.{Tried, chosen_of}
 use Rattle.search_core.proofs.Lifting.{up_of_lift}
-use Rattle.search_core.proofs.Rising.{low_of_child}
 
 module _ (I : Instance) (l : Claim) (levels : List ℕ) (b : ℕ) (h : AreLevels I l levels) where
   -- the buffer itself is not in the child

@@ -10,18 +10,19 @@ use Rattle.dsa_terms.specs.Search.{first, work}
 use Rattle.canonical_order.specs.Claims.{HasBuffer, entry_of}
 use Rattle.canonical_order.specs.Levels.{AreLevels}
 use Rattle.skyline.specs.Skies.{last_claim}
+use Rattle.line_index.specs.Watches.{AreRaised}
+use Rattle.line_index.proofs.Rising.{child_raised}
+use Rattle.line_index.proofs.WatchLemmas.{raised_trans}
 use Rattle.search_core.specs.Descents.{Descends, HasAskedAll, IsKnown, IsPath, IsPlace, IsStanding, IsTrying, IsUnder, IsUnderLast, Place, above_of, claim_at, left_of, owed, root_of, sky_root, through, turns_left}
 use Rattle.search_core.specs.Logs.{Extends}
 use Rattle.search_core.specs.Tries.{IsLeft, Tried, chosen_of, later_of, noted_by, rest_of}
 use Rattle.search_core.specs.Turns.{IsAhead, debt_of}
-use Rattle.search_core.specs.Watches.{AreRaised, AreRaisedFrom}
+use Rattle.search_core.specs.Watches.{AreRaisedFrom}
 use Rattle.search_core.proofs.Descent.{child_within}
 use Rattle.search_core.proofs.Growing.{get_new}
-use Rattle.search_core.proofs.Rising.{child_raised}
 use Rattle.search_core.proofs.Searching.{choice_refuted, chosen_in, next_choice, rest_of_noted, trying_still}
 use Rattle.search_core.proofs.Stacks.{above_pushed, all_reversed, count_above, reverse_push}
 use Rattle.skyline.proofs.Carrying.{last_of_append}
-use Rattle.search_core.proofs.WatchLemmas.{raised_trans}
 use Rattle.search_core.proofs.Working.{through_next}
 
 -- what holds of three things holds of their equals

@@ -10,7 +10,6 @@ use Rattle.dsa_terms.specs.Search.{comes_before, first, is_tall, work}
 use Rattle.canonical_order.specs.Claims.{HasBuffer}
 use Rattle.refute_log.specs.Answers.{Offsets, Refutation}
 use Rattle.refute_log.specs.declared.decided.Decided.TheVariants.{Spent}
-use Rattle.search_core.specs.Cites.{IsCoveredBy}
 use Rattle.search_core.specs.Courses.{at_start}
 use Rattle.search_core.specs.Decisions.{IsGiven, allowance_of, charge_of, turn_of}
 use Rattle.skyline.specs.Skies.{Sky}
@@ -18,7 +17,7 @@ use Rattle.search_core.specs.Descents.{Place, above_of, claim_at, owed, root_of,
 use Rattle.search_core.specs.Lifted.{lifted}
 use Rattle.search_core.specs.Tries.{Tried, chosen_of, later_of, noted_by, rest_of, untried}
 use Rattle.search_core.specs.Keys.{key_of}
-use Rattle.search_core.specs.Logs.{AreUncovered, Extends, NoneCovers}
+use Rattle.search_core.specs.Logs.{AreUncovered, Extends}
 use Rattle.search_core.specs.Meters.{AreCounted, AreMore, AreMoreBy, AreSpent, AreWithin, HasUnit, Units, units_counted}
 use Rattle.search_core.specs.Outcomes.{LinesAreCounted, spends_after}
 
@@ -105,27 +104,6 @@ starts_unused = refl
 -- ---- lines
 abbrev tall : Line
 tall = Over ((1, 3) ∷ []) 0 3 1
-
-covers_a_lower_bound : IsCoveredBy two (tall ∷ []) ((1, 1) ∷ []) 0
-unfolding up buffer
-covers_a_lower_bound = record {
-  limit = omega arith;
-  line = tall;
-  stands = refl;
-  covers = λ e i. elim i [
-    | inl q ↦ (
-      (1, 1),
-      inl refl,
-      ap (λ (e : Entry). e.0) (sym q),
-      (let b : e.1 ≡ 3 = ap (λ (e : Entry). e.1) q in
-          omega arith),
-    )
-    | inr j ↦ absurd j
-  ];
-}
-
-nothing_covers : NoneCovers two [] ((1, 1) ∷ [])
-nothing_covers k line at covers = cc
 
 one_line_is_uncovered : AreUncovered two (tall ∷ [])
 one_line_is_uncovered zero zero earlier line lt at_j at_k covers = absurd (omega arith)

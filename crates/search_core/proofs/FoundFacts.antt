@@ -7,8 +7,8 @@ use Rattle.dsa_terms.specs.Claims.{Entry, child, step, up}
 use Rattle.dsa_terms.specs.Logs.{Line, ends_below, is_twin}
 use Rattle.dsa_terms.specs.Search.{comes_before, first, is_tall}
 use Rattle.dsa_terms.proofs.Examples.{small_below}
+use Rattle.line_index.specs.Covered.{IsCoveredBy}
 use Rattle.search_core.specs.declared.found.Found.TheVariants as found
-use Rattle.search_core.specs.Cites.{IsCoveredBy}
 use Rattle.search_core.specs.Descents.{IsKnown}
 use Rattle.search_core.specs.Found.{IfFoundSpent, IsFound, UnlessFoundSpent}
 use Rattle.search_core.proofs.LevelFacts.{differ, rest, root}

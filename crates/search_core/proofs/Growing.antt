@@ -11,7 +11,7 @@ use Rattle.canonical_order.specs.Claims.{HasBuffer}
 use Rattle.canonical_order.proofs.CoverLemmas.{covered_has}
 use Rattle.dsa_terms.proofs.NumberTests.{below_or_from}
 use Rattle.refute_log.proofs.Legal.{get_before, get_last, take_length}
-use Rattle.search_core.specs.Cites.{IsCoveredBy}
+use Rattle.line_index.specs.Covered.{IsCoveredBy}
 use Rattle.search_core.specs.Logs.{Extends}
 
 -- what holds of each line beside those before it holds with one line more

@@ -6,7 +6,6 @@ pub mod Noted
 pub mod Taking
 pub mod Seating
 pub mod Gathering
-pub mod Finding
 pub mod TallLines
 pub mod FullSections
 pub mod Descent
@@ -30,17 +29,11 @@ pub mod Joining
 pub mod Deciding
 pub mod Charging
 pub mod ExampleFacts
-pub mod Meeting
-pub mod WatchLemmas
-pub mod WatchRows
-pub mod Looking
-pub mod WatchFacts
-pub mod WatchTableFacts
-pub mod Rising
 pub mod RaisingSteps
 pub mod TallLevels
 pub mod Along
 pub mod Grounding
+pub mod NextEntry
 pub mod ChildLevels
 pub mod Watched
 pub mod TwinMarking
@@ -64,3 +57,4 @@ mod WayFacts
 mod NoTwinFacts
 mod LowFacts
 mod SeatFacts
+mod WatchFacts

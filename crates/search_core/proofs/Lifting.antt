@@ -13,10 +13,11 @@ use Rattle.dsa_search_laws.proofs.Claims.{buffers_of-map}
 use Rattle.canonical_order.specs.Claims.{HasBuffer, IsBoundedBy, entry_of}
 use Rattle.canonical_order.specs.Stands.{Stands}
 use Rattle.canonical_order.proofs.Entries.{entry_in, is_entry}
+use Rattle.line_index.specs.Covered.{IsCoveredBy, NoneCovers}
 use Rattle.search_core.specs.declared.found.Refuted.{Refuted}
-use Rattle.search_core.specs.Cites.{IsChildCovered, IsCoveredBy}
+use Rattle.search_core.specs.Cites.{IsChildCovered}
 use Rattle.search_core.specs.Lifted.{IsAtLows, lift, lifted}
-use Rattle.search_core.specs.Logs.{Extends, NoneCovers}
+use Rattle.search_core.specs.Logs.{Extends}
 use Rattle.search_core.proofs.Growing.{extends_along, extends_none}
 
 -- ---- the up of an up is the same

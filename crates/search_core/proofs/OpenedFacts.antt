@@ -6,13 +6,13 @@ use Rattle.dsa_terms.specs.Logs.{Line, claim_of, ends_below, is_twin}
 use Rattle.dsa_terms.specs.Search.{comes_before, first, is_tall, work}
 use Rattle.dsa_terms.proofs.Examples.{small_below}
 use Rattle.dsa_terms.proofs.Lists.{same_some}
+use Rattle.line_index.specs.Watches.{RulesOut}
 use Rattle.search_core.specs.declared.fresh.Fresh.{Fresh}
 use Rattle.search_core.specs.declared.opening.Opened.TheVariants as opened
 use Rattle.search_core.specs.Descents.{through}
 use Rattle.search_core.specs.Meters.{Units}
 use Rattle.search_core.specs.Opened.{AreAllAsked, AreChoices, IfChoices, IsOpened, UnlessUnopened, left_open}
 use Rattle.search_core.specs.Tries.{Tried}
-use Rattle.search_core.specs.Watches.{RulesOut}
 use Rattle.search_core.proofs.FoundFacts.{rest_known, root_layout}
 use Rattle.search_core.proofs.LevelFacts.{differ, rest, root}
 use Rattle.search_core.proofs.OverFacts.{over, over_covers}

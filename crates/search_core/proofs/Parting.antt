@@ -12,7 +12,7 @@ use Rattle.dsa_terms.proofs.Ranges.{from_range}
 use Rattle.dsa_search_laws.proofs.PartLists.{got_in}
 use Rattle.dsa_search_laws.proofs.Parts.{buffers_of-whole, claim_of_part, in_whole, part_is_members, same_part_uncut}
 use Rattle.refute_log.specs.Logs.{OpenLog, ended}
-use Rattle.search_core.specs.Cites.{IsCoveredBy}
+use Rattle.line_index.specs.Covered.{IsCoveredBy}
 use Rattle.search_core.specs.Decisions.{IsRefutation}
 use Rattle.search_core.specs.Logs.{Extends, IsSearchLog}
 

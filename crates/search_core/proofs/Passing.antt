@@ -9,7 +9,7 @@ use Rattle.canonical_order.specs.Claims.{HasBuffer, entry_of}
 use Rattle.canonical_order.specs.Levels.{AreLevels}
 use Rattle.canonical_order.specs.Stands.{Stands}
 use Rattle.refute_log.specs.Logs.{OpenLog}
-use Rattle.search_core.specs.Cites.{IsCoveredBy}
+use Rattle.line_index.specs.Covered.{IsCoveredBy}
 use Rattle.search_core.specs.Descents.{IsTrying, Place, claim_at, through}
 use Rattle.search_core.specs.Logs.{IsSearchLog}
 use Rattle.search_core.specs.Tries.{IsLeft, Tried, chosen_of, later_of, noted_by, rest_of}

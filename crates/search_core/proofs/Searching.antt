@@ -15,10 +15,11 @@ use Rattle.dsa_search_laws.proofs.Search.{first_equation, first_empty}
 use Rattle.canonical_order.specs.Claims.{HasBuffer, entry_of, least_buffer}
 use Rattle.canonical_order.specs.Levels.{AreLevels}
 use Rattle.dsa_terms.specs.Logs.{Line}
+use Rattle.line_index.specs.Covered.{NoneCovers}
 use Rattle.search_core.specs.declared.found.Refuted.{Refuted}
 use Rattle.search_core.specs.declared.fresh.Fresh.{Fresh}
 use Rattle.search_core.specs.Cites.{IsChildCovered}
-use Rattle.search_core.specs.Logs.{Extends, NoneCovers}
+use Rattle.search_core.specs.Logs.{Extends}
 use Rattle.search_core.specs.Descents.{IsKnown, IsTrying, refuted_buffer}
 use Rattle.search_core.specs.Fresh.{IsFresh, tries_at}
 use Rattle.search_core.specs.Tries.{IsLeft, Tried, asked_to, chosen_of, later_of, noted_by, rest_of, untried}

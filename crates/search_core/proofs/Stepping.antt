@@ -4,7 +4,7 @@ use Rattle.dsa_terms.specs.Buffers.{Instance}
 use Rattle.dsa_terms.specs.Claims.{Claim, IsClaim}
 use Rattle.dsa_terms.specs.Logs.{Line}
 use Rattle.dsa_terms.specs.Search.{first, work}
-use Rattle.search_core.specs.Cites.{IsCoveredBy}
+use Rattle.line_index.specs.Covered.{IsCoveredBy}
 use Rattle.search_core.specs.Descents.{Descends, HasAskedAll, IsKnown, IsPath, IsPlace, Place, above_of, claim_at, left_of, owed, sky_root, turns_left}
 use Rattle.search_core.specs.Logs.{Extends}
 use Rattle.search_core.specs.Meters.{Units}

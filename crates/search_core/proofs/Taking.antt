@@ -5,7 +5,7 @@ use Rattle.dsa_terms.specs.Claims.{Claim, IsIn}
 use Rattle.dsa_terms.specs.Logs.{Line}
 use Rattle.dsa_terms.specs.Parts.{members, part_of, parts}
 use Rattle.dsa_search_laws.proofs.Parts.{part_is_in}
-use Rattle.search_core.specs.Cites.{IsCoveredBy}
+use Rattle.line_index.specs.Covered.{IsCoveredBy}
 use Rattle.search_core.specs.declared.found.Found.{Found}
 use Rattle.search_core.specs.declared.found.Found.TheVariants as found
 use Rattle.search_core.specs.Found.{UnlessFoundSpent}

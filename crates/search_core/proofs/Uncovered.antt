@@ -9,8 +9,8 @@ use Rattle.dsa_search_laws.proofs.Logs.{covered_is_refuted, covers_along, from_t
 use Rattle.canonical_order.specs.Stands.{Stands}
 use Rattle.dsa_terms.proofs.NumberTests.{below_or_from}
 use Rattle.refute_log.specs.Logs.{Belongs, OpenLog}
-use Rattle.search_core.specs.Cites.{IsCoveredBy}
-use Rattle.search_core.specs.Logs.{AreUncovered, IsSearchLog, NoneCovers}
+use Rattle.line_index.specs.Covered.{IsCoveredBy, NoneCovers}
+use Rattle.search_core.specs.Logs.{AreUncovered, IsSearchLog}
 use Rattle.search_core.proofs.Descent.{is_instance}
 use Rattle.refute_log.proofs.Legal.{get_before, get_last}
 

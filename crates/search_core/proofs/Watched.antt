@@ -4,13 +4,14 @@ use Rattle.std.proofs.lemmas.List.Elements.{All-pop, All-push, All-weaker}
 use Rattle.std.proofs.lemmas.Option.{get_or_from_slice_get, slice_get_within}
 use Rattle.dsa_terms.specs.Claims.{Claim, Entry}
 use Rattle.dsa_terms.specs.Logs.{Line}
+use Rattle.line_index.specs.Watches.{AreRaised, AreWatched}
+use Rattle.line_index.proofs.WatchLemmas.{watched_more}
 use Rattle.search_core.specs.declared.path.Above.{Above}
 use Rattle.search_core.specs.Descents.{HasAskedAll}
 use Rattle.search_core.specs.Logs.{Extends}
 use Rattle.search_core.specs.Tries.{Tried}
-use Rattle.search_core.specs.Watches.{AreRaised, AreRaisedFrom, AreWatched, AreWatchedAt}
+use Rattle.search_core.specs.Watches.{AreRaisedFrom, AreWatchedAt}
 use Rattle.search_core.specs.Ways.{IsAbove}
-use Rattle.search_core.proofs.WatchLemmas.{watched_more}
 
 -- a log that grows keeps what is watched
 pub all_watched_more : (l : Claim) (lines after : List Line) (watches : List Entry) (frames : List Tried) →

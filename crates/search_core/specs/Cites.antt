@@ -1,18 +1,12 @@
 -- Why the search does not take a buffer of a claim first, or takes it in vain.
-use Rattle.std.specs.Prelude.{◌≡◌, ℕ, ◌^◌, ◌≤◌, true, List, [], slice_get, Some}
+use Rattle.std.specs.Prelude.{◌≡◌, true, List, []}
 use Rattle.dsa_terms.specs.Buffers.{Instance}
-use Rattle.dsa_terms.specs.Claims.{Claim, Entry, IsIn, Covers, child}
-use Rattle.dsa_terms.specs.Logs.{Cite, ByLine, Below, Twin, Line, claim_of, IsLegalCite}
+use Rattle.dsa_terms.specs.Claims.{Claim, Entry, IsIn, child}
+use Rattle.dsa_terms.specs.Logs.{Cite, ByLine, Below, Twin, Line, IsLegalCite}
 use Rattle.dsa_terms.specs.Search.{not_excluded}
 use Rattle.canonical_order.specs.Claims.{entry_of}
+use Rattle.line_index.specs.Covered.{IsCoveredBy}
 use Rattle.search_core.specs.declared.found.Refuted.{Refuted}
-
--- the line of that number covers the claim, and its number is at most 2^60
-pub record IsCoveredBy (I : Instance) (lines : List Line) (l : Claim) (k : ℕ) : Type 0 where
-  pub limit : k ≤ 2 ^ 60
-  pub line : Line
-  pub stands : slice_get lines k ≡ Some line
-  pub covers : Covers I (claim_of line) l
 
 -- the line covers the child by the buffer
 abbrev pub IsChildCovered : Instance → List Line → Claim → Refuted → Type 0

@@ -7,8 +7,9 @@ use Rattle.dsa_terms.specs.Search.{choices, first, first_some, not_excluded, sea
 use Rattle.canonical_order.specs.Claims.{HasBuffer, entry_of}
 use Rattle.canonical_order.specs.Levels.{AreLevels}
 use Rattle.skyline.specs.Skies.{Sky, last_claim}
+use Rattle.line_index.specs.Covered.{IsCoveredBy}
 use Rattle.search_core.specs.declared.found.Refuted.{Refuted}
-use Rattle.search_core.specs.Cites.{IsChildCovered, IsCoveredBy}
+use Rattle.search_core.specs.Cites.{IsChildCovered}
 use Rattle.search_core.specs.Tries.{Tried, IsLeft, chosen_of, later_of, rest_of}
 
 -- the layout of the claim with that entry first

@@ -4,9 +4,9 @@ use Rattle.dsa_terms.specs.Buffers.{Instance}
 use Rattle.dsa_terms.specs.Claims.{Claim}
 use Rattle.dsa_terms.specs.Logs.{Line}
 use Rattle.dsa_terms.specs.Search.{first}
+use Rattle.line_index.specs.Covered.{IsCoveredBy}
 use Rattle.search_core.specs.declared.found.Found.{Found}
 use Rattle.search_core.specs.declared.found.Found.TheVariants as found
-use Rattle.search_core.specs.Cites.{IsCoveredBy}
 
 -- the first layout of the claim, or a line that covers a claim that has none
 abbrev pub IsFound : Instance → ℕ → Claim → List Line → Found → Type 0

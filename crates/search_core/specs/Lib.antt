@@ -19,8 +19,6 @@ pub mod Outcomes
 pub mod Courses
 pub mod Levels
 pub mod Watches
-pub mod Watching
-pub mod Looks
 pub mod TwinMarks
 pub mod Seats
 pub mod Raisings

@@ -13,10 +13,6 @@ pub record Extends (l : Claim) (before after : List Line) : Type 0 where
   pub is : after ≡ before ++ more
   pub among : (line : Line) (e : Entry) → IsIn line more → IsIn e (claim_of line) → HasBuffer l e.0
 
--- no line covers the claim
-abbrev pub NoneCovers : Instance → List Line → Claim → Type 0
-NoneCovers I lines l = (k : ℕ) (line : Line) → slice_get lines k ≡ Some line → Covers I (claim_of line) l → ⊥
-
 -- no line is covered by an earlier one
 abbrev pub AreUncovered : Instance → List Line → Type 0
 AreUncovered I lines = (j k : ℕ) (earlier line : Line) → j < k → slice_get lines j ≡ Some earlier →

@@ -5,15 +5,15 @@ use Rattle.dsa_terms.specs.Claims.{Claim, Entry}
 use Rattle.dsa_terms.specs.Logs.{Line}
 use Rattle.dsa_terms.specs.Search.{first, work}
 use Rattle.canonical_order.specs.Claims.{entry_of}
+use Rattle.line_index.specs.Covered.{NoneCovers}
+use Rattle.line_index.specs.Watches.{AreWatched}
 use Rattle.search_core.specs.declared.opening.Opened.{Opened}
 use Rattle.search_core.specs.declared.opening.Opened.TheVariants as opened
 use Rattle.search_core.specs.declared.fresh.Fresh.{Fresh}
 use Rattle.search_core.specs.Descents.{IsKnown, IsTrying, through}
 use Rattle.search_core.specs.Fresh.{IsFresh, tries_at}
-use Rattle.search_core.specs.Logs.{NoneCovers}
 use Rattle.search_core.specs.Meters.{AreSpent, Units}
 use Rattle.search_core.specs.Tries.{Tried, rest_of}
-use Rattle.search_core.specs.Watches.{AreWatched}
 
 -- the choices of a claim that has some buffers: they decide its layout, and its work but for itself; no line covers it
 pub record AreChoices (I : Instance) (C : ℕ) (lines : List Line) (l : Claim) (f : Tried) : Type 0 where

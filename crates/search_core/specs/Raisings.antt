@@ -4,8 +4,8 @@ use Rattle.dsa_terms.specs.Buffers.{Instance}
 use Rattle.dsa_terms.specs.Claims.{Claim, child}
 use Rattle.canonical_order.specs.Claims.{entry_of}
 use Rattle.canonical_order.specs.Levels.{AreLevels, IsLevel}
+use Rattle.line_index.specs.Watches.{AreTheRaised}
 use Rattle.search_core.specs.declared.raising.Raising.{Raising}
-use Rattle.search_core.specs.Watches.{AreTheRaised}
 
 -- where c has a level in a claim, its number is its level in the child by b
 abbrev pub IsRaised : Instance → List ℕ → ℕ → List ℕ → ℕ → Type 0

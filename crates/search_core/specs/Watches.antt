@@ -1,41 +1,14 @@
--- Watches: for each line of a log one entry of its claim, which shows that the line does not cover a claim.
-use Rattle.std.specs.Prelude.{◌≡◌, ℕ, ◌<◌, ◌≤◌, List, length, slice_get, slice_index, Some}
+-- What is watched at the claims above the one that the search is at.
+use Rattle.std.specs.Prelude.{ℕ, List}
 use Rattle.std.specs.List.{All}
-use Rattle.dsa_terms.specs.Claims.{Claim, Entry, IsIn}
-use Rattle.dsa_terms.specs.Logs.{Line, claim_of}
+use Rattle.dsa_terms.specs.Claims.{Entry}
+use Rattle.dsa_terms.specs.Logs.{Line}
+use Rattle.line_index.specs.Watches.{AreRaised, AreWatched}
 use Rattle.search_core.specs.Tries.{Tried}
-
--- each buffer of k has a level
-abbrev pub HasLevels : List ℕ → Claim → Type 0
-HasLevels levels k = (f : Entry) → IsIn f k → 0 < slice_index levels f.0
-
--- where each buffer of k has a level, that of the entry's buffer does not meet its bound
-abbrev pub Fails : List ℕ → Claim → Entry → Type 0
-Fails levels k e = HasLevels levels k → slice_index levels e.0 ≤ e.1
-
--- the entry is one of k, and where each buffer of k has a level, that of the entry's buffer does not meet its bound
-pub record RulesOut (levels : List ℕ) (k : Claim) (e : Entry) : Type 0 where
-  pub among : IsIn e k
-  pub unmet : Fails levels k e
-
--- there are n lines at least, and the watch of each of the first n rules out that it covers the claim of the levels
-pub record AreWatched (lines : List Line) (watches : List Entry) (levels : List ℕ) (n : ℕ) : Type 0 where
-  pub within : n ≤ length lines
-  pub each : (k : ℕ) (line : Line) → k < n → slice_get lines k ≡ Some line →
-      (e : Entry) × (slice_get watches k ≡ Some e) × RulesOut levels (claim_of line) e
-
--- each buffer that has a level now had one before, which was no higher
-abbrev pub AreRaised : List ℕ → List ℕ → Type 0
-AreRaised before now = (b : ℕ) → 0 < slice_index now b →
-    (0 < slice_index before b) × (slice_index before b ≤ slice_index now b)
 
 -- at each of these claims the lines that were asked there are watched
 abbrev pub AreWatchedAt : List Line → List Entry → List Tried → Type 0
 AreWatchedAt lines watches frames = All (λ (f : Tried). AreWatched lines watches f.levels f.asked) frames
-
--- these are the buffers whose levels are higher now than before, and maybe more
-abbrev pub AreTheRaised : List ℕ → List ℕ → List ℕ → Type 0
-AreTheRaised before now raised = (b : ℕ) → slice_index before b < slice_index now b → IsIn b raised
 
 -- the levels of each of these claims are no higher than these levels
 abbrev pub AreRaisedFrom : List Tried → List ℕ → Type 0

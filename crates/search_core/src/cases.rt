@@ -6,10 +6,11 @@ ghost use Rattle.dsa_terms.specs.Search.{not_excluded};
 ghost use Rattle.canonical_order.specs.Claims.{IsBoundedBy};
 ghost use Rattle.canonical_order.specs.Levels.{AreLevels};
 ghost use Rattle.canonical_order.specs.Stands.{Stands};
+ghost use Rattle.line_index.specs.Covered.{IsCoveredBy, NoneCovers};
 ghost use Rattle.search_core.specs.declared.found.Refuted.{Refuted as RefutedTerm};
-ghost use Rattle.search_core.specs.Cites.{IsChildCovered, IsCoveredBy};
+ghost use Rattle.search_core.specs.Cites.{IsChildCovered};
 ghost use Rattle.search_core.specs.Lifted.{IsAtLows};
-ghost use Rattle.search_core.specs.Logs.{Extends, IsSearchLog, NoneCovers};
+ghost use Rattle.search_core.specs.Logs.{Extends, IsSearchLog};
 
 use crate::cites::cites;
 use crate::found::Refuted;

@@ -5,8 +5,8 @@ ghost use Rattle.dsa_terms.specs.Claims.{Claim as ClaimTerm, child as child_of};
 ghost use Rattle.canonical_order.specs.Claims.{entry_of};
 ghost use Rattle.canonical_order.specs.Levels.{AreLevels};
 ghost use Rattle.lifetime.specs.SectionList.{AreSectionsOf};
+ghost use Rattle.line_index.specs.Watches.{AreTheRaised};
 ghost use Rattle.search_core.specs.Levels.{HasLowChild};
-ghost use Rattle.search_core.specs.Watches.{AreTheRaised};
 
 use crate::levels::Levels;
 use crate::raising::Raising;

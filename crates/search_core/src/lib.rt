@@ -6,11 +6,8 @@ mod branches;
 mod budget;
 mod cases;
 mod child;
-mod child_cover;
 mod choice;
 mod cites;
-#[cfg(test)]
-mod draws;
 mod ending;
 mod found;
 mod frame;
@@ -22,7 +19,6 @@ mod learned;
 mod leveled;
 mod levels;
 mod lines;
-mod look;
 mod meter;
 mod notes;
 mod opening;
@@ -30,21 +26,13 @@ mod over;
 mod part;
 mod path;
 mod raising;
-mod recent;
 mod remaking;
 mod search;
 mod spreading;
 mod task;
-#[cfg(test)]
-mod tests;
 mod turns;
 mod twin_marks;
 mod walk;
-mod watch_row;
-mod watch_table;
-#[cfg(test)]
-mod watch_tests;
-mod watches;
 mod whole;
 
 pub use budget::Budget;

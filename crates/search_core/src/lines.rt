@@ -5,8 +5,8 @@ ghost use Rattle.dsa_terms.specs.Buffers.{IsLive, buffer as buffer_at};
 ghost use Rattle.dsa_terms.specs.Claims.{Claim as ClaimTerm, Covers};
 ghost use Rattle.dsa_terms.specs.Logs.{IsLegal, Line as LineTerm, claim_of};
 ghost use Rattle.refute_log.specs.Lines.{IsWithin, line_value};
-ghost use Rattle.search_core.specs.Cites.{IsCoveredBy};
-ghost use Rattle.search_core.specs.Logs.{Extends, IsSearchLog, NoneCovers};
+ghost use Rattle.line_index.specs.Covered.{IsCoveredBy, NoneCovers};
+ghost use Rattle.search_core.specs.Logs.{Extends, IsSearchLog};
 
 use crate::learned::Learned;
 use crate::task::Task;

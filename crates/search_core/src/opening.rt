@@ -2,12 +2,13 @@
 
 ghost use Rattle.std.specs.Prelude.{◌≡◌, ◌+◌, ◌≤◌, ℕ, [], List, length, IfNone, IfOk, IfSome, OnOk};
 ghost use Rattle.canonical_order.specs.Levels.{AreLevels};
-ghost use Rattle.search_core.specs.Cites.{IsCoveredBy};
+ghost use Rattle.line_index.specs.Covered.{IsCoveredBy};
+ghost use Rattle.line_index.specs.Watches.{AreWatched};
 ghost use Rattle.search_core.specs.Descents.{HasAskedAll, IsUnderLast};
 ghost use Rattle.search_core.specs.Logs.{Extends, IsSearchLog};
 ghost use Rattle.search_core.specs.Meters.{AreCounted, AreMore};
 ghost use Rattle.search_core.specs.Opened.{AreAllAsked, IfChoices, IsOpened, UnlessUnopened, left_open};
-ghost use Rattle.search_core.specs.Watches.{AreRaisedFrom, AreWatched, AreWatchedAt};
+ghost use Rattle.search_core.specs.Watches.{AreRaisedFrom, AreWatchedAt};
 ghost use Rattle.skyline.specs.Skies.{last_claim};
 
 use crate::fresh::Fresh;
@@ -18,9 +19,9 @@ use crate::meter::Meter;
 use crate::over::over_line;
 use crate::path::Path;
 use crate::task::Task;
-use crate::watches::Watches;
 use canonical_order::Lows;
 use dsa_model::{Instance, NoMemory};
+use line_index::Watches;
 use refute_log::Log;
 use std::alloc::Global;
 
@@ -74,7 +75,8 @@ fn enter(
         Some(above) => {
             let sections = path.sky().sections();
             let child = above.levels.child(alloc, instance, sections, above.chosen)?;
-            let line = watches.find(log, above.levels, &child.levels, &child.raised)?;
+            let (before, now) = (above.levels.as_slice(), child.levels.as_slice());
+            let line = watches.find(log, before, now, &child.raised)?;
             Ok(Entered {
                 levels: child.levels,
                 line,
@@ -82,7 +84,7 @@ fn enter(
         }
         None => {
             let levels = Levels::of(alloc, path.sky())?;
-            let line = watches.ask(log, &levels, 0)?;
+            let line = watches.ask(log, levels.as_slice(), 0)?;
             Ok(Entered { levels, line })
         }
     }

@@ -19,13 +19,12 @@ use crate::learned::Learned;
 use crate::meter::Meter;
 use crate::opening::{Opened, open};
 use crate::path::Path;
-use crate::recent::Recent;
 use crate::task::Task;
 use crate::walk::Walk;
-use crate::watches::Watches;
 use canonical_order::Lows;
 use dsa_model::NoMemory;
 use lifetime::Sections;
+use line_index::{Recent, Watches};
 use skyline::Skyline;
 use std::alloc::Global;
 

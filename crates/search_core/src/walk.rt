@@ -2,24 +2,23 @@
 
 ghost use Rattle.std.specs.Prelude.{◌≡◌, ◌+◌, ◌≤◌, OnOk, map};
 ghost use Rattle.canonical_order.specs.Claims.{entry_of};
+ghost use Rattle.line_index.specs.Watches.{AreWatched};
 ghost use Rattle.search_core.specs.Descents.{IsTrying, claim_at, through};
 ghost use Rattle.search_core.specs.Fresh.{IsFresh, tries_at};
 ghost use Rattle.search_core.specs.Logs.{Extends, IsSearchLog};
 ghost use Rattle.search_core.specs.Tries.{rest_of};
 ghost use Rattle.search_core.specs.Turns.{IsAhead, IsAtChoices, IsUncovered};
 ghost use Rattle.search_core.specs.Walks.{HasWatches, due_lines, place_of};
-ghost use Rattle.search_core.specs.Watches.{AreWatched};
 
 use crate::cases::refute;
 use crate::frame::Frame;
 use crate::fresh::Fresh;
 use crate::learned::Learned;
 use crate::path::Path;
-use crate::recent::Recent;
 use crate::task::Task;
-use crate::watches::Watches;
 use canonical_order::Lows;
 use dsa_model::NoMemory;
+use line_index::{Recent, Watches};
 use std::alloc::Global;
 
 /// Where a search is, the number of a line that covers the claim there, if one is known, the lines
@@ -88,9 +87,10 @@ impl<'a> Walk<'a> {
     {
         let _count = self.path.instance().len();
         'choices: while !frame.is_done() {
+            let levels = frame.levels().as_slice();
             match self
                 .recent
-                .find(log.log(), task.instance, frame.levels(), frame.chosen())
+                .find(log.log(), task.instance, levels, frame.chosen())
             {
                 Some(line) => frame.note(line)?,
                 None => return Ok(()),
@@ -155,9 +155,10 @@ impl<'a> Walk<'a> {
             OnOk result (due_lines log.new.lines self.new.path ≤ due + 1) }
     {
         let _count = self.path.instance().len();
+        let levels = fresh.levels.as_slice();
         let line = self
             .recent
-            .find(log.log(), task.instance, &fresh.levels, fresh.chosen);
+            .find(log.log(), task.instance, levels, fresh.chosen);
         if line.is_some() {
             let frame = fresh.frame(alloc, task)?;
             self.proceed(alloc, task, log, frame)?;
@@ -193,7 +194,8 @@ impl<'a> Walk<'a> {
             OnOk result (due_lines log.new.lines self.new.path ≤ due + 1) }
     {
         let _count = self.path.instance().len();
-        if let Some(line) = self.watches.ask(log.log(), frame.levels(), frame.asked())? {
+        let levels = frame.levels().as_slice();
+        if let Some(line) = self.watches.ask(log.log(), levels, frame.asked())? {
             self.line = Some(line);
             return Ok(());
         }

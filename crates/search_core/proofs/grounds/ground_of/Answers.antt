@@ -3,7 +3,7 @@ use Rattle.dsa_terms.specs.Claims.{Claim, Entry, IsIn, Rises, buffers_of}
 use Rattle.dsa_terms.proofs.NumberTests.{below_or_last}
 use Rattle.canonical_order.specs.Claims.{HasBuffer}
 use Rattle.search_core.proofs.Grounding.{bounds_low, each_next, entries_few, has_last, has_still}
-use Rattle.search_core.proofs.Meeting.{all_below_next, entries_rise}
+use Rattle.search_core.proofs.NextEntry.{all_below_next, entries_rise}
 use Rattle.search_core.proofs.grounds.ground_of.Goals as goal
 use Rattle.search_core.proofs.grounds.ground_of.Goals.{else-level-gt0, then-level-gt0+in_ok-push}
 

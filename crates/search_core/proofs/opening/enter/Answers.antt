@@ -43,12 +43,13 @@ returns-in_ok-line-in-Some-clause-none c =
     let w = watched_above c.args.log.now.lines c.args.watches.now c.in_ok-child-in-Some.child.levels
     c.args.path.now.frames c.in-Some.above (rw c.in-Some.is at c.above.ensures) c.requires.watched raised
     c.requires.latest in
-    c.in_ok-line-in-Some.ensures.none w.0 (rw c.deref.ensures.value c.in_ok-child-in-Some.ensures.raised) w.1
+    (rw (c.as_slice-before.ensures.value, c.as_slice-now.ensures.value) at c.in_ok-line-in-Some.ensures.none) w.0
+    (rw c.deref.ensures.value c.in_ok-child-in-Some.ensures.raised) w.1
 
 pub returns-in_ok-line-in-Some-clause-some : goal.returns-in_ok-line-in-Some-clause-some
 returns-in_ok-line-in-Some-clause-some c =
     c.in_ok-line-in-Some.ensures.some c.args.instance.now (last_claim c.args.path.now.sky.claims)
-    (under (goal.at.returns-in_ok-line-in-Some-clause-some c).In_ok-line-in-Some)
+    (rw c.as_slice-now.ensures.value (under (goal.at.returns-in_ok-line-in-Some-clause-some c).In_ok-line-in-Some))
 
 pub returns-in_ok-line-in-Some-clause-watched : goal.returns-in_ok-line-in-Some-clause-watched
 returns-in_ok-line-in-Some-clause-watched c =
@@ -56,7 +57,7 @@ returns-in_ok-line-in-Some-clause-watched c =
     c.args.path.now.frames
     (c.requires.raised c.in_ok-child-in-Some.child.levels
     (under (goal.at.returns-in_ok-line-in-Some-clause-watched c).In_ok-line-in-Some))
-    c.in_ok-line-in-Some.ensures.kept c.requires.watched
+    (rw c.as_slice-now.ensures.value at c.in_ok-line-in-Some.ensures.kept) c.requires.watched
 
 pub returns-in_ok-line-in-None-clause-watched : goal.returns-in_ok-line-in-None-clause-watched
 returns-in_ok-line-in-None-clause-watched c =
@@ -64,4 +65,4 @@ returns-in_ok-line-in-None-clause-watched c =
     c.args.path.now.frames
     (c.requires.raised c.in_ok-levels-in-None.levels
     (rw (c.sky-in-None.ensures, c.requires.subject) at c.in_ok-levels-in-None.ensures))
-    c.in_ok-line-in-None.ensures.kept c.requires.watched
+    (rw c.as_slice.ensures.value at c.in_ok-line-in-None.ensures.kept) c.requires.watched

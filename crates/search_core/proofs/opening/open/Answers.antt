@@ -1,5 +1,6 @@
 use Rattle.std.proofs.Common.{◌≡◌, ◌≢◌, ◌+◌, ◌≤◌, ◌∙◌, ℕ, [], arith, length, refl}
 use Rattle.dsa_terms.specs.Logs.{claim_of}
+use Rattle.line_index.proofs.WatchLemmas.{watched_none}
 use Rattle.search_core.specs.Ways.{order_of}
 use Rattle.refute_log.specs.Lines.{line_value}
 use Rattle.skyline.specs.Skies.{last_claim}
@@ -10,7 +11,6 @@ use Rattle.search_core.proofs.Searching.{are_choices, first_of_nothing}
 use Rattle.search_core.proofs.Taking.{none_covers}
 use Rattle.search_core.proofs.Uncovered.{covered_has_none, covers_less}
 use Rattle.search_core.proofs.Watched.{all_watched_more, watched_to}
-use Rattle.search_core.proofs.WatchLemmas.{watched_none}
 use Rattle.search_core.proofs.opening.open.Goals as goal
 
 -- ---- a line that covers the claim

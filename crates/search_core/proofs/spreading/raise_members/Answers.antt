@@ -1,7 +1,7 @@
 use Rattle.std.proofs.Common.{inl, inr, subst, sym}
 use Rattle.dsa_terms.specs.Claims.{IsIn}
+use Rattle.line_index.proofs.Finding.{next_of}
 use Rattle.search_core.specs.Raisings.{IsRaised}
-use Rattle.search_core.proofs.Finding.{next_of}
 use Rattle.search_core.proofs.spreading.raise_members.Goals as goal
 
 pub loop-i-preserved : goal.loop-i-preserved

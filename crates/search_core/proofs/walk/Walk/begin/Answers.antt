@@ -1,13 +1,13 @@
-use Rattle.std.proofs.Common.{◌≡◌, ◌∷◌, ◌++◌, [], ℕ, None, refl, subst, sym}
+use Rattle.std.proofs.Common.{◌≡◌, ◌∷◌, ◌++◌, [], ℕ, None, arith, refl, subst, sym}
 use Rattle.dsa_terms.specs.Claims.{child}
 use Rattle.canonical_order.specs.Claims.{entry_of}
 use Rattle.canonical_order.proofs.Entries.{in_range}
 use Rattle.skyline.specs.Skies.{last_claim}
+use Rattle.line_index.specs.Watches.{AreWatched}
 use Rattle.search_core.specs.Fresh.{tries_at}
 use Rattle.search_core.specs.Tries.{Tried}
 use Rattle.search_core.specs.Turns.{IsAhead, IsUncovered}
 use Rattle.search_core.specs.Walks.{place_of, place_on}
-use Rattle.search_core.specs.Watches.{AreWatched}
 use Rattle.search_core.proofs.Descending.{ahead_deeper}
 use Rattle.search_core.proofs.Passing.{some_level}
 use Rattle.search_core.proofs.Searching.{first_in}
@@ -16,7 +16,10 @@ use Rattle.search_core.proofs.walk.Walk.begin.Goals as goal
 
 -- ---- a line that is at hand
 pub find-line-requires-clause-count : goal.find-line-requires-clause-count
-find-line-requires-clause-count c = c.requires.ready.opened.trying.levels.count
+find-line-requires-clause-count c = rw c.as_slice-levels.ensures.value c.requires.ready.opened.trying.levels.count
+
+pub find-line-requires-clause-low : goal.find-line-requires-clause-low
+find-line-requires-clause-low c = λ k d lt. let le = c.as_slice-levels.ensures.low k d lt in omega arith
 
 pub find-line-requires-clause-b_in : goal.find-line-requires-clause-b_in
 find-line-requires-clause-b_in c =
@@ -25,7 +28,8 @@ find-line-requires-clause-b_in c =
     let t = c.requires.ready.opened.trying in
     let s = rw (c.instance.ensures.value, c.requires.ready.opened.path.subject) at c.instance.ensures.stands in
     let has = first_in I c.args.task.now.capacity l c.args.log.now.lines c.args.fresh c.requires.first t in
-    some_level I l c.args.fresh.levels c.args.fresh.chosen t.levels has (in_range I l c.args.fresh.chosen s has)
+    rw c.as_slice-levels.ensures.value
+    (some_level I l c.args.fresh.levels c.args.fresh.chosen t.levels has (in_range I l c.args.fresh.chosen s has))
 
 pub frame-requires : goal.frame-requires
 frame-requires c = (last_claim c.args.self.now.path.sky.claims, c.requires.ready.opened.trying.levels)

@@ -1,0 +1,50 @@
+-- The watches of one buffer after another fail at the levels of a claim, but for those of the buffers that are left.
+use Rattle.std.proofs.Common.{◌≡◌, ℕ, suc, ◌+◌, ◌<◌, ◌≤◌, ◌⊎◌, inl, inr, List, [], ◌∷◌, drop, length, slice_index, sym, ap, ◌∙◌, subst, arith}
+use Rattle.std.proofs.lemmas.Grind.{common_steps}
+use Rattle.std.proofs.Math.Seq.{drop-cons}
+use Rattle.dsa_terms.specs.Claims.{Entry, IsIn}
+use Rattle.dsa_terms.specs.Logs.{Line}
+use Rattle.dsa_terms.proofs.NumberTests.{below_or_from}
+use Rattle.line_index.specs.Watches.{AreTheRaised}
+use Rattle.line_index.specs.Watching.{AreMoved, FailAt}
+use Rattle.line_index.proofs.WatchLemmas.{fail_still}
+
+-- one of the buffers is left, or its watches from the level before on fail
+abbrev pub FailBut : List Line → List ℕ → List ℕ → List Entry → List ℕ → List ℕ → Type 0
+FailBut lines before now watches buffers left = (b : ℕ) → IsIn b buffers →
+    IsIn b left ⊎ FailAt lines watches now b (slice_index before b)
+
+-- ---- what is left of the buffers
+pub next_of : (bs : List ℕ) (i : ℕ) → i < length bs → drop i bs ≡ slice_index bs i ∷ drop (i + 1) bs
+next_of bs i lt = drop-cons bs i 0 lt ∙ ap (λ (n : ℕ). slice_index bs i ∷ drop n bs) (one i)
+  where
+    one : (i : ℕ) → suc i ≡ i + 1
+    one i = omega arith
+
+pub none_of : (bs : List ℕ) (i : ℕ) → length bs ≤ i → drop i bs ≡ []
+none_of bs i le = grind (arith, common_steps)
+
+module _ (lines : List Line) (before now buffers : List ℕ) where
+  pub fail_next : (old new : List Entry) (x : ℕ) (left rest : List ℕ) → left ≡ x ∷ rest →
+      AreMoved lines now old new → FailAt lines new now x (slice_index before x) →
+      FailBut lines before now old buffers left → FailBut lines before now new buffers rest
+  fail_next old new x left rest s moved here h b i = elim (h b i) [
+    | inl j ↦ elim (subst (IsIn b) s j) [
+      | inl p ↦ inr (subst (λ (b : ℕ). FailAt lines new now b (slice_index before b)) (sym p) here)
+      | inr k ↦ inl k
+    ]
+    | inr f ↦ inr (fail_still lines now old new b (slice_index before b) moved f)
+  ]
+
+  -- where none is left and these are the buffers that rose, the watches of all fail: none of another buffer is below
+  -- the level now and not below the one before
+  pub fail_at_all : (watches : List Entry) (left : List ℕ) → left ≡ [] → AreTheRaised before now buffers →
+      FailBut lines before now watches buffers left → (b : ℕ) → FailAt lines watches now b (slice_index before b)
+  fail_at_all watches left q raised h b k line e is at n from below =
+      elim (below_or_from (slice_index before b) (slice_index now b)) [
+        | inl more ↦ elim (h b (raised b more)) [
+          | inl i ↦ absurd (subst (IsIn b) q i)
+          | inr f ↦ f k line e is at n from below
+        ]
+        | inr none ↦ absurd (omega (arith, from, below, none))
+      ]

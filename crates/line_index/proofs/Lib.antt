@@ -1,0 +1,9 @@
+pub mod Meeting
+pub mod Looking
+pub mod Rising
+pub mod Finding
+pub mod WatchLemmas
+pub mod WatchRows
+pub mod WatchFacts
+pub mod WatchTableFacts
+mod ExampleFacts

@@ -1,0 +1,11 @@
+use Rattle.std.proofs.Common.{ℕ, ◌<◌, ◌≤◌, length}
+use Rattle.line_index.specs.Watching.{AreOwnMoved, IsWatched}
+use Rattle.line_index.proofs.watches.Watches.ask.Given as goal
+
+abbrev pub invariant-loop-k : goal.invariant-loop-k
+invariant-loop-k l = record {
+  moved : AreOwnMoved l.log.lines l.levels l.fn.self l.self-inside.table.watches;
+  count : length l.log.lines ≤ length l.self-inside.table.watches;
+  watched : (j : ℕ) → l.k ≤ j → j < length l.log.lines →
+      IsWatched l.log.lines l.self-inside.table.watches l.levels j;
+}

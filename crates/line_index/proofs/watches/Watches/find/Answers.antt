@@ -1,0 +1,48 @@
+use Rattle.std.proofs.Common.{◌+◌, List, arith, drop, inl, length, slice_index, subst, sym}
+use Rattle.dsa_terms.specs.Claims.{Entry}
+use Rattle.line_index.specs.Watching.{AreMoved, FailAt}
+use Rattle.line_index.proofs.Finding.{fail_at_all, fail_next, next_of, none_of}
+use Rattle.line_index.proofs.Looking.{from_none}
+use Rattle.line_index.proofs.WatchLemmas.{all_watched, moved_refl, moved_trans, watched_none}
+use Rattle.line_index.proofs.watches.Watches.find.Goals as goal
+
+pub loop-number-init : goal.loop-number-init
+loop-number-init c = record {
+  moved = subst (λ (ws : List Entry). AreMoved c.args.log.now.lines c.args.now.now ws c.self.inside.table.watches)
+      c.self.view_is (moved_refl c.args.log.now.lines c.args.now.now c.self.inside.table.watches);
+  fail = λ b i. inl i;
+}
+
+pub loop-number-preserved : goal.loop-number-preserved
+loop-number-preserved c =
+    let lines = c.args.log.now.lines in
+    let now = c.args.now.now in
+    let items = c.args.raised.now in
+    let i = c.loop-number.number-index in
+    let x = slice_index items i in
+    let old = c.loop-number.self-inside.table.watches in
+    let new = c.find_in.new.table.watches in
+    let found = c.in_ok-found.ensures in
+    record {
+      moved = moved_trans lines now c.args.self.now old new c.loop-number.invariant.moved found.moved;
+      fail = fail_next lines c.args.before.now now items old new x (drop i items) (drop (i + 1) items)
+          (next_of items i c.loop-number-test.true) found.moved
+          (subst (FailAt lines new now x) c.level_at.ensures.value
+          (from_none c.in_ok-found.found (sym c.if-is_some.ensures) found.none)) c.loop-number.invariant.fail;
+    }
+
+pub returns-clause-none : goal.returns-clause-none
+returns-clause-none c = λ above all.
+    let lines = c.args.log.now.lines in
+    let now = c.args.now.now in
+    let before = c.args.before.now in
+    let items = c.args.raised.now in
+    let watches = c.loop-number.self-inside.table.watches in
+    all_watched lines now before c.args.self.now watches (length now) (omega arith) c.loop-number.invariant.moved
+    (λ b lt. fail_at_all lines before now items watches (drop c.loop-number.number-index items)
+    (none_of items c.loop-number.number-index c.loop-number-test.false) all c.loop-number.invariant.fail b) above
+
+pub returns-clause-uncovered : goal.returns-clause-uncovered
+returns-clause-uncovered c = λ I l h above all w.
+    watched_none I c.args.log.now.lines c.loop-number.self-inside.table.watches l c.args.now.now h
+    (returns-clause-none c above all w)

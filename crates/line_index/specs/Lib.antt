@@ -1,0 +1,4 @@
+pub mod Covered
+pub mod Watches
+pub mod Watching
+pub mod Looks

@@ -1,0 +1,13 @@
+//! Finding a line of a log that covers a claim, or what is left of a claim by one of its buffers.
+#![tactic(auto)]
+
+mod child_cover;
+mod levels;
+mod look;
+mod recent;
+mod watch_row;
+mod watch_table;
+mod watches;
+
+pub use recent::Recent;
+pub use watches::Watches;
