@@ -1,6 +1,6 @@
 -- Worked facts: a buffer of size 3 beside one of size 1 that stands at multiples of 4 alone, which fit into 4 and
 -- not into 3.
-use Rattle.std.proofs.Common.{◌≡◌, ◌-◌, ◌^◌, ℕ, zero, suc, List, [], ◌∷◌, Option, Some, None, inl, inr, refl, sym, ap, subst, arith}
+use Rattle.std.proofs.Common.{◌≡◌, ◌-◌, ◌^◌, ℕ, zero, suc, List, [], ◌∷◌, Option, Some, None, inl, inr, refl, ap, subst, arith}
 use Rattle.dsa_terms.specs.Buffers.{Buffer, Instance, buffer, do_share, have_same_moments, is_live, some_before}
 use Rattle.dsa_terms.specs.Claims.{Claim, Entry, IsIn, child, step, up}
 use Rattle.dsa_terms.specs.Plans.{layout_height}

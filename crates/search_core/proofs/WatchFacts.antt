@@ -1,5 +1,5 @@
 -- Worked facts: a line of two bounds that is watched at the claims of one frame, and not at those of two.
-use Rattle.std.proofs.Common.{◌≡◌, ℕ, zero, suc, [], ◌∷◌, arith}
+use Rattle.std.proofs.Common.{zero, suc, [], ◌∷◌, arith}
 use Rattle.line_index.proofs.WatchFacts.{fallen, high, lines, low, met_by_high, raised, watched_at_low}
 use Rattle.search_core.specs.Tries.{untried}
 use Rattle.search_core.specs.Watches.{AreRaisedFrom, AreWatchedAt}
