@@ -1,6 +1,6 @@
 -- The claim beside levels is the claim of the levels, with its lows as bounds.
 use Rattle.std.proofs.Common.{◌≡◌, ℕ, ◌+◌, ◌-◌, ◌<◌, ◌≤◌, ◌^◌, inl, inr, List, [], ◌∷◌, ◌++◌, length, map, slice_index, ap, sym, ◌∙◌, subst, arith, refl}
-use Rattle.std.proofs.lemmas.List.{get_or_past}
+use Rattle.std.proofs.lemmas.List.{append-nil, append_assoc, get_or_past}
 use Rattle.std.specs.List.{All}
 use Rattle.dsa_terms.specs.Buffers.{Instance}
 use Rattle.dsa_terms.specs.Claims.{Claim, Entry, IsIn, Rises, buffers_of, up}
@@ -14,11 +14,11 @@ use Rattle.canonical_order.specs.Levels.{AreLevels}
 use Rattle.canonical_order.proofs.CoverLemmas.{length_within}
 use Rattle.canonical_order.proofs.Entries.{entry_in, is_entry}
 use Rattle.canonical_order.proofs.LevelLemmas.{has_level, level_inside}
-use Rattle.search_core.specs.Levels.{AreKept}
+use Rattle.search_core.specs.Levels.{AreKept, AreLeft}
 use Rattle.search_core.specs.Lifted.{lift, lifted}
 
 -- an entry by its level
-by_level : List ℕ → ℕ → Entry
+pub by_level : List ℕ → ℕ → Entry
 by_level levels b = (b, slice_index levels b - 1)
 
 -- a claim whose bounds are read off levels is a map of its buffers
@@ -88,23 +88,44 @@ module _ (levels : List ℕ) (k : Claim) (each : (e : Entry) → IsIn e k → sl
       let n = length_within k (length levels) r (λ e i. entry_within levels e (each e i)) in
       omega arith
 
--- ---- a claim that grows by an entry
-module _ (levels : List ℕ) (before after : Claim) (e : Entry) (q : after ≡ before ++ e ∷ []) where
-  pub each_next : slice_index levels e.0 ≡ e.1 + 1 → ((f : Entry) → IsIn f before → slice_index levels f.0 ≡ f.1 + 1) →
-      (f : Entry) → IsIn f after → slice_index levels f.0 ≡ f.1 + 1
-  each_next m h f i = elim (from_append before (e ∷ []) f (subst (IsIn f) q i)) [
-    | inl j ↦ h f j
-    | inr j ↦ elim j [
-      | inl p ↦ subst (λ (f : Entry). slice_index levels f.0 ≡ f.1 + 1) (sym p) m
-      | inr z ↦ absurd z
-    ]
-  ]
+-- ---- the buffers that have a level, one after another
+pub entry_next : (levels whole : List ℕ) (before after : Claim) (b : ℕ) (rest more : List ℕ) → rest ≡ b ∷ more →
+    after ≡ before ++ (b, slice_index levels b - 1) ∷ [] →
+    before ++ map (by_level levels) rest ≡ map (by_level levels) whole →
+    after ++ map (by_level levels) more ≡ map (by_level levels) whole
+unfolding by_level
+entry_next levels whole before after b rest more q r h =
+    let e : Entry = (b, slice_index levels b - 1) in
+    ap (λ (k : Claim). k ++ map (by_level levels) more) r
+    ∙ append_assoc before (e ∷ []) (map (by_level levels) more)
+    ∙ ap (λ (bs : List ℕ). before ++ map (by_level levels) bs) (sym q)
+    ∙ h
 
-  pub has_still : (c : ℕ) → HasBuffer before c → HasBuffer after c
-  has_still c i =
-      let r = from_map (λ (e : Entry). e.0) before c i in
-      subst (λ x. HasBuffer after x) (sym r.2)
-      (in_buffers after r.0 (subst (IsIn r.0) (sym q) (left_append before (e ∷ []) r.0 r.1)))
+pub entries_all : (levels whole : List ℕ) (pairs : Claim) (rest : List ℕ) → rest ≡ [] →
+    pairs ++ map (by_level levels) rest ≡ map (by_level levels) whole → pairs ≡ map (by_level levels) whole
+entries_all levels whole pairs rest q h =
+    sym (append-nil pairs) ∙ ap (λ (bs : List ℕ). pairs ++ map (by_level levels) bs) (sym q) ∙ h
 
-  pub has_last : HasBuffer after e.0
-  has_last = in_buffers after e (subst (IsIn e) (sym q) (right_append before (e ∷ []) e (inl refl)))
+pub left_kept : (levels left : List ℕ) (ground : Claim) → length levels ≤ buffer_limit →
+    All (λ level. level ≤ 2 ^ 55) levels → AreLeft levels left → ground ≡ map (by_level levels) left →
+    AreKept levels ground
+unfolding by_level
+left_kept levels left ground few low a q = record {
+  few = few;
+  low = low;
+  rises = subst (λ (bs : List ℕ). Rises bs) (sym names) a.rises;
+  each = λ e i. (let r = from_map (by_level levels) left e (subst (IsIn e) q i) in
+      let n : e.0 ≡ r.0 = ap (λ (e : Entry). e.0) r.2 in
+      let m : e.1 ≡ slice_index levels r.0 - 1 = ap (λ (e : Entry). e.1) r.2 in
+      let p : slice_index levels e.0 ≡ slice_index levels r.0 = ap (slice_index levels) n in
+      let k = a.some r.0 r.1 in
+      omega (arith, m, p, k));
+  all = λ b more. subst (IsIn b) (sym names) (a.all b more);
+}
+  where
+    back : (bs : List ℕ) → buffers_of (map (by_level levels) bs) ≡ bs
+    back [] = refl
+    back (b ∷ bs) = ap (λ (xs : List ℕ). b ∷ xs) (back bs)
+
+    names : buffers_of ground ≡ left
+    names = ap buffers_of q ∙ back left

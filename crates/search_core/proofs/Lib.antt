@@ -33,7 +33,8 @@ pub mod RaisingSteps
 pub mod TallLevels
 pub mod Along
 pub mod Grounding
-pub mod NextEntry
+pub mod LeftBuffers
+pub mod Leading
 pub mod ChildLevels
 pub mod Watched
 pub mod TwinMarking

@@ -6,16 +6,17 @@ use Rattle.std.proofs.lemmas.List.Sorted.{Contains-permutation}
 use Rattle.dsa_terms.specs.Buffers.{Instance, IsInstance, buffer, do_share}
 use Rattle.dsa_terms.specs.Claims.{Claim, IsIn, child, step}
 use Rattle.dsa_terms.proofs.Lists.{true_or_false}
+use Rattle.dsa_terms.proofs.Moments.{sound}
 use Rattle.dsa_terms.proofs.NumberTests.{below_or_from, less, same_or_not}
 use Rattle.dsa_terms.proofs.Places.{from_contains, to_contains}
 use Rattle.lifetime.specs.SectionList.{AreSectionsOf, SectionList, members_of, sections_of}
 use Rattle.skyline.proofs.SectionFacts.{listed_in, section_in_range, shared_sections}
 use Rattle.canonical_order.specs.Claims.{entry_of}
 use Rattle.canonical_order.specs.Levels.{AreLevels, IsLevel}
-use Rattle.canonical_order.proofs.LevelLemmas.{has_level, level_in_range}
+use Rattle.canonical_order.proofs.LevelLemmas.{has_level, level_in_range, level_inside}
 use Rattle.search_core.specs.declared.raising.Raising.{Raising}
 use Rattle.search_core.specs.Levels.{HasLowChild, IsLeastLevel}
-use Rattle.search_core.specs.Raisings.{IsRaised, IsRaising}
+use Rattle.search_core.specs.Raisings.{IsRaised, IsRaising, IsReach}
 use Rattle.search_core.proofs.ChildLevels.{level_stays, set_cases}
 
 -- what holds of each number of a list that none is above
@@ -138,11 +139,46 @@ raised_near I S levels b r s low p first h near own c = elim (h.each c) [
       )
 ]
 
--- ---- all buffers
+-- ---- what is passed by
 pub some_level : (n m : ℕ) → n ≡ m → n ≢ 0 → 0 < m
 some_level n m q h = elim (below_or_from 0 m) [ inl lt ↦ lt | inr le ↦ absurd (h (omega (arith, q, le))) ]
 
-pub raised_in_range : (I : Instance) (levels : List ℕ) (b : ℕ) (numbers : List ℕ) →
-    ((c : ℕ) → c < length I → IsRaised I levels b numbers c) → (c : ℕ) → IsRaised I levels b numbers c
-raised_in_range I levels b numbers h c = λ more l a.
-    h c (level_in_range I l levels a c (has_level I l levels a c more)) more l a
+step_within : (I : Instance) (b c : ℕ) → IsInstance I → step I b c ≤ (buffer I b).size
+unfolding step
+step_within I b c s = go (do_share (buffer I b) (buffer I c)) (nat_lt c b)
+  where
+    some : 1 ≤ (buffer I b).size
+    some = (sound I b s).0
+
+    go : (t u : Bool) → cond t (buffer I b).size (cond u 1 0) ≤ (buffer I b).size
+    go true u = omega arith
+    go false true = some
+    go false false = omega arith
+
+module _ (I : Instance) (levels : List ℕ) (b c : ℕ) (r : Raising) (h : IsRaising I levels b r) where
+  pub some_before : 0 < slice_index r.numbers.items c → 0 < slice_index levels c
+  some_before more = elim (below_or_from 0 (slice_index levels c)) [
+    | inl lt ↦ lt
+    | inr le ↦ absurd (let z = h.outside c (omega (arith, le)) in omega (arith, z, more))
+  ]
+
+  pub raised_without : slice_index r.numbers.items c ≡ 0 → IsRaised I levels b r.numbers.items c
+  raised_without z = elim (h.each c) [
+    | inl same ↦ λ more l a. absurd (omega (arith, same, z, more))
+    | inr done ↦ done
+  ]
+
+  pub raised_high : (reach : ℕ) → IsInstance I → HasLowChild I levels b → IsReach I levels b reach →
+      reach ≤ slice_index r.numbers.items c → IsRaised I levels b r.numbers.items c
+  raised_high reach s low q le = elim (h.each c) [
+    | inl same ↦ λ more l a. subst (IsLevel I (child I l (entry_of l b)) c) (sym same)
+        (level_stays I l levels b a c (slice_index levels b - 1 + step I b c) s (has_level I l levels a b some) more (other same)
+        refl (let k = step_within I b c s in omega (arith, k, q, le, same, some)))
+    | inr done ↦ done
+  ]
+    where
+      some : 0 < slice_index levels b
+      some = let p = level_inside I low.above levels low.are b low.has in omega (arith, p)
+
+      other : slice_index r.numbers.items c ≡ slice_index levels c → c ≢ b
+      other same e = let p = ap (slice_index levels) e in let n = (sound I b s).0 in omega (arith, p, n, q, le, same)

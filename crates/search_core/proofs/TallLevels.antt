@@ -1,15 +1,16 @@
 -- Tall buffers by the levels of a claim.
-use Rattle.std.proofs.Common.{◌≡◌, ℕ, ◌+◌, ◌-◌, ◌<◌, ◌≤◌, List, All, true, false, length, slice_index, Some, None, ap, arith}
+use Rattle.std.proofs.Common.{◌≡◌, ◌⊎◌, ℕ, ◌+◌, ◌-◌, ◌<◌, ◌≤◌, inl, inr, List, [], ◌∷◌, All, true, false, length, slice_index, Some, None, ap, subst, arith}
 use Rattle.dsa_terms.specs.Buffers.{Instance, buffer}
-use Rattle.dsa_terms.specs.Claims.{Claim, Entry, up}
+use Rattle.dsa_terms.specs.Claims.{Claim, Entry, IsIn, Rises, up}
 use Rattle.dsa_terms.specs.Search.{is_tall}
 use Rattle.dsa_terms.proofs.NumberTests.{is_below, not_below}
 use Rattle.dsa_search_laws.proofs.Placing.{in_buffers}
-use Rattle.canonical_order.specs.Claims.{NonePassBelow, entry_of, least_buffer}
+use Rattle.canonical_order.specs.Claims.{entry_of, least_buffer}
 use Rattle.canonical_order.specs.Levels.{AreLevels}
-use Rattle.canonical_order.proofs.CoverLemmas.{first_passes, none_passes_all, pass_below_next}
+use Rattle.canonical_order.proofs.CoverLemmas.{first_passes, none_passes_all}
 use Rattle.canonical_order.proofs.Entries.{is_entry}
 use Rattle.canonical_order.proofs.LevelLemmas.{has_level, level_inside}
+use Rattle.search_core.specs.Levels.{AreLeft}
 use Rattle.search_core.specs.Overs.{AreSizesWithin}
 use Rattle.search_core.proofs.RaisingSteps.{under_each}
 
@@ -22,26 +23,6 @@ module _ (I : Instance) (C : ℕ) (l : Claim) (levels : List ℕ) (h : AreLevels
   unfolding is_tall
   ends_is e lt = is_below C (up I e + (buffer I e.0).size) lt
 
-  -- one more buffer that is not
-  pub next_fits : (b level : ℕ) → level ≡ slice_index levels b → (0 < level → level - 1 + (buffer I b).size ≤ C) →
-      NonePassBelow (is_tall I C) l b → NonePassBelow (is_tall I C) l (b + 1)
-  next_fits b level q fits none = pass_below_next (is_tall I C) l b h.claim.rises
-      (λ has. fits_is (entry_of l b) (let p = level_inside I l levels h b has in
-      let k = fits (omega (arith, p, q)) in omega (arith, p, q, k))) none
-
-  -- the first one that is
-  pub first_ends : (b level : ℕ) → level ≡ slice_index levels b → (0 < level) × (C < level - 1 + (buffer I b).size) →
-      NonePassBelow (is_tall I C) l b → Some b ≡ least_buffer (is_tall I C) l
-  first_ends b level q ends none =
-      let more = ends.0 in
-      let has = has_level I l levels h b (omega (arith, q, more)) in
-      first_passes (is_tall I C) l b h.claim.rises has
-      (ends_is (entry_of l b) (let p = level_inside I l levels h b has in let k = ends.1 in omega (arith, p, q, k))) none
-
-  pub none_ends : (n : ℕ) → length I ≤ n → NonePassBelow (is_tall I C) l n → None ≡ least_buffer (is_tall I C) l
-  none_ends n le none = none_passes_all (is_tall I C) l n
-      (λ e i. let lt = h.claim.in_range e i in omega (arith, lt, le)) none
-
   -- none is where one of the greatest size fits at the greatest low
   pub all_fit : (top most : ℕ) → All (λ level. level ≤ top) levels → AreSizesWithin I most → top + most ≤ C + 1 →
       None ≡ least_buffer (is_tall I C) l
@@ -51,3 +32,59 @@ module _ (I : Instance) (C : ℕ) (l : Claim) (levels : List ℕ) (h : AreLevels
       let u = under_each levels top under e.0 in
       let s = sizes e.0 lt in
       fits_is e (omega (arith, q, p, u, s, fits)))
+
+-- the rest rises, and of a claim of the levels no other buffer is tall
+pub record NoneAmong (I : Instance) (C : ℕ) (levels rest : List ℕ) : Type 0 where
+  pub rises : Rises rest
+  pub none : (l : Claim) → AreLevels I l levels → (e : Entry) → IsIn e l → IsIn e.0 rest ⊎ (is_tall I C e ≡ false)
+
+module _ (I : Instance) (C : ℕ) (levels : List ℕ) where
+  pub none_at_first : (left : List ℕ) → AreLeft levels left → NoneAmong I C levels left
+  none_at_first left a = record {
+    rises = a.rises;
+    none = λ l h e i. inl (a.all e.0 (let p = level_inside I l levels h e.0 (in_buffers l e i) in omega (arith, p)));
+  }
+
+  module _ (rest more : List ℕ) (b level : ℕ) (q : rest ≡ b ∷ more) (is : level ≡ slice_index levels b) where
+    -- one more buffer that is not
+    pub next_fits : (0 < level → level - 1 + (buffer I b).size ≤ C) → NoneAmong I C levels rest →
+        NoneAmong I C levels more
+    next_fits fits h = record {
+      rises = (subst (λ (bs : List ℕ). Rises bs) q h.rises).1;
+      none = λ l a e i. elim (h.none l a e i) [
+        | inl j ↦ elim (subst (IsIn e.0) q j) [ inl p ↦ inr (here l a e i p) | inr k ↦ inl k ]
+        | inr f ↦ inr f
+      ];
+    }
+      where
+        here : (l : Claim) → AreLevels I l levels → (e : Entry) → IsIn e l → e.0 ≡ b → is_tall I C e ≡ false
+        here l a e i p =
+            let u : up I e ≡ up I (entry_of l e.0) = ap (up I) (is_entry l e a.claim.rises i) in
+            let m = level_inside I l levels a e.0 (in_buffers l e i) in
+            let z : slice_index levels e.0 ≡ slice_index levels b = ap (slice_index levels) p in
+            let s : (buffer I e.0).size ≡ (buffer I b).size = ap (λ (n : ℕ). (buffer I n).size) p in
+            let k = fits (omega (arith, m, z, is)) in
+            fits_is I C l levels a e (omega (arith, u, m, z, s, is, k))
+
+    -- the first one that is
+    pub first_ends : (0 < level) × (C < level - 1 + (buffer I b).size) → NoneAmong I C levels rest →
+        (l : Claim) → AreLevels I l levels → Some b ≡ least_buffer (is_tall I C) l
+    first_ends ends h l a =
+        let more_than = ends.0 in
+        let has = has_level I l levels a b (omega (arith, is, more_than)) in
+        let rising = subst (λ (bs : List ℕ). Rises bs) q h.rises in
+        first_passes (is_tall I C) l b a.claim.rises has
+        (ends_is I C l levels a (entry_of l b)
+        (let p = level_inside I l levels a b has in let k = ends.1 in omega (arith, p, is, k)))
+        (λ e i lt. elim (h.none l a e i) [
+          | inl j ↦ absurd (elim (subst (IsIn e.0) q j) [
+            | inl p ↦ omega (arith, p, lt)
+            | inr k ↦ (let m = rising.0 e.0 k in omega (arith, m, lt))
+          ])
+          | inr f ↦ f
+        ])
+
+  pub none_ends : (rest : List ℕ) → rest ≡ [] → NoneAmong I C levels rest → (l : Claim) → AreLevels I l levels →
+      None ≡ least_buffer (is_tall I C) l
+  none_ends rest q h l a = none_passes_all (is_tall I C) l (length I) a.claim.in_range
+      (λ e i lt. elim (h.none l a e i) [ inl j ↦ absurd (subst (IsIn e.0) q j) | inr f ↦ f ])

@@ -26,8 +26,16 @@ pub record IsLeastLevel (levels : List ℕ) (b : ℕ) : Type 0 where
   pub before : (c : ℕ) → 0 < slice_index levels c →
       (slice_index levels b < slice_index levels c) ⊎ ((slice_index levels b ≡ slice_index levels c) × (b ≤ c))
 
--- levels, beside the buffer that is before all others and a number that none of them is above
-pub record AreLed (levels : List ℕ) (first top : ℕ) : Type 0 where
+-- the buffers that have a level, rising
+pub record AreLeft (levels left : List ℕ) : Type 0 where
+  pub rises : Rises left
+  -- each of them has one
+  pub some : (b : ℕ) → IsIn b left → 0 < slice_index levels b
+  -- and each that has one is among them
+  pub all : (b : ℕ) → 0 < slice_index levels b → IsIn b left
+
+-- levels, beside the buffers that have one, the buffer that is before all others, and a number that no level is above
+pub record AreLed (levels left : List ℕ) (first top : ℕ) : Type 0 where
   -- there are no more than buffers may be
   pub few : length levels ≤ buffer_limit
   -- none is above 2^55
@@ -36,6 +44,7 @@ pub record AreLed (levels : List ℕ) (first top : ℕ) : Type 0 where
   pub under : All (λ level. level ≤ top) levels
   -- which is low itself
   pub limit : top ≤ 2 ^ 55
+  pub listed : AreLeft levels left
   pub least : IsLeastLevel levels first
 
 -- the levels are those of a claim that has the buffer, and no bound of the child by it is above 2^54

@@ -1,6 +1,6 @@
 -- The levels of a child in the making.
-use Rattle.std.specs.Prelude.{◌≡◌, ◌^◌, ◌⊎◌, ℕ, ◌<◌, ◌≤◌, List, length, slice_index}
-use Rattle.dsa_terms.specs.Buffers.{Instance}
+use Rattle.std.specs.Prelude.{◌≡◌, ◌^◌, ◌⊎◌, ℕ, ◌+◌, ◌<◌, ◌≤◌, List, length, slice_index}
+use Rattle.dsa_terms.specs.Buffers.{Instance, buffer}
 use Rattle.dsa_terms.specs.Claims.{Claim, child}
 use Rattle.canonical_order.specs.Claims.{entry_of}
 use Rattle.canonical_order.specs.Levels.{AreLevels, IsLevel}
@@ -11,6 +11,10 @@ use Rattle.search_core.specs.declared.raising.Raising.{Raising}
 abbrev pub IsRaised : Instance → List ℕ → ℕ → List ℕ → ℕ → Type 0
 IsRaised I levels b numbers c = 0 < slice_index levels c → (l : Claim) → AreLevels I l levels →
     IsLevel I (child I l (entry_of l b)) c (slice_index numbers c)
+
+-- the level of b and its size: no buffer rises in the child by b that has a level from this number on
+abbrev pub IsReach : Instance → List ℕ → ℕ → ℕ → Type 0
+IsReach I levels b reach = reach ≡ slice_index levels b + (buffer I b).size
 
 -- each number is the level in the claim, or that in the child by b
 pub record IsRaising (I : Instance) (levels : List ℕ) (b : ℕ) (r : Raising) : Type 0 where

@@ -8,6 +8,7 @@ ghost use Rattle.lifetime.specs.SectionList.{AreSectionsOf};
 ghost use Rattle.line_index.specs.Watches.{AreTheRaised};
 ghost use Rattle.search_core.specs.Levels.{HasLowChild};
 
+use crate::left::without;
 use crate::levels::Levels;
 use crate::raising::Raising;
 use crate::spreading::raise_child;
@@ -47,7 +48,8 @@ impl Levels {
             top,
             raised,
         } = raising;
-        let levels = Levels::with(numbers, top);
+        let left = without(alloc, self.left(), b)?;
+        let levels = Levels::with(numbers, left, top);
         Ok(Child { levels, raised })
     }
 }

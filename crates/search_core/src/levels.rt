@@ -8,11 +8,12 @@ ghost use Rattle.dsa_model.specs.Buffer.{buffer_limit};
 ghost use Rattle.canonical_order.specs.Claims.{IsBoundedBy, entry_of};
 ghost use Rattle.canonical_order.specs.Levels.{AreLevels, IsLevel};
 ghost use Rattle.search_core.specs.Keys.{IsFirst};
-ghost use Rattle.search_core.specs.Levels.{HasLowChild, IsLeastLevel};
+ghost use Rattle.search_core.specs.Levels.{AreLeft, HasLowChild, IsLeastLevel};
 ghost use Rattle.search_core.specs.Lifted.{lifted};
 ghost use Rattle.skyline.specs.Skies.{last_claim};
 
 use crate::grounds::ground_of;
+use crate::left::left_of;
 use canonical_order::{Claim, Lows, step};
 use dsa_model::{Instance, NoMemory};
 use skyline::Skyline;
@@ -75,31 +76,33 @@ fn greatest_level(levels: &[u64]) -> u64
     top
 }
 
-/// The least number of a buffer of least level among those that have one, and 0 where none has.
-fn first_level(levels: &[u64]) -> u32
-    requires few { length levels.now ≤ buffer_limit }
+/// The least number of a buffer of least level among those that are left, and 0 where none is.
+fn first_level(levels: &[u64], left: &[u32]) -> u32
     requires low { All (λ level. level ≤ 2 ^ 55) levels.now }
+    requires left { AreLeft levels.now left.now }
     ensures { IsLeastLevel levels.now result }
 {
     let mut first = 0;
     let mut least = u64::MAX;
-    for b in 0..levels.len() {
-        let low = levels[b].wrapping_sub(1);
-        if low < least {
-            least = low;
+    for i in 0..left.len() {
+        let b = left[i];
+        let level = levels[b as usize];
+        if level < least {
+            least = level;
             first = b;
         }
     }
-    first as u32
+    first
 }
 
 /// For each buffer of an instance one more than its low in a claim, and 0 where it is not in the
 /// claim: so the claim meets a bound exactly where the bound is below the buffer's level. Beside
-/// them stand the buffer that comes first by level and number, and a number that none is above.
-/// Contracts see the levels by buffer.
+/// them stand the buffers that have a level, in rising order, the one of these that comes first by
+/// level and number, and a number that none is above. Contracts see the levels by buffer.
 #[derive(Drop)]
 pub(crate) struct Levels {
     numbers: Vec<u64>,
+    left: Vec<u32>,
     first: u32,
     top: u64,
 }
@@ -112,21 +115,23 @@ impl Model for Levels {
 
     ghost view = { λ v. v.numbers.items };
 
-    ghost invariant = { λ v. AreLed v.numbers.items v.first v.top };
+    ghost invariant = { λ v. AreLed v.numbers.items v.left.items v.first v.top };
 }
 
 impl Levels {
-    /// These levels, of which none is above the top.
-    pub(crate) fn with(numbers: Vec<u64>, top: u64) -> Levels
+    /// These levels, with the buffers that have one; none is above the top.
+    pub(crate) fn with(numbers: Vec<u64>, left: Vec<u32>, top: u64) -> Levels
         requires few { length numbers.items ≤ buffer_limit }
         requires low { All (λ level. level ≤ 2 ^ 55) numbers.items }
+        requires left { AreLeft numbers.items left.items }
         requires top { All (λ level. level ≤ top) numbers.items }
         requires limit { top ≤ 2 ^ 55 }
         ensures { result ≡ numbers.items }
     {
-        let first = first_level(&numbers);
+        let first = first_level(&numbers, &left);
         Levels {
             numbers,
+            left,
             first,
             top,
         }
@@ -138,8 +143,9 @@ impl Levels {
     {
         let mut numbers = vec![in alloc; 0u64; sky.instance().len() as usize]?;
         fill(&mut numbers, sky);
+        let left = left_of(alloc, &numbers)?;
         let top = greatest_level(&numbers);
-        Ok(Levels::with(numbers, top))
+        Ok(Levels::with(numbers, left, top))
     }
 
     /// How many there are: one for each buffer of the instance.
@@ -170,6 +176,13 @@ impl Levels {
         ensures low { All (λ level. level ≤ 2 ^ 55) result.now }
     {
         self.numbers.as_slice()
+    }
+
+    /// The buffers that have a level, in rising order.
+    pub(crate) fn left(&self) -> &[u32]
+        ensures { AreLeft self.now result.now }
+    {
+        self.left.as_slice()
     }
 
     /// A number that no level is above.
@@ -206,7 +219,7 @@ impl Levels {
             IfOk result (λ claim. claim ≡ lifted I l) }
         ensures low { IfOk result (IsBoundedBy (2 ^ 60)) }
     {
-        let ground = ground_of(alloc, &self.numbers)?;
+        let ground = ground_of(alloc, &self.numbers, &self.left)?;
         Ok(ground)
     }
 }

@@ -16,6 +16,7 @@ mod gather;
 mod grounds;
 mod kept;
 mod learned;
+mod left;
 mod leveled;
 mod levels;
 mod lines;

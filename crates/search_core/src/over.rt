@@ -41,13 +41,16 @@ fn is_tall(task: &Task, b: u32, level: u64) -> bool
 /// The least buffer of the claim that ends above the capacity at its low. Where one of the greatest
 /// size does not at the greatest low, none is looked at.
 fn tall(task: &Task, levels: &Levels) -> Option<u32>
+    requires { length levels.now ≡ length task.now.instance.now }
     ensures { let I = task.now.instance.now in (l : ClaimTerm) → AreLevels I l levels.now →
         result ≡ least_buffer (is_tall_entry I task.now.capacity) l }
 {
     if levels.top() + task.size <= task.capacity + 1 {
         return None;
     }
-    for b in 0..task.instance.len() {
+    let left = levels.left();
+    for i in 0..left.len() {
+        let b = left[i];
         if is_tall(task, b, levels.at(b as usize)) {
             return Some(b);
         }

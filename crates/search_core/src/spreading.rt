@@ -1,81 +1,72 @@
 //! The levels of a child, one buffer after another.
 
-ghost use Rattle.std.specs.Prelude.{◌≡◌, ℕ, ◌<◌, length, OnOk};
+ghost use Rattle.std.specs.Prelude.{◌≡◌, ℕ, ◌+◌, ◌<◌, OnOk, slice_index};
 ghost use Rattle.std.specs.List.{All};
+ghost use Rattle.dsa_terms.specs.Buffers.{buffer as buffer_at};
 ghost use Rattle.dsa_terms.specs.Claims.{IsIn};
 ghost use Rattle.lifetime.specs.SectionList.{AreSectionsOf, count_of, members_of, sections_of};
 ghost use Rattle.search_core.specs.Levels.{HasLowChild, IsLeastLevel};
-ghost use Rattle.search_core.specs.Raisings.{IsRaised, IsRaising};
+ghost use Rattle.search_core.specs.Raisings.{IsRaised, IsRaising, IsReach};
 
 use crate::levels::{Levels, child_level};
 use crate::raising::Raising;
 use dsa_model::{Instance, NoMemory};
 use lifetime::Sections;
 
-/// Writes the level of c in the child by b, if c is in the claim.
-#[inline(always)]
+/// Writes the level of c in the child by b, if c is in the claim. No buffer rises that is as high
+/// as the reach of b, so most are passed by with one look.
 fn raise(
     raising: &mut Raising,
     instance: &Instance,
     levels: &Levels,
     b: u32,
+    reach: u64,
     c: u32,
 ) -> Result<(), NoMemory>
     requires low { HasLowChild instance.now levels.now b }
+    requires reach { IsReach instance.now levels.now b reach }
     requires raising { IsRaising instance.now levels.now b raising.old }
     ensures raising { OnOk result (IsRaising instance.now levels.now b raising.new) }
     ensures done { OnOk result (IsRaised instance.now levels.now b raising.new.numbers.items c) }
     ensures kept { (d : ℕ) → IsRaised instance.now levels.now b raising.old.numbers.items d →
         OnOk result (IsRaised instance.now levels.now b raising.new.numbers.items d) }
 {
-    let before = levels.at(c as usize);
-    if before == 0 {
+    let _count = instance.len();
+    let now = raising.at(c as usize);
+    if now == 0 {
         return Ok(());
     }
+    if reach <= now {
+        return Ok(());
+    }
+    let before = levels.at(c as usize);
     let level = child_level(instance, levels, b, c, before);
-    if raising.numbers[c as usize] != level {
+    if now != level {
         raising.put(c, before, level)?;
     }
     Ok(())
 }
 
-/// Writes the levels of all buffers.
-fn raise_all(
+/// Writes the levels of these buffers.
+fn raise_each(
     raising: &mut Raising,
     instance: &Instance,
     levels: &Levels,
     b: u32,
+    reach: u64,
+    buffers: &[u32],
 ) -> Result<(), NoMemory>
     requires low { HasLowChild instance.now levels.now b }
+    requires reach { IsReach instance.now levels.now b reach }
     requires raising { IsRaising instance.now levels.now b raising.old }
     ensures raising { OnOk result (IsRaising instance.now levels.now b raising.new) }
-    ensures done { OnOk result ((c : ℕ) → c < length instance.now →
-        IsRaised instance.now levels.now b raising.new.numbers.items c) }
-{
-    for c in 0..instance.len() {
-        raise(raising, instance, levels, b, c)?;
-    }
-    Ok(())
-}
-
-/// Writes the levels of the members.
-fn raise_members(
-    raising: &mut Raising,
-    instance: &Instance,
-    levels: &Levels,
-    b: u32,
-    members: &[u32],
-) -> Result<(), NoMemory>
-    requires low { HasLowChild instance.now levels.now b }
-    requires raising { IsRaising instance.now levels.now b raising.old }
-    ensures raising { OnOk result (IsRaising instance.now levels.now b raising.new) }
-    ensures done { OnOk result ((c : ℕ) → IsIn c members.now →
+    ensures done { OnOk result ((c : ℕ) → IsIn c buffers.now →
         IsRaised instance.now levels.now b raising.new.numbers.items c) }
     ensures kept { (d : ℕ) → IsRaised instance.now levels.now b raising.old.numbers.items d →
         OnOk result (IsRaised instance.now levels.now b raising.new.numbers.items d) }
 {
-    for i in 0..members.len() {
-        raise(raising, instance, levels, b, members[i])?;
+    for i in 0..buffers.len() {
+        raise(raising, instance, levels, b, reach, buffers[i])?;
     }
     Ok(())
 }
@@ -86,10 +77,12 @@ fn raise_near(
     instance: &Instance,
     levels: &Levels,
     b: u32,
+    reach: u64,
     sections: &Sections,
     own: &[u32],
 ) -> Result<(), NoMemory>
     requires low { HasLowChild instance.now levels.now b }
+    requires reach { IsReach instance.now levels.now b reach }
     requires raising { IsRaising instance.now levels.now b raising.old }
     requires own { All (λ s. s < count_of sections.now) own.now }
     ensures raising { OnOk result (IsRaising instance.now levels.now b raising.new) }
@@ -97,7 +90,14 @@ fn raise_near(
         IsRaised instance.now levels.now b raising.new.numbers.items c) }
 {
     for i in 0..own.len() {
-        raise_members(raising, instance, levels, b, sections.members(own[i]))?;
+        raise_each(
+            raising,
+            instance,
+            levels,
+            b,
+            reach,
+            sections.members(own[i]),
+        )?;
     }
     Ok(())
 }
@@ -120,10 +120,12 @@ fn raise_by_first(
     instance: &Instance,
     levels: &Levels,
     b: u32,
+    reach: u64,
     sections: &Sections,
     own: &[u32],
 ) -> Result<(), NoMemory>
     requires low { HasLowChild instance.now levels.now b }
+    requires reach { IsReach instance.now levels.now b reach }
     requires raising { IsRaising instance.now levels.now b raising.old }
     requires sections { AreSectionsOf instance.now sections.now }
     requires own { own.now ≡ sections_of sections.now b }
@@ -134,8 +136,8 @@ fn raise_by_first(
         IsRaised instance.now levels.now b raising.new.numbers.items c) }
 {
     let _count = instance.len();
-    raise_near(raising, instance, levels, b, sections, own)?;
-    raise(raising, instance, levels, b, b)?;
+    raise_near(raising, instance, levels, b, reach, sections, own)?;
+    raise(raising, instance, levels, b, reach, b)?;
     raising.raised.sort_unstable();
     Ok(())
 }
@@ -155,11 +157,14 @@ pub(crate) fn raise_child(
     ensures done { OnOk result ((c : ℕ) →
         IsRaised instance.now levels.now b raising.new.numbers.items c) }
 {
+    let _count = instance.len();
+    let reach = levels.at(b as usize) + instance.buffer(b).size();
     let own = sections.sections_of(b);
-    if b == levels.first() && are_few(sections, own, levels.len()) {
-        raise_by_first(raising, instance, levels, b, sections, own)?;
+    let left = levels.left();
+    if b == levels.first() && are_few(sections, own, left.len()) {
+        raise_by_first(raising, instance, levels, b, reach, sections, own)?;
         return Ok(());
     }
-    raise_all(raising, instance, levels, b)?;
+    raise_each(raising, instance, levels, b, reach, left)?;
     Ok(())
 }

@@ -1,19 +1,36 @@
-use Rattle.std.proofs.Common.{arith}
-use Rattle.search_core.proofs.TallLevels.{all_fit, first_ends, next_fits, none_ends}
+use Rattle.std.proofs.Common.{arith, slice_index}
+use Rattle.dsa_terms.proofs.Places.{in_at}
+use Rattle.line_index.proofs.Finding.{next_of, none_of}
+use Rattle.search_core.proofs.LeftBuffers.{left_within}
+use Rattle.search_core.proofs.TallLevels.{all_fit, first_ends, next_fits, none_at_first, none_ends}
 use Rattle.search_core.proofs.over.tall.Goals as goal
 
 pub returns-then-top-task : goal.returns-then-top-task
 returns-then-top-task c = λ k h. all_fit c.args.task.now.instance.now c.args.task.now.capacity k c.args.levels.now h
     c.top.result c.args.task.now.size c.top.ensures.value c.args.task.now.sized c.if-top-task.true
 
-pub loop-b-preserved : goal.loop-b-preserved
-loop-b-preserved c = λ k h. next_fits c.args.task.now.instance.now c.args.task.now.capacity k c.args.levels.now h
-    c.loop-b.b c.at.result c.at.ensures.value (c.is_tall.ensures.none c.if-is_tall.false) (c.loop-b.invariant k h)
+pub loop-i-init : goal.loop-i-init
+loop-i-init c = none_at_first c.args.task.now.instance.now c.args.task.now.capacity c.args.levels.now
+    c.left-left.result.now c.left-left.ensures
+
+pub is_tall-requires-clause-b_in : goal.is_tall-requires-clause-b_in
+is_tall-requires-clause-b_in c =
+    let left = c.left-left.result.now in
+    let lt = left_within c.args.levels.now left (slice_index left c.loop-i.i) c.left-left.ensures
+    (in_at left c.loop-i.i 0 c.loop-i-test.true) in
+    let n = c.requires in
+    omega (arith, lt, n)
+
+pub loop-i-preserved : goal.loop-i-preserved
+loop-i-preserved c = next_fits c.args.task.now.instance.now c.args.task.now.capacity c.args.levels.now _ _ _
+    c.at.result (next_of c.left-left.result.now c.loop-i.i c.loop-i-test.true) c.at.ensures.value
+    (c.is_tall.ensures.none c.if-is_tall.false) c.loop-i.invariant
 
 pub returns-then-is_tall : goal.returns-then-is_tall
-returns-then-is_tall c = λ k h. first_ends c.args.task.now.instance.now c.args.task.now.capacity k c.args.levels.now h
-    c.loop-b.b c.at.result c.at.ensures.value (c.is_tall.ensures.some c.if-is_tall.true) (c.loop-b.invariant k h)
+returns-then-is_tall c = λ k h. first_ends c.args.task.now.instance.now c.args.task.now.capacity c.args.levels.now _ _ _
+    c.at.result (next_of c.left-left.result.now c.loop-i.i c.loop-i-test.true) c.at.ensures.value
+    (c.is_tall.ensures.some c.if-is_tall.true) c.loop-i.invariant k h
 
 pub returns : goal.returns
-returns c = λ k h. none_ends c.args.task.now.instance.now c.args.task.now.capacity k c.args.levels.now h c.loop-b.b
-    (let n = c.len-b-end.ensures.value in let t = c.loop-b-test.false in omega (arith, n, t)) (c.loop-b.invariant k h)
+returns c = λ k h. none_ends c.args.task.now.instance.now c.args.task.now.capacity c.args.levels.now _
+    (none_of c.left-left.result.now c.loop-i.i c.loop-i-test.false) c.loop-i.invariant k h

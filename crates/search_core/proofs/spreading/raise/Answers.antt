@@ -1,12 +1,23 @@
-use Rattle.std.proofs.Common.{◌<◌, ◌^◌, arith, length, slice_index}
+use Rattle.std.proofs.Common.{◌<◌, ◌^◌, ◌∙◌, arith, length, slice_index, sym}
 use Rattle.search_core.proofs.Grounding.{some_within}
-use Rattle.search_core.proofs.RaisingSteps.{raised_still, raised_written, raising_next, some_level}
+use Rattle.search_core.proofs.RaisingSteps.{raised_high, raised_still, raised_without, raised_written, raising_next, some_before, some_level}
 use Rattle.search_core.proofs.spreading.raise.Goals as goal
 use Rattle.search_core.proofs.spreading.raise.Goals.{In_ok-put}
 
+pub returns-then-now-eq0-clause-done : goal.returns-then-now-eq0-clause-done
+returns-then-now-eq0-clause-done c = raised_without c.args.instance.now c.args.levels.now c.args.b c.args.c
+    c.args.raising.now c.requires.raising
+    (let e = c.at-now.ensures in let t = c.if-now-eq0.true in omega (arith, e, t))
+
+pub returns-then-reach-now-clause-done : goal.returns-then-reach-now-clause-done
+returns-then-reach-now-clause-done c = raised_high c.args.instance.now c.args.levels.now c.args.b c.args.c
+    c.args.raising.now c.requires.raising c.args.reach (λ k d i. (c.len-count.ensures.buffers k d i).sound)
+    c.requires.low c.requires.reach (let e = c.at-now.ensures in let t = c.if-reach-now.true in omega (arith, e, t))
+
 more : (c : In_ok-put) → 0 < slice_index c.args.levels.now c.args.c
-more c = some_level c.at-before.result (slice_index c.args.levels.now c.args.c) c.at-before.ensures.value
-    c.if-before-eq0.false
+more c = some_before c.args.instance.now c.args.levels.now c.args.b c.args.c c.args.raising.now c.requires.raising
+    (some_level c.at-now.result (slice_index c.args.raising.now.numbers.items c.args.c) c.at-now.ensures
+    c.if-now-eq0.false)
 
 within : (c : In_ok-put) → c.args.c < length c.args.raising.now.numbers.items
 within c =

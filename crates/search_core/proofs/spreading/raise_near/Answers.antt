@@ -6,14 +6,14 @@ use Rattle.search_core.proofs.spreading.raise_near.Goals as goal
 
 pub loop-i-preserved : goal.loop-i-preserved
 loop-i-preserved c = record {
-  raising = c.in_ok-raise_members.ensures.raising;
+  raising = c.in_ok-raise_each.ensures.raising;
   done = λ s i. elim (c.loop-i.invariant.done s i) [
     | inl left ↦ elim (subst (IsIn s) (next_of c.args.own.now c.loop-i.i c.loop-i-test.true) left) [
-      | inl q ↦ inr (λ x j. c.in_ok-raise_members.ensures.done x
+      | inl q ↦ inr (λ x j. c.in_ok-raise_each.ensures.done x
           (subst (IsIn x) (ap (members_of c.args.sections.now) q ∙ sym c.members.ensures.value) j))
       | inr rest ↦ inl rest
     ]
-    | inr done ↦ inr (λ x j. c.in_ok-raise_members.ensures.kept x (done x j))
+    | inr done ↦ inr (λ x j. c.in_ok-raise_each.ensures.kept x (done x j))
   ];
 }
 

@@ -3,7 +3,15 @@ use Rattle.dsa_terms.specs.Claims.{child}
 use Rattle.canonical_order.specs.Claims.{entry_of}
 use Rattle.canonical_order.specs.Levels.{AreLevels}
 use Rattle.search_core.proofs.ChildLevels.{child_levels}
+use Rattle.search_core.proofs.LeftBuffers.{child_left}
 use Rattle.search_core.proofs.levels.Levels.child.Goals as goal
+
+pub with-levels-requires-clause-left : goal.with-levels-requires-clause-left
+with-levels-requires-clause-left c =
+    let r = c.in_ok-raise_child.ensures.raising in
+    child_left c.args.instance.now c.args.self.now c.raise_child.new.raising.numbers.items c.left.result.now
+    c.in_ok-left.left.items c.args.b c.requires.low c.left.ensures c.in_ok-left.ensures r.count r.outside
+    c.in_ok-raise_child.ensures.done
 
 pub returns-clause-levels : goal.returns-clause-levels
 returns-clause-levels c = λ l h.

@@ -2,13 +2,13 @@ use Rattle.std.proofs.Common.{inl, inr, subst, sym}
 use Rattle.dsa_terms.specs.Claims.{IsIn}
 use Rattle.line_index.proofs.Finding.{next_of}
 use Rattle.search_core.specs.Raisings.{IsRaised}
-use Rattle.search_core.proofs.spreading.raise_members.Goals as goal
+use Rattle.search_core.proofs.spreading.raise_each.Goals as goal
 
 pub loop-i-preserved : goal.loop-i-preserved
 loop-i-preserved c = record {
   raising = c.in_ok-raise.ensures.raising;
   done = λ x i. elim (c.loop-i.invariant.done x i) [
-    | inl left ↦ elim (subst (IsIn x) (next_of c.args.members.now c.loop-i.i c.loop-i-test.true) left) [
+    | inl left ↦ elim (subst (IsIn x) (next_of c.args.buffers.now c.loop-i.i c.loop-i-test.true) left) [
       | inl q ↦ inr (subst (IsRaised c.args.instance.now c.args.levels.now c.args.b
           c.raise.new.raising.numbers.items) (sym q) c.in_ok-raise.ensures.done)
       | inr rest ↦ inl rest

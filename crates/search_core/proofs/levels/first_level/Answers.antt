@@ -1,0 +1,34 @@
+use Rattle.std.proofs.Common.{◌+◌, drop, refl, slice_index}
+use Rattle.dsa_terms.proofs.Places.{in_at}
+use Rattle.line_index.proofs.Finding.{next_of, none_of}
+use Rattle.search_core.proofs.Leading.{leads_all, leads_at_first, leads_lower, leads_still}
+use Rattle.search_core.proofs.LeftBuffers.{left_within}
+use Rattle.search_core.proofs.levels.first_level.Goals as goal
+use Rattle.search_core.proofs.levels.first_level.Goals.{else-level-least, then-level-least}
+
+pub loop-i-init : goal.loop-i-init
+loop-i-init c = leads_at_first c.args.levels.now c.args.left.now c.requires.left.rises
+
+pub bounds-levels-b : goal.bounds-levels-b
+bounds-levels-b c = left_within c.args.levels.now c.args.left.now (slice_index c.args.left.now c.loop-i.i)
+    c.requires.left (in_at c.args.left.now c.loop-i.i 0 c.loop-i-test.true)
+
+pub loop-i-preserved : goal.loop-i-preserved
+loop-i-preserved c =
+    let levels = c.args.levels.now in
+    let left = c.args.left.now in
+    let i = c.loop-i.i in
+    let b = slice_index left i in
+    let q = next_of left i c.loop-i-test.true in
+    elim c.if-level-least.branch [
+      | then-level-least w ↦ rw (w.first-is, w.least-is)
+          (leads_lower levels left (drop i left) (drop (i + 1) left) b (slice_index levels b) c.loop-i.first
+          c.loop-i.least q refl c.loop-i.invariant (in_at left i 0 c.loop-i-test.true) w.if-level-least.true)
+      | else-level-least w ↦ rw (w.first-is, w.least-is)
+          (leads_still levels left (drop i left) (drop (i + 1) left) b (slice_index levels b) c.loop-i.first
+          c.loop-i.least q refl c.loop-i.invariant w.if-level-least.false)
+    ]
+
+pub returns : goal.returns
+returns c = leads_all c.args.levels.now c.args.left.now (drop c.loop-i.i c.args.left.now) c.loop-i.first c.loop-i.least
+    (none_of c.args.left.now c.loop-i.i c.loop-i-test.false) c.requires.low c.requires.left c.loop-i.invariant
