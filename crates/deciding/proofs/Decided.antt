@@ -11,16 +11,17 @@ use Rattle.planner.specs.Openings.{StaysOpen, IsSpentAt}
 use Rattle.run_status.specs.Spoken.{IsSpoken}
 use Rattle.run_status.specs.declared.status.Status.TheVariants.{Least, Open}
 use Rattle.run_course.specs.Course.{Outcome, writes}
-use Rattle.writings.specs.Writings.{layout_file}
-use Rattle.deciding.specs.Deciding.{AllReadBack, Finds, FindsLeast, LeavesLeastOpen, LeavesOpen, LeastOf, Solve, Solves, log_files}
+use Rattle.writings.specs.Writings.{Names, layout_file}
+use Rattle.deciding.specs.Deciding.{AllReadBack, Finds, FindsLeast, LeavesLeastOpen, LeavesOpen, Solves, log_files}
 
 -- a capacity is left open
-pub leaves_open : (s : Solve) (table : List Record) (I : Instance) (b : Bracket) → IsSpentAt I s.capacity s.steps b →
+pub leaves_open : (C : ℕ) (steps : Option ℕ) (names : Names) (table : List Record) (I : Instance)
+    (b : Bracket) → IsSpentAt I C steps b →
     AllReadBack b.log →
-    LeavesOpen s table I (writes (layout_file s.output table b.layout.items ∷ log_files s.log b.log)
+    LeavesOpen C steps names table I (writes (layout_file names.output table b.layout.items ∷ log_files names.log b.log)
     (Open b.low b.high))
-leaves_open s table I b spent readable = record {
-  steps = spent.too_few.number;
+leaves_open C steps names table I b spent readable = record {
+  number = spent.too_few.number;
   low = b.low;
   high = b.high;
   refutation = spent.bound_log;
@@ -35,18 +36,21 @@ leaves_open s table I b spent readable = record {
   opened = subst (λ (o : List ℕ). StaysOpen I b.low b.high o spent.bound_log) spent.layout_is_best spent.stays_open;
   by_bound = spent.by_bound;
   readable = subst AllReadBack spent.its_log readable;
-  written = ap (λ (o : List ℕ). writes (layout_file s.output table o ∷ log_files s.log b.log) (Open b.low b.high))
+  written = ap (λ (o : List ℕ). writes (layout_file names.output table o ∷ log_files names.log b.log)
+      (Open b.low b.high))
       spent.layout_is_best
-      ∙ ap (λ (l : Option Log). writes (layout_file s.output table (best_start I) ∷ log_files s.log l)
+      ∙ ap (λ (l : Option Log). writes (layout_file names.output table (best_start I) ∷ log_files names.log l)
       (Open b.low b.high))
       spent.its_log;
 }
 
 -- the least capacity is found
-pub finds_least : (l : LeastOf) (table : List Record) (I : Instance) (b : Bracket) → IsExactly I b →
-    IsWithinSteps I l.steps b → AllReadBack b.log →
-    FindsLeast l table I (writes (layout_file l.output table b.layout.items ∷ log_files l.log b.log) (Least b.high))
-finds_least l table I b exact within readable = record {
+pub finds_least : (steps : Option ℕ) (names : Names) (table : List Record) (I : Instance) (b : Bracket) →
+    IsExactly I b →
+    IsWithinSteps I steps b → AllReadBack b.log →
+    FindsLeast steps names table I (writes (layout_file names.output table b.layout.items ∷ log_files names.log b.log)
+    (Least b.high))
+finds_least steps names table I b exact within readable = record {
   capacity = b.high;
   offsets = b.layout.items;
   refutation = b.log;
@@ -55,18 +59,19 @@ finds_least l table I b exact within readable = record {
   planned = exact.chosen;
   layout = exact.layout;
   refuted = exact.refuted_below;
-  within_steps = subst (λ (low : ℕ). AreWithinSteps I l.steps low b.layout.items b.log) exact.ends_met within;
+  within_steps = subst (λ (low : ℕ). AreWithinSteps I steps low b.layout.items b.log) exact.ends_met within;
   readable = readable;
   written = refl;
 }
 
 -- the least capacity is left open
-pub leaves_least_open : (l : LeastOf) (table : List Record) (I : Instance) (b : Bracket) → IsOpenAfter I l.steps b →
-    IsWithinSteps I l.steps b → HasHalved I l.steps (found.Open b) → AllReadBack b.log →
-    LeavesLeastOpen l table I
-    (writes (layout_file l.output table b.layout.items ∷ log_files l.log b.log) (Open b.low b.high))
-leaves_least_open l table I b open_after within halved readable = record {
-  steps = open_after.too_few.number;
+pub leaves_least_open : (steps : Option ℕ) (names : Names) (table : List Record) (I : Instance) (b : Bracket) →
+    IsOpenAfter I steps b →
+    IsWithinSteps I steps b → HasHalved I steps (found.Open b) → AllReadBack b.log →
+    LeavesLeastOpen steps names table I
+    (writes (layout_file names.output table b.layout.items ∷ log_files names.log b.log) (Open b.low b.high))
+leaves_least_open steps names table I b open_after within halved readable = record {
+  number = open_after.too_few.number;
   low = b.low;
   high = b.high;
   offsets = b.layout.items;
@@ -79,21 +84,23 @@ leaves_least_open l table I b open_after within halved readable = record {
     one_more = subst (λ (k : Option ℕ). HasHalved I k (found.Open b)) open_after.too_few.given halved;
   };
   opened = open_after.stays_open;
-  within_steps = subst (AreWithinSteps I l.steps b.low b.layout.items) open_after.its_log within;
+  within_steps = subst (AreWithinSteps I steps b.low b.layout.items) open_after.its_log within;
   readable = subst AllReadBack open_after.its_log readable;
-  written = ap (λ (log : Option Log). writes (layout_file l.output table b.layout.items ∷ log_files l.log log)
+  written = ap (λ (log : Option Log). writes (layout_file names.output table b.layout.items ∷ log_files names.log log)
       (Open b.low b.high)) open_after.its_log;
 }
 
 -- each end of `solve` is spoken
-pub solved_spoken : (s : Solve) (table : List Record) (I : Instance) (o : Outcome) → Solves s table I o →
+pub solved_spoken : (C : ℕ) (steps : Option ℕ) (names : Names) (table : List Record) (I : Instance)
+    (o : Outcome) → Solves C steps names table I o →
     IsSpoken o.status
-solved_spoken s table I o (inl h) = subst (λ (o : Outcome). IsSpoken o.status) (sym h.written) tt
-solved_spoken s table I o (inr (inl h)) = subst (λ (o : Outcome). IsSpoken o.status) (sym h.written) tt
-solved_spoken s table I o (inr (inr h)) = subst (λ (o : Outcome). IsSpoken o.status) (sym h.written) tt
+solved_spoken C steps names table I o (inl h) = subst (λ (o : Outcome). IsSpoken o.status) (sym h.written) tt
+solved_spoken C steps names table I o (inr (inl h)) = subst (λ (o : Outcome). IsSpoken o.status) (sym h.written) tt
+solved_spoken C steps names table I o (inr (inr h)) = subst (λ (o : Outcome). IsSpoken o.status) (sym h.written) tt
 
 -- each end of `least` is spoken
-pub found_spoken : (l : LeastOf) (table : List Record) (I : Instance) (o : Outcome) → Finds l table I o →
+pub found_spoken : (steps : Option ℕ) (names : Names) (table : List Record) (I : Instance) (o : Outcome) →
+    Finds steps names table I o →
     IsSpoken o.status
-found_spoken l table I o (inl h) = subst (λ (o : Outcome). IsSpoken o.status) (sym h.written) tt
-found_spoken l table I o (inr h) = subst (λ (o : Outcome). IsSpoken o.status) (sym h.written) tt
+found_spoken steps names table I o (inl h) = subst (λ (o : Outcome). IsSpoken o.status) (sym h.written) tt
+found_spoken steps names table I o (inr h) = subst (λ (o : Outcome). IsSpoken o.status) (sym h.written) tt

@@ -21,7 +21,8 @@ use Rattle.run_status.specs.declared.status.Status.TheVariants.{Feasible}
 use Rattle.run_course.specs.Course.{Comes, Concludes, Outcome, says, writes}
 use Rattle.readings.specs.Opens.{IsInput}
 use Rattle.readings.proofs.Opening.{with_input}
-use Rattle.deciding.specs.Deciding.{LaysOut, Solve, Solves, solve}
+use Rattle.writings.specs.Writings.{Names}
+use Rattle.deciding.specs.Deciding.{LaysOut, Solves, solve}
 
 -- ---- the table
 abbrev five_file : List ℕ
@@ -68,14 +69,13 @@ laid : IsLayout five 12 at_12
 laid = planned_is_layout five 12 at_12 five_sound five_plan_at_12
 
 -- ---- the words name a capacity; the input is in the file i, the output goes to o, and the log would go to l
-abbrev words : ℕ → Solve
-words capacity =
-    record { capacity = capacity; input = codes "i"; output = codes "o"; log = codes "l"; steps = None }
+abbrev names : Names
+names = record { input = codes "i"; output = codes "o"; log = codes "l" }
 
 abbrev laid_out : Outcome
 laid_out = writes (record { role = Output; name = codes "o"; bytes = laid_file } ∷ []) (Feasible 12)
 
-lays_out : LaysOut (words 12) five_rows five laid_out
+lays_out : LaysOut 12 None names five_rows five laid_out
 lays_out = record {
   offsets = at_12;
   planned = five_plan_at_12;
@@ -86,11 +86,11 @@ lays_out = record {
 }
 
 -- within 11 there is none
-not_at_11 : (o : Outcome) → LaysOut (words 11) five_rows five o → ⊥
+not_at_11 : (o : Outcome) → LaysOut 11 None names five_rows five o → ⊥
 not_at_11 o h = let e = sym five_plan_at_11 ∙ h.planned in absurd cc
 
 -- the layout has to be written
-not_without_a_write : LaysOut (words 12) five_rows five (says (Feasible 12)) → ⊥
+not_without_a_write : LaysOut 12 None names five_rows five (says (Feasible 12)) → ⊥
 not_without_a_write h = let e = ap (λ (o : Outcome). o.writes) h.written in absurd cc
 
 -- ---- from the file on
@@ -105,6 +105,6 @@ its_input = record {
   parsed = rows_are_five;
 }
 
-goes : Comes files files (solve (words 12)) laid_out
-goes = with_input files files files (codes "i") five_rows five (λ t I. Concludes (Solves (words 12) t I))
+goes : Comes files files (solve 12 None names) laid_out
+goes = with_input files files files (codes "i") five_rows five (λ t I. Concludes (Solves 12 None names t I))
     (five, its_input) rows_are_five refl (λ name. lit≤ tt) laid_out (tt, inl lays_out)

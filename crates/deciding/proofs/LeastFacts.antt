@@ -1,6 +1,6 @@
 -- What `least` concludes of two buffers whose best start ends at 5, and whose lower bound and least capacity are 4, and
 -- of no buffers.
-use Rattle.std.proofs.Common.{◌≡◌, ℕ, List, inl, inr, [], ◌∷◌, Option, Some, None, refl, sym, ap, ap₂, subst, codes, lit≤, arith}
+use Rattle.std.proofs.Common.{◌≡◌, ℕ, List, inl, inr, [], ◌∷◌, Some, None, refl, sym, ap, ap₂, subst, codes, lit≤, arith}
 use Rattle.dsa_terms.specs.Fits.{best_fit, first_fit}
 use Rattle.dsa_terms.specs.Layouts.{IsLayout}
 use Rattle.dsa_terms.specs.Orders.{orders}
@@ -19,11 +19,12 @@ use Rattle.planner.proofs.StepFacts.{four_is_least, laid_at_4}
 use Rattle.run_status.specs.declared.status.Role.TheVariants as role
 use Rattle.run_status.specs.declared.status.Status.TheVariants.{Least, Open}
 use Rattle.run_course.specs.Course.{Outcome, Write, writes}
-use Rattle.deciding.specs.Deciding.{AllReadBack, Finds, FindsLeast, LeastOf, LeavesLeastOpen, log_files}
+use Rattle.writings.specs.Writings.{Names}
+use Rattle.deciding.specs.Deciding.{AllReadBack, Finds, FindsLeast, LeavesLeastOpen, log_files}
 use Rattle.deciding.proofs.BelowFacts.{below_rows, four_to_five, low_file, low_text, start_file, start_text, three_by_bound, three_file, three_log, three_reads, three_refutes, three_text}
 
-abbrev words : Option ℕ → LeastOf
-words steps = record { input = codes "i"; output = codes "o"; log = codes "l"; steps = steps }
+abbrev names : Names
+names = record { input = codes "i"; output = codes "o"; log = codes "l" }
 
 abbrev to_output : List ℕ → Write
 to_output bytes = record { role = role.Output; name = codes "o"; bytes = bytes }
@@ -48,7 +49,7 @@ the_log_reads_back = three_reads
 abbrev found : Outcome
 found = writes (to_output low_file ∷ to_log three_file ∷ []) (Least 4)
 
-finds_4 : FindsLeast (words (Some 1)) below_rows small_below found
+finds_4 : FindsLeast (Some 1) names below_rows small_below found
 finds_4 = record {
   capacity = 4;
   offsets = 1 ∷ 0 ∷ [];
@@ -71,14 +72,14 @@ finds_4 = record {
 }
 
 -- without steps that layout does not come
-not_without_steps : (o : Outcome) (h : FindsLeast (words (Some 0)) below_rows small_below o) →
+not_without_steps : (o : Outcome) (h : FindsLeast (Some 0) names below_rows small_below o) →
     h.offsets ≡ 1 ∷ 0 ∷ [] → ⊥
 not_without_steps o h is =
     other_without_steps h.capacity h.refutation
     (subst (λ (o : List ℕ). AreWithinSteps small_below (Some 0) h.capacity o h.refutation) is h.within_steps)
 
 -- above 0 there is a log
-not_without_a_log : (o : Outcome) (h : FindsLeast (words None) below_rows small_below o) → h.refutation ≡ None → ⊥
+not_without_a_log : (o : Outcome) (h : FindsLeast None names below_rows small_below o) → h.refutation ≡ None → ⊥
 not_without_a_log o h none =
     let zero : h.capacity ≡ 0 = rw none at h.refuted in
     let e : small_below ≡ [] = h.zero_for_none.1 zero in
@@ -88,9 +89,9 @@ not_without_a_log o h none =
 abbrev opened : Outcome
 opened = writes (to_output start_file ∷ to_log three_file ∷ []) (Open 4 5)
 
-leaves_open : LeavesLeastOpen (words (Some 3)) below_rows small_below opened
+leaves_open : LeavesLeastOpen (Some 3) names below_rows small_below opened
 leaves_open = record {
-  steps = 3;
+  number = 3;
   low = 4;
   high = 5;
   offsets = 0 ∷ 4 ∷ [];
@@ -111,16 +112,16 @@ leaves_open = record {
 }
 
 -- four are enough
-not_open_with_four_steps : (o : Outcome) → LeavesLeastOpen (words (Some 4)) below_rows small_below o → ⊥
+not_open_with_four_steps : (o : Outcome) → LeavesLeastOpen (Some 4) names below_rows small_below o → ⊥
 not_open_with_four_steps o h =
-    let k : 4 ≡ h.steps = (let e = h.given in cc) in
+    let k : 4 ≡ h.number = (let e = h.given in cc) in
     four_of_the_hunt h.low h.high (rw (sym k) at h.short)
 
 -- ---- these are ends of `least`
-by_search : Finds (words (Some 1)) below_rows small_below found
+by_search : Finds (Some 1) names below_rows small_below found
 by_search = inl finds_4
 
-by_neither : Finds (words (Some 3)) below_rows small_below opened
+by_neither : Finds (Some 3) names below_rows small_below opened
 by_neither = inr leaves_open
 
 -- ---- no buffers need no bytes, and no log is written
@@ -142,7 +143,7 @@ none_laid = record {
 }
 
 finds_0 : (table : List Record) →
-    FindsLeast (words (Some 0)) table [] (writes (to_output (layout_text table []) ∷ []) (Least 0))
+    FindsLeast (Some 0) names table [] (writes (to_output (layout_text table []) ∷ []) (Least 0))
 finds_0 table = record {
   capacity = 0;
   offsets = [];

@@ -1,5 +1,5 @@
 -- What `solve` concludes of two buffers whose best start ends at 5, and whose lower bound and least capacity are 4.
-use Rattle.std.proofs.Common.{◌≡◌, ℕ, List, length, map, inl, inr, [], ◌∷◌, Option, Some, None, refl, sym, ap, ap₂, ◌∙◌, subst, codes, lit≤, arith}
+use Rattle.std.proofs.Common.{◌≡◌, ℕ, List, length, map, inl, inr, [], ◌∷◌, Some, None, refl, sym, ap, ap₂, ◌∙◌, subst, codes, lit≤, arith}
 use Rattle.dsa_terms.specs.Bounds.{counted, highest_stack, lower_bound, moduli, moments, rounded_size, stack, pile, heights, highest_at}
 use Rattle.dsa_terms.specs.Buffers.{buffer, is_live, floor}
 use Rattle.dsa_terms.specs.Logs.{Log}
@@ -12,14 +12,13 @@ use Rattle.planner.proofs.StepFacts.{laid_at_4, none_within_4}
 use Rattle.run_status.specs.declared.status.Role.TheVariants as role
 use Rattle.run_status.specs.declared.status.Status.TheVariants.{Feasible, Infeasible, Open}
 use Rattle.run_course.specs.Course.{Outcome, Write, writes}
-use Rattle.writings.specs.Writings.{layout_file, log_file}
-use Rattle.deciding.specs.Deciding.{LaysOut, LeavesOpen, Refutes, Solve, Solves}
+use Rattle.writings.specs.Writings.{Names, layout_file, log_file}
+use Rattle.deciding.specs.Deciding.{LaysOut, LeavesOpen, Refutes, Solves}
 use Rattle.deciding.proofs.BelowFacts.{below_rows, four_to_five, low_file, low_text, start_file, start_text, three_by_bound, three_file, three_log, three_reads, three_refutes, three_text}
 
--- the words name a capacity and steps; the output goes to o, the log to l
-abbrev words : ℕ → Option ℕ → Solve
-words capacity steps =
-    record { capacity = capacity; input = codes "i"; output = codes "o"; log = codes "l"; steps = steps }
+-- the input is in the file i, the output goes to o, the log to l
+abbrev names : Names
+names = record { input = codes "i"; output = codes "o"; log = codes "l" }
 
 -- ---- the files
 abbrev to_output : List ℕ → Write
@@ -35,7 +34,7 @@ the_log : log_file (codes "l") three_log ≡ to_log three_file
 the_log = ap to_log three_text
 
 -- ---- a layout that no start gives takes a step
-laid_out : LaysOut (words 4 (Some 1)) below_rows small_below (writes (to_output low_file ∷ []) (Feasible 4))
+laid_out : LaysOut 4 (Some 1) names below_rows small_below (writes (to_output low_file ∷ []) (Feasible 4))
 laid_out = record {
   offsets = 1 ∷ 0 ∷ [];
   planned = small_below_plan_at_4;
@@ -44,12 +43,12 @@ laid_out = record {
   written = ap (λ (w : Write). writes (w ∷ []) (Feasible 4)) (sym the_layout);
 }
 
-not_laid_out_without_steps : (o : Outcome) → LaysOut (words 4 (Some 0)) below_rows small_below o → ⊥
+not_laid_out_without_steps : (o : Outcome) → LaysOut 4 (Some 0) names below_rows small_below o → ⊥
 not_laid_out_without_steps o h =
     let given : AreGiven (Some 0) 1 = h.searched none_within_4 in omega (arith, given)
 
 -- ---- the bound's log takes none
-refuted : Refutes (words 3 (Some 0)) small_below (writes (to_log three_file ∷ []) (Infeasible 3))
+refuted : Refutes 3 (Some 0) names small_below (writes (to_log three_file ∷ []) (Infeasible 3))
 refuted = record {
   refutation = three_log;
   refuted = three_refutes;
@@ -60,7 +59,7 @@ refuted = record {
 }
 
 -- it is a log at 3
-not_refuted_at_2 : (o : Outcome) (h : Refutes (words 2 None) small_below o) → h.refutation ≡ three_log → ⊥
+not_refuted_at_2 : (o : Outcome) (h : Refutes 2 None names small_below o) → h.refutation ≡ three_log → ⊥
 not_refuted_at_2 o h is =
     let c : h.refutation.capacity ≡ 3 = ap (λ (l : Log). l.capacity) is in
     let e = h.refuted.its_capacity in
@@ -70,7 +69,7 @@ roles_differ : role.Output ∷ [] ≡ role.Log ∷ [] → ⊥
 roles_differ e = absurd cc
 
 -- the log goes to its own file
-not_to_the_output : (o : Outcome) → Refutes (words 3 None) small_below o →
+not_to_the_output : (o : Outcome) → Refutes 3 None names small_below o →
     o ≡ writes (to_output three_file ∷ []) (Infeasible 3) → ⊥
 not_to_the_output o h is =
     roles_differ (ap (λ (o : Outcome). map (λ (w : Write). w.role) o.writes) (sym is ∙ h.written))
@@ -81,7 +80,7 @@ unfolding lower_bound highest_stack highest_at heights moduli moments stack pile
     buffer
 evens_bound = refl
 
-not_refuted_with_four_steps : (o : Outcome) (h : Refutes (words 4 (Some 4)) evens o) → h.refutation ≡ sample → ⊥
+not_refuted_with_four_steps : (o : Outcome) (h : Refutes 4 (Some 4) names evens o) → h.refutation ≡ sample → ⊥
 not_refuted_with_four_steps o h is =
     let bound = evens_bound in
     let lines : length h.refutation.lines ≡ 5 = ap (λ (l : Log). length l.lines) is in
@@ -92,9 +91,9 @@ not_refuted_with_four_steps o h is =
 abbrev opened : Outcome
 opened = writes (to_output start_file ∷ to_log three_file ∷ []) (Open 4 5)
 
-left_open : LeavesOpen (words 4 (Some 3)) below_rows small_below opened
+left_open : LeavesOpen 4 (Some 3) names below_rows small_below opened
 left_open = record {
-  steps = 3;
+  number = 3;
   low = 4;
   high = 5;
   refutation = three_log;
@@ -107,20 +106,20 @@ left_open = record {
       (sym (ap (layout_file (codes "o") below_rows) below_best ∙ ap to_output start_text)) (sym the_log);
 }
 
-not_open_with_four_steps : (o : Outcome) → LeavesOpen (words 4 (Some 4)) below_rows small_below o → ⊥
+not_open_with_four_steps : (o : Outcome) → LeavesOpen 4 (Some 4) names below_rows small_below o → ⊥
 not_open_with_four_steps o h =
-    let k : 4 ≡ h.steps = (let e = h.given in cc) in
+    let k : 4 ≡ h.number = (let e = h.given in cc) in
     four_of_four h.low h.high (rw (sym k) at h.short)
 
-not_open_without_a_number : (o : Outcome) → LeavesOpen (words 4 None) below_rows small_below o → ⊥
+not_open_without_a_number : (o : Outcome) → LeavesOpen 4 None names below_rows small_below o → ⊥
 not_open_without_a_number o h = let e = h.given in absurd cc
 
 -- ---- these are ends of `solve`
-by_layout : Solves (words 4 (Some 1)) below_rows small_below (writes (to_output low_file ∷ []) (Feasible 4))
+by_layout : Solves 4 (Some 1) names below_rows small_below (writes (to_output low_file ∷ []) (Feasible 4))
 by_layout = inl laid_out
 
-by_log : Solves (words 3 (Some 0)) below_rows small_below (writes (to_log three_file ∷ []) (Infeasible 3))
+by_log : Solves 3 (Some 0) names below_rows small_below (writes (to_log three_file ∷ []) (Infeasible 3))
 by_log = inr (inl refuted)
 
-by_neither : Solves (words 4 (Some 3)) below_rows small_below opened
+by_neither : Solves 4 (Some 3) names below_rows small_below opened
 by_neither = inr (inr left_open)

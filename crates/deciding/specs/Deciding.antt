@@ -15,62 +15,51 @@ use Rattle.command_words.specs.Options.{Word}
 use Rattle.run_status.specs.declared.status.Status.TheVariants.{Feasible, Infeasible, Least, Open}
 use Rattle.run_course.specs.Course.{Course, Outcome, Concludes, Write, writes}
 use Rattle.readings.specs.Input.{opened}
-use Rattle.writings.specs.Writings.{ReadsBack, layout_file, log_file}
-
--- the words of `solve`: the capacity is in bytes, and the steps, where a number is given, are units
-pub record Solve : Type 0 where
-  pub capacity : ℕ
-  pub input : Word
-  pub output : Word
-  pub log : Word
-  pub steps : Option ℕ
+use Rattle.writings.specs.Writings.{Names, ReadsBack, layout_file, log_file}
 
 -- the plan at the capacity is written, a layout; where no start is within the capacity, a step at least is given, if a
 -- number is
-pub record LaysOut (s : Solve) (table : List Record) (I : Instance) (o : Outcome) : Type 0 where
+pub record LaysOut (C : ℕ) (steps : Option ℕ) (names : Names) (table : List Record) (I : Instance)
+    (o : Outcome) : Type 0 where
   pub offsets : List ℕ
-  pub planned : planned I s.capacity ≡ Some offsets
-  pub layout : IsLayout I s.capacity offsets
-  pub searched : start_within I s.capacity ≡ None → AreGiven s.steps 1
-  pub written : o ≡ writes (layout_file s.output table offsets ∷ []) (Feasible s.capacity)
+  pub planned : planned I C ≡ Some offsets
+  pub layout : IsLayout I C offsets
+  pub searched : start_within I C ≡ None → AreGiven steps 1
+  pub written : o ≡ writes (layout_file names.output table offsets ∷ []) (Feasible C)
 
 -- no layout fits within the capacity, and a log without waste that is accepted at it is written: the bound's where the
 -- capacity is below the lower bound, and else one with a step given for each line, if a number is
-pub record Refutes (s : Solve) (I : Instance) (o : Outcome) : Type 0 where
+pub record Refutes (C : ℕ) (steps : Option ℕ) (names : Names) (I : Instance) (o : Outcome) : Type 0 where
   pub refutation : Log
-  pub refuted : LeavesNoLayout I s.capacity refutation
-  pub by_bound : s.capacity < lower_bound I → IsBoundLog I s.capacity refutation
-  pub searched : lower_bound I ≤ s.capacity → AreGiven s.steps (length refutation.lines)
+  pub refuted : LeavesNoLayout I C refutation
+  pub by_bound : C < lower_bound I → IsBoundLog I C refutation
+  pub searched : lower_bound I ≤ C → AreGiven steps (length refutation.lines)
   pub readable : ReadsBack refutation
-  pub written : o ≡ writes (log_file s.log refutation ∷ []) (Infeasible s.capacity)
+  pub written : o ≡ writes (log_file names.log refutation ∷ []) (Infeasible C)
 
 -- the steps ran out: the best start and the bound's log are written
-pub record LeavesOpen (s : Solve) (table : List Record) (I : Instance) (o : Outcome) : Type 0 where
-  pub steps : ℕ
+pub record LeavesOpen (C : ℕ) (steps : Option ℕ) (names : Names) (table : List Record) (I : Instance)
+    (o : Outcome) : Type 0 where
+  pub number : ℕ
   pub low : ℕ
   pub high : ℕ
   pub refutation : Log
-  pub given : s.steps ≡ Some steps
-  pub short : IsShortOfWork I s.capacity steps low high
+  pub given : steps ≡ Some number
+  pub short : IsShortOfWork I C number low high
   pub opened : StaysOpen I low high (best_start I) refutation
   pub by_bound : IsBoundLog I (low - 1) refutation
   pub readable : ReadsBack refutation
-  pub written : o ≡ writes (layout_file s.output table (best_start I) ∷ log_file s.log refutation ∷ []) (Open low high)
+  pub written : o ≡ writes (layout_file names.output table (best_start I) ∷ log_file names.log refutation ∷ [])
+      (Open low high)
 
 -- what `solve` concludes of the instance of a table
-abbrev pub Solves : Solve → List Record → Instance → Outcome → Type 0
-Solves s table I o = LaysOut s table I o ⊎ Refutes s I o ⊎ LeavesOpen s table I o
+abbrev pub Solves : (C : ℕ) → Option ℕ → Names → List Record → Instance → Outcome → Type 0
+Solves C steps names table I o =
+    LaysOut C steps names table I o ⊎ Refutes C steps names I o ⊎ LeavesOpen C steps names table I o
 
--- how `solve` goes
-abbrev pub solve : Solve → Course
-solve s = opened s.input (λ table I. Concludes (Solves s table I))
-
--- the words of `least`
-pub record LeastOf : Type 0 where
-  pub input : Word
-  pub output : Word
-  pub log : Word
-  pub steps : Option ℕ
+-- how `solve` goes: the capacity is in bytes, and the steps, where a number is given, are units
+abbrev pub solve : (C : ℕ) → Option ℕ → Names → Course
+solve C steps names = opened names.input (λ table I. Concludes (Solves C steps names table I))
 
 -- a log, where there is one, for its file
 abbrev pub log_files : Word → Option Log → List Write
@@ -84,7 +73,8 @@ AllReadBack (Some log) = ReadsBack log
 
 -- C is the least capacity that has a layout; the plan at it is written, and a log that refutes one byte less, unless C
 -- is 0; where a number of steps is given, they are enough for what the starts and the bound do not give
-pub record FindsLeast (l : LeastOf) (table : List Record) (I : Instance) (o : Outcome) : Type 0 where
+pub record FindsLeast (steps : Option ℕ) (names : Names) (table : List Record) (I : Instance)
+    (o : Outcome) : Type 0 where
   pub capacity : ℕ
   pub offsets : List ℕ
   pub refutation : Option Log
@@ -93,29 +83,30 @@ pub record FindsLeast (l : LeastOf) (table : List Record) (I : Instance) (o : Ou
   pub planned : planned I capacity ≡ Some offsets
   pub layout : IsLayout I capacity offsets
   pub refuted : RefutesBelow I capacity refutation
-  pub within_steps : AreWithinSteps I l.steps capacity offsets refutation
+  pub within_steps : AreWithinSteps I steps capacity offsets refutation
   pub readable : AllReadBack refutation
-  pub written : o ≡ writes (layout_file l.output table offsets ∷ log_files l.log refutation) (Least capacity)
+  pub written : o ≡ writes (layout_file names.output table offsets ∷ log_files names.log refutation) (Least capacity)
 
 -- the steps ran out: the plan at the upper end is written, a layout of that height, and a log that refutes one byte
 -- less than the lower end; the steps are enough for what the starts and the bound do not give
-pub record LeavesLeastOpen (l : LeastOf) (table : List Record) (I : Instance) (o : Outcome) : Type 0 where
-  pub steps : ℕ
+pub record LeavesLeastOpen (steps : Option ℕ) (names : Names) (table : List Record) (I : Instance)
+    (o : Outcome) : Type 0 where
+  pub number : ℕ
   pub low : ℕ
   pub high : ℕ
   pub offsets : List ℕ
   pub refutation : Log
-  pub given : l.steps ≡ Some steps
-  pub short : IsShortOfHunt I steps low high
+  pub given : steps ≡ Some number
+  pub short : IsShortOfHunt I number low high
   pub opened : StaysOpen I low high offsets refutation
-  pub within_steps : AreWithinSteps I l.steps low offsets (Some refutation)
+  pub within_steps : AreWithinSteps I steps low offsets (Some refutation)
   pub readable : ReadsBack refutation
-  pub written : o ≡ writes (layout_file l.output table offsets ∷ log_file l.log refutation ∷ []) (Open low high)
+  pub written : o ≡ writes (layout_file names.output table offsets ∷ log_file names.log refutation ∷ []) (Open low high)
 
 -- what `least` concludes of the instance of a table
-abbrev pub Finds : LeastOf → List Record → Instance → Outcome → Type 0
-Finds l table I o = FindsLeast l table I o ⊎ LeavesLeastOpen l table I o
+abbrev pub Finds : Option ℕ → Names → List Record → Instance → Outcome → Type 0
+Finds steps names table I o = FindsLeast steps names table I o ⊎ LeavesLeastOpen steps names table I o
 
 -- how `least` goes
-abbrev pub least : LeastOf → Course
-least l = opened l.input (λ table I. Concludes (Finds l table I))
+abbrev pub least : Option ℕ → Names → Course
+least steps names = opened names.input (λ table I. Concludes (Finds steps names table I))

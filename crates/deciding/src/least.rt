@@ -3,8 +3,8 @@
 ghost use Rattle.std.specs.Prelude.{◌≡◌, ◌+◌, IfOk, length};
 ghost use Rattle.run_course.specs.Course.{Concludes};
 ghost use Rattle.run_course.specs.Prepares.{outcome_of};
+ghost use Rattle.writings.specs.Named.{names_of};
 ghost use Rattle.deciding.specs.Deciding.{Finds, least};
-ghost use Rattle.deciding.specs.Words.{least_of};
 
 use crate::written::both_files;
 use csv_instance::Table;
@@ -16,15 +16,14 @@ use readings::{TableCommand, conclude_input};
 use run_course::{Command, Prepared};
 use run_status::Status;
 use std::alloc::Global;
+use writings::Names;
 
 /// Finds the least capacity for the instance of the input, within the steps where a number is
 /// given, and writes its layout and the log by which one byte less is too little, unless it is 0.
 #[derive(Clone, Copy)]
 pub struct Least<'a> {
-    pub input: &'a str,
-    pub output: &'a str,
-    pub log: &'a str,
     pub steps: Option<u64>,
+    pub names: Names<'a>,
 }
 
 /// What is written and told of the table's instance.
@@ -35,27 +34,29 @@ fn found<'a>(
     instance: &Instance,
 ) -> Result<Prepared<'a>, NoMemory>
     requires count { length table.now ≡ length instance.now + 1 }
-    ensures { IfOk result (λ p. Finds (least_of words.now) table.now instance.now (outcome_of p)) }
+    ensures { IfOk result (λ p. Finds words.now.steps (names_of words.now.names)
+        table.now instance.now (outcome_of p)) }
 {
+    let names = &words.names;
     match least_capacity(alloc, instance, words.steps)? {
         Found::Exact(bracket) => {
             let status = Status::Least {
                 capacity: bracket.high,
             };
-            both_files(alloc, table, &bracket, words.output, words.log, status)
+            both_files(alloc, table, &bracket, names.output, names.log, status)
         }
         Found::Open(bracket) => {
             let status = Status::Open {
                 low: bracket.low,
                 high: bracket.high,
             };
-            both_files(alloc, table, &bracket, words.output, words.log, status)
+            both_files(alloc, table, &bracket, names.output, names.log, status)
         }
     }
 }
 
 impl<'a> TableCommand<'a> for Least<'a> {
-    ghost after = { λ l table I. Concludes (Finds (least_of l) table I) };
+    ghost after = { λ l table I. Concludes (Finds l.steps (names_of l.names) table I) };
 
     fn conclude_table<F: Files>(
         &self,
@@ -68,9 +69,9 @@ impl<'a> TableCommand<'a> for Least<'a> {
 }
 
 impl<'a> Command<'a> for Least<'a> {
-    ghost course = { λ l. least (least_of l) };
+    ghost course = { λ l. least l.steps (names_of l.names) };
 
     fn conclude<F: Files>(&self, alloc: Global, files: &mut F) -> Result<Prepared<'a>, NoMemory> {
-        conclude_input(alloc, files, self.input, self)
+        conclude_input(alloc, files, self.names.input, self)
     }
 }

@@ -4,8 +4,8 @@ ghost use Rattle.std.specs.Prelude.{◌≡◌, ◌+◌, ◌≤◌, IfOk, length}
 ghost use Rattle.command_words.specs.Options.{number_limit};
 ghost use Rattle.run_course.specs.Course.{Concludes};
 ghost use Rattle.run_course.specs.Prepares.{outcome_of};
+ghost use Rattle.writings.specs.Named.{names_of};
 ghost use Rattle.deciding.specs.Deciding.{Solves, solve};
-ghost use Rattle.deciding.specs.Words.{solve_of};
 
 use crate::written::both_files;
 use csv_instance::Table;
@@ -16,17 +16,15 @@ use readings::{TableCommand, conclude_input};
 use run_course::{Command, Prepared, one_write};
 use run_status::Status;
 use std::alloc::Global;
-use writings::{layout_file, log_file};
+use writings::{Names, layout_file, log_file};
 
 /// Decides the capacity (in bytes, at most 2^60) for the instance of the input, within the steps
 /// where a number is given, and writes the layout or the log, or both where the steps run out.
 #[derive(Clone, Copy)]
 pub struct Solve<'a> {
     pub capacity: u64,
-    pub input: &'a str,
-    pub output: &'a str,
-    pub log: &'a str,
     pub steps: Option<u64>,
+    pub names: Names<'a>,
 }
 
 /// What is written and told of the table's instance.
@@ -39,17 +37,19 @@ fn solved<'a>(
     requires capacity { words.now.capacity ≤ number_limit }
     requires count { length table.now ≡ length instance.now + 1 }
     ensures { IfOk result (λ p.
-        Solves (solve_of words.now) table.now instance.now (outcome_of p)) }
+        Solves words.now.capacity words.now.steps (names_of words.now.names)
+        table.now instance.now (outcome_of p)) }
 {
     let _count = instance.len();
     let capacity = words.capacity;
+    let names = &words.names;
     match plan(alloc, instance, capacity, words.steps)? {
         Decision::Layout(offsets) => {
-            let file = layout_file(alloc, table, offsets.as_slice(), words.output)?;
+            let file = layout_file(alloc, table, offsets.as_slice(), names.output)?;
             one_write(alloc, file, Status::Feasible { capacity })
         }
         Decision::Refuted(refutation) => {
-            let file = log_file(alloc, &refutation, words.log)?;
+            let file = log_file(alloc, &refutation, names.log)?;
             one_write(alloc, file, Status::Infeasible { capacity })
         }
         Decision::Open(bracket) => {
@@ -57,13 +57,14 @@ fn solved<'a>(
                 low: bracket.low,
                 high: bracket.high,
             };
-            both_files(alloc, table, &bracket, words.output, words.log, status)
+            both_files(alloc, table, &bracket, names.output, names.log, status)
         }
     }
 }
 
 impl<'a> TableCommand<'a> for Solve<'a> {
-    ghost after = { λ s table I. Concludes (Solves (solve_of s) table I) };
+    ghost after = { λ s table I.
+        Concludes (Solves s.capacity s.steps (names_of s.names) table I) };
 
     ghost is_known = { λ s. s.capacity ≤ number_limit };
 
@@ -78,11 +79,11 @@ impl<'a> TableCommand<'a> for Solve<'a> {
 }
 
 impl<'a> Command<'a> for Solve<'a> {
-    ghost course = { λ s. solve (solve_of s) };
+    ghost course = { λ s. solve s.capacity s.steps (names_of s.names) };
 
     ghost is_asked = { λ s. s.capacity ≤ number_limit };
 
     fn conclude<F: Files>(&self, alloc: Global, files: &mut F) -> Result<Prepared<'a>, NoMemory> {
-        conclude_input(alloc, files, self.input, self)
+        conclude_input(alloc, files, self.names.input, self)
     }
 }

@@ -9,36 +9,36 @@ use Rattle.csv_instance.specs.Records.{Record, table_of}
 use Rattle.csv_instance.specs.Chosen.{chosen_text}
 use Rattle.csv_instance.specs.Parse.{parse}
 use Rattle.core_find.specs.Cores.{IsCore}
-use Rattle.core_find.proofs.Left.{core_does_not_fit, core_rest_fits}
 use Rattle.run_status.specs.Spoken.{IsSpoken}
 use Rattle.run_status.specs.declared.status.Status.TheVariants as status
 use Rattle.run_course.specs.Course.{Outcome, Write, says, writes}
 use Rattle.run_course.specs.Prepares.{outcome_of}
 use Rattle.run_course.specs.declared.prepared.Prepared.{Prepared}
-use Rattle.writings.specs.Writings.{ReadsBack, log_file}
-use Rattle.explaining.specs.Explaining.{Core, ExplainsOrFits, rows_file}
+use Rattle.writings.specs.Writings.{Names, ReadsBack, log_file}
+use Rattle.explaining.specs.Explaining.{ExplainsOrFits, rows_file}
 
-pub explains_spoken : (k : Core) (table : List Record) (I : Instance) (o : Outcome) → ExplainsOrFits k table I o →
-    IsSpoken o.status
-explains_spoken k table I o (inl core) = subst (λ (o : Outcome). IsSpoken o.status) (sym core.written) tt
-explains_spoken k table I o (inr fits) = subst (λ (o : Outcome). IsSpoken o.status) (sym fits.told) tt
+pub explains_spoken : (C : ℕ) (names : Names) (table : List Record) (I : Instance) (o : Outcome) →
+    ExplainsOrFits C names table I o → IsSpoken o.status
+explains_spoken C names table I o (inl core) = subst (λ (o : Outcome). IsSpoken o.status) (sym core.written) tt
+explains_spoken C names table I o (inr fits) = subst (λ (o : Outcome). IsSpoken o.status) (sym fits.told) tt
 
 -- all buffers fit, and that is said
-pub fit : (k : Core) (table : List Record) (I : Instance) (r : Result Prepared NoMemory) → IsFeasible I k.capacity →
-    IfOk r (λ p. outcome_of p ≡ says (status.NoCore k.capacity)) →
-    IfOk r (λ p. ExplainsOrFits k table I (outcome_of p))
-fit k table I (Ok p) feasible told = inr (record { feasible = feasible; told = told })
-fit k table I (Err e) feasible told = tt
+pub fit : (C : ℕ) (names : Names) (table : List Record) (I : Instance) (r : Result Prepared NoMemory) →
+    IsFeasible I C → IfOk r (λ p. outcome_of p ≡ says (status.NoCore C)) →
+    IfOk r (λ p. ExplainsOrFits C names table I (outcome_of p))
+fit C names table I (Ok p) feasible told = inr (record { feasible = feasible; told = told })
+fit C names table I (Err e) feasible told = tt
 
 -- the core is written
-module _ (k : Core) (table : List Record) (I : Instance) (members : List ℕ) (refutation : Log) (rows log : Write)
-    (core : IsCore I k.capacity members) (accepted : IsAccepted (some_of I members) refutation)
-    (its_capacity : refutation.capacity ≡ k.capacity)
+module _ (C : ℕ) (names : Names) (table : List Record) (I : Instance) (members : List ℕ) (refutation : Log)
+    (rows log : Write)
+    (core : IsCore I C members) (accepted : IsAccepted (some_of I members) refutation)
+    (its_capacity : refutation.capacity ≡ C)
     (parsed : parse (table_of (chosen_text table members)) ≡ Ok (some_of I members)) (readable : ReadsBack refutation)
-    (its_rows : rows ≡ rows_file k.output table members) (its_log : log ≡ log_file k.log refutation) where
+    (its_rows : rows ≡ rows_file names.output table members) (its_log : log ≡ log_file names.log refutation) where
   pub explains : (count : ℕ) (r : Result Prepared NoMemory) → count ≡ length members →
       IfOk r (λ p. outcome_of p ≡ writes (rows ∷ log ∷ []) (status.Core count)) →
-      IfOk r (λ p. ExplainsOrFits k table I (outcome_of p))
+      IfOk r (λ p. ExplainsOrFits C names table I (outcome_of p))
   explains count (Ok p) its_count is = inl (record {
     members = members;
     refutation = refutation;
@@ -46,12 +46,11 @@ module _ (k : Core) (table : List Record) (I : Instance) (members : List ℕ) (r
     parsed = parsed;
     accepted = accepted;
     its_capacity = its_capacity;
-    infeasible = core_does_not_fit I k.capacity members core;
-    rests = λ b among. core_rest_fits I k.capacity b members core among;
     readable = readable;
     written = is
         ∙ ap (λ n. writes (rows ∷ log ∷ []) (status.Core n)) its_count
         ∙ ap (λ (w : Write). writes (w ∷ log ∷ []) (status.Core (length members))) its_rows
-        ∙ ap (λ (w : Write). writes (rows_file k.output table members ∷ w ∷ []) (status.Core (length members))) its_log;
+        ∙ ap (λ (w : Write). writes (rows_file names.output table members ∷ w ∷ []) (status.Core (length members)))
+        its_log;
   })
   explains count (Err e) its_count is = tt

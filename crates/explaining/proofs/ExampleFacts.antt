@@ -8,11 +8,12 @@ use Rattle.dsa_model.proofs.LayoutFaults.{layout_exactly}
 use Rattle.csv_instance.proofs.FileFacts.{two, two_rows}
 use Rattle.run_status.specs.declared.status.Status.TheVariants as status
 use Rattle.run_course.specs.Course.{Outcome, says}
-use Rattle.explaining.specs.Explaining.{Core, Explains, ExplainsOrFits, FitsAll}
+use Rattle.writings.specs.Writings.{Names}
+use Rattle.explaining.specs.Explaining.{Explains, ExplainsOrFits, FitsAll}
 
--- the words name a capacity; the input is in the file i, the output goes to o, and the log to l
-abbrev words : ℕ → Core
-words capacity = record { capacity = capacity; input = codes "i"; output = codes "o"; log = codes "l" }
+-- the input is in the file i, the output goes to o, and the log to l
+abbrev names : Names
+names = record { input = codes "i"; output = codes "o"; log = codes "l" }
 
 -- ---- at 8 they fit, and nothing is written
 pub laid_at_8 : IsLayout two 8 (0 ∷ 4 ∷ [])
@@ -20,13 +21,13 @@ unfolding buffer is_live some_before faults.first_unaligned faults.first_too_low
     faults.overlap_after faults.overlap first_common
 laid_at_8 = (layout_exactly two 8 (0 ∷ 4 ∷ [])).0 refl
 
-fits_at_8 : FitsAll (words 8) two (says (status.NoCore 8))
+fits_at_8 : FitsAll 8 two (says (status.NoCore 8))
 fits_at_8 = record { feasible = (0 ∷ 4 ∷ [], laid_at_8); told = refl }
 
-concluded_at_8 : ExplainsOrFits (words 8) two_rows two (says (status.NoCore 8))
+concluded_at_8 : ExplainsOrFits 8 names two_rows two (says (status.NoCore 8))
 concluded_at_8 = inr fits_at_8
 
-no_core_at_8 : (o : Outcome) → Explains (words 8) two_rows two o → ⊥
+no_core_at_8 : (o : Outcome) → Explains 8 names two_rows two o → ⊥
 no_core_at_8 o h = h.core.infeasible (0 ∷ 4 ∷ []) laid_at_8
 
 -- ---- at 7 they do not
@@ -39,5 +40,5 @@ unfolding buffer is_live some_before
 none_at_7 offsets l = one_above_the_other _ _ (l.within 0 (lit< tt)) (l.within 1 (lit< tt))
     (l.apart 0 1 4 (lit< tt) (lit< tt) (λ e. omega (arith, e)) refl refl)
 
-not_told_at_7 : (o : Outcome) → FitsAll (words 7) two o → ⊥
+not_told_at_7 : (o : Outcome) → FitsAll 7 two o → ⊥
 not_told_at_7 o h = let fits = h.feasible in none_at_7 fits.0 fits.1

@@ -5,8 +5,8 @@ ghost use Rattle.command_words.specs.Options.{number_limit};
 ghost use Rattle.csv_instance.specs.Parse.{parse};
 ghost use Rattle.run_course.specs.Course.{Concludes};
 ghost use Rattle.run_course.specs.Prepares.{outcome_of};
+ghost use Rattle.writings.specs.Named.{names_of};
 ghost use Rattle.explaining.specs.Explaining.{ExplainsOrFits, core};
-ghost use Rattle.explaining.specs.Words.{core_of};
 
 use crate::asking::Planner;
 use core_find::{Found, find_core};
@@ -17,16 +17,14 @@ use readings::{TableCommand, conclude_input};
 use run_course::{Command, Prepared, Writing, silent, two_writes};
 use run_status::{Role, Status};
 use std::alloc::Global;
-use writings::log_file;
+use writings::{Names, log_file};
 
 /// Writes the buffers of an irreducible set that does not fit within the capacity (in bytes, at
 /// most 2^60), and the log that proves it, or tells that all fit.
 #[derive(Clone, Copy)]
 pub struct Core<'a> {
     pub capacity: u64,
-    pub input: &'a str,
-    pub output: &'a str,
-    pub log: &'a str,
+    pub names: Names<'a>,
 }
 
 /// What is written and told of the table's instance.
@@ -40,7 +38,8 @@ fn explained<'a>(
     requires parsed { parse table.now ≡ Ok instance.now }
     requires count { length table.now ≡ length instance.now + 1 }
     ensures { IfOk result (λ p.
-        ExplainsOrFits (core_of words.now) table.now instance.now (outcome_of p)) }
+        ExplainsOrFits words.now.capacity (names_of words.now.names)
+        table.now instance.now (outcome_of p)) }
 {
     let capacity = words.capacity;
     let mut planner = Planner;
@@ -50,16 +49,17 @@ fn explained<'a>(
     };
     let rows = Writing {
         role: Role::Output,
-        name: words.output,
+        name: words.names.output,
         bytes: write_rows(alloc, table, core.members.as_slice())?,
     };
-    let log = log_file(alloc, &core.log, words.log)?;
+    let log = log_file(alloc, &core.log, words.names.log)?;
     let members = core.members.len() as u32;
     two_writes(alloc, rows, log, Status::Core { members })
 }
 
 impl<'a> TableCommand<'a> for Core<'a> {
-    ghost after = { λ k table I. Concludes (ExplainsOrFits (core_of k) table I) };
+    ghost after = { λ k table I.
+        Concludes (ExplainsOrFits k.capacity (names_of k.names) table I) };
 
     ghost is_known = { λ k. k.capacity ≤ number_limit };
 
@@ -74,11 +74,11 @@ impl<'a> TableCommand<'a> for Core<'a> {
 }
 
 impl<'a> Command<'a> for Core<'a> {
-    ghost course = { λ k. core (core_of k) };
+    ghost course = { λ k. core k.capacity (names_of k.names) };
 
     ghost is_asked = { λ k. k.capacity ≤ number_limit };
 
     fn conclude<F: Files>(&self, alloc: Global, files: &mut F) -> Result<Prepared<'a>, NoMemory> {
-        conclude_input(alloc, files, self.input, self)
+        conclude_input(alloc, files, self.names.input, self)
     }
 }

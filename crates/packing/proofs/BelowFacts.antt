@@ -12,12 +12,12 @@ use Rattle.run_status.specs.declared.status.Role.TheVariants as role
 use Rattle.run_status.specs.declared.status.Status.TheVariants.{Feasible, Infeasible, Least, Open}
 use Rattle.run_course.specs.Course.{Outcome, Write, says, writes}
 use Rattle.deciding.proofs.BelowFacts.{below_rows, four_to_five, low_file, low_text, start_file, start_text, three_by_bound, three_file, three_log, three_reads, three_refutes, three_text}
-use Rattle.packing.specs.Packing.{LeavesPackedOpen, Pack, Packs, PacksAt, PacksLeast, RefutesAt}
+use Rattle.writings.specs.Writings.{Names}
+use Rattle.packing.specs.Packing.{LeavesPackedOpen, Packs, PacksAt, PacksLeast, RefutesAt}
 
--- ---- the words name the input i, the output o and the log l
-abbrev words : Option ℕ → ℕ → Pack
-words capacity steps =
-    record { capacity = capacity; input = codes "i"; output = codes "o"; log = codes "l"; steps = steps }
+-- ---- the input is in the file i, the output goes to o, the log to l
+abbrev names : Names
+names = record { input = codes "i"; output = codes "o"; log = codes "l" }
 
 abbrev to_output : List ℕ → Write
 to_output bytes = record { role = role.Output; name = codes "o"; bytes = bytes }
@@ -38,7 +38,7 @@ within_3 steps = record {
 abbrev found : Outcome
 found = writes (to_output low_file ∷ to_log three_file ∷ []) (Least 4)
 
-packs_4 : Packs (words None 8) below_rows small_below found
+packs_4 : Packs None 8 names below_rows small_below found
 packs_4 = inl (record {
   capacity = 4;
   offsets = 1 ∷ 0 ∷ [];
@@ -55,7 +55,7 @@ packs_4 = inl (record {
 })
 
 -- where a capacity is given, it is that one which is decided
-no_least_of_a_capacity : (o : Outcome) → PacksLeast (words (Some 4) 8) below_rows small_below o → ⊥
+no_least_of_a_capacity : (o : Outcome) → PacksLeast (Some 4) 8 names below_rows small_below o → ⊥
 no_least_of_a_capacity o h = let none = h.none_given in absurd cc
 
 -- ---- without steps it stays open
@@ -63,7 +63,7 @@ abbrev opened : Outcome
 opened = writes (to_output start_file ∷ to_log three_file ∷ []) (Open 4 5)
 
 leaves_open : (capacity : Option ℕ) → IfSome capacity (λ C. (4 ≤ C) × (C < 5)) →
-    LeavesPackedOpen (words capacity 0) below_rows small_below opened
+    LeavesPackedOpen capacity 0 names below_rows small_below opened
 leaves_open capacity between = record {
   low = 4;
   high = 5;
@@ -71,9 +71,11 @@ leaves_open capacity between = record {
   refutation = three_log;
   ends_apart = four_to_five.ends_apart;
   positive = four_to_five.positive;
-  from_bound = (let e = below_bound in omega arith);
-  to_best = (let e = best_at_5 in omega arith);
-  between = between;
+  ends = record {
+    from_bound = (let e = below_bound in omega arith);
+    to_best = (let e = best_at_5 in omega arith);
+    between = between;
+  };
   layout = four_to_five.layout;
   its_height = four_to_five.its_height;
   refuted = within_3 0;
@@ -82,14 +84,14 @@ leaves_open capacity between = record {
       (sym three_text);
 }
 
-open_without_a_capacity : Packs (words None 0) below_rows small_below opened
+open_without_a_capacity : Packs None 0 names below_rows small_below opened
 open_without_a_capacity = inr (inr (inr (leaves_open None tt)))
 
-open_at_4 : Packs (words (Some 4) 0) below_rows small_below opened
+open_at_4 : Packs (Some 4) 0 names below_rows small_below opened
 open_at_4 = inr (inr (inr (leaves_open (Some 4) (lit≤ tt, lit< tt))))
 
 -- ---- a capacity
-packs_at_5 : Packs (words (Some 5) 0) below_rows small_below (writes (to_output start_file ∷ []) (Feasible 5))
+packs_at_5 : Packs (Some 5) 0 names below_rows small_below (writes (to_output start_file ∷ []) (Feasible 5))
 packs_at_5 = inr (inl (record {
   capacity = 5;
   offsets = 0 ∷ 4 ∷ [];
@@ -98,7 +100,7 @@ packs_at_5 = inr (inl (record {
   written = ap (λ (layout : List ℕ). writes (to_output layout ∷ []) (Feasible 5)) (sym start_text);
 }))
 
-refutes_3 : Packs (words (Some 3) 0) below_rows small_below (writes (to_log three_file ∷ []) (Infeasible 3))
+refutes_3 : Packs (Some 3) 0 names below_rows small_below (writes (to_log three_file ∷ []) (Infeasible 3))
 refutes_3 = inr (inr (inl (record {
   capacity = 3;
   refutation = three_log;
@@ -109,11 +111,11 @@ refutes_3 = inr (inr (inl (record {
 })))
 
 -- 4 is not refuted, and the layout has to be written
-not_refuted_at_4 : (o : Outcome) → RefutesAt (words (Some 4) 8) small_below o → ⊥
+not_refuted_at_4 : (o : Outcome) → RefutesAt (Some 4) 8 names small_below o → ⊥
 not_refuted_at_4 o h = go h.given h.refuted.infeasible
   where
     go : {C : ℕ} → Some 4 ≡ Some C → IsInfeasible small_below C → ⊥
     go e none = subst (IsInfeasible small_below) (sym (same_some e)) none (1 ∷ 0 ∷ []) laid_at_4
 
-not_without_a_write : PacksAt (words (Some 5) 0) below_rows small_below (says (Feasible 5)) → ⊥
+not_without_a_write : PacksAt (Some 5) names below_rows small_below (says (Feasible 5)) → ⊥
 not_without_a_write h = let e = ap (λ (o : Outcome). o.writes) h.written in absurd cc

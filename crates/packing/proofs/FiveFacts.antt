@@ -14,7 +14,8 @@ use Rattle.run_status.specs.declared.status.Status.TheVariants.{Feasible}
 use Rattle.run_course.specs.Course.{Comes, Concludes, Outcome, writes}
 use Rattle.readings.specs.Opens.{IsInput}
 use Rattle.readings.proofs.Opening.{with_input}
-use Rattle.packing.specs.Packing.{Pack, Packs, PacksAt, pack}
+use Rattle.writings.specs.Writings.{Names}
+use Rattle.packing.specs.Packing.{Packs, PacksAt, pack}
 
 -- ---- the layout within 12
 abbrev at_12 : List ℕ
@@ -28,13 +29,13 @@ laid_text : layout_text five_rows at_12 ≡ laid_file
 unfolding digits escaped fields_text is_blank
 laid_text = refl
 
-abbrev words : Pack
-words = record { capacity = Some 12; input = codes "i"; output = codes "o"; log = codes "l"; steps = 0 }
+abbrev names : Names
+names = record { input = codes "i"; output = codes "o"; log = codes "l" }
 
 abbrev laid_out : Outcome
 laid_out = writes (record { role = Output; name = codes "o"; bytes = laid_file } ∷ []) (Feasible 12)
 
-packs : PacksAt words five_rows five laid_out
+packs : PacksAt (Some 12) names five_rows five laid_out
 packs = record {
   capacity = 12;
   offsets = at_12;
@@ -56,6 +57,6 @@ its_input = record {
   parsed = five_parse;
 }
 
-goes : Comes files files (pack words) laid_out
-goes = with_input files files files (codes "i") five_rows five (λ t I. Concludes (Packs words t I))
+goes : Comes files files (pack (Some 12) 0 names) laid_out
+goes = with_input files files files (codes "i") five_rows five (λ t I. Concludes (Packs (Some 12) 0 names t I))
     (five, its_input) five_parse refl (λ name. lit≤ tt) laid_out (tt, inr (inl packs))

@@ -15,15 +15,16 @@ use Rattle.run_course.specs.Prepares.{outcome_of}
 use Rattle.run_course.specs.declared.prepared.Prepared.{Prepared}
 use Rattle.deciding.proofs.Concluding.{told}
 use Rattle.packing.specs.Used.{IfLeavesOpen}
-use Rattle.writings.specs.Writings.{layout_file}
+use Rattle.writings.specs.Writings.{Names, layout_file}
 use Rattle.deciding.specs.Deciding.{AllReadBack, log_files}
-use Rattle.packing.specs.Packing.{LeavesPackedOpen, Pack, Packs, PacksLeast}
+use Rattle.packing.specs.Packing.{LeavesPackedOpen, Packs, PacksLeast}
 
 -- the least capacity is found
-pub packs_least : (p : Pack) (table : List Record) (I : Instance) (b : Bracket) → p.capacity ≡ None →
-    IsPackedTight I p.steps b → AllReadBack b.log →
-    PacksLeast p table I (writes (layout_file p.output table b.layout.items ∷ log_files p.log b.log) (Least b.high))
-packs_least p table I b none h readable = record {
+pub packs_least : (within : Option ℕ) (steps : ℕ) (names : Names) (table : List Record) (I : Instance) (b : Bracket) →
+    within ≡ None → IsPackedTight I steps b → AllReadBack b.log →
+    PacksLeast within steps names table I
+    (writes (layout_file names.output table b.layout.items ∷ log_files names.log b.log) (Least b.high))
+packs_least within steps names table I b none h readable = record {
   capacity = b.high;
   offsets = b.layout.items;
   refutation = b.log;
@@ -32,21 +33,22 @@ packs_least p table I b none h readable = record {
   zero_for_none = h.zero_for_none;
   layout = h.between.layout;
   its_height = h.between.its_height;
-  refuted = subst (λ (C : ℕ). RefutesOneLess I C p.steps b.log) h.ends_met h.between.refuted_below;
+  refuted = subst (λ (C : ℕ). RefutesOneLess I C steps b.log) h.ends_met h.between.refuted_below;
   readable = readable;
   written = refl;
 }
 
 -- it is left open
-pub leaves_open : (p : Pack) (table : List Record) (I : Instance) (b : Bracket) → IsPackedOpen I p.steps b →
-    IfSome p.capacity (λ C. (b.low ≤ C) × (C < b.high)) → AllReadBack b.log →
-    LeavesPackedOpen p table I
-    (writes (layout_file p.output table b.layout.items ∷ log_files p.log b.log) (Open b.low b.high))
-leaves_open p table I b h between = go b.log h.between.refuted_below
+pub leaves_open : (within : Option ℕ) (steps : ℕ) (names : Names) (table : List Record) (I : Instance) (b : Bracket) →
+    IsPackedOpen I steps b →
+    IfSome within (λ C. (b.low ≤ C) × (C < b.high)) → AllReadBack b.log →
+    LeavesPackedOpen within steps names table I
+    (writes (layout_file names.output table b.layout.items ∷ log_files names.log b.log) (Open b.low b.high))
+leaves_open within steps names table I b h between = go b.log h.between.refuted_below
   where
-    go : (o : Option Log) → RefutesOneLess I b.low p.steps o → AllReadBack o →
-        LeavesPackedOpen p table I
-        (writes (layout_file p.output table b.layout.items ∷ log_files p.log o) (Open b.low b.high))
+    go : (o : Option Log) → RefutesOneLess I b.low steps o → AllReadBack o →
+        LeavesPackedOpen within steps names table I
+        (writes (layout_file names.output table b.layout.items ∷ log_files names.log o) (Open b.low b.high))
     go None zero readable = absurd (let some = h.positive in omega arith)
     go (Some log) refuted readable = record {
       low = b.low;
@@ -55,9 +57,7 @@ leaves_open p table I b h between = go b.log h.between.refuted_below
       refutation = log;
       ends_apart = h.ends_apart;
       positive = h.positive;
-      from_bound = h.from_bound;
-      to_best = h.to_best;
-      between = between;
+      ends = record { from_bound = h.from_bound; to_best = h.to_best; between = between };
       layout = h.between.layout;
       its_height = h.between.its_height;
       refuted = refuted.1;
@@ -66,12 +66,14 @@ leaves_open p table I b h between = go b.log h.between.refuted_below
     }
 
 -- each end is spoken
-pub packed_spoken : (p : Pack) (table : List Record) (I : Instance) (o : Outcome) → Packs p table I o →
-    IsSpoken o.status
-packed_spoken p table I o (inl h) = subst (λ (o : Outcome). IsSpoken o.status) (sym h.written) tt
-packed_spoken p table I o (inr (inl h)) = subst (λ (o : Outcome). IsSpoken o.status) (sym h.written) tt
-packed_spoken p table I o (inr (inr (inl h))) = subst (λ (o : Outcome). IsSpoken o.status) (sym h.written) tt
-packed_spoken p table I o (inr (inr (inr h))) = subst (λ (o : Outcome). IsSpoken o.status) (sym h.written) tt
+pub packed_spoken : (within : Option ℕ) (steps : ℕ) (names : Names) (table : List Record) (I : Instance) (o : Outcome) →
+    Packs within steps names table I o → IsSpoken o.status
+packed_spoken within steps names table I o (inl h) = subst (λ (o : Outcome). IsSpoken o.status) (sym h.written) tt
+packed_spoken within steps names table I o (inr (inl h)) = subst (λ (o : Outcome). IsSpoken o.status) (sym h.written) tt
+packed_spoken within steps names table I o (inr (inr (inl h))) = subst (λ (o : Outcome). IsSpoken o.status)
+    (sym h.written) tt
+packed_spoken within steps names table I o (inr (inr (inr h))) = subst (λ (o : Outcome). IsSpoken o.status)
+    (sym h.written) tt
 
 -- ---- where it is left open
 -- a fact holds whatever the outcome

@@ -1,3 +1,2 @@
 pub mod Packing
-pub mod Words
 pub mod Used

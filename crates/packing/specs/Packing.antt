@@ -8,76 +8,74 @@ use Rattle.dsa_terms.specs.Plans.{layout_height}
 use Rattle.dsa_terms.specs.Starts.{best_start}
 use Rattle.csv_instance.specs.Records.{Record}
 use Rattle.packer.specs.Packs.{RefutesOneLess, RefutesWithin}
-use Rattle.command_words.specs.Options.{Word}
 use Rattle.run_status.specs.declared.status.Status.TheVariants.{Feasible, Infeasible, Least, Open}
 use Rattle.run_course.specs.Course.{Course, Outcome, Concludes, writes}
 use Rattle.readings.specs.Input.{opened}
-use Rattle.writings.specs.Writings.{ReadsBack, layout_file, log_file}
+use Rattle.writings.specs.Writings.{Names, ReadsBack, layout_file, log_file}
 use Rattle.deciding.specs.Deciding.{AllReadBack, log_files}
-
--- the words of `pack`: the capacity, where one is given, is in bytes, and the steps are units
-pub record Pack : Type 0 where
-  pub capacity : Option ℕ
-  pub input : Word
-  pub output : Word
-  pub log : Word
-  pub steps : ℕ
 
 -- no capacity is given, and C is the least one that has a layout; a layout of that height is written, and a log that
 -- refutes one byte less, unless C is 0
-pub record PacksLeast (p : Pack) (table : List Record) (I : Instance) (o : Outcome) : Type 0 where
+pub record PacksLeast (within : Option ℕ) (steps : ℕ) (names : Names) (table : List Record) (I : Instance)
+    (o : Outcome) : Type 0 where
   pub capacity : ℕ
   pub offsets : List ℕ
   pub refutation : Option Log
-  pub none_given : p.capacity ≡ None
+  pub none_given : within ≡ None
   pub least : IsLeast I capacity
   pub zero_for_none : (I ≡ []) ↔ (capacity ≡ 0)
   pub layout : IsLayout I capacity offsets
   pub its_height : layout_height I offsets ≡ capacity
-  pub refuted : RefutesOneLess I capacity p.steps refutation
+  pub refuted : RefutesOneLess I capacity steps refutation
   pub readable : AllReadBack refutation
-  pub written : o ≡ writes (layout_file p.output table offsets ∷ log_files p.log refutation) (Least capacity)
+  pub written : o ≡ writes (layout_file names.output table offsets ∷ log_files names.log refutation) (Least capacity)
 
 -- a layout within the capacity that is given is written
-pub record PacksAt (p : Pack) (table : List Record) (I : Instance) (o : Outcome) : Type 0 where
+pub record PacksAt (within : Option ℕ) (names : Names) (table : List Record) (I : Instance) (o : Outcome) : Type 0 where
   pub capacity : ℕ
   pub offsets : List ℕ
-  pub given : p.capacity ≡ Some capacity
+  pub given : within ≡ Some capacity
   pub layout : IsLayout I capacity offsets
-  pub written : o ≡ writes (layout_file p.output table offsets ∷ []) (Feasible capacity)
+  pub written : o ≡ writes (layout_file names.output table offsets ∷ []) (Feasible capacity)
 
 -- no layout fits within the capacity that is given, and a log that refutes it is written
-pub record RefutesAt (p : Pack) (I : Instance) (o : Outcome) : Type 0 where
+pub record RefutesAt (within : Option ℕ) (steps : ℕ) (names : Names) (I : Instance) (o : Outcome) : Type 0 where
   pub capacity : ℕ
   pub refutation : Log
-  pub given : p.capacity ≡ Some capacity
-  pub refuted : RefutesWithin I capacity p.steps refutation
+  pub given : within ≡ Some capacity
+  pub refuted : RefutesWithin I capacity steps refutation
   pub readable : ReadsBack refutation
-  pub written : o ≡ writes (log_file p.log refutation ∷ []) (Infeasible capacity)
+  pub written : o ≡ writes (log_file names.log refutation ∷ []) (Infeasible capacity)
 
--- the least capacity stays open between ends that are no worse than the lower bound and the best start, and a capacity
--- that is given lies between them; a layout of the upper end's height is written, and a log that refutes one byte less
--- than the lower end
-pub record LeavesPackedOpen (p : Pack) (table : List Record) (I : Instance) (o : Outcome) : Type 0 where
+-- the ends are no worse than the lower bound and the best start, and a capacity that is given lies between them
+pub record AreEnds (I : Instance) (within : Option ℕ) (low high : ℕ) : Type 0 where
+  pub from_bound : lower_bound I ≤ low
+  pub to_best : high ≤ layout_height I (best_start I)
+  pub between : IfSome within (λ C. (low ≤ C) × (C < high))
+
+-- the least capacity stays open between such ends; a layout of the upper end's height is written, and a log that
+-- refutes one byte less than the lower end
+pub record LeavesPackedOpen (within : Option ℕ) (steps : ℕ) (names : Names) (table : List Record) (I : Instance)
+    (o : Outcome) : Type 0 where
   pub low : ℕ
   pub high : ℕ
   pub offsets : List ℕ
   pub refutation : Log
   pub ends_apart : low < high
   pub positive : 1 ≤ low
-  pub from_bound : lower_bound I ≤ low
-  pub to_best : high ≤ layout_height I (best_start I)
-  pub between : IfSome p.capacity (λ C. (low ≤ C) × (C < high))
+  pub ends : AreEnds I within low high
   pub layout : IsLayout I high offsets
   pub its_height : layout_height I offsets ≡ high
-  pub refuted : RefutesWithin I (low - 1) p.steps refutation
+  pub refuted : RefutesWithin I (low - 1) steps refutation
   pub readable : ReadsBack refutation
-  pub written : o ≡ writes (layout_file p.output table offsets ∷ log_file p.log refutation ∷ []) (Open low high)
+  pub written : o ≡ writes (layout_file names.output table offsets ∷ log_file names.log refutation ∷ []) (Open low high)
 
 -- what `pack` concludes of the instance of a table
-abbrev pub Packs : Pack → List Record → Instance → Outcome → Type 0
-Packs p table I o = PacksLeast p table I o ⊎ PacksAt p table I o ⊎ RefutesAt p I o ⊎ LeavesPackedOpen p table I o
+abbrev pub Packs : Option ℕ → (steps : ℕ) → Names → List Record → Instance → Outcome → Type 0
+Packs within steps names table I o =
+    PacksLeast within steps names table I o ⊎ PacksAt within names table I o ⊎ RefutesAt within steps names I o
+    ⊎ LeavesPackedOpen within steps names table I o
 
--- how `pack` goes
-abbrev pub pack : Pack → Course
-pack p = opened p.input (λ table I. Concludes (Packs p table I))
+-- how `pack` goes: the capacity, where one is given, is in bytes, and the steps are units
+abbrev pub pack : Option ℕ → (steps : ℕ) → Names → Course
+pack within steps names = opened names.input (λ table I. Concludes (Packs within steps names table I))

@@ -6,9 +6,9 @@ ghost use Rattle.run_course.specs.Course.{Concludes};
 ghost use Rattle.run_course.specs.Prepares.{outcome_of};
 ghost use Rattle.packer.specs.Packs.{AreUsedUp, placing_steps};
 ghost use Rattle.portfolio.specs.Trials.{at_start};
+ghost use Rattle.writings.specs.Named.{names_of};
 ghost use Rattle.packing.specs.Packing.{Packs, pack};
 ghost use Rattle.packing.specs.Used.{IfLeavesOpen};
-ghost use Rattle.packing.specs.Words.{pack_of};
 
 use csv_instance::Table;
 use deciding::both_files;
@@ -22,7 +22,7 @@ use readings::{TableCommand, conclude_input};
 use run_course::{Command, Prepared, one_write};
 use run_status::Status;
 use std::alloc::Global;
-use writings::{layout_file, log_file};
+use writings::{Names, layout_file, log_file};
 
 /// Packs the instance of the input as low as so many steps can, and writes the layout with a log by
 /// which less is too little; where a capacity (in bytes) is given, a layout within it, or a log by
@@ -30,10 +30,8 @@ use writings::{layout_file, log_file};
 #[derive(Clone, Copy)]
 pub struct Pack<'a> {
     pub capacity: Option<u64>,
-    pub input: &'a str,
-    pub output: &'a str,
-    pub log: &'a str,
     pub steps: u64,
+    pub names: Names<'a>,
 }
 
 /// What is written and told where no capacity is given. The searches use no more steps than those
@@ -49,26 +47,27 @@ fn packed_least<'a>(
     requires steps { words.now.steps ≤ number_limit }
     requires count { length table.now ≡ length instance.now + 1 }
     requires unused { tries.old ≡ at_start instance.now }
-    ensures value { IfOk result (λ p. Packs (pack_of words.now) table.now instance.now
-        (outcome_of p)) }
+    ensures value { IfOk result (λ p. Packs words.now.capacity words.now.steps
+        (names_of words.now.names) table.now instance.now (outcome_of p)) }
     ensures used { tries.new.units ≤ tries.old.units +
         (words.now.steps - placing_steps words.now.steps) }
     ensures exhausted { IfOk result (λ p.
         IfLeavesOpen (outcome_of p) (AreUsedUp words.now.steps tries.old.units tries.new.units)) }
 {
+    let names = &words.names;
     match pack_least(alloc, instance, words.steps, tries)? {
         Least::Exact(bracket) => {
             let status = Status::Least {
                 capacity: bracket.high,
             };
-            both_files(alloc, table, &bracket, words.output, words.log, status)
+            both_files(alloc, table, &bracket, names.output, names.log, status)
         }
         Least::Open(bracket) => {
             let status = Status::Open {
                 low: bracket.low,
                 high: bracket.high,
             };
-            both_files(alloc, table, &bracket, words.output, words.log, status)
+            both_files(alloc, table, &bracket, names.output, names.log, status)
         }
     }
 }
@@ -87,20 +86,21 @@ fn packed_within<'a>(
     requires steps { words.now.steps ≤ number_limit }
     requires count { length table.now ≡ length instance.now + 1 }
     requires unused { tries.old ≡ at_start instance.now }
-    ensures value { IfOk result (λ p. Packs (pack_of words.now) table.now instance.now
-        (outcome_of p)) }
+    ensures value { IfOk result (λ p. Packs words.now.capacity words.now.steps
+        (names_of words.now.names) table.now instance.now (outcome_of p)) }
     ensures used { tries.new.units ≤ tries.old.units +
         (words.now.steps - placing_steps words.now.steps) }
     ensures exhausted { IfOk result (λ p.
         IfLeavesOpen (outcome_of p) (AreUsedUp words.now.steps tries.old.units tries.new.units)) }
 {
+    let names = &words.names;
     match pack_within(alloc, instance, capacity, words.steps, tries)? {
         Decision::Layout(offsets) => {
-            let file = layout_file(alloc, table, offsets.as_slice(), words.output)?;
+            let file = layout_file(alloc, table, offsets.as_slice(), names.output)?;
             one_write(alloc, file, Status::Feasible { capacity })
         }
         Decision::Refuted(refutation) => {
-            let file = log_file(alloc, &refutation, words.log)?;
+            let file = log_file(alloc, &refutation, names.log)?;
             one_write(alloc, file, Status::Infeasible { capacity })
         }
         Decision::Open(bracket) => {
@@ -108,7 +108,7 @@ fn packed_within<'a>(
                 low: bracket.low,
                 high: bracket.high,
             };
-            both_files(alloc, table, &bracket, words.output, words.log, status)
+            both_files(alloc, table, &bracket, names.output, names.log, status)
         }
     }
 }
@@ -127,8 +127,8 @@ fn packed<'a>(
     requires steps { words.now.steps ≤ number_limit }
     requires count { length table.now ≡ length instance.now + 1 }
     requires unused { tries.old ≡ at_start instance.now }
-    ensures value { IfOk result (λ p. Packs (pack_of words.now) table.now instance.now
-        (outcome_of p)) }
+    ensures value { IfOk result (λ p. Packs words.now.capacity words.now.steps
+        (names_of words.now.names) table.now instance.now (outcome_of p)) }
     ensures used { tries.new.units ≤ tries.old.units +
         (words.now.steps - placing_steps words.now.steps) }
     ensures exhausted { IfOk result (λ p.
@@ -141,7 +141,8 @@ fn packed<'a>(
 }
 
 impl<'a> TableCommand<'a> for Pack<'a> {
-    ghost after = { λ p table I. Concludes (Packs (pack_of p) table I) };
+    ghost after = { λ p table I.
+        Concludes (Packs p.capacity p.steps (names_of p.names) table I) };
 
     ghost is_known = { λ p.
         IfSome p.capacity (λ C. C ≤ number_limit) × (p.steps ≤ number_limit) };
@@ -159,12 +160,12 @@ impl<'a> TableCommand<'a> for Pack<'a> {
 }
 
 impl<'a> Command<'a> for Pack<'a> {
-    ghost course = { λ p. pack (pack_of p) };
+    ghost course = { λ p. pack p.capacity p.steps (names_of p.names) };
 
     ghost is_asked = { λ p.
         IfSome p.capacity (λ C. C ≤ number_limit) × (p.steps ≤ number_limit) };
 
     fn conclude<F: Files>(&self, alloc: Global, files: &mut F) -> Result<Prepared<'a>, NoMemory> {
-        conclude_input(alloc, files, self.input, self)
+        conclude_input(alloc, files, self.names.input, self)
     }
 }

@@ -9,6 +9,12 @@ use Rattle.command_words.specs.Options.{Word}
 use Rattle.run_status.specs.declared.status.Role.TheVariants as role
 use Rattle.run_course.specs.Course.{Write}
 
+-- the names of the files of a command that decides: its input, its output, and the log's file
+pub record Names : Type 0 where
+  pub input : Word
+  pub output : Word
+  pub log : Word
+
 -- the layout of these offsets, for the output
 abbrev pub layout_file : Word → List Record → List ℕ → Write
 layout_file output table offsets = record { role = role.Output; name = output; bytes = layout_text table offsets }

@@ -2,5 +2,7 @@
 #![tactic(auto)]
 
 mod files;
+mod names;
 
 pub use files::{layout_file, log_file};
+pub use names::Names;

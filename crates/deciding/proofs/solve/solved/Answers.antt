@@ -4,32 +4,34 @@ use Rattle.planner.proofs.Stepping.{layout_given, no_start}
 use Rattle.run_status.specs.declared.status.Status.TheVariants.{Feasible, Infeasible, Open}
 use Rattle.run_course.specs.Course.{writes}
 use Rattle.run_course.specs.Prepares.{write_of}
+use Rattle.writings.specs.Named.{names_of}
 use Rattle.writings.specs.Writings.{layout_file, log_file}
 use Rattle.deciding.specs.Deciding.{AllReadBack, Solves, log_files}
-use Rattle.deciding.specs.Words.{solve_of}
 use Rattle.deciding.proofs.Concluding.{told, told_by, with_files}
 use Rattle.deciding.proofs.Decided.{leaves_open}
 use Rattle.deciding.proofs.solve.solved.Goals as goal
 
 pub returns-in_ok-file-in-Layout : goal.returns-in_ok-file-in-Layout
 returns-in_ok-file-in-Layout c =
-    let words = solve_of c.args.words.now in
+    let C = c.args.words.now.capacity in
+    let steps = c.args.words.now.steps in
+    let names = names_of c.args.words.now.names in
     let table = c.args.table.now in
     let I = c.args.instance.now in
     let offsets = c.in-Layout.offsets.items in
     let answer = rw c.in-Layout.is at c.in_ok-offsets.ensures.value in
     let file = subst
-    (λ (o : List ℕ). write_of c.in_ok-file-in-Layout.file ≡ layout_file words.output table o)
+    (λ (o : List ℕ). write_of c.in_ok-file-in-Layout.file ≡ layout_file names.output table o)
     c.as_slice.ensures.value c.in_ok-file-in-Layout.ensures.file in
-    told (Solves words table I) (writes (layout_file words.output table offsets ∷ []) (Feasible words.capacity))
+    told (Solves C steps names table I) (writes (layout_file names.output table offsets ∷ []) (Feasible C))
     c.one_write.result
-    (with_files (write_of c.in_ok-file-in-Layout.file) (layout_file words.output table offsets) [] []
-    (Feasible words.capacity) c.one_write.result file refl c.one_write.ensures)
+    (with_files (write_of c.in_ok-file-in-Layout.file) (layout_file names.output table offsets) [] []
+    (Feasible C) c.one_write.result file refl c.one_write.ensures)
     (inl (record {
       offsets = offsets;
       planned = answer.chosen;
       layout = answer.layout;
-      searched = layout_given I words.capacity words.steps
+      searched = layout_given I C steps
           (λ low. rw c.in-Layout.is at (c.in_ok-offsets.ensures.bound low))
           (λ none le. rw c.in-Layout.is at (c.in_ok-offsets.ensures.steps none le));
       written = refl;
@@ -37,31 +39,36 @@ returns-in_ok-file-in-Layout c =
 
 pub returns-in_ok-file-in-Refuted : goal.returns-in_ok-file-in-Refuted
 returns-in_ok-file-in-Refuted c =
-    let words = solve_of c.args.words.now in
+    let C = c.args.words.now.capacity in
+    let steps = c.args.words.now.steps in
+    let names = names_of c.args.words.now.names in
     let I = c.args.instance.now in
     let log = c.in-Refuted.refutation in
     let refuted = rw c.in-Refuted.is at c.in_ok-offsets.ensures.value in
-    told (Solves words c.args.table.now I) (writes (log_file words.log log ∷ []) (Infeasible words.capacity))
+    told (Solves C steps names c.args.table.now I) (writes (log_file names.log log ∷ []) (Infeasible C))
     c.one_write-in-Refuted.result
-    (with_files (write_of c.in_ok-file-in-Refuted.file) (log_file words.log log) [] [] (Infeasible words.capacity)
+    (with_files (write_of c.in_ok-file-in-Refuted.file) (log_file names.log log) [] [] (Infeasible C)
     c.one_write-in-Refuted.result c.in_ok-file-in-Refuted.ensures.file refl c.one_write-in-Refuted.ensures)
     (inr (inl (record {
       refutation = log;
       refuted = refuted;
       by_bound = λ low. rw c.in-Refuted.is at (c.in_ok-offsets.ensures.bound low);
       searched = λ le. rw c.in-Refuted.is at (c.in_ok-offsets.ensures.steps
-          (no_start I words.capacity (sound_instance I c.len-count.ensures.buffers) refuted.infeasible) le);
+          (no_start I C (sound_instance I c.len-count.ensures.buffers) refuted.infeasible) le);
       readable = c.in_ok-file-in-Refuted.ensures.readable;
       written = refl;
     })))
 
 pub returns-in-Open : goal.returns-in-Open
 returns-in-Open c =
-    let words = solve_of c.args.words.now in
+    let C = c.args.words.now.capacity in
+    let steps = c.args.words.now.steps in
+    let names = names_of c.args.words.now.names in
     let table = c.args.table.now in
     let I = c.args.instance.now in
     let b = c.in-Open.bracket in
-    told_by (Solves words table I)
-    (writes (layout_file words.output table b.layout.items ∷ log_files words.log b.log) (Open b.low b.high))
+    told_by (Solves C steps names table I)
+    (writes (layout_file names.output table b.layout.items ∷ log_files names.log b.log) (Open b.low b.high))
     (AllReadBack b.log) c.both_files.result c.both_files.ensures.files c.both_files.ensures.readable
-    (λ readable. inr (inr (leaves_open words table I b (rw c.in-Open.is at c.in_ok-offsets.ensures.value) readable)))
+    (λ readable. inr (inr (leaves_open C steps names table I b (rw c.in-Open.is at c.in_ok-offsets.ensures.value)
+    readable)))

@@ -5,23 +5,26 @@ use Rattle.run_course.specs.Prepares.{write_of}
 use Rattle.writings.specs.Writings.{layout_file, log_file}
 use Rattle.deciding.specs.Deciding.{AllReadBack, log_files}
 use Rattle.deciding.proofs.Concluding.{told, told_by, with_files}
+use Rattle.writings.specs.Named.{names_of}
 use Rattle.packing.specs.Packing.{Packs}
-use Rattle.packing.specs.Words.{pack_of}
 use Rattle.packing.proofs.Packed.{closed_exhausts, leaves_open, of_each}
 use Rattle.packing.proofs.pack.packed_within.Goals as goal
 
 pub returns-in_ok-file-in-Layout-clause-value : goal.returns-in_ok-file-in-Layout-clause-value
 returns-in_ok-file-in-Layout-clause-value c =
-    let words = pack_of c.args.words.now in
+    let within = c.args.words.now.capacity in
+    let steps = c.args.words.now.steps in
+    let names = names_of c.args.words.now.names in
     let table = c.args.table.now in
     let I = c.args.instance.now in
     let offsets = c.in-Layout.offsets.items in
     let file = subst
-    (λ (o : List ℕ). write_of c.in_ok-file-in-Layout.file ≡ layout_file words.output table o)
+    (λ (o : List ℕ). write_of c.in_ok-file-in-Layout.file ≡ layout_file names.output table o)
     c.as_slice.ensures.value c.in_ok-file-in-Layout.ensures.file in
-    told (Packs words table I) (writes (layout_file words.output table offsets ∷ []) (Feasible c.args.capacity))
+    told (Packs within steps names table I) (writes (layout_file names.output table offsets ∷ [])
+    (Feasible c.args.capacity))
     c.one_write.result
-    (with_files (write_of c.in_ok-file-in-Layout.file) (layout_file words.output table offsets) [] []
+    (with_files (write_of c.in_ok-file-in-Layout.file) (layout_file names.output table offsets) [] []
     (Feasible c.args.capacity) c.one_write.result file refl c.one_write.ensures)
     (inr (inl (record {
       capacity = c.args.capacity;
@@ -33,12 +36,15 @@ returns-in_ok-file-in-Layout-clause-value c =
 
 pub returns-in_ok-file-in-Refuted-clause-value : goal.returns-in_ok-file-in-Refuted-clause-value
 returns-in_ok-file-in-Refuted-clause-value c =
-    let words = pack_of c.args.words.now in
+    let within = c.args.words.now.capacity in
+    let steps = c.args.words.now.steps in
+    let names = names_of c.args.words.now.names in
     let I = c.args.instance.now in
     let log = c.in-Refuted.refutation in
-    told (Packs words c.args.table.now I) (writes (log_file words.log log ∷ []) (Infeasible c.args.capacity))
+    told (Packs within steps names c.args.table.now I)
+    (writes (log_file names.log log ∷ []) (Infeasible c.args.capacity))
     c.one_write-in-Refuted.result
-    (with_files (write_of c.in_ok-file-in-Refuted.file) (log_file words.log log) [] [] (Infeasible c.args.capacity)
+    (with_files (write_of c.in_ok-file-in-Refuted.file) (log_file names.log log) [] [] (Infeasible c.args.capacity)
     c.one_write-in-Refuted.result c.in_ok-file-in-Refuted.ensures.file refl c.one_write-in-Refuted.ensures)
     (inr (inr (inl (record {
       capacity = c.args.capacity;
@@ -51,15 +57,18 @@ returns-in_ok-file-in-Refuted-clause-value c =
 
 pub returns-in-Open-clause-value : goal.returns-in-Open-clause-value
 returns-in-Open-clause-value c =
-    let words = pack_of c.args.words.now in
+    let within = c.args.words.now.capacity in
+    let steps = c.args.words.now.steps in
+    let names = names_of c.args.words.now.names in
     let table = c.args.table.now in
     let I = c.args.instance.now in
     let b = c.in-Open.bracket in
     let left = rw c.in-Open.is at c.in_ok-offsets.ensures.value in
-    told_by (Packs words table I)
-    (writes (layout_file words.output table b.layout.items ∷ log_files words.log b.log) (Open b.low b.high))
+    told_by (Packs within steps names table I)
+    (writes (layout_file names.output table b.layout.items ∷ log_files names.log b.log) (Open b.low b.high))
     (AllReadBack b.log) c.both_files.result c.both_files.ensures.files c.both_files.ensures.readable
-    (λ readable. inr (inr (inr (leaves_open words table I b left.0 (rw c.requires.given (left.1, left.2)) readable))))
+    (λ readable. inr (inr (inr (leaves_open within steps names table I b left.0 (rw c.requires.given (left.1, left.2))
+    readable))))
 
 pub returns-in_ok-file-in-Layout-clause-exhausted : goal.returns-in_ok-file-in-Layout-clause-exhausted
 returns-in_ok-file-in-Layout-clause-exhausted c =
