@@ -1,11 +1,11 @@
 -- From what is prepared to what is concluded.
-use Rattle.std.proofs.Common.{◌≡◌, ◌≤◌, inl, inr, ℕ, List, [], ◌∷◌, Result, Ok, Err, IfOk, Some, sym, subst, ap, ◌∙◌}
+use Rattle.std.proofs.Common.{◌≡◌, inl, inr, ℕ, List, [], ◌∷◌, Result, Ok, Err, IfOk, Option, None, Some, refl, sym, subst, ap, ◌∙◌}
 use Rattle.dsa_terms.specs.Buffers.{Instance}
 use Rattle.dsa_model.specs.declared.fail.NoMemory.{NoMemory}
 use Rattle.csv_instance.specs.Records.{Record}
-use Rattle.dsa_terms.specs.Layouts.{IsLayout, IsLeast}
 use Rattle.size_classes.specs.Plain.{IsPlain, first_rough}
-use Rattle.size_classes.specs.Plans.{AllOf, IsPeakLoad, class_height, class_plan, power_height}
+use Rattle.size_classes.specs.Plans.{IsPeakLoad, class_height, class_plan}
+use Rattle.size_classes.proofs.PlainLemmas.{first_is_rough}
 use Rattle.command_words.specs.Options.{Word}
 use Rattle.run_status.specs.Spoken.{IsSpoken}
 use Rattle.run_status.specs.declared.status.Status.TheVariants.{Classed, NotPlain}
@@ -27,12 +27,18 @@ pub refused : (output : Word) (table : List Record) (I : Instance) (b : ℕ) (r 
 refused output table I b (Ok p) rough told = inr (record { buffer = b; rough = rough; told = told })
 refused output table I b (Err e) rough told = tt
 
+-- of a plain instance no buffer is rough
+smooth : (I : Instance) → IsPlain I → first_rough I ≡ None
+smooth I plain = go (first_rough I) refl
+  where
+    go : (first : Option ℕ) → first_rough I ≡ first → first_rough I ≡ None
+    go None is = is
+    go (Some b) is = let rough = first_is_rough I b is in absurd (rough.1 (plain b rough.0))
+
 -- the plan is written
 module _ (output : Word) (table : List Record) (I : Instance) (f : Write) (offsets : List ℕ) (height load : ℕ)
     (its_file : f ≡ layout_file output table offsets) (its_plan : offsets ≡ class_plan I)
-    (its_height : height ≡ class_height I) (peak : IsPeakLoad I load) (plain : IsPlain I)
-    (layout : IsLayout I height offsets) (powers : height ≤ power_height I)
-    (least : (size : ℕ) → AllOf I size → IsLeast I height × (height ≡ load)) where
+    (its_height : height ≡ class_height I) (peak : IsPeakLoad I load) (plain : IsPlain I) where
   plan_is : writes (f ∷ []) (Classed height load)
       ≡ writes (layout_file output table (class_plan I) ∷ []) (Classed (class_height I) load)
   plan_is =
@@ -45,13 +51,8 @@ module _ (output : Word) (table : List Record) (I : Instance) (f : Write) (offse
       IfOk r (λ p. Plans output table I (outcome_of p))
   planned (Ok p) is = inl (record {
     load = load;
-    plain = plain;
+    plain = smooth I plain;
     peak = peak;
-    layout = subst (λ h. IsLayout I h (class_plan I)) its_height
-        (subst (λ (xs : List ℕ). IsLayout I height xs) its_plan layout);
-    powers = subst (λ h. h ≤ power_height I) its_height powers;
-    least = λ size all.
-        let l = least size all in (subst (λ h. IsLeast I h) its_height l.0, sym its_height ∙ l.1);
     written = is ∙ plan_is;
   })
   planned (Err e) is = tt

@@ -1,5 +1,5 @@
 -- What `classes` concludes of one buffer of one byte, and of two whose alignment is 4.
-use Rattle.std.proofs.Common.{◌≡◌, ℕ, zero, suc, ◌+◌, ◌≤◌, ◌<◌, slice_index, List, [], ◌∷◌, Some, codes, refl, sym, ap, ap₂, inl, inr, lit<, lit≤, arith}
+use Rattle.std.proofs.Common.{◌≡◌, ℕ, zero, suc, ◌+◌, ◌≤◌, ◌<◌, slice_index, List, [], ◌∷◌, None, Some, codes, refl, sym, ap, ap₂, inl, lit<, lit≤, arith}
 use Rattle.dsa_terms.specs.Bounds.{moments}
 use Rattle.dsa_terms.specs.Buffers.{Instance, buffer, is_live}
 use Rattle.dsa_terms.specs.Layouts.{IsInfeasible, IsLayout, IsMultiple}
@@ -47,6 +47,10 @@ pub one_plain : IsPlain one
 unfolding buffer
 one_plain zero lt = (refl, lit≤ tt, refl)
 one_plain (suc b) lt = absurd (omega arith)
+
+one_smooth : first_rough one ≡ None
+unfolding first_rough
+one_smooth = refl
 
 pub one_laid : IsLayout one 1 (0 ∷ [])
 unfolding buffer
@@ -116,11 +120,8 @@ written = writes (layout_file (codes "o") rows (0 ∷ []) ∷ []) (Classed 1 1)
 pub plans_one : PlansByClass (codes "o") rows one written
 plans_one = record {
   load = 1;
-  plain = one_plain;
+  plain = one_smooth;
   peak = one_at_the_peak;
-  layout = rw (one_high, one_plan) one_laid;
-  powers = let high = one_high in let powers = one_powers in omega (arith, high, powers);
-  least = λ size all. rw one_high (((0 ∷ [], one_laid), inr nothing_at_0), refl);
   written = ap₂ (λ (plan : List ℕ) (high : ℕ). writes (layout_file (codes "o") rows plan ∷ []) (Classed high 1))
       (sym one_plan) (sym one_high);
 }

@@ -1,4 +1,4 @@
-mod PlainLemmas
+pub mod PlainLemmas
 mod TurnLemmas
 mod SlotLemmas
 mod SlotsAreLeast
@@ -9,8 +9,8 @@ mod SlotLoop
 mod CountLemmas
 mod Powers
 mod SizeLemmas
-mod PlanLemmas
+pub mod PlanLemmas
 mod RowLemmas
-mod EqualSizes
+pub mod EqualSizes
 mod ExampleFacts
 mod ExampleRowFacts
