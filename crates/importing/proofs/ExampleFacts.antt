@@ -2,7 +2,7 @@
 use Rattle.std.proofs.Common.{◌≡◌, [], ◌∷◌, Ok, codes, refl}
 use Rattle.trace_import.specs.Faults.{holder, trace_of}
 use Rattle.trace_import.specs.ImportText.{import_text}
-use Rattle.trace_import.specs.Traces.{Alloc, Free, Trace, imported}
+use Rattle.trace_import.specs.Traces.{Alloc, Free, Trace}
 use Rattle.trace_import.specs.declared.fault.TraceFault.TheVariants as fault
 use Rattle.run_status.specs.declared.status.Role.TheVariants as role
 use Rattle.run_status.specs.declared.status.Status.TheVariants.{Imported, TraceRefused}
@@ -24,7 +24,6 @@ twice_is_written : imports (codes "o") (Ok twice) ≡ writes (record {
   name = codes "o";
   bytes = import_text twice;
 } ∷ []) (Imported 3)
-unfolding imported
 twice_is_written = refl
 
 -- no lines are a trace without buffers
@@ -33,7 +32,7 @@ nothing_is_written : imports (codes "o") (trace_of []) ≡ writes (record {
   name = codes "o";
   bytes = import_text [];
 } ∷ []) (Imported 0)
-unfolding trace_of holder imported
+unfolding trace_of holder
 nothing_is_written = refl
 
 -- nobody holds what the first line frees: this is told, and nothing is written
