@@ -1,4 +1,4 @@
--- What a run answers where nothing outside it goes wrong.
+-- By which statuses a command is concluded where nothing outside it goes wrong.
 use Rattle.std.proofs.Common.{◌≡◌, ◌^◌, List, Result, Ok, Err, refl, sym, subst, inl, inr}
 use Rattle.dsa_terms.specs.Buffers.{Instance}
 use Rattle.dsa_outside.specs.Seen.{FilesSeen, SinkSeen}
@@ -30,13 +30,13 @@ use Rattle.importing.specs.Unrolling.{unrolls}
 use Rattle.cyclic_plan.specs.Unrolled.{unrolled_of}
 use Rattle.cyclic_plan.specs.declared.fault.CycleFault.{CycleFault}
 use Rattle.planning.specs.Planning.{Plans}
-use Rattle.explaining.specs.Explaining.{ExplainsOrFits}
-use Rattle.deciding.specs.Deciding.{Finds, Solves}
-use Rattle.packing.specs.Packing.{Packs}
-use Rattle.dsaplan_core.specs.Courses.{core_of, course, course_with, least_of, pack_of, solve_of}
+use Rattle.size_classes.proofs.PlainLemmas.{plain_from}
+use Rattle.dsaplan_core.specs.Courses.{course, course_with}
 use Rattle.dsaplan_core.specs.Choice.{MayStayOpen}
-use Rattle.dsaplan_core.specs.Complete.{IsConcluded, IsReady, IsUndisturbed}
+use Rattle.dsaplan_core.specs.Complete.{IsReady, IsUndisturbed}
+use Rattle.dsaplan_core.specs.Conclusions.{IsConclusion}
 use Rattle.dsaplan_core.specs.Lost.{IsOwnWrite, option_of_role}
+use Rattle.dsaplan_core.proofs.Deciding.{ExplainsAs, FindsAs, PacksAs, SolvesAs}
 use Rattle.dsaplan_core.proofs.Answered.{answered, words_give}
 use Rattle.dsaplan_core.proofs.Gives as gives
 use Rattle.dsaplan_core.proofs.Gives.{trial_gives}
@@ -45,7 +45,7 @@ use Rattle.dsaplan_core.proofs.Promises.{AreOwn}
 use Rattle.dsaplan_core.proofs.Requests.{write_named}
 use Rattle.dsaplan_core.proofs.Served.{served, checked_served, judged_served, opened_served}
 
-memory : (v : Verb) (pairs : List Pair) (I : Instance) → IsConcluded v pairs I status.NoMemory
+memory : (v : Verb) (pairs : List Pair) (I : Instance) → IsConclusion v pairs I status.NoMemory
 memory verb.Solve pairs I = tt
 memory verb.Least pairs I = tt
 memory verb.Pack pairs I = tt
@@ -63,61 +63,61 @@ memory verb.Unroll pairs I = tt
 memory verb.Classes pairs I = tt
 memory verb.Core pairs I = tt
 
-solved : (pairs : List Pair) (table : List Record) (J : Instance) (o : Outcome) → Solves (solve_of pairs) table J o →
-    IsConcluded verb.Solve pairs J o.status
+solved : (pairs : List Pair) (table : List Record) (J : Instance) (o : Outcome) → SolvesAs pairs table J o →
+    IsConclusion verb.Solve pairs J o.status
 solved pairs table J o (inl lays) =
-    subst (λ (o : Outcome). IsConcluded verb.Solve pairs J o.status) (sym lays.written)
+    subst (λ (o : Outcome). IsConclusion verb.Solve pairs J o.status) (sym lays.written)
     (refl, (lays.offsets, lays.layout))
 solved pairs table J o (inr (inl none)) =
-    subst (λ (o : Outcome). IsConcluded verb.Solve pairs J o.status) (sym none.written) (refl, none.refuted.infeasible)
+    subst (λ (o : Outcome). IsConclusion verb.Solve pairs J o.status) (sym none.written) (refl, none.refuted.infeasible)
 solved pairs table J o (inr (inr left)) =
-    subst (λ (o : Outcome). IsConcluded verb.Solve pairs J o.status) (sym left.written)
+    subst (λ (o : Outcome). IsConclusion verb.Solve pairs J o.status) (sym left.written)
     (subst (λ k. MayStayOpen verb.Solve pairs k J left.low left.high) (sym left.given) left.short)
 
-found : (pairs : List Pair) (table : List Record) (J : Instance) (o : Outcome) → Finds (least_of pairs) table J o →
-    IsConcluded verb.Least pairs J o.status
+found : (pairs : List Pair) (table : List Record) (J : Instance) (o : Outcome) → FindsAs pairs table J o →
+    IsConclusion verb.Least pairs J o.status
 found pairs table J o (inl finds) =
-    subst (λ (o : Outcome). IsConcluded verb.Least pairs J o.status) (sym finds.written) finds.least
+    subst (λ (o : Outcome). IsConclusion verb.Least pairs J o.status) (sym finds.written) finds.least
 found pairs table J o (inr left) =
-    subst (λ (o : Outcome). IsConcluded verb.Least pairs J o.status) (sym left.written)
+    subst (λ (o : Outcome). IsConclusion verb.Least pairs J o.status) (sym left.written)
     (subst (λ k. MayStayOpen verb.Least pairs k J left.low left.high) (sym left.given) left.short)
 
-packed : (pairs : List Pair) (table : List Record) (J : Instance) (o : Outcome) → Packs (pack_of pairs) table J o →
-    IsConcluded verb.Pack pairs J o.status
+packed : (pairs : List Pair) (table : List Record) (J : Instance) (o : Outcome) → PacksAs pairs table J o →
+    IsConclusion verb.Pack pairs J o.status
 packed pairs table J o (inl least) =
-    subst (λ (o : Outcome). IsConcluded verb.Pack pairs J o.status) (sym least.written) (least.none_given, least.least)
+    subst (λ (o : Outcome). IsConclusion verb.Pack pairs J o.status) (sym least.written) (least.none_given, least.least)
 packed pairs table J o (inr (inl laid)) =
-    subst (λ (o : Outcome). IsConcluded verb.Pack pairs J o.status) (sym laid.written)
+    subst (λ (o : Outcome). IsConclusion verb.Pack pairs J o.status) (sym laid.written)
     (laid.given, (laid.offsets, laid.layout))
 packed pairs table J o (inr (inr (inl none))) =
-    subst (λ (o : Outcome). IsConcluded verb.Pack pairs J o.status) (sym none.written)
+    subst (λ (o : Outcome). IsConclusion verb.Pack pairs J o.status) (sym none.written)
     (none.given, none.refuted.infeasible)
 packed pairs table J o (inr (inr (inr left))) =
-    subst (λ (o : Outcome). IsConcluded verb.Pack pairs J o.status) (sym left.written)
-    (record { from_bound = left.from_bound; to_best = left.to_best; between = left.between })
+    subst (λ (o : Outcome). IsConclusion verb.Pack pairs J o.status) (sym left.written) left.ends
 
 planned : (pairs : List Pair) (table : List Record) (J : Instance) (o : Outcome) →
     Plans (word_at pairs option.Output) table J o →
-    IsConcluded verb.Classes pairs J o.status
+    IsConclusion verb.Classes pairs J o.status
 planned pairs table J o (inl plan) =
-    subst (λ (o : Outcome). IsConcluded verb.Classes pairs J o.status) (sym plan.written) plan.plain
+    subst (λ (o : Outcome). IsConclusion verb.Classes pairs J o.status) (sym plan.written)
+    (plain_from J plan.plain)
 planned pairs table J o (inr rough) =
-    subst (λ (o : Outcome). IsConcluded verb.Classes pairs J o.status) (sym rough.told) rough.rough
+    subst (λ (o : Outcome). IsConclusion verb.Classes pairs J o.status) (sym rough.told) rough.rough
 
 explained : (pairs : List Pair) (table : List Record) (J : Instance) (o : Outcome) →
-    ExplainsOrFits (core_of pairs) table J o → IsConcluded verb.Core pairs J o.status
+    ExplainsAs pairs table J o → IsConclusion verb.Core pairs J o.status
 explained pairs table J o (inl core) =
-    subst (λ (o : Outcome). IsConcluded verb.Core pairs J o.status) (sym core.written) core.core.infeasible
+    subst (λ (o : Outcome). IsConclusion verb.Core pairs J o.status) (sym core.written) core.core.infeasible
 explained pairs table J o (inr fits) =
-    subst (λ (o : Outcome). IsConcluded verb.Core pairs J o.status) (sym fits.told) (refl, fits.feasible)
+    subst (λ (o : Outcome). IsConclusion verb.Core pairs J o.status) (sym fits.told) (refl, fits.feasible)
 
 imports_conclude : (pairs : List Pair) (J : Instance) (r : Result Trace TraceFault) →
-    IsConcluded verb.Import pairs J (imports (word_at pairs option.Output) r).status
+    IsConclusion verb.Import pairs J (imports (word_at pairs option.Output) r).status
 imports_conclude pairs J (Ok trace) = tt
 imports_conclude pairs J (Err fault) = tt
 
 unrolls_conclude : (pairs : List Pair) (table : List Record) (J : Instance) (r : Result Instance CycleFault) →
-    IsConcluded verb.Unroll pairs J
+    IsConclusion verb.Unroll pairs J
     (unrolls (number_at pairs option.Period) (word_at pairs option.Output) table r).status
 unrolls_conclude pairs table J (Ok I) = tt
 unrolls_conclude pairs table J (Err fault) = tt
@@ -128,7 +128,7 @@ module _ (old new : FilesSeen) (before after : SinkSeen) (I : Instance) where
   IsServed r = IsReady old r I × IsUndisturbed r old new before after
 
   abbrev IsDone : Verb → List Pair → Outcome → Type 0
-  IsDone v pairs o = IsConcluded v pairs I o.status
+  IsDone v pairs o = IsConclusion v pairs I o.status
 
   imported_done : (pairs : List Pair) → IsServed (record { verb = verb.Import; pairs = pairs }) → (o : Outcome) →
       Comes old new (course_with verb.Import pairs) o → IsDone verb.Import pairs o
@@ -155,18 +155,18 @@ module _ (old new : FilesSeen) (before after : SinkSeen) (I : Instance) where
       opened_served old new before after I (record { verb = verb.Solve; pairs = pairs }) ready calm
       (inl refl, λ same. cc)
       (IsDone verb.Solve pairs)
-      (λ table J. Concludes (Solves (solve_of pairs) table J)) (λ table o comes. solved pairs table I o comes.1)
+      (λ table J. Concludes (SolvesAs pairs table J)) (λ table o comes. solved pairs table I o comes.1)
   done verb.Least pairs (ready, calm) =
       opened_served old new before after I (record { verb = verb.Least; pairs = pairs }) ready calm
       (inl refl, λ same. cc)
       (IsDone verb.Least pairs)
-      (λ table J. Concludes (Finds (least_of pairs) table J))
+      (λ table J. Concludes (FindsAs pairs table J))
       (λ table o comes. found pairs table I o comes.1)
   done verb.Pack pairs (ready, calm) =
       opened_served old new before after I (record { verb = verb.Pack; pairs = pairs }) ready calm
       (inl refl, λ same. cc)
       (IsDone verb.Pack pairs)
-      (λ table J. Concludes (Packs (pack_of pairs) table J))
+      (λ table J. Concludes (PacksAs pairs table J))
       (λ table o comes. packed pairs table I o comes.1)
   done verb.Verify pairs (ready, calm) =
       let r : Request = record { verb = verb.Verify; pairs = pairs } in
@@ -235,7 +235,7 @@ module _ (old new : FilesSeen) (before after : SinkSeen) (I : Instance) where
       opened_served old new before after I (record { verb = verb.Core; pairs = pairs }) ready calm
       (inl refl, λ same. cc)
       (IsDone verb.Core pairs)
-      (λ table J. Concludes (ExplainsOrFits (core_of pairs) table J))
+      (λ table J. Concludes (ExplainsAs pairs table J))
       (λ table o comes. explained pairs table I o comes.1)
   done verb.Trial pairs (ready, calm) = trial_gives old new (IsDone verb.Trial pairs) (number_at pairs option.Seed)
       (number_at pairs option.Count) (number_at pairs option.Steps)
@@ -255,15 +255,15 @@ module _ (old new : FilesSeen) (before after : SinkSeen) (I : Instance) where
         calm.files (word_at r.pairs (option_of_role left.lost.role))
         (write_named r (option_of_role left.lost.role) mine.0) rose)
 
-    own_outcome : (o : Outcome) → Comes old new (course words) o → IsConcluded r.verb r.pairs I o.status
-    own_outcome = words_give old new words (λ o. IsConcluded r.verb r.pairs I o.status) (λ fault bad. absurd cc)
+    own_outcome : (o : Outcome) → Comes old new (course words) o → IsConclusion r.verb r.pairs I o.status
+    own_outcome = words_give old new words (λ o. IsConclusion r.verb r.pairs I o.status) (λ fault bad. absurd cc)
         (λ s asked o comes.
         let same : s ≡ r = (let a = is in let b = asked in cc) in
         done r.verb r.pairs (ready, calm) o
         (subst (λ (s : Request). Comes old new (course_with s.verb s.pairs) o) same comes))
 
-    -- the command is concluded, or memory ran out
-    pub concluded : (s : Status) → Answers (course words) old new before after s → IsConcluded r.verb r.pairs I s
-    concluded = answered (course words) old new before after (IsConcluded r.verb r.pairs I)
+    -- the status is one of those that conclude the command
+    pub conclusion : (s : Status) → Answers (course words) old new before after s → IsConclusion r.verb r.pairs I s
+    conclusion = answered (course words) old new before after (IsConclusion r.verb r.pairs I)
         (λ o comes files. own_outcome o comes) (λ role o comes left. absurd (not_broken role o comes left))
         (λ rose. absurd (calm.sink rose)) (memory r.verb r.pairs I)

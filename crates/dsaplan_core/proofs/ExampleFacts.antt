@@ -1,5 +1,5 @@
 -- What words ask for, how they go, and which statuses conclude, accept or refuse.
-use Rattle.std.proofs.Common.{◌≡◌, ◌<◌, ℕ, List, [], ◌∷◌, Some, None, Ok, codes, refl, inl, lit<, lit≤, arith}
+use Rattle.std.proofs.Common.{◌≡◌, ◌<◌, ℕ, List, [], ◌∷◌, Option, Some, None, Ok, codes, refl, inl, lit<, lit≤, arith}
 use Rattle.dsa_terms.specs.Buffers.{Instance}
 use Rattle.dsa_terms.proofs.Examples.{small_below, two_of_four}
 use Rattle.csv_instance.specs.declared.fault.InstanceFault.TheVariants as instance
@@ -10,7 +10,7 @@ use Rattle.planner.proofs.ExampleLeastFacts.{below_bound}
 use Rattle.planner.proofs.StepFacts.{best_at_5}
 use Rattle.planner.proofs.ShortageFacts.{four_of_four, short_of_four_steps}
 use Rattle.size_classes.specs.Plain.{first_rough}
-use Rattle.command_words.specs.Pairs.{Pair, pairs_of}
+use Rattle.command_words.specs.Pairs.{Pair, number_given, pairs_of}
 use Rattle.command_words.specs.Requests.{request_of}
 use Rattle.command_words.specs.declared.option.OptionName.TheVariants as option
 use Rattle.command_words.specs.declared.verb.Verb.TheVariants as verb
@@ -27,12 +27,13 @@ use Rattle.importing.specs.Importing.{import_course}
 use Rattle.importing.specs.Unrolling.{unroll_course}
 use Rattle.planning.specs.Planning.{classes}
 use Rattle.explaining.specs.Explaining.{core}
-use Rattle.packing.specs.Packing.{pack}
+use Rattle.packing.specs.Packing.{AreEnds, pack}
 use Rattle.explaining.proofs.ExampleFacts.{laid_at_8, none_at_7}
 use Rattle.planning.proofs.ExampleFacts.{one, one_plain}
 use Rattle.dsaplan_core.specs.Courses.{course}
-use Rattle.dsaplan_core.specs.Choice.{AreEnds, MayStayOpen, steps_of}
-use Rattle.dsaplan_core.specs.Complete.{IsAcceptedAt, IsConcluded, limit_of}
+use Rattle.dsaplan_core.specs.Choice.{MayStayOpen}
+use Rattle.dsaplan_core.specs.Complete.{IsAcceptedAt, limit_of}
+use Rattle.dsaplan_core.specs.Conclusions.{IsConclusion}
 use Rattle.dsaplan_core.specs.Causes.{IsChecking, IsJudgedAt}
 use Rattle.dsaplan_core.specs.Theorem.{Decides, ReadsInstance, SeeksLeast}
 use Rattle.dsaplan_core.specs.Lost.{option_of_role}
@@ -49,15 +50,15 @@ classes_go : course (codes "classes" ∷ classes_values)
 classes_go = refl
 
 core_goes : course (codes "core" ∷ core_values (codes "11"))
-    ≡ core (record { capacity = 11; input = codes "i"; output = codes "o"; log = codes "l" })
+    ≡ core 11 (record { input = codes "i"; output = codes "o"; log = codes "l" })
 core_goes = refl
 
 pack_goes : course (codes "pack" ∷ pack_values)
-    ≡ pack (record { capacity = None; input = codes "i"; output = codes "o"; log = codes "l"; steps = 9 })
+    ≡ pack None 9 (record { input = codes "i"; output = codes "o"; log = codes "l" })
 pack_goes = refl
 
 pack_within_goes : course (codes "pack" ∷ pack_within (codes "12"))
-    ≡ pack (record { capacity = Some 12; input = codes "i"; output = codes "o"; log = codes "l"; steps = 9 })
+    ≡ pack (Some 12) 9 (record { input = codes "i"; output = codes "o"; log = codes "l" })
 pack_within_goes = refl
 
 verify_goes : course (codes "verify" ∷ verify_values (codes "12"))
@@ -93,10 +94,10 @@ no_words_go : course [] ≡ Ends (says (status.Usage usage.NoCommand))
 no_words_go = refl
 
 -- ---- steps
-steps_are_three : steps_of (pairs_of (codes "--steps" ∷ codes "3" ∷ [])) ≡ Some 3
+steps_are_three : number_given (pairs_of (codes "--steps" ∷ codes "3" ∷ [])) option.Steps ≡ Some 3
 steps_are_three = refl
 
-no_steps : steps_of (pairs_of classes_values) ≡ None
+no_steps : number_given (pairs_of classes_values) option.Steps ≡ None
 no_steps = refl
 
 -- without a number of steps nothing stays open, and with four steps the search at 4 is not short
@@ -129,22 +130,22 @@ pack_seeks_none : SeeksLeast verb.Pack (pairs_of (pack_within (codes "8"))) → 
 pack_seeks_none e = absurd cc
 
 -- ---- ends
-ends_round_4 : AreEnds small_below (pairs_of (pack_within (codes "4"))) 4 5
+ends_round_4 : AreEnds small_below (number_given (pairs_of (pack_within (codes "4"))) option.Capacity) 4 5
 ends_round_4 = record {
   from_bound = (let e = below_bound in omega arith);
   to_best = (let e = best_at_5 in omega arith);
   between = (lit≤ tt, lit< tt);
 }
 
-ends_without_a_capacity : AreEnds small_below (pairs_of pack_values) 4 5
+ends_without_a_capacity : AreEnds small_below (number_given (pairs_of pack_values) option.Capacity) 4 5
 ends_without_a_capacity = record {
   from_bound = (let e = below_bound in omega arith);
   to_best = (let e = best_at_5 in omega arith);
   between = tt;
 }
 
-not_past_the_best : (pairs : List Pair) → AreEnds small_below pairs 4 6 → ⊥
-not_past_the_best pairs h = let e = best_at_5 in let le = h.to_best in omega (arith, e, le)
+not_past_the_best : (within : Option ℕ) → AreEnds small_below within 4 6 → ⊥
+not_past_the_best within h = let e = best_at_5 in let le = h.to_best in omega (arith, e, le)
 
 -- ---- files
 most_of_a_log : limit_of option.Log ≡ 1099511627776
@@ -200,66 +201,66 @@ unroll_reads_none h = h.1 refl
 refute_judges_none : (pairs : List Pair) (C : ℕ) → IsJudgedAt verb.Refute pairs C → ⊥
 refute_judges_none pairs C h = h
 
-concluded_by_the_plan : (pairs : List Pair) → IsConcluded verb.Classes pairs one (status.Classed 1 1)
+concluded_by_the_plan : (pairs : List Pair) → IsConclusion verb.Classes pairs one (status.Classed 1 1)
 concluded_by_the_plan pairs = one_plain
 
-concluded_by_the_first_rough : (pairs : List Pair) → IsConcluded verb.Classes pairs two_of_four (status.NotPlain 0)
+concluded_by_the_first_rough : (pairs : List Pair) → IsConclusion verb.Classes pairs two_of_four (status.NotPlain 0)
 unfolding first_rough
 concluded_by_the_first_rough pairs = refl
 
-not_by_a_layout : (pairs : List Pair) → IsConcluded verb.Classes pairs one (status.Feasible 1) → ⊥
+not_by_a_layout : (pairs : List Pair) → IsConclusion verb.Classes pairs one (status.Feasible 1) → ⊥
 not_by_a_layout pairs h = h
 
-concluded_by_the_picture : (pairs : List Pair) → IsConcluded verb.Draw pairs two (status.Drawn 2)
+concluded_by_the_picture : (pairs : List Pair) → IsConclusion verb.Draw pairs two (status.Drawn 2)
 concluded_by_the_picture pairs = tt
 
-not_concluded_by_a_report : (pairs : List Pair) → IsConcluded verb.Draw pairs two status.Shown → ⊥
+not_concluded_by_a_report : (pairs : List Pair) → IsConclusion verb.Draw pairs two status.Shown → ⊥
 not_concluded_by_a_report pairs h = h
 
-concluded_by_the_columns : (pairs : List Pair) → IsConcluded verb.Inspect pairs two status.Shown
+concluded_by_the_columns : (pairs : List Pair) → IsConclusion verb.Inspect pairs two status.Shown
 concluded_by_the_columns pairs = tt
 
-inspect_judges_nothing : (pairs : List Pair) → IsConcluded verb.Inspect pairs two status.Right → ⊥
+inspect_judges_nothing : (pairs : List Pair) → IsConclusion verb.Inspect pairs two status.Right → ⊥
 inspect_judges_nothing pairs h = h
 
 -- whatever the instance, a file without a header is refused as no circle, and never as malformed
 concluded_by_a_fault : (pairs : List Pair) →
-    IsConcluded verb.Unroll pairs two (status.CycleRefused (cycle.Instance instance.NoHeader))
+    IsConclusion verb.Unroll pairs two (status.CycleRefused (cycle.Instance instance.NoHeader))
 concluded_by_a_fault pairs = tt
 
 unroll_is_never_malformed : (pairs : List Pair) →
-    IsConcluded verb.Unroll pairs two (status.Malformed instance.NoHeader) → ⊥
+    IsConclusion verb.Unroll pairs two (status.Malformed instance.NoHeader) → ⊥
 unroll_is_never_malformed pairs h = h
 
-concluded_by_layout : IsConcluded verb.Solve (pairs_of (core_values (codes "8"))) two (status.Feasible 8)
+concluded_by_layout : IsConclusion verb.Solve (pairs_of (core_values (codes "8"))) two (status.Feasible 8)
 concluded_by_layout = (refl, (0 ∷ 4 ∷ [], laid_at_8))
 
-concluded_by_refutation : IsConcluded verb.Solve (pairs_of (core_values (codes "7"))) two (status.Infeasible 7)
+concluded_by_refutation : IsConclusion verb.Solve (pairs_of (core_values (codes "7"))) two (status.Infeasible 7)
 concluded_by_refutation = (refl, none_at_7)
 
-not_at_another_capacity : IsConcluded verb.Solve (pairs_of (core_values (codes "8"))) two (status.Feasible 9) → ⊥
+not_at_another_capacity : IsConclusion verb.Solve (pairs_of (core_values (codes "8"))) two (status.Feasible 9) → ⊥
 not_at_another_capacity h = let e : 9 ≡ 8 = h.0 in omega (arith, e)
 
-packed_within_8 : IsConcluded verb.Pack (pairs_of (pack_within (codes "8"))) two (status.Feasible 8)
+packed_within_8 : IsConclusion verb.Pack (pairs_of (pack_within (codes "8"))) two (status.Feasible 8)
 packed_within_8 = (refl, (0 ∷ 4 ∷ [], laid_at_8))
 
-packed_by_refutation : IsConcluded verb.Pack (pairs_of (pack_within (codes "7"))) two (status.Infeasible 7)
+packed_by_refutation : IsConclusion verb.Pack (pairs_of (pack_within (codes "7"))) two (status.Infeasible 7)
 packed_by_refutation = (refl, none_at_7)
 
-packed_within_no_other : IsConcluded verb.Pack (pairs_of pack_values) two (status.Feasible 8) → ⊥
+packed_within_no_other : IsConclusion verb.Pack (pairs_of pack_values) two (status.Feasible 8) → ⊥
 packed_within_no_other h = absurd (let e = h.0 in cc)
 
-concluded_by_the_core : IsConcluded verb.Core (pairs_of (core_values (codes "7"))) two (status.Core 2)
+concluded_by_the_core : IsConclusion verb.Core (pairs_of (core_values (codes "7"))) two (status.Core 2)
 concluded_by_the_core = none_at_7
 
-concluded_without_core : IsConcluded verb.Core (pairs_of (core_values (codes "8"))) two (status.NoCore 8)
+concluded_without_core : IsConclusion verb.Core (pairs_of (core_values (codes "8"))) two (status.NoCore 8)
 concluded_without_core = (refl, (0 ∷ 4 ∷ [], laid_at_8))
 
-trial_of_4096 : IsConcluded verb.Trial (pairs_of (trial_values (codes "4096"))) two status.Shown
+trial_of_4096 : IsConclusion verb.Trial (pairs_of (trial_values (codes "4096"))) two status.Shown
 trial_of_4096 = lit≤ tt
 
-too_many : IsConcluded verb.Trial (pairs_of (trial_values (codes "4097"))) two (status.TooMany 4097)
+too_many : IsConclusion verb.Trial (pairs_of (trial_values (codes "4097"))) two (status.TooMany 4097)
 too_many = (refl, lit< tt)
 
-not_too_many : IsConcluded verb.Trial (pairs_of (trial_values (codes "4096"))) two (status.TooMany 4096) → ⊥
+not_too_many : IsConclusion verb.Trial (pairs_of (trial_values (codes "4096"))) two (status.TooMany 4096) → ⊥
 not_too_many h = let k : 4096 < 4096 = h.1 in omega (arith, k)

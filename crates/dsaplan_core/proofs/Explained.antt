@@ -4,16 +4,21 @@ use Rattle.dsa_terms.specs.Buffers.{Instance}
 use Rattle.dsa_outside.specs.Seen.{FilesSeen}
 use Rattle.csv_instance.specs.Records.{Record}
 use Rattle.command_words.specs.Options.{Word}
-use Rattle.command_words.specs.Pairs.{Pair, word_at}
+use Rattle.command_words.specs.Pairs.{Pair, number_at, word_at}
 use Rattle.command_words.specs.Requests.{Request, request_of}
 use Rattle.command_words.specs.declared.option.OptionName.TheVariants as option
 use Rattle.command_words.specs.declared.verb.Verb.{Verb}
 use Rattle.command_words.specs.declared.verb.Verb.TheVariants as verb
 use Rattle.run_course.specs.Course.{Comes, Concludes, Outcome}
 use Rattle.readings.specs.Opens.{IsInput}
+use Rattle.core_find.proofs.Left.{core_does_not_fit, core_rest_fits}
 use Rattle.planning.specs.Planning.{Plans}
-use Rattle.explaining.specs.Explaining.{ExplainsOrFits}
-use Rattle.dsaplan_core.specs.Courses.{core_of, course_with}
+use Rattle.size_classes.proofs.EqualSizes.{equal_is_least, height_is_peak}
+use Rattle.size_classes.proofs.PlainLemmas.{plain_from}
+use Rattle.size_classes.proofs.PlanLemmas.{plan_is_layout, under_powers}
+use Rattle.dsaplan_core.specs.Courses.{course_with}
+use Rattle.dsaplan_core.proofs.Deciding.{ExplainsAs}
+use Rattle.dsaplan_core.proofs.ParsedInstances.{parsed_is_instance}
 use Rattle.dsaplan_core.proofs.Promises.{Promises, asked}
 use Rattle.dsaplan_core.proofs.Refusals.{opened_promises}
 
@@ -24,34 +29,39 @@ module _ (words : List Word) (old new : FilesSeen) (pairs : List Pair) where
   plans : (is : request_of words ≡ Ok (r verb.Classes)) (table : List Record) (I : Instance) →
       IsInput old (word_at pairs option.Input) table I → (o : Outcome) → Plans (word_at pairs option.Output) table I o →
       Promises words old new (r verb.Classes) o
-  plans is table I input o (inl plan) = subst (Promises words old new (r verb.Classes)) (sym plan.written) (
-    λ files. (
-      (
-        asked words old (r verb.Classes) is table I input,
-        refl,
-        record {
-          plain = plan.plain;
-          its_height = refl;
-          peak = plan.peak;
-          layout = plan.layout;
-          powers = plan.powers;
-          least = plan.least;
-          files = files;
-        },
-      ),
-      tt,
-      tt,
-      tt,
-    ),
-    ((inl refl, refl), tt),
-  )
+  plans is table I input o (inl plan) =
+      let sound = parsed_is_instance table I input.parsed in
+      subst (Promises words old new (r verb.Classes)) (sym plan.written) (
+        λ files. (
+          (
+            asked words old (r verb.Classes) is table I input,
+            refl,
+            record {
+              plain = plain_from I plan.plain;
+              its_height = refl;
+              peak = plan.peak;
+              layout = plan_is_layout I sound (plain_from I plan.plain);
+              powers = under_powers I;
+              least = λ size all. (
+                equal_is_least I size sound (plain_from I plan.plain) all,
+                height_is_peak I size plan.load sound (plain_from I plan.plain) all plan.peak,
+              );
+              files = files;
+            },
+          ),
+          tt,
+          tt,
+          tt,
+        ),
+        ((inl refl, refl), tt),
+      )
   plans is table I input o (inr rough) = subst (Promises words old new (r verb.Classes)) (sym rough.told) (
     λ files. ((asked words old (r verb.Classes) is table I input, refl, rough.rough, files), tt, tt, tt),
     tt,
   )
 
   explains : (is : request_of words ≡ Ok (r verb.Core)) (table : List Record) (I : Instance) →
-      IsInput old (word_at pairs option.Input) table I → (o : Outcome) → ExplainsOrFits (core_of pairs) table I o →
+      IsInput old (word_at pairs option.Input) table I → (o : Outcome) → ExplainsAs pairs table I o →
       Promises words old new (r verb.Core) o
   explains is table I input o (inl core) = subst (Promises words old new (r verb.Core)) (sym core.written) (
     λ files. (
@@ -66,8 +76,8 @@ module _ (words : List Word) (old new : FilesSeen) (pairs : List Pair) where
           parsed = core.parsed;
           accepted = core.accepted;
           its_capacity = core.its_capacity;
-          infeasible = core.infeasible;
-          rests = core.rests;
+          infeasible = core_does_not_fit I (number_at pairs option.Capacity) core.members core.core;
+          rests = λ b among. core_rest_fits I (number_at pairs option.Capacity) b core.members core.core among;
           readable = core.readable;
           files = files;
         },
@@ -92,5 +102,5 @@ module _ (words : List Word) (old new : FilesSeen) (pairs : List Pair) where
   pub core_promises : request_of words ≡ Ok (r verb.Core) → (o : Outcome) →
       Comes old new (course_with verb.Core pairs) o → Promises words old new (r verb.Core) o
   core_promises is = opened_promises words old new (r verb.Core) is (inl refl, λ same. cc)
-      (λ table I. Concludes (ExplainsOrFits (core_of pairs) table I))
+      (λ table I. Concludes (ExplainsAs pairs table I))
       (λ table I input o comes. explains is table I input o comes.1)

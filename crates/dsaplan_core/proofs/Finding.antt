@@ -8,12 +8,12 @@ use Rattle.log_text.specs.Text.{log_text}
 use Rattle.planner.specs.LeastCapacity.{AreWithinSteps, RefutesBelow}
 use Rattle.planner.proofs.Stepping.{layout_took, log_took}
 use Rattle.writings.specs.Writings.{layout_file}
-use Rattle.deciding.specs.Deciding.{AllReadBack, Finds, LeavesLeastOpen, log_files}
+use Rattle.deciding.specs.Deciding.{AllReadBack, LeavesLeastOpen, log_files}
 use Rattle.dsa_terms.specs.Buffers.{Instance}
 use Rattle.dsa_outside.specs.Seen.{FilesSeen}
 use Rattle.csv_instance.specs.Records.{Record}
 use Rattle.command_words.specs.Options.{Word}
-use Rattle.command_words.specs.Pairs.{Pair, word_at}
+use Rattle.command_words.specs.Pairs.{Pair, number_given, word_at}
 use Rattle.command_words.specs.Requests.{Request, request_of}
 use Rattle.command_words.specs.declared.option.OptionName.TheVariants as option
 use Rattle.command_words.specs.declared.verb.Verb.TheVariants as verb
@@ -22,11 +22,12 @@ use Rattle.run_course.specs.Course.{Comes, Concludes, Outcome}
 use Rattle.readings.specs.Opens.{IsInput}
 use Rattle.dsaplan_core.specs.Courses.{course_with}
 use Rattle.dsaplan_core.specs.Theorem.{Asked}
+use Rattle.dsaplan_core.proofs.Deciding.{FindsAs, steps_of}
 use Rattle.dsaplan_core.proofs.Promises.{Promises, asked}
 use Rattle.dsaplan_core.proofs.Refusals.{opened_promises}
 use Rattle.run_course.specs.Course.{writes}
-use Rattle.dsaplan_core.specs.Courses.{least_of}
-use Rattle.dsaplan_core.specs.Choice.{MayStayOpen, steps_of}
+use Rattle.dsaplan_core.specs.Courses.{names_in}
+use Rattle.dsaplan_core.specs.Choice.{MayStayOpen}
 use Rattle.dsaplan_core.proofs.Held.{last_held, first_held, second_held}
 use Rattle.dsaplan_core.proofs.Requests.{least_apart}
 
@@ -123,7 +124,8 @@ module _ (words : List Word) (old new : FilesSeen) (pairs : List Pair)
         ((inl refl, refl), ((inr (inl refl), refl), tt)),
       )
 
-    leaves_open : (o : Outcome) → LeavesLeastOpen (least_of pairs) table I o → Promises words old new request o
+    leaves_open : (o : Outcome) → LeavesLeastOpen (number_given pairs option.Steps) (names_in pairs) table I o →
+        Promises words old new request o
     leaves_open o left = subst (Promises words old new request) (sym left.written) (
       λ files.
           let first = first_held old.held new.held output log (layout_text table left.offsets)
@@ -172,7 +174,7 @@ module _ (words : List Word) (old new : FilesSeen) (pairs : List Pair)
       ((inl refl, refl), ((inr (inl refl), refl), tt)),
     )
 
-    concluded : (o : Outcome) → Finds (least_of pairs) table I o → Promises words old new request o
+    concluded : (o : Outcome) → FindsAs pairs table I o → Promises words old new request o
     concluded o (inl finds) = subst (Promises words old new request) (sym finds.written)
         (found finds.capacity finds.offsets finds.least finds.zero_for_none finds.planned finds.layout
         finds.refutation finds.refuted finds.within_steps finds.readable)
@@ -181,5 +183,5 @@ module _ (words : List Word) (old new : FilesSeen) (pairs : List Pair)
   pub least_promises : (o : Outcome) → Comes old new (course_with verb.Least pairs) o →
       Promises words old new request o
   least_promises o comes = opened_promises words old new request is (inl refl, λ same. cc)
-      (λ table I. Concludes (Finds (least_of pairs) table I))
+      (λ table I. Concludes (FindsAs pairs table I))
       (λ table I input o comes. concluded table I input o comes.1) o comes

@@ -1,11 +1,15 @@
 -- What statuses promise of files, on an input of two buffers that are both live at 4.
-use Rattle.std.proofs.Common.{◌≡◌, ◌∙◌, ◌++◌, List, [], ◌∷◌, Some, codes, refl, sym, subst, inl, inr, lit<, lit≤, arith}
+use Rattle.std.proofs.Common.{◌≡◌, ◌∙◌, ◌++◌, List, [], ◌∷◌, Some, codes, Result, refl, sym, ap, subst, inl, inr, lit<, lit≤, arith}
 use Rattle.std.specs.FinMap.{empty, insert}
+use Rattle.dsa_terms.specs.Buffers.{Instance}
 use Rattle.dsa_terms.specs.Claims.{IsIn}
+use Rattle.column_report.specs.Report.{inspect_text}
 use Rattle.column_report.proofs.ExampleFacts.{two_told}
 use Rattle.dsa_terms.specs.Logs.{Log, Over}
 use Rattle.csv_instance.specs.Layout.{layout_text}
 use Rattle.log_text.specs.Text.{log_text}
+use Rattle.csv_instance.specs.Records.{table_of}
+use Rattle.csv_instance.specs.declared.fault.InstanceFault.{InstanceFault}
 use Rattle.csv_instance.specs.declared.fault.InstanceFault.TheVariants as instance
 use Rattle.csv_instance.proofs.FileFacts.{no_bytes, two, two_file, two_rows}
 use Rattle.dsa_outside.specs.Seen.{FilesSeen, SinkSeen}
@@ -17,14 +21,17 @@ use Rattle.command_words.specs.declared.option.OptionName.{OptionName}
 use Rattle.command_words.specs.declared.option.OptionName.TheVariants as option
 use Rattle.command_words.specs.declared.verb.Verb.TheVariants as verb
 use Rattle.command_words.specs.declared.fault.UsageFault.TheVariants as usage
-use Rattle.run_course.specs.Complete.{IsReadable}
+use Rattle.run_course.specs.Complete.{ConcludesOn, IsReadable}
+use Rattle.run_course.specs.Course.{Concludes, Outcome, shows}
+use Rattle.readings.specs.Input.{instance_or_fault}
+use Rattle.fact_reports.specs.Reporting.{ShowsColumns}
 use Rattle.run_status.specs.declared.status.Status.TheVariants as status
 use Rattle.run_status.specs.declared.status.Role.{Role}
 use Rattle.run_status.specs.declared.status.Role.TheVariants as role
 use Rattle.explaining.proofs.ExampleFacts.{laid_at_8, none_at_7}
 use Rattle.dsaplan_core.specs.Causes.{AreNoCommand, AskTooMany, RefusesInput}
 use Rattle.dsaplan_core.specs.Choice.{ChosenBy, HoldsBrief}
-use Rattle.dsaplan_core.specs.Complete.{IsReady, IsUndisturbed, limit_of}
+use Rattle.dsaplan_core.specs.Complete.{IsConcluded, IsReady, IsUndisturbed, limit_of}
 use Rattle.dsaplan_core.specs.Lost.{LosesFile, MissesFile}
 use Rattle.dsaplan_core.specs.Shown.{Tells}
 use Rattle.dsaplan_core.specs.Theorem.{Asked, Headline, HoldsLayout, HoldsRefutation}
@@ -180,3 +187,32 @@ quiet = record { content = Some []; faults = 0 }
 
 undisturbed : IsUndisturbed bounds_request (told input_alone) (told input_alone) quiet quiet
 undisturbed = record { files = λ name among rose. omega (arith, rose); sink = λ rose. omega (arith, rose) }
+
+-- ---- what concludes a command
+abbrev inspect_request : Request
+inspect_request = record { verb = verb.Inspect; pairs = pairs_of bounds_values }
+
+abbrev columns_shown : Outcome
+columns_shown = shows (inspect_text (table_of two_file) two)
+
+concluded_by_a_report : IsConcluded (told input_alone) inspect_request status.Shown
+concluded_by_a_report = (
+  columns_shown,
+  (
+    input_is_readable,
+    subst (λ (p : Result Instance InstanceFault).
+        ConcludesOn (told input_alone)
+        (instance_or_fault p (λ I. Concludes (ShowsColumns (table_of two_file) I))) columns_shown)
+        (sym in_parse) (tt, refl),
+  ),
+  refl,
+)
+
+abbrev trial_request : Request
+trial_request = record { verb = verb.Trial; pairs = pairs_of (trial_values (codes "4096")) }
+
+not_concluded_by_a_read : (files : FilesSeen) → IsConcluded files trial_request (status.ReadFault role.Input) → ⊥
+not_concluded_by_a_read files h =
+    let e : h.0.status ≡ status.Shown = ap (λ (o : Outcome). o.status) h.1.1.shown in
+    let is = h.2 in
+    cc

@@ -5,7 +5,7 @@ use Rattle.csv_instance.specs.Records.{file_limit}
 use Rattle.trace_import.specs.Faults.{trace_of}
 use Rattle.trace_import.specs.Traces.{Trace}
 use Rattle.trace_import.specs.declared.fault.TraceFault.{TraceFault}
-use Rattle.trace_import.proofs.Accepted.{accepted_parses}
+use Rattle.trace_import.proofs.Accepted.{accepted_parses, imported_count}
 use Rattle.trace_import.proofs.Imported.{imported_traced}
 use Rattle.command_words.specs.Options.{Word}
 use Rattle.command_words.specs.Pairs.{Pair, word_at}
@@ -41,7 +41,7 @@ module _ (words : List Word) (old new : FilesSeen) (pairs : List Pair)
         record {
           trace = trace;
           read = read;
-          its_count = refl;
+          its_count = imported_count trace;
           parsed = accepted_parses bytes trace whole.short read;
           traced = imported_traced trace;
           files = files;

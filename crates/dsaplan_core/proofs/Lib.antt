@@ -1,3 +1,4 @@
+mod Deciding
 mod Gives
 mod Answered
 mod Requests
@@ -15,6 +16,7 @@ mod Reported
 mod Headline
 mod Served
 mod Concluded
+mod Serving
 mod Accepting
 mod Explained
 mod Importing

@@ -19,10 +19,11 @@ use Rattle.run_course.specs.Course.{Comes, Concludes, Outcome, writes}
 use Rattle.readings.specs.Opens.{IsInput}
 use Rattle.writings.specs.Writings.{ReadsBack, layout_file}
 use Rattle.deciding.specs.Deciding.{AllReadBack, log_files}
-use Rattle.packing.specs.Packing.{LeavesPackedOpen, Packs, PacksAt, RefutesAt}
-use Rattle.dsaplan_core.specs.Courses.{course_with, pack_of}
+use Rattle.packing.specs.Packing.{LeavesPackedOpen, PacksAt, RefutesAt}
+use Rattle.dsaplan_core.specs.Courses.{course_with, names_in}
 use Rattle.dsaplan_core.specs.Choice.{HoldsBrief}
 use Rattle.dsaplan_core.specs.Theorem.{Asked, HoldsRefutation}
+use Rattle.dsaplan_core.proofs.Deciding.{PacksAs}
 use Rattle.dsaplan_core.proofs.Promises.{Promises, asked}
 use Rattle.dsaplan_core.proofs.Refusals.{opened_promises}
 use Rattle.dsaplan_core.proofs.Held.{last_held, first_held, second_held}
@@ -116,7 +117,8 @@ module _ (words : List Word) (old new : FilesSeen) (pairs : List Pair)
         ((inl refl, refl), ((inr (inl refl), refl), tt)),
       )
 
-    packs_at : (o : Outcome) → PacksAt (pack_of pairs) table I o → Promises words old new request o
+    packs_at : (o : Outcome) → PacksAt (number_given pairs option.Capacity) (names_in pairs) table I o →
+        Promises words old new request o
     packs_at o laid = subst (Promises words old new request) (sym laid.written) (
       λ files.
           let held = last_held old.held new.held output (layout_text table laid.offsets) files in (
@@ -128,7 +130,8 @@ module _ (words : List Word) (old new : FilesSeen) (pairs : List Pair)
       ((inl refl, refl), tt),
     )
 
-    refutes_at : (o : Outcome) → RefutesAt (pack_of pairs) I o → Promises words old new request o
+    refutes_at : (o : Outcome) → RefutesAt (number_given pairs option.Capacity) (number_at pairs option.Steps)
+        (names_in pairs) I o → Promises words old new request o
     refutes_at o none = subst (Promises words old new request) (sym none.written) (
       λ files.
           let held = last_held old.held new.held log (log_text none.refutation) files in (
@@ -140,7 +143,8 @@ module _ (words : List Word) (old new : FilesSeen) (pairs : List Pair)
       ((inr (inl refl), refl), tt),
     )
 
-    leaves_open : (o : Outcome) → LeavesPackedOpen (pack_of pairs) table I o → Promises words old new request o
+    leaves_open : (o : Outcome) → LeavesPackedOpen (number_given pairs option.Capacity) (number_at pairs option.Steps)
+        (names_in pairs) table I o → Promises words old new request o
     leaves_open o left = subst (Promises words old new request) (sym left.written) (
       λ files.
           let first = first_held old.held new.held output log (layout_text table left.offsets)
@@ -157,7 +161,7 @@ module _ (words : List Word) (old new : FilesSeen) (pairs : List Pair)
             (
               this,
               (
-                record { from_bound = left.from_bound; to_best = left.to_best; between = left.between },
+                left.ends,
                 brief (left.low - 1) left.refutation left.refuted second,
               ),
             ),
@@ -167,7 +171,7 @@ module _ (words : List Word) (old new : FilesSeen) (pairs : List Pair)
       ((inl refl, refl), ((inr (inl refl), refl), tt)),
     )
 
-    packed : (o : Outcome) → Packs (pack_of pairs) table I o → Promises words old new request o
+    packed : (o : Outcome) → PacksAs pairs table I o → Promises words old new request o
     packed o (inl finds) = subst (Promises words old new request) (sym finds.written)
         (found finds.capacity finds.offsets finds.none_given finds.least finds.zero_for_none finds.layout
         finds.refutation finds.refuted finds.readable)
@@ -178,5 +182,5 @@ module _ (words : List Word) (old new : FilesSeen) (pairs : List Pair)
   pub pack_promises : (o : Outcome) → Comes old new (course_with verb.Pack pairs) o →
       Promises words old new request o
   pack_promises o comes = opened_promises words old new request is (inl refl, λ same. cc)
-      (λ table I. Concludes (Packs (pack_of pairs) table I))
+      (λ table I. Concludes (PacksAs pairs table I))
       (λ table I input o comes. packed table I input o comes.1) o comes

@@ -9,12 +9,12 @@ use Rattle.planner.specs.Decides.{IsBoundLog, LeavesNoLayout}
 use Rattle.planner.specs.LeastCapacity.{AreWithinSteps}
 use Rattle.planner.proofs.Keeping.{none_given}
 use Rattle.planner.proofs.Stepping.{layout_took, log_took}
-use Rattle.deciding.specs.Deciding.{LaysOut, LeavesOpen, Refutes, Solves}
+use Rattle.deciding.specs.Deciding.{LaysOut, LeavesOpen, Refutes}
 use Rattle.dsa_terms.specs.Buffers.{Instance}
 use Rattle.dsa_outside.specs.Seen.{FilesSeen}
 use Rattle.csv_instance.specs.Records.{Record}
 use Rattle.command_words.specs.Options.{Word}
-use Rattle.command_words.specs.Pairs.{Pair, word_at}
+use Rattle.command_words.specs.Pairs.{Pair, number_at, number_given, word_at}
 use Rattle.command_words.specs.Requests.{Request, request_of}
 use Rattle.command_words.specs.declared.option.OptionName.TheVariants as option
 use Rattle.command_words.specs.declared.verb.Verb.TheVariants as verb
@@ -22,10 +22,11 @@ use Rattle.run_course.specs.Course.{Comes, Concludes, Outcome}
 use Rattle.readings.specs.Opens.{IsInput}
 use Rattle.dsaplan_core.specs.Courses.{course_with}
 use Rattle.dsaplan_core.specs.Theorem.{Asked}
+use Rattle.dsaplan_core.proofs.Deciding.{SolvesAs, steps_of}
 use Rattle.dsaplan_core.proofs.Promises.{Promises, asked}
 use Rattle.dsaplan_core.proofs.Refusals.{opened_promises}
-use Rattle.dsaplan_core.specs.Courses.{solve_of}
-use Rattle.dsaplan_core.specs.Choice.{MayStayOpen, steps_of}
+use Rattle.dsaplan_core.specs.Courses.{names_in}
+use Rattle.dsaplan_core.specs.Choice.{MayStayOpen}
 use Rattle.dsaplan_core.proofs.Held.{last_held, first_held, second_held}
 use Rattle.dsaplan_core.proofs.Requests.{solve_apart}
 
@@ -58,10 +59,12 @@ module _ (words : List Word) (old new : FilesSeen) (pairs : List Pair)
     abbrev this : Asked words old
     this = asked words old request is table I input
 
-    lays_out : (o : Outcome) → LaysOut (solve_of pairs) table I o → Promises words old new request o
+    lays_out : (o : Outcome) → LaysOut (number_at pairs option.Capacity) (number_given pairs option.Steps)
+        (names_in pairs) table I o → Promises words old new request o
     lays_out o lays = subst (Promises words old new request) (sym lays.written) (
       λ files.
-          let held = last_held old.held new.held (word_at pairs option.Output) (layout_text table lays.offsets) files in (
+          let held = last_held old.held new.held (word_at pairs option.Output) (layout_text table lays.offsets) files
+          in (
             (this, refl, record { offsets = lays.offsets; layout = lays.layout; held = held }),
             (
               this,
@@ -78,7 +81,8 @@ module _ (words : List Word) (old new : FilesSeen) (pairs : List Pair)
       ((inl refl, refl), tt),
     )
 
-    refutes : (o : Outcome) → Refutes (solve_of pairs) I o → Promises words old new request o
+    refutes : (o : Outcome) → Refutes (number_at pairs option.Capacity) (number_given pairs option.Steps)
+        (names_in pairs) I o → Promises words old new request o
     refutes o none = subst (Promises words old new request) (sym none.written) (
       λ files.
           let held = last_held old.held new.held (word_at pairs option.Log) (log_text none.refutation) files in (
@@ -110,7 +114,8 @@ module _ (words : List Word) (old new : FilesSeen) (pairs : List Pair)
       ((inr (inl refl), refl), tt),
     )
 
-    leaves_open : (o : Outcome) → LeavesOpen (solve_of pairs) table I o → Promises words old new request o
+    leaves_open : (o : Outcome) → LeavesOpen (number_at pairs option.Capacity) (number_given pairs option.Steps)
+        (names_in pairs) table I o → Promises words old new request o
     leaves_open o left = subst (Promises words old new request) (sym left.written) (
       λ files.
           let output = word_at pairs option.Output in
@@ -163,7 +168,7 @@ module _ (words : List Word) (old new : FilesSeen) (pairs : List Pair)
       ((inl refl, refl), ((inr (inl refl), refl), tt)),
     )
 
-    solved : (o : Outcome) → Solves (solve_of pairs) table I o → Promises words old new request o
+    solved : (o : Outcome) → SolvesAs pairs table I o → Promises words old new request o
     solved o (inl lays) = lays_out o lays
     solved o (inr (inl none)) = refutes o none
     solved o (inr (inr left)) = leaves_open o left
@@ -171,5 +176,5 @@ module _ (words : List Word) (old new : FilesSeen) (pairs : List Pair)
   pub solve_promises : (o : Outcome) → Comes old new (course_with verb.Solve pairs) o →
       Promises words old new request o
   solve_promises o comes = opened_promises words old new request is (inl refl, λ same. cc)
-      (λ table I. Concludes (Solves (solve_of pairs) table I))
+      (λ table I. Concludes (SolvesAs pairs table I))
       (λ table I input o comes. solved table I input o comes.1) o comes

@@ -3,18 +3,18 @@
 -- gives comes only where it is 1 or more, and a log at a capacity that the lower bound leaves open has no more lines;
 -- 'open' comes only where the steps may be too few. With `pack` a log is without needless lines, and is the bound's or
 -- has no more lines than steps; the ends of 'open' are no worse than the lower bound and the best start.
-use Rattle.std.specs.Prelude.{◌≡◌, ◌-◌, ◌<◌, ◌≤◌, ◌↔◌, ◌⊎◌, ℕ, List, [], length, IsSome, IfSome, Option, Some, None}
+use Rattle.std.specs.Prelude.{◌≡◌, ◌-◌, ◌≤◌, ◌↔◌, ◌⊎◌, ℕ, List, [], length, IsSome, Option, Some, None}
 use Rattle.dsa_terms.specs.Bounds.{lower_bound}
 use Rattle.dsa_terms.specs.Buffers.{Instance}
 use Rattle.dsa_terms.specs.Lean.{IsLean}
 use Rattle.dsa_terms.specs.Logs.{Log}
-use Rattle.dsa_terms.specs.Plans.{layout_height}
-use Rattle.dsa_terms.specs.Starts.{best_start, planned}
+use Rattle.dsa_terms.specs.Starts.{planned}
 use Rattle.dsa_outside.specs.Held.{file_at}
 use Rattle.dsa_outside.specs.Seen.{FilesSeen}
 use Rattle.csv_instance.specs.Layout.{layout_text}
 use Rattle.log_text.specs.Text.{log_text}
 use Rattle.packer.specs.Packs.{IsTrimmed}
+use Rattle.packing.specs.Packing.{AreEnds}
 use Rattle.planner.specs.Decides.{IsBoundLog}
 use Rattle.planner.specs.FirstStart.{start_within}
 use Rattle.planner.specs.Openings.{AreGiven}
@@ -28,16 +28,12 @@ use Rattle.run_status.specs.declared.status.Status.{Status}
 use Rattle.run_status.specs.declared.status.Status.TheVariants as status
 use Rattle.dsaplan_core.specs.Theorem.{Asked}
 
--- the number of steps that the words give, if they do
-abbrev pub steps_of : List Pair → Option ℕ
-steps_of pairs = number_given pairs option.Steps
-
 -- the output holds the plan at the capacity; where no start is within it, a step at least is given, if a number is
 pub record HoldsPlan {words : List Word} {old : FilesSeen} (a : Asked words old) (new : FilesSeen)
     (C : ℕ) : Type 0 where
   pub offsets : List ℕ
   pub planned : planned a.instance C ≡ Some offsets
-  pub searched : start_within a.instance C ≡ None → AreGiven (steps_of a.pairs) 1
+  pub searched : start_within a.instance C ≡ None → AreGiven (number_given a.pairs option.Steps) 1
   pub held : IsSome old.held → file_at new.held (word_at a.pairs option.Output) ≡ Some (layout_text a.table offsets)
 
 -- the log's file holds a log without waste at the capacity; where the lower bound leaves the capacity open, a step is
@@ -47,7 +43,7 @@ pub record HoldsLean {words : List Word} {old : FilesSeen} (a : Asked words old)
   pub refutation : Log
   pub its_capacity : refutation.capacity ≡ C
   pub lean : IsLean a.instance refutation
-  pub searched : lower_bound a.instance ≤ C → AreGiven (steps_of a.pairs) (length refutation.lines)
+  pub searched : lower_bound a.instance ≤ C → AreGiven (number_given a.pairs option.Steps) (length refutation.lines)
   pub held : IsSome old.held → file_at new.held (word_at a.pairs option.Log) ≡ Some (log_text refutation)
 
 -- so many steps may run out on the instance, and leave its least capacity between L and H
@@ -66,19 +62,14 @@ pub record HoldsBrief {words : List Word} {old : FilesSeen} (a : Asked words old
   pub few : IsBoundLog a.instance C refutation ⊎ (length refutation.lines ≤ number_at a.pairs option.Steps)
   pub held : IsSome old.held → file_at new.held (word_at a.pairs option.Log) ≡ Some (log_text refutation)
 
--- the ends are no worse than the lower bound and the best start, and a capacity that the words give lies between them
-pub record AreEnds (I : Instance) (pairs : List Pair) (L H : ℕ) : Type 0 where
-  pub from_bound : lower_bound I ≤ L
-  pub to_best : H ≤ layout_height I (best_start I)
-  pub between : IfSome (number_given pairs option.Capacity) (λ C. (L ≤ C) × (C < H))
-
 -- which answer the status is, where the layout is the plan
 abbrev pub ChoosesPlan : {words : List Word} {old : FilesSeen} → Asked words old → FilesSeen → Status → Type 0
 ChoosesPlan a new (status.Feasible C) = HoldsPlan a new C
 ChoosesPlan a new (status.Infeasible C) = HoldsLean a new C
 ChoosesPlan a new (status.Least C) =
     ((a.instance ≡ []) ↔ (C ≡ 0)) × HoldsPlan a new C × (1 ≤ C → HoldsLean a new (C - 1))
-ChoosesPlan a new (status.Open L H) = MayStayOpen a.verb a.pairs (steps_of a.pairs) a.instance L H × HoldsPlan a new H
+ChoosesPlan a new (status.Open L H) =
+    MayStayOpen a.verb a.pairs (number_given a.pairs option.Steps) a.instance L H × HoldsPlan a new H
     × HoldsLean a new (L - 1)
 ChoosesPlan a new status = Unit {0}
 
@@ -86,7 +77,8 @@ ChoosesPlan a new status = Unit {0}
 abbrev pub ChoosesAny : {words : List Word} {old : FilesSeen} → Asked words old → FilesSeen → Status → Type 0
 ChoosesAny a new (status.Infeasible C) = HoldsBrief a new C
 ChoosesAny a new (status.Least C) = ((a.instance ≡ []) ↔ (C ≡ 0)) × (1 ≤ C → HoldsBrief a new (C - 1))
-ChoosesAny a new (status.Open L H) = AreEnds a.instance a.pairs L H × HoldsBrief a new (L - 1)
+ChoosesAny a new (status.Open L H) =
+    AreEnds a.instance (number_given a.pairs option.Capacity) L H × HoldsBrief a new (L - 1)
 ChoosesAny a new status = Unit {0}
 
 -- which answer the status of a command is

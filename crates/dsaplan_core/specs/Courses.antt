@@ -16,53 +16,20 @@ use Rattle.fact_reports.specs.Reporting.{bounds, inspect, trial}
 use Rattle.importing.specs.Importing.{import_course}
 use Rattle.importing.specs.Unrolling.{unroll_course}
 use Rattle.planning.specs.Planning.{classes}
-use Rattle.explaining.specs.Explaining.{Core, core}
-use Rattle.deciding.specs.Deciding.{LeastOf, Solve, least, solve}
-use Rattle.packing.specs.Packing.{Pack, pack}
+use Rattle.writings.specs.Writings.{Names}
+use Rattle.explaining.specs.Explaining.{core}
+use Rattle.deciding.specs.Deciding.{least, solve}
+use Rattle.packing.specs.Packing.{pack}
 
--- what the pairs ask of `solve`
-abbrev pub solve_of : List Pair → Solve
-solve_of pairs = record {
-  capacity = number_at pairs Capacity;
-  input = word_at pairs Input;
-  output = word_at pairs Output;
-  log = word_at pairs Log;
-  steps = number_given pairs Steps;
-}
-
--- what they ask of `least`
-abbrev pub least_of : List Pair → LeastOf
-least_of pairs = record {
-  input = word_at pairs Input;
-  output = word_at pairs Output;
-  log = word_at pairs Log;
-  steps = number_given pairs Steps;
-}
-
--- what they ask of `pack`
-abbrev pub pack_of : List Pair → Pack
-pack_of pairs = record {
-  capacity = number_given pairs Capacity;
-  input = word_at pairs Input;
-  output = word_at pairs Output;
-  log = word_at pairs Log;
-  steps = number_at pairs Steps;
-}
-
--- what they ask of `core`
-abbrev pub core_of : List Pair → Core
-core_of pairs = record {
-  capacity = number_at pairs Capacity;
-  input = word_at pairs Input;
-  output = word_at pairs Output;
-  log = word_at pairs Log;
-}
+-- the names that the pairs give the files of a command that decides
+abbrev pub names_in : List Pair → Names
+names_in pairs = record { input = word_at pairs Input; output = word_at pairs Output; log = word_at pairs Log }
 
 -- how a command goes
 abbrev pub course_with : Verb → List Pair → Course
-course_with verb.Solve pairs = solve (solve_of pairs)
-course_with verb.Least pairs = least (least_of pairs)
-course_with verb.Pack pairs = pack (pack_of pairs)
+course_with verb.Solve pairs = solve (number_at pairs Capacity) (number_given pairs Steps) (names_in pairs)
+course_with verb.Least pairs = least (number_given pairs Steps) (names_in pairs)
+course_with verb.Pack pairs = pack (number_given pairs Capacity) (number_at pairs Steps) (names_in pairs)
 course_with verb.Verify pairs = verify (number_at pairs Capacity) (word_at pairs Input) (word_at pairs Layout)
 course_with verb.Refute pairs = refute (word_at pairs Input) (word_at pairs Log)
 course_with verb.Trim pairs = trim (word_at pairs Input) (word_at pairs Log) (word_at pairs Output)
@@ -75,7 +42,7 @@ course_with verb.Trial pairs = trial (number_at pairs Seed) (number_at pairs Cou
 course_with verb.Import pairs = import_course (word_at pairs Trace) (word_at pairs Output)
 course_with verb.Unroll pairs = unroll_course (number_at pairs Period) (word_at pairs Input) (word_at pairs Output)
 course_with verb.Classes pairs = classes (word_at pairs Input) (word_at pairs Output)
-course_with verb.Core pairs = core (core_of pairs)
+course_with verb.Core pairs = core (number_at pairs Capacity) (names_in pairs)
 
 -- how words go: as their command, or their first fault is told
 abbrev pub course_or_fault : Result Request UsageFault → Course

@@ -3,6 +3,7 @@ pub mod Theorem
 pub mod Derived
 pub mod Choice
 pub mod Complete
+pub mod Conclusions
 pub mod Causes
 pub mod Lost
 pub mod Refused

@@ -6,7 +6,6 @@ ghost use Rattle.command_words.specs.Requests.{Request as RequestTerm, request_o
 ghost use Rattle.run_course.specs.Answers.{Answers};
 ghost use Rattle.dsaplan_core.specs.Courses.{course, course_with};
 ghost use Rattle.dsaplan_core.specs.Theorem.{Headline};
-ghost use Rattle.dsaplan_core.specs.Derived.{Derived};
 ghost use Rattle.dsaplan_core.specs.Choice.{Choice};
 ghost use Rattle.dsaplan_core.specs.Complete.{IsConcluded, IsReady, IsUndisturbed};
 
@@ -24,6 +23,7 @@ use planning::Classes;
 use run_course::perform;
 use run_status::Status;
 use std::alloc::Global;
+use writings::Names;
 
 /// Does what the command asks for.
 fn answer<F: Files, S: Sink>(
@@ -41,33 +41,22 @@ fn answer<F: Files, S: Sink>(
     let log = request.word(OptionName::Log);
     let layout = request.word(OptionName::Layout);
     let steps = request.number_given(OptionName::Steps);
+    let names = Names { input, output, log };
     match request.verb() {
         Verb::Solve => {
             let solve = Solve {
                 capacity,
-                input,
-                output,
-                log,
                 steps,
+                names,
             };
             perform(alloc, &solve, files, out)
         }
-        Verb::Least => {
-            let least = Least {
-                input,
-                output,
-                log,
-                steps,
-            };
-            perform(alloc, &least, files, out)
-        }
+        Verb::Least => perform(alloc, &Least { steps, names }, files, out),
         Verb::Pack => {
             let pack = Pack {
                 capacity: request.number_given(OptionName::Capacity),
-                input,
-                output,
-                log,
                 steps: request.number(OptionName::Steps),
+                names,
             };
             perform(alloc, &pack, files, out)
         }
@@ -112,15 +101,7 @@ fn answer<F: Files, S: Sink>(
             perform(alloc, &unroll, files, out)
         }
         Verb::Classes => perform(alloc, &Classes { input, output }, files, out),
-        Verb::Core => {
-            let core = Core {
-                capacity,
-                input,
-                output,
-                log,
-            };
-            perform(alloc, &core, files, out)
-        }
+        Verb::Core => perform(alloc, &Core { capacity, names }, files, out),
         Verb::Trial => {
             let trial = Trial {
                 seed: request.number(OptionName::Seed),
@@ -163,12 +144,6 @@ pub fn run<F: Files, S: Sink>(alloc: Global, words: &[String], files: &mut F, ou
     ensures headline { Headline (map string_bytes words.now)
         (F.seen files.old) (F.seen files.new) result }
 
-    // 'upgraded' writes the accepted log in the second version of its text, 'drawn' a picture of
-    // the layout, 'classes' a plan by size class, 'core' an irreducible set of buffers that do not
-    // fit, 'imported' the instance of the trace, and 'unrolled' that of one period.
-    ensures derived { Derived (map string_bytes words.now)
-        (F.seen files.old) (F.seen files.new) result }
-
     // With `solve` and `least` the layout is the plan, the log is without waste, and steps bound
     // both; 'open' comes only where the steps may be too few. With `pack` no line of the log is
     // needless, and a step is given for each, or it is the lower bound's; the ends of 'open' are no
@@ -177,14 +152,14 @@ pub fn run<F: Files, S: Sink>(alloc: Global, words: &[String], files: &mut F, ou
         (F.seen files.old) (F.seen files.new) result }
 
     // Where the words are a command, the files that it reads are there and within their limits, its
-    // input is an instance (where it has one), and nothing outside fails, the command is concluded,
-    // unless memory runs out; without steps 'open' never comes.
+    // input is an instance (where it has one), and nothing outside fails, the command concludes
+    // from what they hold, unless memory runs out: no word, file or print is blamed.
     ensures complete { (request : RequestTerm) (I : Instance) →
         request_of (map string_bytes words.now) ≡ Ok request →
         IsReady (F.seen files.old) request I →
         IsUndisturbed request
         (F.seen files.old) (F.seen files.new) (S.seen out.old) (S.seen out.new) →
-        IsConcluded request.verb request.pairs I result }
+        IsConcluded (F.seen files.old) request result }
 {
     execute(alloc, words, files, out)
 }

@@ -13,7 +13,7 @@ ghost use Rattle.log_check.specs.Faults.{check_fault};
 ghost use Rattle.log_check.specs.declared.fault.CheckFault.{CheckFault};
 ghost use Rattle.command_words.specs.Options.{Word};
 ghost use Rattle.command_words.specs.Pairs.{Pair, word_at};
-ghost use Rattle.command_words.specs.Requests.{request_of};
+ghost use Rattle.command_words.specs.Requests.{Request, request_of};
 ghost use Rattle.command_words.specs.declared.option.OptionName.TheVariants as option;
 ghost use Rattle.command_words.specs.declared.verb.Verb.TheVariants as verb;
 ghost use Rattle.command_words.specs.declared.fault.UsageFault.{UsageFault};
@@ -23,10 +23,22 @@ ghost use Rattle.run_status.specs.declared.status.Role.{Role};
 ghost use Rattle.run_course.specs.Answers.{Answers};
 ghost use Rattle.dsaplan_core.specs.Courses.{course};
 ghost use Rattle.dsaplan_core.specs.Complete.{HoldsLog, IsAcceptedAt, IsReady, IsUndisturbed};
+ghost use Rattle.dsaplan_core.specs.Conclusions.{IsConclusion};
 ghost use Rattle.dsaplan_core.specs.Causes.{IsCaused};
+ghost use Rattle.dsaplan_core.specs.Derived.{Derived};
 ghost use Rattle.dsaplan_core.specs.Lost.{HasLongFile, LosesFile, MissesFile};
 ghost use Rattle.dsaplan_core.specs.Refused.{IsMisuse};
 ghost use Rattle.dsaplan_core.specs.Shown.{Shows};
+
+/// What is derived from an instance, a layout, a log or a trace is what its status says: 'upgraded'
+/// writes the accepted log in the second version of its text, 'drawn' a picture of the layout,
+/// 'classes' a plan by size class, 'core' an irreducible set of buffers that do not fit, 'imported'
+/// the instance of the trace, and 'unrolled' that of one period; and what is refused as no plain
+/// buffer, no trace, no cycle or no core is none.
+pub fn derived()
+    ensures { (words : List Word) (old new : FilesSeen) (before after : SinkSeen) (s : Status) →
+        Answers (course words) old new before after s → Derived words old new s }
+{}
 
 /// A report that is shown is true of the input's instance, of its layout, of how the input is read,
 /// or of the made instance.
@@ -46,6 +58,17 @@ pub fn checks()
         IsUndisturbed (record { verb = verb.Refute; pairs = pairs }) old new before after →
         HoldsLog I log old (word_at pairs option.Log) →
         Answers (course words) old new before after s → IsAcceptedAt log.capacity s }
+{}
+
+/// Where a command's files are readable, its input is an instance, and nothing outside fails, the
+/// status is one of those that conclude the command: a layout where there is one, a refutation
+/// where there is none, a verdict or what is derived; 'open' never without steps, but of `pack`.
+pub fn conclusions()
+    ensures { (words : List Word) (old new : FilesSeen) (before after : SinkSeen)
+        (request : Request) (I : Instance) (s : Status) → request_of words ≡ Ok request →
+        IsReady old request I → IsUndisturbed request old new before after →
+        Answers (course words) old new before after s →
+        IsConclusion request.verb request.pairs I s }
 {}
 
 /// Words that are no command are answered by their first fault, unless printing fails or memory
