@@ -210,9 +210,9 @@ impl Watches {
 
     /// A line that covers the claim of the levels `now`, a child of the one of the levels `before`,
     /// looked for at the buffers whose levels are higher now. If none is found, these are all such
-    /// buffers, no level fell, no buffer is new, and all lines are watched at the claim before, then
-    /// all are at the claim now, and none covers it. As many first lines as are watched at a claim
-    /// above stay watched there. There are at most `BUFFER_LIMIT` levels.
+    /// buffers, no level fell, no buffer is new, and all lines are watched at the claim before,
+    /// then all are at the claim now, and none covers it. As many first lines as are watched at a
+    /// claim above stay watched there. There are at most `BUFFER_LIMIT` levels.
     pub fn find(
         &mut self,
         log: &Log,

@@ -35,8 +35,8 @@ module _ (I : Instance) (levels : List ℕ) (b : ℕ) where
         ⊎ ((d ≢ c) × (slice_index xs d ≡ slice_index old d))) (sym q) (set_cases old c v d lt)
 
     raised_here : (d : ℕ) → d ≡ c → slice_index new d ≡ v → IsRaised I levels b new d
-    raised_here d e p = λ more l a. subst (λ (n : ℕ). IsLevel I (child I l (entry_of l b)) n (slice_index new d)) (sym e)
-        (subst (IsLevel I (child I l (entry_of l b)) c) (sym p) (is l a))
+    raised_here d e p = λ more l a. subst (λ (n : ℕ). IsLevel I (child I l (entry_of l b)) n (slice_index new d))
+        (sym e) (subst (IsLevel I (child I l (entry_of l b)) c) (sym p) (is l a))
 
     pub raised_written : IsRaised I levels b new c
     raised_written = elim (written c) [
@@ -132,8 +132,9 @@ raised_near I S levels b r s low p first h near own c = elim (h.each c) [
           | inl t ↦ (let w = (shared_sections I S p b c bn cn).0 t in
               near w.0 c w.1 ((listed_in I S p w.0 c cn (section_in_range I S p w.0 b bn w.1)).0 w.2) more l a)
           | inr f ↦ subst (IsLevel I (child I l (entry_of l b)) c) (sym same)
-              (level_stays I l levels b a c (slice_index levels b - 1 + step I b c) s (has_level I l levels a b some) more
-              ne refl (unshared_above I b c (slice_index levels b) (slice_index levels c) f (first.before c more) some))
+              (level_stays I l levels b a c (slice_index levels b - 1 + step I b c) s (has_level I l levels a b some)
+              more ne refl
+              (unshared_above I b c (slice_index levels b) (slice_index levels c) f (first.before c more) some))
         ]
       ]
       )
@@ -172,8 +173,8 @@ module _ (I : Instance) (levels : List ℕ) (b c : ℕ) (r : Raising) (h : IsRai
       reach ≤ slice_index r.numbers.items c → IsRaised I levels b r.numbers.items c
   raised_high reach s low q le = elim (h.each c) [
     | inl same ↦ λ more l a. subst (IsLevel I (child I l (entry_of l b)) c) (sym same)
-        (level_stays I l levels b a c (slice_index levels b - 1 + step I b c) s (has_level I l levels a b some) more (other same)
-        refl (let k = step_within I b c s in omega (arith, k, q, le, same, some)))
+        (level_stays I l levels b a c (slice_index levels b - 1 + step I b c) s (has_level I l levels a b some) more
+        (other same) refl (let k = step_within I b c s in omega (arith, k, q, le, same, some)))
     | inr done ↦ done
   ]
     where

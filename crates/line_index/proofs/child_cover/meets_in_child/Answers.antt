@@ -16,7 +16,8 @@ returns-then-bound-raised c = λ l h t.
     let e = c.raised-raised.ensures.value l h in
     meets_raised c.args.instance.now l c.args.levels.now c.args.b c.args.c c.args.bound
     (λ k d i. (c.len-count.ensures.buffers k d i).sound) h
-    (let q : c.level_at-level.result ≡ slice_index c.args.levels.now c.args.c = c.level_at-level.ensures.value in omega arith)
+    (let q : c.level_at-level.result ≡ slice_index c.args.levels.now c.args.c = c.level_at-level.ensures.value in
+    omega arith)
     c.if-c-b.false (let le = c.if-bound-raised.true in omega arith)
 
 pub returns-else-bound-raised : goal.returns-else-bound-raised

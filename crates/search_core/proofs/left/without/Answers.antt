@@ -10,8 +10,8 @@ returns c =
     let lent : c.deref.result.now ≡ left = rw copied at c.deref.ensures.value in
     elim c.match-binary_search.branch [
       | in-Ok w ↦ rw (ap (λ v. v.items) w.others-is, w.remove.ensures.items, copied)
-          (taken_out left c.args.b w.in-Ok.place (stands_at left c.deref.result.now c.args.b w.in-Ok.place c.requires lent
-          w.in-Ok.ensures.bound w.in-Ok.ensures.position))
+          (taken_out left c.args.b w.in-Ok.place (stands_at left c.deref.result.now c.args.b w.in-Ok.place c.requires
+          lent w.in-Ok.ensures.bound w.in-Ok.ensures.position))
       | in-Err w ↦ rw (ap (λ v. v.items) w.others-is, copied)
           (kept_out left c.args.b _ (would_stand_at left c.deref.result.now c.args.b _ c.requires lent
           w.in-Err.ensures.position))

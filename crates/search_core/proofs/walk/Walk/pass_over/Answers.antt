@@ -10,7 +10,8 @@ use Rattle.search_core.proofs.Searching.{chosen_in, one_is_left}
 use Rattle.search_core.proofs.walk.Walk.pass_over.Goals as goal
 
 pub find-requires-clause-count : goal.find-requires-clause-count
-find-requires-clause-count c = rw (c.as_slice-levels.ensures.value, c.levels.ensures) c.choices.invariant.trying.levels.count
+find-requires-clause-count c =
+    rw (c.as_slice-levels.ensures.value, c.levels.ensures) c.choices.invariant.trying.levels.count
 
 pub find-requires-clause-low : goal.find-requires-clause-low
 find-requires-clause-low c = λ k d lt. let le = c.as_slice-levels.ensures.low k d lt in omega arith
@@ -38,7 +39,8 @@ choices-preserved c =
     let s = rw (c.instance.ensures.value, c.requires.subject) at c.instance.ensures.stands in
     let lt = one_is_left I C l c.args.log.now.lines f t (sym c.choices-test.ensures) in
     let k : IsCoveredBy I c.args.log.now.lines (child I l (entry_of l (chosen_of f))) c.in-Some.line =
-    rw (c.chosen.ensures, c.log.ensures) at (c.in-Some.ensures l (rw (c.as_slice-levels.ensures.value, c.levels.ensures) t.levels)) in
+    rw (c.chosen.ensures, c.log.ensures)
+    at (c.in-Some.ensures l (rw (c.as_slice-levels.ensures.value, c.levels.ensures) t.levels)) in
     subst (IsPassing I C c.args.log.now.lines l c.args.frame.now) (sym c.in_ok-note-in-Some.ensures) (record {
       trying = passed_trying I C l c.args.log.now f c.in-Some.line s c.requires.log t lt k;
       less = let a = passed_less I C l c.args.log.now f c.in-Some.line s c.requires.log t lt k in
@@ -57,7 +59,8 @@ choices-smaller c =
     let s = rw (c.instance.ensures.value, c.requires.subject) at c.instance.ensures.stands in
     let lt = one_is_left I C l c.args.log.now.lines f t (sym c.choices-test.ensures) in
     let k : IsCoveredBy I c.args.log.now.lines (child I l (entry_of l (chosen_of f))) c.in-Some.line =
-    rw (c.chosen.ensures, c.log.ensures) at (c.in-Some.ensures l (rw (c.as_slice-levels.ensures.value, c.levels.ensures) t.levels)) in
+    rw (c.chosen.ensures, c.log.ensures)
+    at (c.in-Some.ensures l (rw (c.as_slice-levels.ensures.value, c.levels.ensures) t.levels)) in
     subst (λ (x : Tried). length x.order - length x.refuted < length f.order - length f.refuted)
     (sym c.in_ok-note-in-Some.ensures)
     (passed_one I C l c.args.log.now f c.in-Some.line s c.requires.log t lt k)

@@ -18,7 +18,8 @@ returns-in-Some-clause-ahead c =
     let l = last_claim c.args.self.now.path.sky.claims in
     let s = rw (c.instance.ensures.value, c.requires.opened.path.subject) at c.instance.ensures.stands in
     let h = rw (c.in-Some.is, c.log.ensures)
-    at (c.in_ok-line.ensures.some I l (rw (c.as_slice-levels.ensures.value, c.levels.ensures) c.requires.opened.trying.levels)) in
+    at (c.in_ok-line.ensures.some I l
+    (rw (c.as_slice-levels.ensures.value, c.levels.ensures) c.requires.opened.trying.levels)) in
     ahead_covered I C l c.args.log.now.lines c.args.log.now.lines (place_of c.args.self.now) c.args.frame c.in-Some.line
     (extends_none l c.args.log.now.lines)
     c.requires.opened.path
@@ -36,12 +37,14 @@ returns-in-Some-clause-watched c =
     all_watched_still c.args.log.now.lines c.args.self.now.watches c.ask.new.self levels frames
     (are_raised I c.args.task.now.capacity c.args.log.now.lines l levels above frames (is_instance I l s)
     o.path.descends o.trying.levels)
-    (rw (c.as_slice-levels.ensures.value, c.levels.ensures, c.log.ensures) at c.in_ok-line.ensures.kept) c.requires.watched
+    (rw (c.as_slice-levels.ensures.value, c.levels.ensures, c.log.ensures) at c.in_ok-line.ensures.kept)
+    c.requires.watched
 
 -- ---- no line does
 pub proceed-requires-clause-ready : goal.proceed-requires-clause-ready
 proceed-requires-clause-ready c =
-    let k = rw (c.as_slice-levels.ensures.value, c.levels.ensures, c.asked.ensures, c.log.ensures, c.in_default.is) at c.in_ok-line.ensures.none in
+    let k = rw (c.as_slice-levels.ensures.value, c.levels.ensures, c.asked.ensures, c.log.ensures, c.in_default.is)
+    at c.in_ok-line.ensures.none in
     let o = c.requires.opened in
     rw c.ask_to.ensures (record {
       opened = record {
@@ -60,7 +63,8 @@ returns-clause-watched c =
     let I = c.args.task.now.instance.now in
     let l = last_claim c.args.self.now.path.sky.claims in
     let s = rw (c.instance.ensures.value, c.requires.opened.path.subject) at c.instance.ensures.stands in
-    let k = rw (c.as_slice-levels.ensures.value, c.levels.ensures, c.asked.ensures, c.log.ensures, c.in_default.is) at c.in_ok-line.ensures.none in
+    let k = rw (c.as_slice-levels.ensures.value, c.levels.ensures, c.asked.ensures, c.log.ensures, c.in_default.is)
+    at c.in_ok-line.ensures.none in
     let o = c.requires.opened in
     let levels = c.args.frame.levels in
     let above = above_of c.args.self.now.path.sky.claims in
@@ -69,6 +73,7 @@ returns-clause-watched c =
     (all_watched_still c.args.log.now.lines c.args.self.now.watches c.ask.new.self levels frames
     (are_raised I c.args.task.now.capacity c.args.log.now.lines l levels above frames (is_instance I l s)
     o.path.descends o.trying.levels)
-    (rw (c.as_slice-levels.ensures.value, c.levels.ensures, c.log.ensures) at c.in_ok-line.ensures.kept) c.requires.watched)
+    (rw (c.as_slice-levels.ensures.value, c.levels.ensures, c.log.ensures) at c.in_ok-line.ensures.kept)
+    c.requires.watched)
     (rw c.ask_to.ensures (watched_to c.args.log.now.lines c.ask.new.self levels c.len.result
     (rw c.log-2.ensures at c.len.ensures.value) (k c.requires.held)))
