@@ -13,7 +13,7 @@ use dsa_model::{Instance, NoMemory, height};
 use std::alloc::{AllocError, Global};
 
 /// A layout of an instance with its height.
-#[derive(Debug, Drop)]
+#[derive(Drop)]
 pub struct Start {
     /// The offset of each buffer, by number, in bytes.
     pub offsets: Vec<u64>,

@@ -10,7 +10,7 @@ use dsa_model::{Instance, NoMemory};
 use std::alloc::{AllocError, Global};
 
 /// An order of the buffers of an instance. Of equals the one of smaller number comes first.
-#[derive(Clone, Copy, Debug, PartialEq, Eq)]
+#[derive(Clone, Copy)]
 pub enum Order {
     /// As they stand in the instance.
     File,
