@@ -8,8 +8,6 @@ mod laws;
 mod places;
 mod section_list;
 mod sweep;
-#[cfg(test)]
-mod tests;
 mod thin;
 
 pub use laws::sections_are_one;

@@ -15,6 +15,8 @@ mod dsa_model_tests;
 #[cfg(test)]
 mod layout_report_tests;
 #[cfg(test)]
+mod lifetime_tests;
+#[cfg(test)]
 mod load_profile_tests;
 #[cfg(test)]
 mod make_instance_tests;

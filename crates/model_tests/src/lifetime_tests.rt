@@ -2,9 +2,8 @@
 
 ghost use Rattle.std.specs.Prelude.{◌<◌, ◌^◌, length};
 
-use crate::Sections;
-use crate::section_list::Section;
 use dsa_model::{BUFFER_LIMIT, Buffer, BufferFault, Fail, Instance};
+use lifetime::Sections;
 use std::alloc::{AllocError, Global};
 use std::test;
 
@@ -49,6 +48,13 @@ fn listed(alloc: Global, sections: &Sections) -> Result<Vec<u64>, AllocError> {
         found.push(99)?;
     }
     Ok(found)
+}
+
+/// A moment with the buffers that are live then.
+#[derive(Drop)]
+struct Section {
+    start: u64,
+    members: Vec<u32>,
 }
 
 /// The same of sections that are in no list yet.
