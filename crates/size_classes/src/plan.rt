@@ -24,7 +24,7 @@ pub struct NotPlain {
 }
 
 /// A plan by size class.
-#[derive(Debug, Drop)]
+#[derive(Drop)]
 pub struct ClassPlan {
     /// The offset of each buffer, by number, in bytes.
     pub offsets: Vec<u64>,
