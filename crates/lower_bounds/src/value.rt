@@ -2,7 +2,7 @@
 
 /// A capacity below which no layout fits, by the buffers that are live at one moment, cannot start
 /// below one height, and start at multiples of one modulus.
-#[derive(Clone, Copy, Debug, PartialEq, Eq)]
+#[derive(Clone, Copy)]
 pub struct Bound {
     /// The least capacity that the bound leaves open, in bytes.
     pub capacity: u64,
