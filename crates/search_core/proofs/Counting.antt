@@ -1,6 +1,10 @@
 -- A search makes no more lines than it takes units.
-use Rattle.std.proofs.Common.{◌≡◌, ℕ, ◌+◌, ◌≤◌, Option, Some, None, ap, arith}
+use Rattle.std.proofs.Common.{◌≡◌, ℕ, ◌+◌, ◌≤◌, List, [], ◌∷◌, ◌++◌, length, length-append, Option, Some, None, ap, arith}
+use Rattle.dsa_terms.specs.Logs.{Line}
 use Rattle.search_core.specs.Meters.{AreCounted, AreMoreBy, Units, units_counted}
+use Rattle.search_core.specs.Tries.{Tried}
+use Rattle.search_core.specs.Walks.{due_lines}
+use Rattle.search_core.specs.Ways.{Way}
 
 counted_fewer : (most : Option ℕ) (m n : ℕ) → n ≤ m → units_counted most n ≤ units_counted most m
 counted_fewer None m n le = omega arith
@@ -57,3 +61,9 @@ pub more_by_after : (before between after : Units) (n : ℕ) → between.most �
 more_by_after before between after n e le h =
     let a = ap (λ o. units_counted o n) e in
     omega (arith, a, le, h)
+
+-- there is one claim more, and the frame of the one above it
+pub one_claim_more : (lines : List Line) (before after : Way) (f : Tried) → after.frames ≡ before.frames ++ f ∷ [] →
+    due_lines lines after ≤ due_lines lines before + 1
+one_claim_more lines before after f q =
+    let n = ap length q in let m = length-append before.frames (f ∷ []) in omega (arith, n, m)

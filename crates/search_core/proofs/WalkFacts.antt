@@ -1,8 +1,11 @@
 -- A search that is at what is left of one buffer, below a root of two.
-use Rattle.std.proofs.Common.{◌≡◌, [], ◌∷◌, Some, None, length, refl, ap, arith}
+use Rattle.std.proofs.Common.{◌≡◌, ℕ, [], ◌∷◌, Some, None, length, refl, ap, arith}
+use Rattle.dsa_terms.specs.Buffers.{Instance}
+use Rattle.refute_log.specs.Logs.{OpenLog}
 use Rattle.search_core.specs.declared.walk.Walk.{Walk}
 use Rattle.search_core.specs.Meters.{Units}
-use Rattle.search_core.specs.Walks.{HasWatches, due_lines, place_of, place_on, stage_of}
+use Rattle.search_core.specs.Tries.{Tried}
+use Rattle.search_core.specs.Walks.{GoesOn, HasWatches, due_lines, place_of, place_on, stage_of}
 use Rattle.search_core.specs.Watches.{AreWatchedAt}
 use Rattle.search_core.specs.Ways.{Way}
 use Rattle.search_core.proofs.LevelFacts.{rest, root}
@@ -27,6 +30,15 @@ module _
     -- ---- one line, and one to come
     two_due : due_lines (over ∷ []) path ≡ 2
     two_due = let m : length path.frames ≡ 1 = ap length frames in omega arith
+
+-- two lines at once are too many
+not_two_lines : (I : Instance) (C : ℕ) (f : Tried) (before after : OpenLog) (walk : Walk) → before.lines ≡ [] →
+    after.lines ≡ over ∷ over ∷ [] → GoesOn I C f before after walk walk → ⊥
+not_two_lines I C f before after walk none two h =
+    let k = h.counted in
+    let m = ap length none in
+    let n = ap length two in
+    absurd (omega (arith, k, m, n))
 
 module _ (walk : Walk) (units : Units) where
   with_its_line : walk.line ≡ Some 3 → (place_of walk).line ≡ Some 3

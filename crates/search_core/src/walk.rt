@@ -1,14 +1,14 @@
 //! A search on its way: where it is, and what it keeps at hand.
 
-ghost use Rattle.std.specs.Prelude.{◌≡◌, ◌+◌, ◌≤◌, OnOk, map};
+ghost use Rattle.std.specs.Prelude.{◌≡◌, ◌≤◌, OnOk, map};
 ghost use Rattle.canonical_order.specs.Claims.{entry_of};
 ghost use Rattle.line_index.specs.Watches.{AreWatched};
 ghost use Rattle.search_core.specs.Descents.{IsTrying, claim_at, through};
 ghost use Rattle.search_core.specs.Fresh.{IsFresh, tries_at};
-ghost use Rattle.search_core.specs.Logs.{Extends, IsSearchLog};
+ghost use Rattle.search_core.specs.Logs.{IsSearchLog};
 ghost use Rattle.search_core.specs.Tries.{rest_of};
-ghost use Rattle.search_core.specs.Turns.{IsAhead, IsAtChoices, IsUncovered};
-ghost use Rattle.search_core.specs.Walks.{HasWatches, due_lines, place_of};
+ghost use Rattle.search_core.specs.Turns.{IsAtChoices, IsUncovered};
+ghost use Rattle.search_core.specs.Walks.{GoesOn, HasWatches, place_of};
 
 use crate::cases::refute;
 use crate::frame::Frame;
@@ -44,17 +44,8 @@ impl<'a> Walk<'a> {
         requires log { IsSearchLog task.now.instance.now task.now.capacity log.old }
         requires ready { let I = task.now.instance.now in
             IsUncovered I task.now.capacity log.old.lines (place_of self.old) frame }
-        ensures log { OnOk result (IsSearchLog task.now.instance.now task.now.capacity log.new) }
-        ensures grown { let l = claim_at (place_of self.old) in
-            OnOk result (Extends l log.old.lines log.new.lines) }
-        ensures ahead { let I = task.now.instance.now in let C = task.now.capacity in
-            let after = log.new.lines in
-            OnOk result (IsAhead I C after (place_of self.old) frame (place_of self.new)) }
-        ensures watched { HasWatches log.old.lines self.old →
-            AreWatched log.old.lines self.old.watches frame.levels frame.asked →
-            OnOk result (HasWatches log.new.lines self.new) }
-        ensures counted { let due = due_lines log.old.lines self.old.path in
-            OnOk result (due_lines log.new.lines self.new.path ≤ due + 1) }
+        ensures { let I = task.now.instance.now in let C = task.now.capacity in
+            OnOk result (GoesOn I C frame log.old log.new self.old self.new) }
     {
         let _count = self.path.instance().len();
         if frame.is_done() {
@@ -110,17 +101,8 @@ impl<'a> Walk<'a> {
         requires log { IsSearchLog task.now.instance.now task.now.capacity log.old }
         requires ready { let I = task.now.instance.now in
             IsUncovered I task.now.capacity log.old.lines (place_of self.old) frame }
-        ensures log { OnOk result (IsSearchLog task.now.instance.now task.now.capacity log.new) }
-        ensures grown { let l = claim_at (place_of self.old) in
-            OnOk result (Extends l log.old.lines log.new.lines) }
-        ensures ahead { let I = task.now.instance.now in let C = task.now.capacity in
-            let after = log.new.lines in
-            OnOk result (IsAhead I C after (place_of self.old) frame (place_of self.new)) }
-        ensures watched { HasWatches log.old.lines self.old →
-            AreWatched log.old.lines self.old.watches frame.levels frame.asked →
-            OnOk result (HasWatches log.new.lines self.new) }
-        ensures counted { let due = due_lines log.old.lines self.old.path in
-            OnOk result (due_lines log.new.lines self.new.path ≤ due + 1) }
+        ensures { let I = task.now.instance.now in let C = task.now.capacity in
+            OnOk result (GoesOn I C frame log.old log.new self.old self.new) }
     {
         self.pass_over(task, log, &mut frame)?;
         self.advance(alloc, task, log, frame)?;
@@ -141,18 +123,9 @@ impl<'a> Walk<'a> {
         requires ready { let I = task.now.instance.now in
             let f = tries_at I (claim_at (place_of self.old)) fresh in
             IsUncovered I task.now.capacity log.old.lines (place_of self.old) f }
-        ensures log { OnOk result (IsSearchLog task.now.instance.now task.now.capacity log.new) }
-        ensures grown { let l = claim_at (place_of self.old) in
-            OnOk result (Extends l log.old.lines log.new.lines) }
-        ensures ahead { let I = task.now.instance.now in let C = task.now.capacity in
+        ensures { let I = task.now.instance.now in let C = task.now.capacity in
             let f = tries_at I (claim_at (place_of self.old)) fresh in
-            let after = log.new.lines in
-            OnOk result (IsAhead I C after (place_of self.old) f (place_of self.new)) }
-        ensures watched { HasWatches log.old.lines self.old →
-            AreWatched log.old.lines self.old.watches fresh.levels fresh.asked →
-            OnOk result (HasWatches log.new.lines self.new) }
-        ensures counted { let due = due_lines log.old.lines self.old.path in
-            OnOk result (due_lines log.new.lines self.new.path ≤ due + 1) }
+            OnOk result (GoesOn I C f log.old log.new self.old self.new) }
     {
         let _count = self.path.instance().len();
         let levels = fresh.levels.as_slice();
@@ -183,15 +156,8 @@ impl<'a> Walk<'a> {
             IsAtChoices I task.now.capacity log.old.lines (place_of self.old) frame }
         requires watched { HasWatches log.old.lines self.old }
         requires held { AreWatched log.old.lines self.old.watches frame.levels frame.asked }
-        ensures log { OnOk result (IsSearchLog task.now.instance.now task.now.capacity log.new) }
-        ensures grown { let l = claim_at (place_of self.old) in
-            OnOk result (Extends l log.old.lines log.new.lines) }
-        ensures ahead { let I = task.now.instance.now in let C = task.now.capacity in
-            let after = log.new.lines in
-            OnOk result (IsAhead I C after (place_of self.old) frame (place_of self.new)) }
-        ensures watched { OnOk result (HasWatches log.new.lines self.new) }
-        ensures counted { let due = due_lines log.old.lines self.old.path in
-            OnOk result (due_lines log.new.lines self.new.path ≤ due + 1) }
+        ensures { let I = task.now.instance.now in let C = task.now.capacity in
+            OnOk result (GoesOn I C frame log.old log.new self.old self.new) }
     {
         let _count = self.path.instance().len();
         let levels = frame.levels().as_slice();
@@ -200,6 +166,7 @@ impl<'a> Walk<'a> {
             return Ok(());
         }
         frame.ask_to(log.log().len());
-        self.proceed(alloc, task, log, frame)
+        self.proceed(alloc, task, log, frame)?;
+        Ok(())
     }
 }

@@ -1,10 +1,12 @@
-use Rattle.std.proofs.Common.{◌≡◌, ◌∙◌, None, map, length, refl, sym, ap}
+use Rattle.std.proofs.Common.{◌≡◌, ◌∙◌, None, arith, map, length, refl, sym, ap}
 use Rattle.dsa_terms.proofs.NumberTests.{equal}
 use Rattle.skyline.specs.Skies.{last_claim}
 use Rattle.search_core.specs.Descents.{refuted_buffer}
 use Rattle.search_core.specs.Walks.{place_of, place_on}
 use Rattle.search_core.proofs.Descent.{is_instance}
 use Rattle.search_core.proofs.Descending.{ahead_covered, ahead_deeper}
+use Rattle.search_core.proofs.Counting.{one_claim_more}
+use Rattle.search_core.proofs.Growing.{extends_none}
 use Rattle.search_core.proofs.Leveling.{lifted_levels}
 use Rattle.search_core.proofs.LiftedChoices.{lifted_nothing}
 use Rattle.search_core.proofs.Lifting.{covered_from_lifted, lifted_at_lows, lifted_covered, lifted_extends, lifted_fresh, lifted_noted, lifted_stands}
@@ -86,38 +88,32 @@ refute-requires-clause-fresh c =
     (rw c.levels.ensures c.requires.ready.opened.trying.levels) in
     rw q (lifted_fresh I c.args.log.now.lines l (is_instance I l s) c.requires.ready.fresh)
 
-pub returns-then-is_done-clause-grown : goal.returns-then-is_done-clause-grown
-returns-then-is_done-clause-grown c =
-    let q = c.in_ok-claim.ensures.value c.args.task.now.instance.now (last_claim c.args.self.now.path.sky.claims)
-    (rw c.levels.ensures c.requires.ready.opened.trying.levels) in
-    lifted_extends c.args.task.now.instance.now (last_claim c.args.self.now.path.sky.claims) c.args.log.now.lines
-    c.refute.new.log.lines (rw q at c.in_ok-line.ensures.grown)
-
-pub returns-then-is_done-clause-ahead : goal.returns-then-is_done-clause-ahead
-returns-then-is_done-clause-ahead c =
+pub returns-then-is_done : goal.returns-then-is_done
+returns-then-is_done c =
     let I = c.args.task.now.instance.now in
     let C = c.args.task.now.capacity in
     let l = last_claim c.args.self.now.path.sky.claims in
+    let path = c.args.self.now.path in
     let f = c.args.frame in
     let s = rw (c.instance.ensures.value, c.requires.ready.opened.path.subject) at c.instance.ensures.stands in
-    let q = c.in_ok-claim.ensures.value c.args.task.now.instance.now (last_claim c.args.self.now.path.sky.claims)
-    (rw c.levels.ensures c.requires.ready.opened.trying.levels) in
+    let q = c.in_ok-claim.ensures.value I l (rw c.levels.ensures c.requires.ready.opened.trying.levels) in
     let done : length f.refuted ≡ length f.order = equal (length f.refuted) (length f.order)
     (sym c.if-is_done.ensures) in
-    ahead_covered I C l c.args.log.now.lines c.refute.new.log.lines (place_of c.args.self.now) f c.in_ok-line.line
-    (returns-then-is_done-clause-grown c)
-    c.requires.ready.opened.path
-    (record {
-      none = all_refuted I C l c.args.log.now.lines f c.requires.ready.opened.trying done;
-      covered = covered_from_lifted I c.refute.new.log.lines l c.in_ok-line.line (is_instance I l s)
-          (rw q at c.in_ok-line.ensures.covered);
-    })
-
-pub returns-then-is_done-clause-watched : goal.returns-then-is_done-clause-watched
-returns-then-is_done-clause-watched c = λ h held.
-    let path = c.args.self.now.path in
-    all_watched_more (last_claim path.sky.claims) c.args.log.now.lines c.refute.new.log.lines c.args.self.now.watches
-    path.frames (returns-then-is_done-clause-grown c) h
+    let grown = lifted_extends I l c.args.log.now.lines c.refute.new.log.lines (rw q at c.in_ok-line.ensures.grown) in
+    record {
+      log = c.in_ok-line.ensures.log;
+      grown = grown;
+      ahead = ahead_covered I C l c.args.log.now.lines c.refute.new.log.lines (place_of c.args.self.now) f
+          c.in_ok-line.line grown c.requires.ready.opened.path
+          (record {
+            none = all_refuted I C l c.args.log.now.lines f c.requires.ready.opened.trying done;
+            covered = covered_from_lifted I c.refute.new.log.lines l c.in_ok-line.line (is_instance I l s)
+                (rw q at c.in_ok-line.ensures.covered);
+          });
+      watched = λ h held.
+          all_watched_more l c.args.log.now.lines c.refute.new.log.lines c.args.self.now.watches path.frames grown h;
+      counted = let n = c.in_ok-line.ensures.counted in omega (arith, n);
+    }
 
 -- ---- a choice deeper
 pub go_down-requires-clause-left : goal.go_down-requires-clause-left
@@ -142,19 +138,24 @@ go_down-requires-clause-order c = rw c.requires.ready.opened.path.subject c.requ
 pub go_down-requires-clause-levels : goal.go_down-requires-clause-levels
 go_down-requires-clause-levels c = rw c.requires.ready.opened.path.subject c.requires.ready.opened.trying.levels
 
-pub returns-clause-ahead : goal.returns-clause-ahead
-returns-clause-ahead c =
+pub returns : goal.returns
+returns c =
     let I = c.args.task.now.instance.now in
     let l = last_claim c.args.self.now.path.sky.claims in
     let f = c.args.frame in
-    let left = one_is_left I c.args.task.now.capacity l c.args.log.now.lines f c.requires.ready.opened.trying
+    let lines = c.args.log.now.lines in
+    let left = one_is_left I c.args.task.now.capacity l lines f c.requires.ready.opened.trying
     (sym c.if-is_done.ensures) in
-    ahead_deeper I c.args.task.now.capacity c.args.log.now.lines (place_of c.args.self.now)
-    (place_on c.go_down.new.self None) f c.requires.ready.opened.path c.requires.ready.opened.trying left
-    c.requires.ready.asked c.in_ok-go_down.ensures.instance
-    (rw c.requires.ready.opened.path.subject at c.in_ok-go_down.ensures.claims) c.in_ok-go_down.ensures.frames refl
-
-pub returns-clause-watched : goal.returns-clause-watched
-returns-clause-watched c = λ h held.
-    all_watched_push c.args.log.now.lines c.args.self.now.watches c.args.self.now.path.frames c.go_down.new.self.frames
-    c.args.frame c.in_ok-go_down.ensures.frames h held
+    record {
+      log = c.requires.log;
+      grown = extends_none l lines;
+      ahead = ahead_deeper I c.args.task.now.capacity lines (place_of c.args.self.now)
+          (place_on c.go_down.new.self None) f c.requires.ready.opened.path c.requires.ready.opened.trying left
+          c.requires.ready.asked c.in_ok-go_down.ensures.instance
+          (rw c.requires.ready.opened.path.subject at c.in_ok-go_down.ensures.claims) c.in_ok-go_down.ensures.frames
+          refl;
+      watched = λ h held.
+          all_watched_push lines c.args.self.now.watches c.args.self.now.path.frames c.go_down.new.self.frames f
+          c.in_ok-go_down.ensures.frames h held;
+      counted = one_claim_more lines c.args.self.now.path c.go_down.new.self f c.in_ok-go_down.ensures.frames;
+    }

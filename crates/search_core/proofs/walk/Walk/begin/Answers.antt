@@ -3,12 +3,13 @@ use Rattle.dsa_terms.specs.Claims.{child}
 use Rattle.canonical_order.specs.Claims.{entry_of}
 use Rattle.canonical_order.proofs.Entries.{in_range}
 use Rattle.skyline.specs.Skies.{last_claim}
-use Rattle.line_index.specs.Watches.{AreWatched}
 use Rattle.search_core.specs.Fresh.{tries_at}
 use Rattle.search_core.specs.Tries.{Tried}
-use Rattle.search_core.specs.Turns.{IsAhead, IsUncovered}
-use Rattle.search_core.specs.Walks.{place_of, place_on}
+use Rattle.search_core.specs.Turns.{IsUncovered}
+use Rattle.search_core.specs.Walks.{GoesOn, place_of, place_on}
 use Rattle.search_core.proofs.Descending.{ahead_deeper}
+use Rattle.search_core.proofs.Counting.{one_claim_more}
+use Rattle.search_core.proofs.Growing.{extends_none}
 use Rattle.search_core.proofs.Passing.{some_level}
 use Rattle.search_core.proofs.Searching.{first_in}
 use Rattle.search_core.proofs.Watched.{all_watched_push}
@@ -41,19 +42,12 @@ proceed-requires-clause-ready c =
     subst (IsUncovered c.args.task.now.instance.now c.args.task.now.capacity c.args.log.now.lines
     (place_of c.args.self.now)) (sym e) c.requires.ready
 
-pub returns-then-is_some-clause-ahead : goal.returns-then-is_some-clause-ahead
-returns-then-is_some-clause-ahead c =
+pub returns-then-is_some : goal.returns-then-is_some
+returns-then-is_some c =
     let l = last_claim c.args.self.now.path.sky.claims in
     let e = c.in_ok-frame.ensures l c.requires.ready.opened.trying.levels in
-    subst (λ (f : Tried). IsAhead c.args.task.now.instance.now c.args.task.now.capacity c.proceed.new.log.lines
-    (place_of c.args.self.now) f (place_of c.proceed.new.self)) e c.in_ok-proceed.ensures.ahead
-
-pub returns-then-is_some-clause-watched : goal.returns-then-is_some-clause-watched
-returns-then-is_some-clause-watched c = λ h held.
-    let l = last_claim c.args.self.now.path.sky.claims in
-    let e = c.in_ok-frame.ensures l c.requires.ready.opened.trying.levels in
-    c.in_ok-proceed.ensures.watched h
-    (subst (λ (f : Tried). AreWatched c.args.log.now.lines c.args.self.now.watches f.levels f.asked) (sym e) held)
+    subst (λ (f : Tried). GoesOn c.args.task.now.instance.now c.args.task.now.capacity f c.args.log.now
+    c.proceed.new.log c.args.self.now c.proceed.new.self) e c.in_ok-proceed.ensures
 
 -- ---- the first choice
 pub go_first-requires-clause-has : goal.go_first-requires-clause-has
@@ -67,21 +61,25 @@ go_first-requires-clause-first c = rw c.requires.ready.opened.path.subject c.req
 pub go_first-requires-clause-levels : goal.go_first-requires-clause-levels
 go_first-requires-clause-levels c = rw c.requires.ready.opened.path.subject c.requires.ready.opened.trying.levels
 
-pub returns-clause-ahead : goal.returns-clause-ahead
-returns-clause-ahead c =
+pub returns : goal.returns
+returns c =
     let I = c.args.task.now.instance.now in
     let l = last_claim c.args.self.now.path.sky.claims in
+    let lines = c.args.log.now.lines in
     let p = c.requires.ready.opened.path in
-    ahead_deeper I c.args.task.now.capacity c.args.log.now.lines (place_of c.args.self.now)
-    (place_on c.go_first.new.self None) (tries_at I l c.args.fresh) p c.requires.ready.opened.trying
-    c.requires.first.left c.requires.ready.asked c.in_ok-go_first.ensures.instance
-    (subst (λ (b : ℕ). c.go_first.new.self.sky.claims
-    ≡ c.args.self.now.path.sky.claims ++ child I l (entry_of l b) ∷ []) c.requires.first.chosen
-    (rw p.subject at c.in_ok-go_first.ensures.claims)) (rw p.subject at c.in_ok-go_first.ensures.frames) refl
-
-pub returns-clause-watched : goal.returns-clause-watched
-returns-clause-watched c = λ h held.
-    let I = c.args.task.now.instance.now in
-    let l = last_claim c.args.self.now.path.sky.claims in
-    all_watched_push c.args.log.now.lines c.args.self.now.watches c.args.self.now.path.frames c.go_first.new.self.frames
-    (tries_at I l c.args.fresh) (rw c.requires.ready.opened.path.subject at c.in_ok-go_first.ensures.frames) h held
+    let f = tries_at I l c.args.fresh in
+    let frames = rw p.subject at c.in_ok-go_first.ensures.frames in
+    record {
+      log = c.requires.log;
+      grown = extends_none l lines;
+      ahead = ahead_deeper I c.args.task.now.capacity lines (place_of c.args.self.now)
+          (place_on c.go_first.new.self None) f p c.requires.ready.opened.trying c.requires.first.left
+          c.requires.ready.asked c.in_ok-go_first.ensures.instance
+          (subst (λ (b : ℕ). c.go_first.new.self.sky.claims
+          ≡ c.args.self.now.path.sky.claims ++ child I l (entry_of l b) ∷ []) c.requires.first.chosen
+          (rw p.subject at c.in_ok-go_first.ensures.claims)) frames refl;
+      watched = λ h held.
+          all_watched_push lines c.args.self.now.watches c.args.self.now.path.frames c.go_first.new.self.frames f
+          frames h held;
+      counted = one_claim_more lines c.args.self.now.path c.go_first.new.self f frames;
+    }

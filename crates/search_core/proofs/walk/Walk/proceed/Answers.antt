@@ -15,12 +15,16 @@ advance-requires-clause-ready c =
       asked = rw c.in_ok-pass_over.ensures.asked r.asked;
     }
 
-pub returns-clause-ahead : goal.returns-clause-ahead
-returns-clause-ahead c =
-    ahead_of_less c.args.task.now.instance.now c.args.task.now.capacity c.advance.new.log.lines
-    (place_of c.args.self.now) (place_of c.advance.new.self) c.pass_over.new.frame c.args.frame
-    c.in_ok-pass_over.ensures.less c.in_ok-advance.ensures.ahead
-
-pub returns-clause-watched : goal.returns-clause-watched
-returns-clause-watched c = λ h held.
-    (rw (c.in_ok-pass_over.ensures.levels, c.in_ok-pass_over.ensures.asked) at (c.in_ok-advance.ensures.watched h)) held
+pub returns : goal.returns
+returns c =
+    let on = c.in_ok-advance.ensures in
+    record {
+      log = on.log;
+      grown = on.grown;
+      ahead = ahead_of_less c.args.task.now.instance.now c.args.task.now.capacity c.advance.new.log.lines
+          (place_of c.args.self.now) (place_of c.advance.new.self) c.pass_over.new.frame c.args.frame
+          c.in_ok-pass_over.ensures.less on.ahead;
+      watched = λ h held.
+          (rw (c.in_ok-pass_over.ensures.levels, c.in_ok-pass_over.ensures.asked) at (on.watched h)) held;
+      counted = on.counted;
+    }

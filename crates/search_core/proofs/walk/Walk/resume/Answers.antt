@@ -1,3 +1,4 @@
+use Rattle.std.proofs.Common.{arith}
 use Rattle.skyline.specs.Skies.{last_claim}
 use Rattle.line_index.proofs.WatchLemmas.{watched_none}
 use Rattle.search_core.specs.Descents.{above_of}
@@ -11,34 +12,30 @@ use Rattle.search_core.proofs.Watched.{all_watched_still, watched_to}
 use Rattle.search_core.proofs.walk.Walk.resume.Goals as goal
 
 -- ---- a line covers the claim
-pub returns-in-Some-clause-ahead : goal.returns-in-Some-clause-ahead
-returns-in-Some-clause-ahead c =
+pub returns-in-Some : goal.returns-in-Some
+returns-in-Some c =
     let I = c.args.task.now.instance.now in
     let C = c.args.task.now.capacity in
     let l = last_claim c.args.self.now.path.sky.claims in
-    let s = rw (c.instance.ensures.value, c.requires.opened.path.subject) at c.instance.ensures.stands in
-    let h = rw (c.in-Some.is, c.log.ensures)
-    at (c.in_ok-line.ensures.some I l
-    (rw (c.as_slice-levels.ensures.value, c.levels.ensures) c.requires.opened.trying.levels)) in
-    ahead_covered I C l c.args.log.now.lines c.args.log.now.lines (place_of c.args.self.now) c.args.frame c.in-Some.line
-    (extends_none l c.args.log.now.lines)
-    c.requires.opened.path
-    (record { none = covered_has_none I C l c.args.log.now c.in-Some.line s c.requires.log h; covered = h })
-
-pub returns-in-Some-clause-watched : goal.returns-in-Some-clause-watched
-returns-in-Some-clause-watched c =
-    let I = c.args.task.now.instance.now in
-    let l = last_claim c.args.self.now.path.sky.claims in
+    let lines = c.args.log.now.lines in
     let s = rw (c.instance.ensures.value, c.requires.opened.path.subject) at c.instance.ensures.stands in
     let o = c.requires.opened in
+    let h = rw (c.in-Some.is, c.log.ensures)
+    at (c.in_ok-line.ensures.some I l (rw (c.as_slice-levels.ensures.value, c.levels.ensures) o.trying.levels)) in
     let levels = c.args.frame.levels in
     let above = above_of c.args.self.now.path.sky.claims in
     let frames = c.args.self.now.path.frames in
-    all_watched_still c.args.log.now.lines c.args.self.now.watches c.ask.new.self levels frames
-    (are_raised I c.args.task.now.capacity c.args.log.now.lines l levels above frames (is_instance I l s)
-    o.path.descends o.trying.levels)
-    (rw (c.as_slice-levels.ensures.value, c.levels.ensures, c.log.ensures) at c.in_ok-line.ensures.kept)
-    c.requires.watched
+    record {
+      log = c.requires.log;
+      grown = extends_none l lines;
+      ahead = ahead_covered I C l lines lines (place_of c.args.self.now) c.args.frame c.in-Some.line
+          (extends_none l lines) o.path
+          (record { none = covered_has_none I C l c.args.log.now c.in-Some.line s c.requires.log h; covered = h });
+      watched = λ watched held. all_watched_still lines c.args.self.now.watches c.ask.new.self levels frames
+          (are_raised I C lines l levels above frames (is_instance I l s) o.path.descends o.trying.levels)
+          (rw (c.as_slice-levels.ensures.value, c.levels.ensures, c.log.ensures) at c.in_ok-line.ensures.kept) watched;
+      counted = omega arith;
+    }
 
 -- ---- no line does
 pub proceed-requires-clause-ready : goal.proceed-requires-clause-ready
@@ -58,10 +55,12 @@ proceed-requires-clause-ready c =
       asked = rw c.log-2.ensures at c.len.ensures.value;
     })
 
-pub returns-clause-watched : goal.returns-clause-watched
-returns-clause-watched c =
+pub returns : goal.returns
+returns c =
     let I = c.args.task.now.instance.now in
+    let C = c.args.task.now.capacity in
     let l = last_claim c.args.self.now.path.sky.claims in
+    let lines = c.args.log.now.lines in
     let s = rw (c.instance.ensures.value, c.requires.opened.path.subject) at c.instance.ensures.stands in
     let k = rw (c.as_slice-levels.ensures.value, c.levels.ensures, c.asked.ensures, c.log.ensures, c.in_default.is)
     at c.in_ok-line.ensures.none in
@@ -69,11 +68,18 @@ returns-clause-watched c =
     let levels = c.args.frame.levels in
     let above = above_of c.args.self.now.path.sky.claims in
     let frames = c.args.self.now.path.frames in
-    c.proceed.ensures.watched
-    (all_watched_still c.args.log.now.lines c.args.self.now.watches c.ask.new.self levels frames
-    (are_raised I c.args.task.now.capacity c.args.log.now.lines l levels above frames (is_instance I l s)
-    o.path.descends o.trying.levels)
-    (rw (c.as_slice-levels.ensures.value, c.levels.ensures, c.log.ensures) at c.in_ok-line.ensures.kept)
-    c.requires.watched)
-    (rw c.ask_to.ensures (watched_to c.args.log.now.lines c.ask.new.self levels c.len.result
-    (rw c.log-2.ensures at c.len.ensures.value) (k c.requires.held)))
+    let on = c.in_ok-proceed.ensures in
+    let ahead = rw c.ask_to.ensures at on.ahead in
+    record {
+      log = on.log;
+      grown = on.grown;
+      ahead = record { place = ahead.place; root = ahead.root; owed = ahead.owed; turns = ahead.turns };
+      watched = λ watched held.
+          on.watched
+          (all_watched_still lines c.args.self.now.watches c.ask.new.self levels frames
+          (are_raised I C lines l levels above frames (is_instance I l s) o.path.descends o.trying.levels)
+          (rw (c.as_slice-levels.ensures.value, c.levels.ensures, c.log.ensures) at c.in_ok-line.ensures.kept) watched)
+          (rw c.ask_to.ensures (watched_to lines c.ask.new.self levels c.len.result
+          (rw c.log-2.ensures at c.len.ensures.value) (k held)));
+      counted = on.counted;
+    }

@@ -95,6 +95,13 @@ returns-in_ok-resume-in-Some-2-clause-turned c =
     c.in-Some.k c.args.meter.now c.in-Some.is off.frames b
     (rw c.in_ok-note-in-Some-2.ensures at c.in_ok-resume-in-Some-2.ensures.ahead)
 
+pub returns-in_ok-resume-in-Some-2-clause-watched : goal.returns-in_ok-resume-in-Some-2-clause-watched
+returns-in_ok-resume-in-Some-2-clause-watched c =
+    let off = rw c.in-Some-2.is at c.in_ok-frame-in-Some.ensures.some in
+    let w = all_watched_pop c.args.log.now.lines c.args.self.now.watches c.args.self.now.path.frames
+    c.go_back.new.self.frames c.in-Some-2.frame off.frames c.requires.watched in
+    c.in_ok-resume-in-Some-2.ensures.watched w.0 (rw c.in_ok-note-in-Some-2.ensures w.1)
+
 pub returns-in-None-2-clause-turned : goal.returns-in-None-2-clause-turned
 returns-in-None-2-clause-turned c =
     let here = place_of c.args.self.now in
