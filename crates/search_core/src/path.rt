@@ -240,7 +240,8 @@ impl<'a> Path<'a> {
     pub(crate) fn go_back(&mut self, alloc: Global, task: &Task) -> Result<Option<Frame>, NoMemory>
         requires { self.old.sky.instance ≡ task.now.instance.now }
         ensures some { IfOk result (λ o. IfSome o (IsBackFrom self.old self.new)) }
-        ensures none { IfOk result (λ o. IfNone o ((self.old.frames ≡ []) × (self.new ≡ self.old))) }
+        ensures none { IfOk result (λ o.
+            IfNone o ((self.old.frames ≡ []) × (self.new ≡ self.old))) }
     {
         match self.kept.pop() {
             Some(kept) => {
