@@ -5,8 +5,8 @@ use Rattle.dsa_terms.specs.Buffers.{Instance}
 use Rattle.first_fit.specs.Rules.{IsOrderOf}
 use Rattle.placing_search.specs.declared.stacking.Stack.{Stack}
 
--- an order of all buffers, an end for each place in it, for each buffer a bit and an offset that is not too large, and a
--- height and a load for each column
+-- an order of all buffers, an end for each place in it, for each buffer a bit and an offset that is not too large, and
+-- a height and a load for each column
 pub record IsStackOf (I : Instance) (s : Stack) : Type 0 where
   pub each_once : IsOrderOf I s.order.items
   pub end_count : length s.ends.items ≡ length I

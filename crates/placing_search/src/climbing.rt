@@ -58,9 +58,9 @@ fn climbed(
     if passes == 0 {
         return Ok((order, 0));
     }
-    let mut best = Stack::of(alloc, instance, &order, snug)?;
-    let mut next = Stack::of(alloc, instance, &order, snug)?;
     let mut ranking = Ranking::of(alloc, instance, order)?;
+    let mut best = Stack::of(alloc, instance, &ranking.order, snug)?;
+    let mut next = Stack::of(alloc, instance, &ranking.order, snug)?;
     let mut height = best
         .restack(instance, meetings, &ranking.places, HIGHEST)
         .unwrap_or(HIGHEST);

@@ -12,7 +12,7 @@ use first_fit::Start;
 use std::alloc::Global;
 
 /// A layout, and what it took to find it.
-#[derive(Debug, Drop)]
+#[derive(Drop)]
 pub struct Improved {
     /// The layout with its height.
     pub start: Start,

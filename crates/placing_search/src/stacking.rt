@@ -31,8 +31,8 @@ pub(crate) struct Stack {
     unstacked: Vec<u64>,
     /// Where the buffer that was stacked last in each column ends, in bytes.
     tops: Vec<u64>,
-    /// The sum of the sizes of the buffers without gaps that are still to be stacked in each column,
-    /// in bytes.
+    /// The sum of the sizes of the buffers without gaps that are still to be stacked in each
+    /// column, in bytes.
     loads: Vec<u64>,
     /// Whether of the buffers that can start lowest one with fewer open sides comes first.
     snug: bool,
