@@ -14,8 +14,6 @@ mod members;
 mod rests;
 mod stack;
 mod stepping;
-#[cfg(test)]
-mod tests;
 
 pub use ask::{Ask, Asked};
 pub use find::find_core;

@@ -10,7 +10,5 @@ mod rankings;
 mod sides;
 mod stacking;
 mod swaps;
-#[cfg(test)]
-mod tests;
 
 pub use improving::{Improved, improve};

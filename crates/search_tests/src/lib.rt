@@ -1,15 +1,21 @@
-//! Tests of the starts, of orders of rows, of the bound, of what the search goes by, and of the
-//! planner and the portfolio.
+//! Tests of the starts, of orders of rows, of the bound, of what the search goes by, of the planner
+//! and the portfolio, and of cores.
 #![tactic(auto)]
 
 #[cfg(test)]
 mod conflicts_tests;
+#[cfg(test)]
+mod core_find_tests;
 #[cfg(test)]
 mod first_fit_tests;
 #[cfg(test)]
 mod lower_bounds_tests;
 #[cfg(test)]
 mod min_capacity_tests;
+#[cfg(test)]
+mod numbers;
+#[cfg(test)]
+mod placing_search_tests;
 #[cfg(test)]
 mod planner_tests;
 #[cfg(test)]

@@ -5,6 +5,7 @@ ghost use Rattle.std.specs.List.{All};
 ghost use Rattle.dsa_terms.specs.Claims.{Rises};
 ghost use Rattle.lifetime.specs.SectionList.{AreSectionsOf};
 
+use crate::numbers::numbers_below;
 use canonical_order::Lows;
 use dsa_model::{BUFFER_LIMIT, Buffer, BufferFault, Fail, Instance, NoMemory};
 use lifetime::Sections;
@@ -15,18 +16,6 @@ use std::test;
 /// What stands for no answer.
 const NONE: u64 = u64::MAX;
 
-/// The numbers below the count.
-fn numbers(alloc: Global, count: u32) -> Result<Vec<u32>, AllocError>
-    ensures rises { IfOk result (λ v. Rises v.items) }
-    ensures below { IfOk result (λ v. All (λ b. b < count) v.items) }
-{
-    let mut numbers = Vec::new(alloc);
-    for b in 0..count {
-        numbers.push(b)?;
-    }
-    Ok(numbers)
-}
-
 /// The skyline of all buffers of the instance.
 fn whole<'a>(
     alloc: Global,
@@ -35,7 +24,7 @@ fn whole<'a>(
 ) -> Result<Skyline<'a>, NoMemory>
     requires { AreSectionsOf instance.now sections.now }
 {
-    let members = numbers(alloc, instance.len())?;
+    let members = numbers_below(alloc, instance.len())?;
     Skyline::new(alloc, instance, sections, &members)
 }
 

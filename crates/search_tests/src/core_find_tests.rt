@@ -4,9 +4,9 @@ ghost use Rattle.std.specs.Prelude.{◌≡◌, ◌^◌, ◌≤◌, IfOk};
 ghost use Rattle.dsa_terms.specs.Logs.{IsAccepted};
 ghost use Rattle.refute_log.specs.Lines.{IsWithin, line_value};
 
-use crate::members::all_members;
-use crate::{Ask, Asked, Found, find_core};
+use crate::numbers::numbers_below;
 use canonical_order::Claim;
+use core_find::{Ask, Asked, Found, find_core};
 use dsa_model::{BUFFER_LIMIT, Buffer, Instance, NoMemory, judge};
 use refute_log::{ClosedLog, Line, Log};
 use std::alloc::Global;
@@ -33,8 +33,8 @@ fn stacked(alloc: Global, instance: &Instance) -> Result<Vec<u64>, NoMemory> {
 fn over_all(alloc: Global, instance: &Instance) -> Result<Line, NoMemory>
     ensures { IfOk result (λ line. IsWithin (line_value line)) }
 {
-    let _count = instance.len();
-    let members = all_members(alloc, instance)?;
+    let count = instance.len();
+    let members = numbers_below(alloc, count)?;
     let claim = Claim::whole(alloc, instance, &members)?;
     Ok(Line::Over {
         claim,

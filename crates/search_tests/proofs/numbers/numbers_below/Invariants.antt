@@ -1,7 +1,7 @@
 use Rattle.std.proofs.Common.{◌<◌}
 use Rattle.std.specs.List.{All}
 use Rattle.dsa_terms.specs.Claims.{Rises}
-use Rattle.search_tests.proofs.skyline_tests.numbers.Given as goal
+use Rattle.search_tests.proofs.numbers.numbers_below.Given as goal
 
 abbrev pub invariant-loop-b : goal.invariant-loop-b
 invariant-loop-b l = record {

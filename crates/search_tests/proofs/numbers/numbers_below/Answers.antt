@@ -4,7 +4,7 @@ use Rattle.dsa_terms.specs.Claims.{Rises}
 use Rattle.dsa_terms.proofs.Lists.{from_append}
 use Rattle.dsa_terms.proofs.Places.{all_from_in, in_from_all}
 use Rattle.dsa_terms.proofs.Ranges.{rises-push}
-use Rattle.search_tests.proofs.skyline_tests.numbers.Goals as goal
+use Rattle.search_tests.proofs.numbers.numbers_below.Goals as goal
 
 pub loop-b-preserved : goal.loop-b-preserved
 loop-b-preserved c =

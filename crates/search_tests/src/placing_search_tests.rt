@@ -1,8 +1,8 @@
 //! Instances that are laid out lower by another order than that of the file.
 
-use crate::climbing::place_all;
-use crate::{Improved, improve};
-use dsa_model::{BUFFER_LIMIT, Buffer, Instance, NoMemory};
+use dsa_model::{BUFFER_LIMIT, Buffer, Instance, NoMemory, height};
+use first_fit::{Start, first_fit};
+use placing_search::{Improved, improve};
 use row_orders::{Order, in_order};
 use std::alloc::Global;
 
@@ -72,8 +72,12 @@ fn found(
 ) -> Result<(u64, Improved), NoMemory> {
     let instance = instance_of(alloc, rows)?;
     let order = in_order(alloc, &instance, Order::File)?;
-    let start = place_all(alloc, &instance, &order)?;
-    let before = start.height;
+    let offsets = first_fit(alloc, &instance, &order)?;
+    let before = height(&instance, &offsets);
+    let start = Start {
+        offsets,
+        height: before,
+    };
     Ok((before, improve(alloc, &instance, start, floor, passes)?))
 }
 
