@@ -1,5 +1,5 @@
-//! Tests of the starts, of orders of rows, of the bound, of what the search goes by, of the planner
-//! and the portfolio, and of cores.
+//! Tests of the starts, of orders of rows, of the bound, of the search and what it goes by, of the
+//! planner and the portfolio, and of cores.
 #![tactic(auto)]
 
 #[cfg(test)]
@@ -7,7 +7,11 @@ mod conflicts_tests;
 #[cfg(test)]
 mod core_find_tests;
 #[cfg(test)]
+mod draws;
+#[cfg(test)]
 mod first_fit_tests;
+#[cfg(test)]
+mod line_index_tests;
 #[cfg(test)]
 mod lower_bounds_tests;
 #[cfg(test)]
@@ -22,5 +26,7 @@ mod planner_tests;
 mod portfolio_tests;
 #[cfg(test)]
 mod row_orders_tests;
+#[cfg(test)]
+mod search_core_tests;
 #[cfg(test)]
 mod skyline_tests;

@@ -1,0 +1,305 @@
+//! The fast look-up of a line beside the plain one, in searches of made instances.
+
+ghost use Rattle.std.specs.Prelude.{◌≤◌, IfOk, length};
+ghost use Rattle.dsa_model.specs.Buffer.{buffer_limit};
+ghost use Rattle.canonical_order.specs.Claims.{HasBuffer};
+ghost use Rattle.skyline.specs.Skies.{last_claim};
+
+use crate::draws::Draws;
+use canonical_order::Lows;
+use conflicts::Lemmas;
+use dsa_model::{BUFFER_LIMIT, Buffer, BufferFault, Fail, Instance, NoMemory};
+use lifetime::Sections;
+use line_index::Watches;
+use refute_log::{ClosedLog, Decided, Decider, Log, Reason};
+use search_core::{Budget, Search};
+use skyline::Skyline;
+use split_sections::parts;
+use std::alloc::Global;
+use std::marker::Model;
+
+/// How many buffers a made instance has.
+const COUNT: u64 = 9;
+
+/// How many buffers stand at most where a line is looked up for each child.
+const DEPTH: u32 = 4;
+
+/// Seeds, each with a capacity that the search refutes by thirty lines or more.
+const REFUTED: [(u64, u32); 20] = [
+    (0, 185),
+    (2, 100),
+    (9, 259),
+    (11, 170),
+    (12, 220),
+    (16, 149),
+    (18, 212),
+    (24, 314),
+    (30, 116),
+    (31, 207),
+    (37, 148),
+    (38, 224),
+    (43, 216),
+    (45, 220),
+    (46, 196),
+    (51, 203),
+    (53, 144),
+    (57, 188),
+    (60, 180),
+    (66, 150),
+];
+
+/// The next buffer, drawn as the crate `make_instance` draws one.
+fn next_buffer(alloc: Global, draws: &mut Draws) -> Result<Buffer, Fail<BufferFault>> {
+    let lower = draws.below(2 * COUNT);
+    let length = 1 + draws.below(16);
+    let size = 1 + draws.below(64);
+    let alignment = 1 + draws.below(4);
+    let upper = lower + length;
+    if draws.below(4) == 0 && length >= 3 {
+        let gaps = [(lower + 1, upper - 1)];
+        return Buffer::new(alloc, lower, upper, size, alignment, &gaps, 0);
+    }
+    Buffer::new(alloc, lower, upper, size, alignment, &[], 0)
+}
+
+/// The instance of a seed.
+fn made(alloc: Global, seed: u64) -> Result<Instance, Fail<BufferFault>> {
+    let mut draws = Draws::new(seed);
+    let mut instance = Instance::new(alloc);
+    for _ in 0..COUNT {
+        let buffer = next_buffer(alloc, &mut draws)?;
+        if instance.len() < BUFFER_LIMIT {
+            instance.push(buffer)?;
+        }
+    }
+    Ok(instance)
+}
+
+/// The log by which the search refutes the capacity, if it does.
+fn refuted(
+    alloc: Global,
+    instance: &Instance,
+    capacity: u32,
+) -> Result<Option<ClosedLog>, NoMemory> {
+    let sections = Sections::build(alloc, instance)?;
+    let parts = parts(alloc, instance)?;
+    let mut search = Search::new(alloc, instance, &sections, &parts, Budget::unlimited())?;
+    match search.decide(capacity as u64)? {
+        Decided::Refuted(log) => Ok(Some(log)),
+        _ => Ok(None),
+    }
+}
+
+/// How often the two look-ups were compared, by what came of it.
+#[derive(Clone, Copy)]
+struct Tally {
+    /// Both found a line.
+    found: u32,
+    /// Neither did.
+    none: u32,
+    /// One of them did.
+    differ: u32,
+}
+
+impl Tally {
+    fn note(&mut self, plain: bool, fast: bool) {
+        if plain != fast {
+            self.differ = self.differ.saturating_add(1);
+        } else if plain {
+            self.found = self.found.saturating_add(1);
+        } else {
+            self.none = self.none.saturating_add(1);
+        }
+    }
+}
+
+/// For each buffer one more than its low in the last claim, and 0 where it is not in it.
+fn levels_of(alloc: Global, sky: &Skyline) -> Result<Vec<u64>, NoMemory>
+    ensures { IfOk result (λ levels. length levels.items ≤ buffer_limit) }
+{
+    let mut levels = Vec::new(alloc);
+    for b in 0..sky.instance().len() {
+        let level = if sky.is_free(b) { sky.low(b) + 1 } else { 0 };
+        levels.push(level)?;
+    }
+    Ok(levels)
+}
+
+/// The buffers below the count whose levels are higher now than before.
+fn raised(alloc: Global, count: u32, before: &[u64], now: &[u64]) -> Result<Vec<u32>, NoMemory> {
+    let mut raised = Vec::new(alloc);
+    for b in 0..count {
+        let place = b as usize;
+        if place < before.len() && place < now.len() && before[place] < now[place] {
+            raised.push(b)?;
+        }
+    }
+    Ok(raised)
+}
+
+/// A search that learns the lines of a log one after another on its way.
+#[derive(Drop)]
+struct Replay<'a> {
+    alloc: Global,
+    instance: &'a Instance,
+    closed: &'a ClosedLog,
+    lemmas: Lemmas,
+    watches: Watches,
+    draws: Draws,
+    tally: Tally,
+}
+
+impl<'a> Model for Replay<'a> {
+    ghost use Rattle.refute_log.specs.Logs.{Belongs, OpenLog};
+
+    ghost Value = { OpenLog };
+
+    ghost view = { λ r. r.lemmas };
+
+    ghost invariant = { λ r. Belongs r.instance.now r.lemmas };
+}
+
+impl<'a> Replay<'a> {
+    fn new(
+        alloc: Global,
+        instance: &'a Instance,
+        closed: &'a ClosedLog,
+        tally: Tally,
+    ) -> Result<Replay<'a>, NoMemory> {
+        Ok(Replay {
+            alloc,
+            instance,
+            closed,
+            lemmas: Lemmas::new(alloc, Log::new(alloc, instance, closed.capacity())),
+            watches: Watches::new(alloc)?,
+            draws: Draws::new(closed.len()),
+            tally,
+        })
+    }
+
+    /// How many lines were learned.
+    fn len(&self) -> u64 {
+        self.lemmas.log().len()
+    }
+
+    /// Learns the next line of the log now and then.
+    fn learn(&mut self) -> Result<(), Fail<Reason>> {
+        let k = self.lemmas.log().len();
+        if self.draws.below(4) == 0 && k < self.closed.len() {
+            let line = self.closed.line(k).copy(self.alloc)?;
+            self.lemmas.push(self.instance, line)?;
+        }
+        Ok(())
+    }
+
+    /// Whether the plain look-up finds a line that covers the last claim. Notes both answers.
+    fn compare(&mut self, sky: &Skyline, fast: Option<u64>) -> bool {
+        let plain = self.lemmas.find(sky).is_some();
+        self.tally.note(plain, fast.is_some());
+        plain
+    }
+
+    /// Whether a line covers the last claim, for which so many lines were asked before.
+    fn ask(&mut self, sky: &Skyline, levels: &[u64], asked: u64) -> Result<bool, NoMemory> {
+        let found = self.watches.ask(self.lemmas.log(), levels, asked)?;
+        Ok(self.compare(sky, found))
+    }
+
+    /// Goes down to the child by the buffer, and gives its levels where no line covers it.
+    fn go_down(
+        &mut self,
+        sky: &mut Skyline,
+        above: &[u64],
+        b: u32,
+    ) -> Result<Option<Vec<u64>>, NoMemory>
+        requires { HasBuffer (last_claim sky.old.claims) b }
+    {
+        sky.push(b);
+        let levels = levels_of(self.alloc, sky)?;
+        let raised = raised(self.alloc, self.instance.len(), above, &levels)?;
+        let found = self
+            .watches
+            .find(self.lemmas.log(), above, &levels, &raised)?;
+        if self.compare(sky, found) {
+            Ok(None)
+        } else {
+            Ok(Some(levels))
+        }
+    }
+
+    /// Returns to the claim of the levels, and tells whether a line covers it now.
+    fn go_back(
+        &mut self,
+        sky: &mut Skyline,
+        levels: &[u64],
+        asked: u64,
+    ) -> Result<bool, Fail<Reason>> {
+        if sky.depth() > 0 {
+            sky.pop();
+        }
+        self.learn()?;
+        Ok(self.ask(sky, levels, asked)?)
+    }
+
+    /// Tries the children of the last claim, which has the levels, and the claims below them, until
+    /// a line covers it.
+    fn search(
+        &mut self,
+        sky: &mut Skyline,
+        levels: &[u64],
+        depth: u32,
+    ) -> Result<(), Fail<Reason>> {
+        for b in 0..self.instance.len() {
+            if sky.is_free(b) {
+                let asked = self.len();
+                if let Some(child) = self.go_down(sky, levels, b)? {
+                    if depth > 0 {
+                        self.search(sky, &child, depth - 1)?;
+                    }
+                }
+                if self.go_back(sky, levels, asked)? {
+                    return Ok(());
+                }
+            }
+        }
+        Ok(())
+    }
+}
+
+/// The tally after a search of each part that learns the lines of the log.
+fn replayed(
+    alloc: Global,
+    instance: &Instance,
+    closed: &ClosedLog,
+    tally: Tally,
+) -> Result<Tally, Fail<Reason>> {
+    let sections = Sections::build(alloc, instance)?;
+    let parts = parts(alloc, instance)?;
+    let mut replay = Replay::new(alloc, instance, closed, tally)?;
+    for p in 0..parts.count() {
+        let mut sky = Skyline::new(alloc, instance, &sections, parts.members(p))?;
+        let levels = levels_of(alloc, &sky)?;
+        if !replay.ask(&sky, &levels, 0)? {
+            replay.search(&mut sky, &levels, DEPTH)?;
+        }
+    }
+    Ok(replay.tally)
+}
+
+#[test]
+fn watches_show_a_line_wherever_the_plain_look_up_does(rt: HostRuntime) {
+    let alloc = rt.alloc();
+    let mut tally = Tally {
+        found: 0,
+        none: 0,
+        differ: 0,
+    };
+    for (seed, capacity) in REFUTED {
+        let instance = made(alloc, seed).expect(&rt, "sound buffers");
+        let log = refuted(alloc, &instance, capacity).expect(&rt, "memory");
+        let log = log.expect(&rt, "a refuted capacity");
+        tally = replayed(alloc, &instance, &log, tally).expect(&rt, "legal lines");
+        assert_eq!(rt; tally.differ, 0, "with seed {seed}");
+    }
+    assert!(rt; tally.found >= 1_000 && tally.none >= 1_000);
+}
