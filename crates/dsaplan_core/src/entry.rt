@@ -6,6 +6,7 @@ ghost use Rattle.command_words.specs.Requests.{Request as RequestTerm, request_o
 ghost use Rattle.run_course.specs.Answers.{Answers};
 ghost use Rattle.dsaplan_core.specs.Courses.{course, course_with};
 ghost use Rattle.dsaplan_core.specs.Theorem.{Headline};
+ghost use Rattle.dsaplan_core.specs.Derived.{Derived};
 ghost use Rattle.dsaplan_core.specs.Choice.{Choice};
 ghost use Rattle.dsaplan_core.specs.Complete.{IsConcluded, IsReady, IsUndisturbed};
 
@@ -144,6 +145,12 @@ pub fn run<F: Files, S: Sink>(alloc: Global, words: &[String], files: &mut F, ou
     ensures headline { Headline (map string_bytes words.now)
         (F.seen files.old) (F.seen files.new) result }
 
+    // 'upgraded' writes the accepted log in the second version of its text, 'drawn' a picture of
+    // the layout, 'classes' a plan by size class, 'core' an irreducible set of buffers that do not
+    // fit, 'imported' the instance of the trace, and 'unrolled' that of one period.
+    ensures derived { Derived (map string_bytes words.now)
+        (F.seen files.old) (F.seen files.new) result }
+
     // With `solve` and `least` the layout is the plan, the log is without waste, and steps bound
     // both; 'open' comes only where the steps may be too few. With `pack` no line of the log is
     // needless, and a step is given for each, or it is the lower bound's; the ends of 'open' are no
@@ -153,7 +160,8 @@ pub fn run<F: Files, S: Sink>(alloc: Global, words: &[String], files: &mut F, ou
 
     // Where the words are a command, the files that it reads are there and within their limits, its
     // input is an instance (where it has one), and nothing outside fails, the command concludes
-    // from what they hold, unless memory runs out: no word, file or print is blamed.
+    // from what they hold, unless memory runs out: no word, file or print is blamed, and without
+    // steps 'open' never comes.
     ensures complete { (request : RequestTerm) (I : Instance) →
         request_of (map string_bytes words.now) ≡ Ok request →
         IsReady (F.seen files.old) request I →

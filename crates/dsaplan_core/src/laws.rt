@@ -25,20 +25,9 @@ ghost use Rattle.dsaplan_core.specs.Courses.{course};
 ghost use Rattle.dsaplan_core.specs.Complete.{HoldsLog, IsAcceptedAt, IsReady, IsUndisturbed};
 ghost use Rattle.dsaplan_core.specs.Conclusions.{IsConclusion};
 ghost use Rattle.dsaplan_core.specs.Causes.{IsCaused};
-ghost use Rattle.dsaplan_core.specs.Derived.{Derived};
 ghost use Rattle.dsaplan_core.specs.Lost.{HasLongFile, LosesFile, MissesFile};
 ghost use Rattle.dsaplan_core.specs.Refused.{IsMisuse};
 ghost use Rattle.dsaplan_core.specs.Shown.{Shows};
-
-/// What is derived from an instance, a layout, a log or a trace is what its status says: 'upgraded'
-/// writes the accepted log in the second version of its text, 'drawn' a picture of the layout,
-/// 'classes' a plan by size class, 'core' an irreducible set of buffers that do not fit, 'imported'
-/// the instance of the trace, and 'unrolled' that of one period; and what is refused as no plain
-/// buffer, no trace, no cycle or no core is none.
-pub fn derived()
-    ensures { (words : List Word) (old new : FilesSeen) (before after : SinkSeen) (s : Status) →
-        Answers (course words) old new before after s → Derived words old new s }
-{}
 
 /// A report that is shown is true of the input's instance, of its layout, of how the input is read,
 /// or of the made instance.
@@ -62,7 +51,7 @@ pub fn checks()
 
 /// Where a command's files are readable, its input is an instance, and nothing outside fails, the
 /// status is one of those that conclude the command: a layout where there is one, a refutation
-/// where there is none, a verdict or what is derived; 'open' never without steps, but of `pack`.
+/// where there is none, a verdict or what is derived; 'open' never comes without steps.
 pub fn conclusions()
     ensures { (words : List Word) (old new : FilesSeen) (before after : SinkSeen)
         (request : Request) (I : Instance) (s : Status) → request_of words ≡ Ok request →
