@@ -3,7 +3,7 @@ use Rattle.std.proofs.Common.{◌≡◌, ◌≤◌, ◌+◌, ◌++◌, ◌∷◌
 use Rattle.std.proofs.lemmas.Bool.{cases_Bool, eqb-true}
 use Rattle.std.proofs.lemmas.List.{length-map, map-append}
 use Rattle.std.specs.List.{starts_with}
-use Rattle.std.specs.Option.{option_map_or, option_or}
+use Rattle.std.specs.Option.{option_map_or}
 use Rattle.std.specs.Str.{bytes_eq}
 use Rattle.dsa_terms.specs.Buffers.{Buffer}
 use Rattle.dsa_terms.specs.Claims.{IsIn}
@@ -14,9 +14,9 @@ use Rattle.csv_instance.specs.Changed.{AreMoments, Change, change_of, changed_fr
 use Rattle.csv_instance.specs.Columns.{column_place, field_of, has_column, name_of, named_columns, needed_columns, stands_twice}
 use Rattle.csv_instance.specs.Gaps.{gaps_of}
 use Rattle.csv_instance.specs.Numbers.{time_limit}
-use Rattle.csv_instance.specs.Parse.{form_faults, header_fault, header_faults, id_fault, id_faults, id_limit, mark, number_under, row_buffer}
+use Rattle.csv_instance.specs.Parse.{bad_column, form_fault, header_fault, header_faults, id_fault, id_faults, id_limit, mark, number_under, row_buffer}
 use Rattle.csv_instance.specs.Records.{Record, table_of}
-use Rattle.csv_instance.specs.Rows.{form_fault, parse_rows, row_form_fault, rows_form_fault, values_of}
+use Rattle.csv_instance.specs.Rows.{parse_rows, row_form_fault, rows_form_fault, values_of}
 use Rattle.csv_instance.specs.declared.columns.Column.{Column}
 use Rattle.csv_instance.specs.declared.columns.Column.TheVariants.{Id, Lower, Upper, Size, Alignment, Gaps, Offset, Lowest}
 use Rattle.csv_instance.specs.declared.fault.InstanceFault.TheVariants as fault
@@ -26,9 +26,8 @@ use Rattle.csv_instance.proofs.GapTexts.{gap_added-read}
 use Rattle.csv_instance.proofs.IdLemmas.{all_none, new_id, none_any, position-map}
 use Rattle.csv_instance.proofs.OffsetLemmas.{number-decimal}
 use Rattle.csv_instance.proofs.ReadBack.{AllReadBack}
-use Rattle.csv_instance.proofs.RowLemmas.{rows-good}
+use Rattle.csv_instance.proofs.RowLemmas.{readable, rows-good}
 use Rattle.csv_instance.proofs.SomeBack.{reads_back, records_read, some_columns}
-use Rattle.csv_instance.proofs.SomeRows.{parsed}
 
 -- ---- the header
 -- what passes nowhere passes nowhere by a test that is no laxer
@@ -153,7 +152,8 @@ there_is (Some x) d e = refl
 says_its_own : (header : Record) (n : ℕ) (row : Record) → form_fault header n row ≡ None →
     Says header row (row_buffer header row)
 says_its_own header n row e =
-    let all = all_none (form_faults header n row) e in
+    let all = all_none (option_map (fault.BadNumber n) (bad_column header row)
+    ∷ when (not (is_some (gaps_of (field_of header row Gaps)))) (fault.BadGap n) ∷ []) e in
     let missing = λ (c : Column). not (is_some (number_under header row c)) in
     let m1 = find_none missing Lower (Upper ∷ Size ∷ Alignment ∷ Lowest ∷ []) (map_none (fault.BadNumber n) _ all.0) in
     let m2 = find_none missing Upper (Size ∷ Alignment ∷ Lowest ∷ []) m1.1 in
@@ -338,19 +338,12 @@ rows_read header cs n before (row ∷ rows) good e =
       rows_read header cs (n + 1) (before ++ row ∷ []) rows good later,
     )
 
-faultless : (header : Record) (rows : List Record) → parse_rows (header ∷ rows) ≡ Ok (values_of (header ∷ rows)) →
-    (header_fault header ≡ None) × (rows_form_fault header [] rows ≡ None)
-faultless header rows e =
-    neither (header_fault header) (rows_form_fault header [] rows)
-    (parsed (option_or (header_fault header) (rows_form_fault header [] rows)) (map (row_buffer header) rows)
-    (map (row_buffer header) rows) e)
-
 -- the text of rows after their changes reads back as these
 pub changed_back : (table : List Record) (cs : List Change) → parse_rows table ≡ Ok (values_of table) →
     table_of (changed_text table cs) ≡ changed_records table cs
 changed_back [] cs e = cc e
 changed_back (header ∷ rows) cs e =
-    let (good, fine) = faultless header rows e in
+    let (good, fine) = readable header rows _ e in
     records_read (changed_header header) (changed_rows header cs 0 rows) (header_still header good)
     (rows_read header cs 0 [] rows good fine)
 
@@ -359,7 +352,7 @@ pub changed_parse : (table : List Record) (cs : List Change) → parse_rows tabl
     AreMoments cs → parse_rows (table_of (changed_text table cs)) ≡ Ok (changed_values cs (values_of table))
 changed_parse [] cs e m = cc e
 changed_parse (header ∷ rows) cs e m =
-    let (good, fine) = faultless header rows e in
+    let (good, fine) = readable header rows _ e in
     let (after, values) = rows_after header cs 0 [] [] rows good m refl fine in
     ap parse_rows (changed_back (header ∷ rows) cs e)
     ∙ rows-good (changed_header header) (changed_rows header cs 0 rows) (header_still header good) after

@@ -65,6 +65,16 @@ gave-short a b left (Ok row) g s short =
     all_middle HasShortFields [] (fields_of row) more (rw first at short)
 gave-short a b left (Err e) g s short = tt
 
+-- a record that has P is one that has what P makes of it
+pub gave-map : {P Q : Record → Type 0} (row : Result Row Error) → ((fields : Record) → P fields → Q fields)
+    → GaveRecord row P → GaveRecord row Q
+gave-map (Ok row) g h = g (fields_of row) h
+gave-map (Err e) g h = absurd h
+
+pub gave-some : {P : Record → Type 0} (row : Result Row Error) → GaveRecord row P → (fields : Record) × P fields
+gave-some (Ok row) h = (fields_of row, h)
+gave-some (Err e) h = absurd h
+
 -- it gives one list of records
 pub gives-same : (it : ByteRecordsIntoIter (Bor (List ℕ))) (left other : List Record) → Gives it left → Gives it other
     → left ≡ other

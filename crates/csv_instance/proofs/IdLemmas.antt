@@ -73,6 +73,17 @@ pub all_none : {A : Type 0} (os : List (Option A)) → first_fault os ≡ None �
 all_none [] e = tt
 all_none (o ∷ os) e = let (h, t) = neither o (first_fault os) e in (h, all_none os t)
 
+-- and the other way round
+pub none_first : {F : Type 0} (os : List (Option F)) → AllNone os → first_fault os ≡ None
+none_first [] h = refl
+none_first (o ∷ os) h = rw h.0 (none_first os h.1)
+
+pub none_when : {F : Type 0} (f : F) (b : Bool) → b ≡ false → when b f ≡ None
+none_when f b h = rw h refl
+
+pub none_mapped : {A F : Type 0} (f : A → F) (o : Option A) → o ≡ None → option_map f o ≡ None
+none_mapped f o h = rw h refl
+
 -- a row without such a fault has an id that no row before it has
 pub new_id : (header : Record) (rows : List Record) (row : Record) → id_fault header rows row ≡ None
     → position (λ e. bytes_eq (field_of header row Id) (field_of header e Id)) rows ≡ None

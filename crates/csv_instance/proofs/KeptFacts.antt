@@ -1,28 +1,23 @@
--- What small tables keep, what is found in small layout files, and what is read and written.
-use Rattle.std.proofs.Common.{◌≡◌, ◌<◌, ◌≤◌, List, ℕ, zero, suc, inl, [], ◌∷◌, true, false, length, map, replicate, sum_by, Some, None, Vec, Global, codes, refl, sym, ap, ◌∙◌, subst, lit<, lit≤, arith}
+-- What small rows hold, what is found in small layout files, and what is read and written.
+use Rattle.std.proofs.Common.{◌≡◌, ◌<◌, ◌≤◌, List, ℕ, zero, suc, inl, [], ◌∷◌, true, false, length, replicate, sum_by, Some, None, Vec, Global, codes, refl, ap, lit<, lit≤, arith}
 use Rattle.std.specs.Borrow.{Bor}
 use Rattle.csv.specs.Machine.{next_record}
 use Rattle.csv.specs.Reading.{default_config, records_from}
-use Rattle.csv.specs.Records.{Row, fields_of}
 use Rattle.csv.specs.Writing.{default_writer}
 use Rattle.csv.specs.declared.iter.ByteRecordsIntoIter.{ByteRecordsIntoIter}
 use Rattle.csv.specs.declared.parser.State.TheVariants as state
 use Rattle.csv.specs.declared.reader.Trim.TheVariants as trim
 use Rattle.csv.specs.declared.writer.Writer.{Writer}
-use Rattle.dsa_model.specs.Buffer.{is_ever_live, buffer_limit}
-use Rattle.dsa_terms.specs.Buffers.{Buffer, is_live, some_before}
+use Rattle.dsa_model.specs.Buffer.{buffer_limit}
 use Rattle.csv_instance.specs.Found.{AreColumns, AreFound, AreOf, by_buffer, found_for}
 use Rattle.csv_instance.specs.Gives.{Gives, records_left}
 use Rattle.csv_instance.specs.Offsets.{layout_row_fault}
-use Rattle.csv_instance.specs.Parse.{row_buffer, header_fault, id_fault}
-use Rattle.csv_instance.specs.Places.{column_places}
+use Rattle.csv_instance.specs.Parse.{id_fault}
 use Rattle.csv_instance.specs.Records.{HasShortFields, Record, file_limit}
 use Rattle.csv_instance.specs.Row.{AreNumbers, length_fault}
-use Rattle.csv_instance.specs.Table.{IsKeptTable, records_of}
 use Rattle.csv_instance.specs.Wrote.{Wrote}
 use Rattle.csv_instance.specs.declared.fault.InstanceFault.TheVariants as fault
 use Rattle.csv_instance.specs.declared.fault.OffsetsFault.TheVariants as offsets
-use Rattle.csv_instance.specs.declared.table.Table.TheInside.{Inside}
 
 abbrev plain : Record
 plain = codes "id" ∷ codes "lower" ∷ codes "upper" ∷ codes "size" ∷ []
@@ -67,38 +62,6 @@ short (suc k) d lt = absurd (omega arith)
 
 not_short : (field : List ℕ) → file_limit < length field → HasShortFields (field ∷ []) → ⊥
 not_short field long h = let k : length field ≤ file_limit = h 0 field (lit< tt) in omega arith
-
--- ---- tables
-abbrev first_buffer : Buffer
-first_buffer = record { lower = 2; upper = 5; size = 4; alignment = 1; gaps = []; lowest = 0 }
-
-not_mapped : {A B : Type 0} (f : A → B) (x : A) (xs : List A) (ys : List B) →
-    ys ≡ map f xs → xs ≡ x ∷ [] → ys ≡ [] → ⊥
-not_mapped f x xs ys mapped one none = let e : [] ≡ f x ∷ [] = sym none ∙ mapped ∙ ap (map f) one in cc
-
-module _ (a : Inside) (header : fields_of a.header ≡ plain) where
-  only_header : a.rows.items ≡ [] → records_of a ≡ plain ∷ []
-  only_header rows = rw (header, rows) refl
-
-  one_row : (r : Row) (k : Vec ℕ Global) → fields_of r ≡ first_row → k.items ≡ codes "A" →
-      a.rows.items ≡ r ∷ [] → a.ids.keys ≡ k ∷ [] → a.places ≡ column_places plain →
-      a.instance ≡ first_buffer ∷ [] → IsKeptTable a
-  unfolding is_live some_before is_ever_live
-  one_row r k row id rows ids places buffers = record {
-    places = rw header places;
-    header_good = rw header refl;
-    rows_good = rw (header, rows, row) refl;
-    few = rw rows (lit≤ tt);
-    buffers = rw (header, rows, row) buffers;
-    ids = rw (header, rows, ids, row, id) refl;
-  }
-
-  no_buffer : (r : Row) → a.rows.items ≡ r ∷ [] → a.instance ≡ [] → IsKeptTable a → ⊥
-  no_buffer r rows buffers k =
-      not_mapped (λ (row : Row). row_buffer (fields_of a.header) (fields_of row)) r _ _ k.buffers rows buffers
-
-no_columns : (a : Inside) → fields_of a.header ≡ [] → IsKeptTable a → ⊥
-no_columns a header k = let e = subst (λ fields. header_fault fields ≡ None) header k.header_good in cc
 
 -- ---- layout files
 abbrev solution : Record

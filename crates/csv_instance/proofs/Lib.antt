@@ -9,6 +9,7 @@ pub mod Left
 pub mod GivesLemmas
 pub mod FieldLemmas
 pub mod IdLemmas
+pub mod NumberedIds
 pub mod TableLemmas
 pub mod FailLemmas
 pub mod LayoutLemmas
@@ -20,6 +21,7 @@ pub mod OffsetRows
 pub mod SomeRows
 pub mod SomeBack
 pub mod RowLemmas
+pub mod TableGrowth
 pub mod KeptLemmas
 pub mod ChangedLemmas
 pub mod ChangedFields

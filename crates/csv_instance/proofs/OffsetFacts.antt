@@ -5,26 +5,30 @@ use Rattle.std.proofs.lemmas.Bool.Decides.{nat_tests}
 use Rattle.std.proofs.lemmas.Grind.{common_steps}
 use Rattle.std.proofs.lemmas.List.{length-map}
 use Rattle.std.specs.Str.Parse.{digits_value}
-use Rattle.std.specs.Option.{option_map_or}
 use Rattle.dsa_terms.specs.Buffers.{Buffer}
 use Rattle.dsa_model.specs.Fails.{UnlessNoMemory}
 use Rattle.dsa_model.specs.declared.fail.Fail.{Fail}
 use Rattle.dsa_model.specs.Numbers.{is_number, written_number}
 use Rattle.csv_instance.specs.Columns.{field_of}
-use Rattle.csv_instance.specs.Parse.{parse}
+use Rattle.csv_instance.specs.Parse.{parse, row_buffer}
 use Rattle.csv_instance.specs.declared.columns.Column.TheVariants.{Id, Offset}
 use Rattle.csv_instance.proofs.FailLemmas.{UnlessNoMemory-map}
+use Rattle.csv_instance.proofs.TableLemmas.{answered}
 use Rattle.csv_instance.specs.Offsets.{AreOffsets, ids_of, is_of, offset_in, offset_limit, offset_of, parsed_offsets}
 use Rattle.csv_instance.specs.Records.{Record}
-
-answered : {F A : Type 0} (o : Option F) (x y : A) → option_map_or Err o (Ok x) ≡ Ok y → x ≡ y
-answered None x y e = cc
-answered (Some f) x y e = cc e
 
 -- a table without a fault has an id for each record after the header
 pub ids-count : (table : List Record) (b : List Buffer) → parse table ≡ Ok b → length table ≡ length (ids_of table) + 1
 ids-count [] b e = cc e
 ids-count (header ∷ rows) b e = let same = length-map rows (λ row. field_of header row Id) in omega (arith, same)
+
+-- and a buffer
+pub buffers-count : (table : List Record) (I : List Buffer) → parse table ≡ Ok I → length table ≡ length I + 1
+buffers-count [] I e = cc e
+buffers-count (header ∷ rows) I e =
+    let same = length-map rows (row_buffer header) in
+    let all = ap length (answered _ (map (row_buffer header) rows) I e) in
+    omega (arith, same, all)
 
 same_ok : {F : Type 0} (a b : List ℕ) → ◌≡◌ {A = Result (List ℕ) F} (Ok a) (Ok b) → a ≡ b
 same_ok a b e = cc

@@ -1,19 +1,15 @@
 -- Rows that can be read, row by row.
-use Rattle.std.proofs.Common.{◌≡◌, ◌++◌, ◌∷◌, ◌∙◌, ℕ, List, [], Option, Some, None, Ok, Err, length, map, option_map, refl, sym, ap, subst, inl, inr, append_assoc, not, is_some}
+use Rattle.std.proofs.Common.{◌≡◌, ◌++◌, ◌∷◌, ◌∙◌, ℕ, List, [], Option, Some, None, Ok, Err, length, map, refl, sym, ap, subst, inl, inr, append_assoc}
 use Rattle.std.proofs.lemmas.List.{append-nil}
 use Rattle.std.specs.Option.{option_or}
-use Rattle.csv_instance.specs.Columns.{field_of}
-use Rattle.csv_instance.specs.Gaps.{gaps_of}
 use Rattle.csv_instance.specs.Records.{Record}
-use Rattle.csv_instance.specs.Parse.{bad_column, content_fault, header_fault, id_fault, parse, row_buffer, rows_fault}
-use Rattle.csv_instance.specs.Rows.{form_fault, parse_rows, row_form_fault, rows_form_fault, values_of}
-use Rattle.csv_instance.specs.declared.columns.Column.TheVariants.{Gaps}
+use Rattle.csv_instance.specs.Parse.{content_fault, form_fault, header_fault, id_fault, parse, row_buffer, rows_fault}
+use Rattle.csv_instance.specs.Rows.{parse_rows, row_form_fault, rows_form_fault, values_of}
 use Rattle.csv_instance.specs.declared.fault.InstanceFault.{InstanceFault}
 use Rattle.csv_instance.specs.declared.fault.InstanceFault.TheVariants as fault
-use Rattle.dsa_model.specs.Buffer.{buffer_fault, first_fault, when}
+use Rattle.dsa_model.specs.Buffer.{buffer_fault}
 use Rattle.dsa_model.specs.declared.buffer_fault.BufferFault.{BufferFault}
-use Rattle.csv_instance.proofs.SomeRows.{parsed}
-use Rattle.csv_instance.proofs.TableLemmas.{option_or-assoc, parse-good}
+use Rattle.csv_instance.proofs.TableLemmas.{answered, option_or-assoc, parse-good, parsed}
 use Rattle.dsa_model.proofs.Faults.{neither}
 use Rattle.dsa_terms.specs.Buffers.{Buffer}
 use Rattle.dsa_terms.specs.Claims.{IsIn}
@@ -37,6 +33,21 @@ pub rows-good : (header : Record) (rows : List Record) → header_fault header �
     → parse_rows (header ∷ rows) ≡ Ok (map (row_buffer header) rows)
 rows-good header rows h r = rw (h, r) refl
 
+-- a header that has a fault, and one that has none
+pub bad_header : (header : Record) (rows : List Record) (f : InstanceFault) → header_fault header ≡ Some f →
+    (parse (header ∷ rows) ≡ Err f) × (parse_rows (header ∷ rows) ≡ Err f)
+bad_header header rows f e = rw e (refl, refl)
+
+pub no_rows : (header : Record) → header_fault header ≡ None → parse (header ∷ []) ≡ Ok []
+no_rows header e = parse-good header [] e refl
+
+-- rows that are read have no fault
+pub readable : (header : Record) (rows : List Record) (bs : List Buffer) → parse_rows (header ∷ rows) ≡ Ok bs →
+    (header_fault header ≡ None) × (rows_form_fault header [] rows ≡ None)
+readable header rows bs e =
+    neither (header_fault header) (rows_form_fault header [] rows)
+    (parsed (option_or (header_fault header) (rows_form_fault header [] rows)) (map (row_buffer header) rows) bs e)
+
 -- one more row without a fault
 pub form-more : (header : Record) (rows : List Record) (row : Record) → rows_form_fault header [] rows ≡ None
     → row_form_fault header rows row ≡ None → rows_form_fault header [] (rows ++ row ∷ []) ≡ None
@@ -59,35 +70,15 @@ pub form-content : (header : Record) (rows : List Record) (row : Record) (o : Op
     → id_fault header rows row ≡ None → form_fault header (length rows) row ≡ o → row_form_fault header rows row ≡ o
 form-content header rows row o e g = rw (e, g) refl
 
--- the first of three is the first of two, or else the last
-first_of_three : {A : Type 0} (a b c : Option A)
-    → first_fault (a ∷ b ∷ c ∷ []) ≡ option_or (first_fault (a ∷ b ∷ [])) c
-first_of_three (Some x) b c = refl
-first_of_three None (Some x) c = refl
-first_of_three None None (Some x) = refl
-first_of_three None None None = refl
-
 -- what is wrong with a row's content is what is wrong with its numbers and gaps, or else with its buffer
-pub content-by : (header : Record) (number : ℕ) (row : Record) → content_fault header number row
-    ≡ option_or (form_fault header number row)
-    (option_map (fault.BadBuffer number) (buffer_fault (row_buffer header row)))
-content-by header number row =
-    first_of_three (option_map (fault.BadNumber number) (bad_column header row))
-    (when (not (is_some (gaps_of (field_of header row Gaps)))) (fault.BadGap number))
-    (option_map (fault.BadBuffer number) (buffer_fault (row_buffer header row)))
-
-pub content-form : (header : Record) (number : ℕ) (row : Record) (f : InstanceFault)
-    → form_fault header number row ≡ Some f → content_fault header number row ≡ Some f
-content-form header number row f e = content-by header number row ∙ rw e refl
-
 pub content-buffer : (header : Record) (number : ℕ) (row : Record) (f : BufferFault)
     → form_fault header number row ≡ None → buffer_fault (row_buffer header row) ≡ Some f
     → content_fault header number row ≡ Some (fault.BadBuffer number f)
-content-buffer header number row f e b = content-by header number row ∙ rw (e, b) refl
+content-buffer header number row f e b = rw (e, b) refl
 
-content-none : (header : Record) (number : ℕ) (row : Record) → form_fault header number row ≡ None
+pub content-none : (header : Record) (number : ℕ) (row : Record) → form_fault header number row ≡ None
     → buffer_fault (row_buffer header row) ≡ None → content_fault header number row ≡ None
-content-none header number row e b = content-by header number row ∙ rw (e, b) refl
+content-none header number row e b = rw (e, b) refl
 
 -- rows that can be read and are all buffers have no fault
 buffers-good : (header : Record) (before rows : List Record) → rows_form_fault header before rows ≡ None
@@ -107,11 +98,8 @@ pub rows-parse : (table : List Record) (I : List Buffer) → parse_rows table �
     → ((b : Buffer) → IsIn b I → buffer_fault b ≡ None) → parse table ≡ Ok I
 rows-parse [] I e sound = cc e
 rows-parse (header ∷ rows) I e sound =
-    let none = parsed (option_or (header_fault header) (rows_form_fault header [] rows))
-    (map (row_buffer header) rows) I e in
-    let (good, fine) = neither (header_fault header) (rows_form_fault header [] rows) none in
-    let is : map (row_buffer header) rows ≡ I =
-    (let q : parse_rows (header ∷ rows) ≡ Ok (map (row_buffer header) rows) = rows-good header rows good fine in cc) in
+    let (good, fine) = readable header rows I e in
+    let is : map (row_buffer header) rows ≡ I = answered _ (map (row_buffer header) rows) I e in
     parse-good header rows good (buffers-good header [] rows fine
     (λ b i. sound b (subst (λ (J : List Buffer). IsIn b J) is i)))
     ∙ ap Ok is
@@ -119,8 +107,4 @@ rows-parse (header ∷ rows) I e sound =
 -- what rows say is what is read of them
 pub values-are : (table : List Record) (rows : List Buffer) → parse_rows table ≡ Ok rows → values_of table ≡ rows
 values-are [] rows e = cc e
-values-are (header ∷ rs) rows e =
-    let none = parsed (option_or (header_fault header) (rows_form_fault header [] rs))
-    (map (row_buffer header) rs) rows e in
-    let (good, fine) = neither (header_fault header) (rows_form_fault header [] rs) none in
-    let q : parse_rows (header ∷ rs) ≡ Ok (map (row_buffer header) rs) = rows-good header rs good fine in cc
+values-are (header ∷ rs) rows e = answered _ (map (row_buffer header) rs) rows e

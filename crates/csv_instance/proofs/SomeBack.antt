@@ -1,10 +1,9 @@
 -- Some rows of a table that is an instance read back as they are, under its header.
-use Rattle.std.proofs.Common.{◌≡◌, ◌+◌, ◌<◌, ◌≤◌, ◌∷◌, ◌++◌, ◌∙◌, ℕ, zero, suc, List, [], true, false, not, None, Result, Ok, length, map, drop, slice_index_or, All, inl, inr, refl, sym, ap, subst, arith, nat_eq}
+use Rattle.std.proofs.Common.{◌≡◌, ◌+◌, ◌<◌, ◌≤◌, ◌∷◌, ◌++◌, ◌∙◌, ℕ, zero, suc, List, [], true, false, not, None, Ok, length, map, drop, slice_index_or, All, inl, inr, refl, sym, ap, subst, arith, nat_eq}
 use Rattle.std.proofs.lemmas.Bool.{cases_Bool, eqb-true}
 use Rattle.std.proofs.lemmas.List.{drop_more, length-map}
 use Rattle.std.proofs.lemmas.Slice.Eq.{bytes_eq-Decides}
 use Rattle.std.specs.List.{starts_with}
-use Rattle.std.specs.Option.{option_or}
 use Rattle.std.specs.Str.{bytes_eq}
 use Rattle.csv.specs.Reading.{default_config, records}
 use Rattle.csv.specs.Writing.{default_writer, read_back, row_text}
@@ -20,15 +19,14 @@ use Rattle.csv_instance.specs.Parse.{content_fault, header_fault, header_faults,
 use Rattle.csv_instance.specs.Records.{Record, table_of}
 use Rattle.csv_instance.specs.declared.columns.Column.{Column}
 use Rattle.csv_instance.specs.declared.columns.Column.TheVariants.{Id, Lower, Upper, Size}
-use Rattle.csv_instance.specs.declared.fault.InstanceFault.{InstanceFault}
 use Rattle.csv_instance.specs.declared.fault.InstanceFault.TheVariants as fault
 use Rattle.csv_instance.proofs.Basics.{find_none, not_false}
 use Rattle.csv_instance.proofs.IdLemmas.{all_none}
 use Rattle.csv_instance.proofs.LayoutLaw.{good}
 use Rattle.csv_instance.proofs.Mark.{no_mark}
 use Rattle.csv_instance.proofs.ReadBack.{AllReadBack, text-read}
-use Rattle.csv_instance.proofs.SomeRows.{parsed, some_parse}
-use Rattle.csv_instance.proofs.TableLemmas.{parse-good}
+use Rattle.csv_instance.proofs.SomeRows.{some_parse}
+use Rattle.csv_instance.proofs.TableLemmas.{answered, faultless}
 
 -- ---- the text row by row
 pub chosen_text-at : (rows : List Record) (members : List ℕ) (p : ℕ) → p < length members →
@@ -82,12 +80,6 @@ has_columns header e =
     (not_false _ missing.0, not_false _ later.0)
 
 -- ---- the text reads back
-pub faultless : (header : Record) (rows : List Record) (I : List Buffer) → parse (header ∷ rows) ≡ Ok I →
-    (header_fault header ≡ None) × (rows_fault header [] rows ≡ None)
-faultless header rows I e =
-    neither (header_fault header) (rows_fault header [] rows)
-    (parsed (option_or (header_fault header) (rows_fault header [] rows)) (map (row_buffer header) rows) I e)
-
 -- records under a header without a fault read back, where each has a field
 pub records_read : (header : Record) (rows : List Record) → header_fault header ≡ None → AllReadBack rows →
     table_of (text_of (header ∷ rows)) ≡ header ∷ rows
@@ -131,16 +123,6 @@ chosen_parse (header ∷ rows) I members e rises all =
     ∙ some_parse header rows I members e rises
     (λ b i. let lt = below_count (header ∷ rows) members all b i in let n = count in omega arith)
   where
-    none : (header_fault header ≡ None) × (rows_fault header [] rows ≡ None)
-    none = faultless header rows I e
-
-    whole : List Buffer → Result (List Buffer) InstanceFault
-    whole b = Ok b
-
-    same : (b c : List Buffer) → whole b ≡ whole c → b ≡ c
-    same b c q = cc
-
     count : length I ≡ length rows
     count =
-        ap length (same I (map (row_buffer header) rows) (sym e ∙ parse-good header rows none.0 none.1))
-        ∙ length-map rows (row_buffer header)
+        sym (ap length (answered _ (map (row_buffer header) rows) I e)) ∙ length-map rows (row_buffer header)

@@ -1,9 +1,8 @@
 -- Some rows of a table that is an instance are an instance too: that of their buffers.
-use Rattle.std.proofs.Common.{◌≡◌, ◌≢◌, ℕ, suc, ◌+◌, ◌-◌, ◌<◌, ◌≤◌, ◌⊎◌, inl, inr, Bool, false, not, ◌==◌, List, [], ◌∷◌, ◌++◌, length, map, position, slice_index_or, Option, Some, None, Ok, Err, option_map, is_some, refl, sym, ap, ◌∙◌, subst, arith}
+use Rattle.std.proofs.Common.{◌≡◌, ◌≢◌, ℕ, suc, ◌+◌, ◌-◌, ◌<◌, ◌≤◌, ◌⊎◌, inl, inr, Bool, false, not, ◌==◌, List, [], ◌∷◌, ◌++◌, length, map, position, slice_index_or, None, Ok, option_map, is_some, refl, sym, ap, ◌∙◌, subst, arith}
 use Rattle.std.proofs.lemmas.Iterator.Adapters.{position_from-zero}
 use Rattle.std.proofs.lemmas.List.{get_or-map, length-map}
 use Rattle.std.specs.List.{position_from}
-use Rattle.std.specs.Option.{option_map_or, option_or}
 use Rattle.std.specs.Str.{bytes_eq}
 use Rattle.dsa_terms.specs.Buffers.{Buffer, buffer, no_buffer}
 use Rattle.dsa_terms.specs.Claims.{IsIn, Rises}
@@ -14,12 +13,12 @@ use Rattle.dsa_model.specs.Buffer.{buffer_fault, buffer_limit}
 use Rattle.dsa_model.proofs.Faults.{map_none, neither, not_so}
 use Rattle.csv_instance.specs.Columns.{field_of}
 use Rattle.csv_instance.specs.Gaps.{gaps_of}
-use Rattle.csv_instance.specs.Parse.{bad_column, content_fault, header_fault, id_fault, id_faults, parse, row_buffer, row_fault, rows_fault}
+use Rattle.csv_instance.specs.Parse.{bad_column, content_fault, form_fault, id_fault, id_faults, parse, row_buffer, row_fault, rows_fault}
 use Rattle.csv_instance.specs.Records.{Record}
 use Rattle.csv_instance.specs.declared.columns.Column.TheVariants.{Gaps, Id}
 use Rattle.csv_instance.specs.declared.fault.InstanceFault.TheVariants as fault
 use Rattle.csv_instance.proofs.IdLemmas.{all_none, none_any}
-use Rattle.csv_instance.proofs.TableLemmas.{parse-good}
+use Rattle.csv_instance.proofs.TableLemmas.{answered, faultless, parse-good}
 use Rattle.dsa_model.specs.Chosen.{some_of}
 use Rattle.csv_instance.specs.Chosen.{rows_at}
 
@@ -46,12 +45,13 @@ still_new id header before fewer h e =
 content_stays : (header : Record) (m n : ℕ) (row : Record) → content_fault header m row ≡ None →
     content_fault header n row ≡ None
 content_stays header m n row e =
+    let (form, told) = neither (form_fault header m row)
+    (option_map (fault.BadBuffer m) (buffer_fault (row_buffer header row))) e in
     let all = all_none (option_map (fault.BadNumber m) (bad_column header row)
-    ∷ when (not (is_some (gaps_of (field_of header row Gaps)))) (fault.BadGap m)
-    ∷ option_map (fault.BadBuffer m) (buffer_fault (row_buffer header row)) ∷ []) e in
+    ∷ when (not (is_some (gaps_of (field_of header row Gaps)))) (fault.BadGap m) ∷ []) form in
     let a = map_none (fault.BadNumber m) (bad_column header row) all.0 in
     let b = not_so (not (is_some (gaps_of (field_of header row Gaps)))) (fault.BadGap m) all.1.0 in
-    let c = map_none (fault.BadBuffer m) (buffer_fault (row_buffer header row)) all.1.1.0 in
+    let c = map_none (fault.BadBuffer m) (buffer_fault (row_buffer header row)) told in
     rw (a, b, c) refl
 
 id_stays : (header : Record) (before fewer : List Record) (row : Record) → AreRowsOf fewer before →
@@ -196,19 +196,12 @@ map-map_some header rows (k ∷ ks) h =
         row_buffer header (slice_index_or rows k []) ≡ buffer (map (row_buffer header) rows) k
     one k lt = sym (at_row (row_buffer header) rows k lt)
 
-pub parsed : {F B : Type 0} (o : Option F) (x : B) (b : B) → option_map_or Err o (Ok x) ≡ Ok b → o ≡ None
-parsed None x b e = refl
-parsed (Some f) x b e = cc e
-
 pub some_parse : (header : Record) (rows : List Record) (I : List Buffer) (members : List ℕ) →
     parse (header ∷ rows) ≡ Ok I → Rises members → ((b : ℕ) → IsIn b members → b < length I) →
     parse (header ∷ rows_at rows members) ≡ Ok (some_of I members)
 some_parse header rows I members e r h =
-    let none = parsed (option_or (header_fault header) (rows_fault header [] rows))
-    (map (row_buffer header) rows) I e in
-    let both = neither (header_fault header) (rows_fault header [] rows) none in
-    let is : map (row_buffer header) rows ≡ I = (let q : parse (header ∷ rows) ≡ Ok (map (row_buffer header) rows) =
-    parse-good header rows both.0 both.1 in cc) in
+    let both = faultless header rows I e in
+    let is : map (row_buffer header) rows ≡ I = answered _ (map (row_buffer header) rows) I e in
     let within : (b : ℕ) → IsIn b members → b < length rows = (λ b i. let k = h b i in
     let n = length-map rows (row_buffer header) in let m = ap length is in omega arith) in
     let thin : IsThinned (rows_at rows members) rows = subst (λ (xs : List Record). IsThinned xs rows)

@@ -1,12 +1,13 @@
 -- A table row by row.
 use Rattle.std.proofs.Common.{zero, suc, get_or, ◌≡◌, ◌≢◌, ◌≤◌, ◌<◌, ◌++◌, ◌∷◌, ◌∙◌, ℕ, List, [], Option, Some, None, Ok, Err, length, map, refl, sym, ap, append_assoc, arith, false}
 use Rattle.std.proofs.lemmas.List.{append-nil}
-use Rattle.std.specs.Option.{option_or}
+use Rattle.std.specs.Option.{option_map_or, option_or}
 use Rattle.csv_instance.specs.Records.{Record}
 use Rattle.csv_instance.specs.Parse.{row_buffer, content_fault, header_fault, id_fault, row_fault, rows_fault, parse}
 use Rattle.std.specs.Prelude.{nat_lt, ◌==◌}
 use Rattle.std.proofs.lemmas.Bool.Decides.{nat_tests}
 use Rattle.dsa_model.specs.Buffer.{buffer_limit}
+use Rattle.dsa_terms.specs.Buffers.{Buffer}
 use Rattle.dsa_model.proofs.Faults.{neither, not_so}
 use Rattle.csv_instance.specs.Columns.{field_of}
 use Rattle.csv_instance.specs.Parse.{id_faults}
@@ -18,6 +19,19 @@ use Rattle.csv_instance.proofs.IdLemmas.{all_none}
 pub option_or-assoc : {A : Type 0} (a b c : Option A) → option_or a (option_or b c) ≡ option_or (option_or a b) c
 option_or-assoc None b c = refl
 option_or-assoc (Some x) b c = refl
+
+-- what is answered where nothing is wrong, or what is wrong
+pub parsed : {F B : Type 0} (o : Option F) (x : B) (b : B) → option_map_or Err o (Ok x) ≡ Ok b → o ≡ None
+parsed None x b e = refl
+parsed (Some f) x b e = cc e
+
+pub answered : {F A : Type 0} (o : Option F) (x y : A) → option_map_or Err o (Ok x) ≡ Ok y → x ≡ y
+answered None x y e = cc
+answered (Some f) x y e = cc e
+
+pub refused : {F A : Type 0} (o : Option F) (x : A) (f : F) → option_map_or Err o (Ok x) ≡ Err f → o ≡ Some f
+refused None x f e = cc e
+refused (Some g) x f e = cc
 
 -- the first fault of rows is that of the first rows, or else that of the others
 pub rows-append : (header : Record) (before xs ys : List Record)
@@ -42,6 +56,13 @@ pub rows-more : (header : Record) (rows : List Record) (row : Record) → rows_f
     → row_fault header rows row ≡ None → rows_fault header [] (rows ++ row ∷ []) ≡ None
 rows-more header rows row r e = rows-append header [] rows (row ∷ []) ∙ rw (r, e) refl
 
+-- a table that is an instance has no fault
+pub faultless : (header : Record) (rows : List Record) (I : List Buffer) → parse (header ∷ rows) ≡ Ok I →
+    (header_fault header ≡ None) × (rows_fault header [] rows ≡ None)
+faultless header rows I e =
+    neither (header_fault header) (rows_fault header [] rows)
+    (parsed (option_or (header_fault header) (rows_fault header [] rows)) (map (row_buffer header) rows) I e)
+
 -- the first row with a fault
 pub parse-fault : (header : Record) (rows : List Record) (row : Record) (rest : List Record) (f : InstanceFault)
     → header_fault header ≡ None → rows_fault header [] rows ≡ None
@@ -50,10 +71,6 @@ parse-fault header rows row rest f h r e =
     let whole : rows_fault header [] (rows ++ row ∷ rest) ≡ Some f = rows-append header [] rows (row ∷ rest)
     ∙ rw (r, e) refl in
     rw (h, whole) refl
-
-pub row-id : (header : Record) (rows : List Record) (row : Record) (f : InstanceFault)
-    → id_fault header rows row ≡ Some f → row_fault header rows row ≡ Some f
-row-id header rows row f e = rw e refl
 
 pub row-content : (header : Record) (rows : List Record) (row : Record) (o : Option InstanceFault)
     → id_fault header rows row ≡ None → content_fault header (length rows) row ≡ o → row_fault header rows row ≡ o

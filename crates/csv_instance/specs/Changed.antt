@@ -1,6 +1,6 @@
 -- Rows that are written again with other moments and one gap more.
 use Rattle.std.specs.Prelude.{⊤, ◌≤◌, ◌+◌, ◌==◌, ℕ, cond, List, [], ◌∷◌, ◌++◌, Option, Some, None, codes, decimal, find, length, map, set}
-use Rattle.std.specs.List.{All}
+use Rattle.std.specs.List.{All, enumerate_from}
 use Rattle.std.specs.Option.{option_map_or}
 use Rattle.dsa_terms.specs.Buffers.{Buffer}
 use Rattle.csv_instance.specs.Columns.{column_place, field_of, name_of}
@@ -37,20 +37,12 @@ AreMoments changes = All
 -- what a row says after its change
 abbrev pub changed_value : Option Change → Buffer → Buffer
 changed_value None b = b
-changed_value (Some c) b = record {
-  lower = c.1;
-  upper = c.2;
-  size = b.size;
-  alignment = b.alignment;
-  gaps = b.gaps ++ (c.3, c.4) ∷ [];
-  lowest = b.lowest;
-}
+changed_value (Some c) b = record b { lower = c.1; upper = c.2; gaps = b.gaps ++ (c.3, c.4) ∷ [] }
 
 -- what the rows from that number on say after their changes
 abbrev pub changed_from : List Change → ℕ → List Buffer → List Buffer
-changed_from changes number [] = []
-changed_from changes number (b ∷ bs) =
-    changed_value (change_of changes number) b ∷ changed_from changes (number + 1) bs
+changed_from changes number bs =
+    map (λ (e : ℕ × Buffer). changed_value (change_of changes e.0) e.1) (enumerate_from number bs)
 
 -- what rows say after their changes
 abbrev pub changed_values : List Change → List Buffer → List Buffer
@@ -82,9 +74,8 @@ changed_row header (Some c) row =
 
 -- the rows from that number on, after their changes
 abbrev pub changed_rows : Record → List Change → ℕ → List Record → List Record
-changed_rows header changes number [] = []
-changed_rows header changes number (row ∷ rows) =
-    changed_row header (change_of changes number) row ∷ changed_rows header changes (number + 1) rows
+changed_rows header changes number rows =
+    map (λ (e : ℕ × Record). changed_row header (change_of changes e.0) e.1) (enumerate_from number rows)
 
 -- the header, with the column of gaps put last where there was none
 abbrev pub changed_header : Record → Record

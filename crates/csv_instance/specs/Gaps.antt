@@ -1,12 +1,9 @@
 -- The gaps that a field writes.
 use Rattle.std.specs.Prelude.{ℕ, ◌+◌, ◌++◌, codes, decimal, List, [], ◌∷◌, ◌==◌, if◌then◌else◌, Option, Some, option_map, option_and_then, length, take, drop, map, position}
 use Rattle.std.specs.List.{slice_split}
+use Rattle.std.specs.Option.{option_zip}
 use Rattle.dsa_model.specs.Numbers.{written_number}
 use Rattle.csv_instance.specs.Numbers.{time_limit}
-
--- both values, where there are both
-abbrev pub both : {A B : Type 0} → Option A → Option B → Option (A × B)
-both a b = option_and_then (λ x. option_map (λ y. (x, y)) b) a
 
 -- all values, where there are all
 abbrev pub all_some : {A : Type 0} → List (Option A) → Option (List A)
@@ -17,7 +14,7 @@ all_some (o ∷ os) = option_and_then (λ x. option_map (λ xs. x ∷ xs) (all_s
 abbrev pub gap_of : List ℕ → Option (ℕ × ℕ)
 gap_of piece =
     option_and_then
-    (λ k. both (written_number time_limit (take k piece)) (written_number time_limit (drop (k + 1) piece)))
+    (λ k. option_zip (written_number time_limit (take k piece)) (written_number time_limit (drop (k + 1) piece)))
     (position (λ c. c == 45) piece)
 
 -- the pieces of a field between its spaces

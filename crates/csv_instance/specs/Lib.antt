@@ -5,7 +5,6 @@ pub mod Columns
 pub mod Places
 pub mod Parse
 pub mod Row
-pub mod Table
 pub mod Gives
 pub mod Layout
 pub mod Wrote

@@ -1,7 +1,7 @@
 -- The offsets that a layout file gives, or its first fault.
-use Rattle.std.specs.Prelude.{ℕ, ◌^◌, List, [], ◌∷◌, ◌++◌, Bool, not, ◌==◌, Option, option_map, option_and_then, unwrap_or, Result, Ok, Err, length, find, position, map, is_some, None, ◌≤◌}
-use Rattle.std.specs.List.{All, list_any}
-use Rattle.std.specs.Option.{option_or, option_map_or}
+use Rattle.std.specs.Prelude.{ℕ, ◌^◌, List, [], ◌∷◌, Bool, not, ◌==◌, Option, option_map, option_and_then, unwrap_or, Result, Ok, Err, length, find, position, map, scan, is_some, ◌≤◌}
+use Rattle.std.specs.List.{All, list_any, push}
+use Rattle.std.specs.Option.{option_map_or}
 use Rattle.std.specs.Str.{bytes_eq}
 use Rattle.dsa_model.specs.Buffer.{first_fault, when}
 use Rattle.dsa_model.specs.Numbers.{written_number}
@@ -57,9 +57,7 @@ layout_row_fault ids header before row = first_fault (layout_row_faults ids head
 
 -- the first fault of rows, after those before them
 abbrev pub layout_rows_fault : List (List ℕ) → Record → List Record → List Record → Option OffsetsFault
-layout_rows_fault ids header before [] = None
-layout_rows_fault ids header before (row ∷ rows) = option_or (layout_row_fault ids header before row)
-    (layout_rows_fault ids header (before ++ row ∷ []) rows)
+layout_rows_fault ids header before rows = first_fault (scan push (layout_row_fault ids header) before rows)
 
 -- whether a row is of this id
 abbrev pub is_of : Record → List ℕ → Record → Bool

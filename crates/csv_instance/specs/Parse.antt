@@ -1,6 +1,6 @@
 -- The instance of a table of records, or its first fault.
-use Rattle.std.specs.Prelude.{ℕ, List, [], ◌∷◌, ◌++◌, not, ◌==◌, if◌then◌else◌, Option, Some, None, option_map, unwrap_or, Result, Ok, Err, length, nat_lt, nat_eq, slice_index_or, find, position, map, is_some}
-use Rattle.std.specs.List.{starts_with}
+use Rattle.std.specs.Prelude.{ℕ, List, [], ◌∷◌, not, ◌==◌, if◌then◌else◌, Option, Some, option_map, unwrap_or, Result, Ok, Err, length, nat_lt, nat_eq, slice_index_or, find, position, map, scan, is_some}
+use Rattle.std.specs.List.{push, starts_with}
 use Rattle.std.specs.Option.{option_or, option_map_or}
 use Rattle.std.specs.Str.{bytes_eq}
 use Rattle.dsa_model.specs.Buffer.{first_fault, when, buffer_fault, buffer_limit}
@@ -81,19 +81,17 @@ id_faults header before row =
 abbrev pub id_fault : Record → List Record → Record → Option InstanceFault
 id_fault header before row = first_fault (id_faults header before row)
 
--- what can be wrong with the numbers and the gaps that a row writes
-abbrev pub form_faults : Record → ℕ → Record → List (Option InstanceFault)
-form_faults header number row =
+-- the first fault of the numbers and the gaps that a row writes
+abbrev pub form_fault : Record → ℕ → Record → Option InstanceFault
+form_fault header number row = first_fault (
     option_map (fault.BadNumber number) (bad_column header row)
     ∷ when (not (is_some (gaps_of (field_of header row Gaps)))) (fault.BadGap number)
-    ∷ []
+    ∷ [])
 
 -- the first fault of what a row says of its buffer
 abbrev pub content_fault : Record → ℕ → Record → Option InstanceFault
-content_fault header number row = first_fault (
-    form_faults header number row
-    ++ option_map (fault.BadBuffer number) (buffer_fault (row_buffer header row))
-    ∷ [])
+content_fault header number row = option_or (form_fault header number row)
+    (option_map (fault.BadBuffer number) (buffer_fault (row_buffer header row)))
 
 -- the first fault of a row, given the rows before it
 abbrev pub row_fault : Record → List Record → Record → Option InstanceFault
@@ -101,9 +99,7 @@ row_fault header before row = option_or (id_fault header before row) (content_fa
 
 -- the first fault of rows, after those before them
 abbrev pub rows_fault : Record → List Record → List Record → Option InstanceFault
-rows_fault header before [] = None
-rows_fault header before (row ∷ rows) =
-    option_or (row_fault header before row) (rows_fault header (before ++ row ∷ []) rows)
+rows_fault header before rows = first_fault (scan push (row_fault header) before rows)
 
 -- the buffers of a table, or its first fault: that of the header, and then row by row
 abbrev pub parse : List Record → Result (List Buffer) InstanceFault

@@ -1,5 +1,5 @@
 -- The records of a file.
-use Rattle.std.specs.Prelude.{ℕ, List, [], ◌∷◌, ◌≤◌, length}
+use Rattle.std.specs.Prelude.{ℕ, List, [], ◌≤◌, length, slice_index_or}
 use Rattle.std.specs.List.{All}
 use Rattle.csv.specs.Reading.{default_config, records, strip_bom}
 
@@ -9,8 +9,7 @@ Record = List (List ℕ)
 
 -- the header of a table
 abbrev pub header_of : List Record → Record
-header_of [] = []
-header_of (header ∷ rows) = header
+header_of table = slice_index_or table 0 []
 
 -- the table of these bytes: their records as the `csv` reader gives them, with commas, double quotes, no trimming,
 -- no row set apart as a header, records of any length, and one byte order mark taken off the start

@@ -1,18 +1,15 @@
 -- The rows of an instance file as they are read, before anything is asked of them as buffers.
-use Rattle.std.specs.Prelude.{◌≤◌, ◌<◌, ◌^◌, ℕ, List, [], ◌∷◌, ◌++◌, Option, None, Result, Ok, Err, length, map}
+use Rattle.std.specs.Prelude.{◌≤◌, ◌<◌, ◌^◌, List, [], ◌∷◌, Option, Result, Ok, Err, length, map, scan}
+use Rattle.std.specs.List.{push}
 use Rattle.std.specs.Option.{option_or, option_map_or}
 use Rattle.dsa_terms.specs.Buffers.{Buffer}
 use Rattle.dsa_model.specs.Buffer.{buffer_of, first_fault}
 use Rattle.csv_instance.specs.Numbers.{time_limit}
-use Rattle.csv_instance.specs.Parse.{form_faults, header_fault, id_fault, row_buffer}
+use Rattle.csv_instance.specs.Parse.{form_fault, header_fault, id_fault, row_buffer}
 use Rattle.csv_instance.specs.Records.{Record}
 use Rattle.csv_instance.specs.declared.fault.InstanceFault.{InstanceFault}
 use Rattle.csv_instance.specs.declared.fault.InstanceFault.TheVariants as fault
 use Rattle.csv_instance.specs.declared.row.RowValues.{RowValues}
-
--- the first fault of the numbers and the gaps that a row writes
-abbrev pub form_fault : Record → ℕ → Record → Option InstanceFault
-form_fault header number row = first_fault (form_faults header number row)
 
 -- the first fault of a row, given the rows before it, whatever its buffer would be
 abbrev pub row_form_fault : Record → List Record → Record → Option InstanceFault
@@ -20,9 +17,7 @@ row_form_fault header before row = option_or (id_fault header before row) (form_
 
 -- the first such fault of rows, after those before them
 abbrev pub rows_form_fault : Record → List Record → List Record → Option InstanceFault
-rows_form_fault header before [] = None
-rows_form_fault header before (row ∷ rows) =
-    option_or (row_form_fault header before row) (rows_form_fault header (before ++ row ∷ []) rows)
+rows_form_fault header before rows = first_fault (scan push (row_form_fault header) before rows)
 
 -- what the rows of a table say, row by row
 abbrev pub values_of : List Record → List Buffer

@@ -16,8 +16,8 @@ ghost use Rattle.csv_instance.specs.declared.columns.Column.TheVariants.{Lower, 
 use crate::columns::{Column, ColumnPlaces, column_name, field_under};
 use crate::layout::{all_fields, write_with};
 use crate::row_list::Rows;
-use crate::writing::write_record;
-use csv::{ByteRecord, Writer, WriterBuilder};
+use crate::writing::{text_writer, write_record, written_text};
+use csv::{ByteRecord, Writer};
 use dsa_model::NoMemory;
 use std::alloc::Global;
 
@@ -164,7 +164,7 @@ pub fn write_changed(
         parse_rows (table_of text.items) ≡ Ok (changed_values changes.now (values_of rows.now))) }
 {
     let (header, places, records) = rows.records();
-    let mut writer = WriterBuilder::new().from_writer(Vec::new(alloc));
+    let mut writer = text_writer(alloc);
     write_carried(
         alloc,
         &mut writer,
@@ -182,8 +182,5 @@ pub fn write_changed(
             None => write_carried(alloc, &mut writer, places, &records[place], b"")?,
         }
     }
-    match writer.into_inner() {
-        Ok(text) => Ok(text),
-        Err(_) => Err(NoMemory),
-    }
+    written_text(writer)
 }

@@ -46,7 +46,7 @@ pub fn write_rows(alloc: Global, table: &Table, members: &[u32]) -> Result<Vec<u
     ensures parsed { IfOk result (λ text. (I : List BufferTerm) → parse table.now ≡ Ok I →
         parse (table_of text.items) ≡ Ok (some_of I members.now)) }
 {
-    let (header, rows) = table.records();
+    let (header, _, rows) = table.rows().records();
     let mut writer = text_writer(alloc);
     write_record(&mut writer, header)?;
     write_members(&mut writer, rows, members)?;

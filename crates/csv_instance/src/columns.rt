@@ -11,7 +11,7 @@ use csv::ByteRecord;
 
 /// A column that has a meaning. Every other column is carried from an instance file into its
 /// layouts.
-#[derive(Clone, Copy, Debug, PartialEq, Eq)]
+#[derive(Clone, Copy)]
 pub enum Column {
     /// `id`: what names a buffer.
     Id,

@@ -6,7 +6,7 @@ use dsa_model::BufferFault;
 /// What is wrong with an instance file. The variants stand in order of precedence: those of the
 /// header come first, and all those of a row come before those of the next row. Rows are numbered
 /// from 0 after the header, as buffers are.
-#[derive(Clone, Copy, Debug, PartialEq, Eq)]
+#[derive(Clone, Copy)]
 pub enum InstanceFault {
     /// There is no record.
     NoHeader,
@@ -41,7 +41,7 @@ pub enum InstanceFault {
 /// What is wrong with a layout file, beside a table. The variants stand in order of precedence:
 /// those of the header come first, all those of a row come before those of the next row, and a
 /// missing id comes last. Rows are numbered from 0 after the header of the layout file.
-#[derive(Clone, Copy, Debug, PartialEq, Eq)]
+#[derive(Clone, Copy)]
 pub enum OffsetsFault {
     /// There is no record.
     NoHeader,

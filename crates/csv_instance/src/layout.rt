@@ -85,7 +85,7 @@ pub fn write_layout(alloc: Global, table: &Table, offsets: &[u64]) -> Result<Vec
     ensures back { IfOk result (λ text. AreOffsets offsets.now
         → parsed_offsets (ids_of table.now) (table_of text.items) ≡ Ok offsets.now) }
 {
-    let (header, rows) = table.records();
+    let (header, _, rows) = table.rows().records();
     let mut writer = text_writer(alloc);
     write_with(alloc, &mut writer, header, column_name(Column::Offset))?;
     write_offsets(alloc, &mut writer, rows, offsets)?;

@@ -33,3 +33,4 @@ pub use offsets::read_offsets;
 pub use read::{read_instance, read_rows};
 pub use row_list::Rows;
 pub use table::Table;
+pub use writing::{text_writer, write_fields, written_text};

@@ -89,36 +89,8 @@ fn read_offset(
     }
 }
 
-/// Puts the id and the offset of a row behind those of the rows before it.
-fn note_row(
-    alloc: Global,
-    ids: &IndexSet<Vec<u8>>,
-    columns: &OffsetColumns,
-    row: &ByteRecord,
-    found: &mut IndexMap<Vec<u8>, u64>,
-) -> Result<(), Fail<OffsetsFault>>
-    requires { length found.old.entries < 2 ^ 32 }
-    ensures { let known = map (λ k. k.items) ids.now.keys in let fields = fields_of row.now in
-        (header : Record) → (before : List Record) → AreColumns header columns.now
-        → AreOf header before found.old.entries → UnlessNoMemory result
-        (λ _. (layout_row_fault known header before fields ≡ None)
-        × AreOf header (before ++ fields ∷ []) found.new.entries)
-        (λ fault. layout_row_fault known header before fields ≡ Some fault) }
-{
-    let offset = match read_offset(ids, found, columns, row) {
-        Ok(offset) => offset,
-        Err(fault) => return Err(Fail::Fault(fault)),
-    };
-    let Ok(id) = Vec::from_slice(alloc, field_at(row, columns.id)) else {
-        return Err(Fail::NoMemory);
-    };
-    if found.insert(id, offset).is_err() {
-        return Err(Fail::NoMemory);
-    }
-    Ok(())
-}
-
-/// Does so with a record, and wants memory where the record could not be read.
+/// Puts the id and the offset of a record behind those of the rows before it, or tells the row's
+/// first fault, and want of memory where the record could not be read.
 pub(crate) fn note_next(
     alloc: Global,
     ids: &IndexSet<Vec<u8>>,
@@ -135,8 +107,18 @@ pub(crate) fn note_next(
         (λ fault. GaveRecord row
         (λ fields. layout_row_fault known header before fields ≡ Some fault)) }
 {
-    match row {
-        Ok(row) => note_row(alloc, ids, columns, &row, found),
-        Err(_) => Err(Fail::NoMemory),
+    let Ok(row) = row else {
+        return Err(Fail::NoMemory);
+    };
+    let offset = match read_offset(ids, found, columns, &row) {
+        Ok(offset) => offset,
+        Err(fault) => return Err(Fail::Fault(fault)),
+    };
+    let Ok(id) = Vec::from_slice(alloc, field_at(&row, columns.id)) else {
+        return Err(Fail::NoMemory);
+    };
+    if found.insert(id, offset).is_err() {
+        return Err(Fail::NoMemory);
     }
+    Ok(())
 }

@@ -127,7 +127,7 @@ pub fn read_offsets(
         → bytes.now ≡ layout_text table.now offsets
         → UnlessNoMemory result (λ back. back.items ≡ offsets) (λ _. ⊥) }
 {
-    let ids = table.ids();
+    let ids = table.rows().ids();
     let found = match read_rows(alloc, ids, bytes) {
         Ok(found) => found,
         Err(failure) => return Err(failure),

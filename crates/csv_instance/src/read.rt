@@ -1,8 +1,7 @@
 //! An instance file, read: as an instance, or as rows alone.
 
-ghost use Rattle.std.specs.Prelude.{◌≡◌, ◌∷◌, ◌++◌, ◌≤◌, [], List, Ok, Err, IfOk, length};
+ghost use Rattle.std.specs.Prelude.{◌≡◌, ◌++◌, ◌≤◌, [], List, Ok, Err, IfOk, length};
 ghost use Rattle.std.specs.List.{All};
-ghost use Rattle.csv.specs.Records.{fields_of};
 ghost use Rattle.dsa_terms.specs.Buffers.{Buffer};
 ghost use Rattle.dsa_model.specs.Fails.{UnlessNoMemory};
 ghost use Rattle.csv_instance.specs.Gives.{Gives};
@@ -18,17 +17,18 @@ use csv::ByteRecordsIntoIter;
 use dsa_model::{Fail, NoMemory};
 use std::alloc::Global;
 
-/// A table with no rows yet, whose header is the first of the records, or the fault of the header.
-fn start_table(
+/// No rows yet, with the first of the records as their header, or the fault of the header.
+fn start_rows(
     alloc: Global,
     records: &mut ByteRecordsIntoIter<&[u8]>,
-) -> Result<Table, Fail<InstanceFault>>
+) -> Result<Rows, Fail<InstanceFault>>
     ensures { (left : List Record) → Gives records.old left → UnlessNoMemory result
-        (λ table. (more : List Record) × (left ≡ table ++ more) × Gives records.new more)
-        (λ fault. parse left ≡ Err fault) }
+        (λ rows. (parse rows ≡ Ok []) × (more : List Record) × (left ≡ rows ++ more)
+        × Gives records.new more)
+        (λ fault. (parse left ≡ Err fault) × (parse_rows left ≡ Err fault)) }
 {
     match first_record(records) {
-        Ok(Some(header)) => Table::start(alloc, header),
+        Ok(Some(header)) => Rows::start(alloc, header),
         Ok(None) => Err(Fail::Fault(InstanceFault::NoHeader)),
         Err(NoMemory) => Err(Fail::NoMemory),
     }
@@ -66,25 +66,9 @@ pub fn read_instance(alloc: Global, bytes: &[u8]) -> Result<Table, Fail<Instance
     ensures sound { IfOk result (λ table. (buffers : List Buffer) × (parse table ≡ Ok buffers)) }
 {
     let mut records = records(alloc, bytes);
-    match start_table(alloc, &mut records) {
-        Ok(table) => fill_table(alloc, table, records),
+    match start_rows(alloc, &mut records) {
+        Ok(rows) => fill_table(alloc, Table::start(alloc, rows), records),
         Err(failure) => Err(failure),
-    }
-}
-
-/// No rows yet, with the first of the records as their header, or the fault of the header.
-fn start_rows(
-    alloc: Global,
-    records: &mut ByteRecordsIntoIter<&[u8]>,
-) -> Result<Rows, Fail<InstanceFault>>
-    ensures { (left : List Record) → Gives records.old left → UnlessNoMemory result
-        (λ rows. (more : List Record) × (left ≡ rows ++ more) × Gives records.new more)
-        (λ fault. parse_rows left ≡ Err fault) }
-{
-    match first_record(records) {
-        Ok(Some(header)) => Rows::start(alloc, header),
-        Ok(None) => Err(Fail::Fault(InstanceFault::NoHeader)),
-        Err(NoMemory) => Err(Fail::NoMemory),
     }
 }
 

@@ -7,9 +7,9 @@ ghost use Rattle.csv_instance.specs.Columns.{field_of};
 ghost use Rattle.csv_instance.specs.Places.{column_places};
 ghost use Rattle.csv_instance.specs.Records.{HasShortFields, Record};
 ghost use Rattle.csv_instance.specs.Numbers.{time_limit};
-ghost use Rattle.csv_instance.specs.Parse.{bad_column, content_fault, id_fault, number_or, row_buffer};
+ghost use Rattle.csv_instance.specs.Parse.{bad_column, form_fault, id_fault, number_or, row_buffer};
 ghost use Rattle.csv_instance.specs.Row.{AreNumbers, length_fault};
-ghost use Rattle.csv_instance.specs.Rows.{AreKeptValues, form_fault, value_of};
+ghost use Rattle.csv_instance.specs.Rows.{AreKeptValues, value_of};
 ghost use Rattle.std.specs.List.{list_any};
 ghost use Rattle.std.specs.Option.{option_map_or};
 ghost use Rattle.std.specs.Str.{bytes_eq};
@@ -21,7 +21,7 @@ use crate::fault::InstanceFault;
 use crate::gaps::read_gaps;
 use crate::numbers::TIME_LIMIT;
 use csv::ByteRecord;
-use dsa_model::{BUFFER_LIMIT, Buffer, Fail, NoMemory, parse_number};
+use dsa_model::{BUFFER_LIMIT, Fail, NoMemory, parse_number};
 use indexmap::IndexSet;
 use std::alloc::Global;
 
@@ -46,37 +46,6 @@ fn check_lengths(number: u32, columns: usize, fields: usize, id: usize) -> Optio
     }
 }
 
-/// The first fault of a row's length and id.
-pub(crate) fn check_id(
-    header: &ByteRecord,
-    places: &ColumnPlaces,
-    ids: &IndexSet<Vec<u8>>,
-    rows: &Vec<ByteRecord>,
-    row: &ByteRecord,
-) -> Option<InstanceFault>
-    requires places { places.now ≡ column_places (fields_of header.now) }
-    requires ids { map (λ k. k.items) ids.now.keys
-        ≡ map (λ e. field_of (fields_of header.now) (fields_of e) Id) rows.now.items }
-    requires few { length rows.now.items ≤ buffer_limit }
-    ensures { result
-        ≡ id_fault (fields_of header.now) (map fields_of rows.now.items) (fields_of row.now) }
-{
-    let number = rows.len() as u32;
-    let id = field_under(row, places.id);
-    let columns = header.len();
-    let fields = row.len();
-    if let Some(fault) = check_lengths(number, columns, fields, id.len()) {
-        return Some(fault);
-    }
-    match ids.get_index_of(id) {
-        Some(earlier) => Some(InstanceFault::DuplicateId {
-            row: number,
-            earlier: earlier as u32,
-        }),
-        None => None,
-    }
-}
-
 /// The id of a row, or the first fault of its length and id.
 pub(crate) fn read_id(
     alloc: Global,
@@ -96,10 +65,20 @@ pub(crate) fn read_id(
         × (id.items ≡ field_of h (fields_of row.now) Id))
         (λ f. id_fault h before (fields_of row.now) ≡ Some f) }
 {
-    if let Some(fault) = check_id(header, places, ids, rows, row) {
+    let number = rows.len() as u32;
+    let id = field_under(row, places.id);
+    let columns = header.len();
+    let fields = row.len();
+    if let Some(fault) = check_lengths(number, columns, fields, id.len()) {
         return Err(Fail::Fault(fault));
     }
-    match Vec::from_slice(alloc, field_under(row, places.id)) {
+    if let Some(earlier) = ids.get_index_of(id) {
+        return Err(Fail::Fault(InstanceFault::DuplicateId {
+            row: number,
+            earlier: earlier as u32,
+        }));
+    }
+    match Vec::from_slice(alloc, id) {
         Ok(id) => Ok(id),
         Err(_) => Err(Fail::NoMemory),
     }
@@ -211,38 +190,5 @@ pub(crate) fn read_values(
         Ok(Some(gaps)) => Ok(RowValues { numbers, gaps }),
         Ok(None) => Err(Fail::Fault(InstanceFault::BadGap { row: number })),
         Err(NoMemory) => Err(Fail::NoMemory),
-    }
-}
-
-/// The buffer that a row tells of, or the first fault of what it says.
-pub(crate) fn read_buffer(
-    alloc: Global,
-    places: &ColumnPlaces,
-    number: u32,
-    row: &ByteRecord,
-) -> Result<Buffer, Fail<InstanceFault>>
-    requires { HasShortFields (fields_of row.now) }
-    ensures { let fields = fields_of row.now in (header : Record) →
-        places.now ≡ column_places header → UnlessNoMemory result
-        (λ b. (content_fault header number fields ≡ None) × (b ≡ row_buffer header fields))
-        (λ f. content_fault header number fields ≡ Some f) }
-{
-    let RowValues { numbers, gaps } = match read_values(alloc, places, number, row) {
-        Ok(values) => values,
-        Err(failure) => return Err(failure),
-    };
-    let Numbers {
-        lower,
-        upper,
-        size,
-        alignment,
-        lowest,
-    } = numbers;
-    match Buffer::new(alloc, lower, upper, size, alignment, &gaps, lowest) {
-        Ok(buffer) => Ok(buffer),
-        Err(Fail::Fault(fault)) => {
-            Err(Fail::Fault(InstanceFault::BadBuffer { row: number, fault }))
-        }
-        Err(Fail::NoMemory) => Err(Fail::NoMemory),
     }
 }

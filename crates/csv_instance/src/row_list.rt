@@ -1,23 +1,25 @@
 //! The rows of an instance file as they are read.
 
-ghost use Rattle.std.specs.Prelude.{◌≡◌, ◌∷◌, ◌++◌, ◌+◌, ◌<◌, ◌≤◌, ◌^◌, [], List, Ok, Err, IfOk, length, map};
+ghost use Rattle.std.specs.Prelude.{◌≡◌, ◌∷◌, ◌++◌, ◌+◌, ◌<◌, ◌≤◌, ◌^◌, [], List, Ok, Err, None, Some, IfOk, length, map};
 ghost use Rattle.csv.specs.Records.{fields_of};
 ghost use Rattle.dsa_terms.specs.Buffers.{buffer};
-ghost use Rattle.dsa_model.specs.Buffer.{buffer_limit};
+ghost use Rattle.dsa_model.specs.Buffer.{IsBuffer, buffer_fault, buffer_limit};
 ghost use Rattle.dsa_model.specs.Fails.{UnlessNoMemory};
 ghost use Rattle.csv_instance.specs.KeptRows.{AreKept};
 ghost use Rattle.csv_instance.specs.Numbers.{time_limit};
+ghost use Rattle.csv_instance.specs.Offsets.{ids_of};
+ghost use Rattle.csv_instance.specs.Parse.{header_fault};
 ghost use Rattle.csv_instance.specs.Places.{column_places};
 ghost use Rattle.csv_instance.specs.Gives.{GaveRecord};
 ghost use Rattle.csv_instance.specs.Records.{HasShortFields, Record};
-ghost use Rattle.csv_instance.specs.Rows.{parse_rows, values_of};
+ghost use Rattle.csv_instance.specs.Rows.{AreKeptValues, parse_rows, value_of, values_of};
 
 use crate::columns::{ColumnPlaces, find_columns};
 use crate::fault::InstanceFault;
 use crate::header::check_header;
 use crate::row::{RowValues, keep, read_id, read_values};
 use csv::ByteRecord;
-use dsa_model::{Fail, NoMemory};
+use dsa_model::{Buffer, BufferFault, Fail, NoMemory};
 use indexmap::IndexSet;
 use std::alloc::Global;
 use std::marker::Model;
@@ -47,10 +49,10 @@ impl Model for Rows {
 }
 
 impl Rows {
-    /// No rows yet, or the header's fault, which is the file's whatever comes after.
+    /// No rows yet, or the header's fault.
     pub(crate) fn start(alloc: Global, header: ByteRecord) -> Result<Rows, Fail<InstanceFault>>
-        ensures { UnlessNoMemory result (λ t. t ≡ fields_of header ∷ [])
-            (λ f. (rest : List Record) → parse_rows (fields_of header ∷ rest) ≡ Err f) }
+        ensures { let h = fields_of header in UnlessNoMemory result
+            (λ rows. (rows ≡ h ∷ []) × (header_fault h ≡ None)) (λ f. header_fault h ≡ Some f) }
     {
         if let Some(fault) = check_header(&header) {
             return Err(Fail::Fault(fault));
@@ -65,16 +67,22 @@ impl Rows {
         })
     }
 
-    /// One more row, or the row's fault, which is the file's whatever comes after.
-    pub(crate) fn with_row(
+    /// The rows with a record as one more, or the row's fault, which is the file's whatever comes
+    /// after, and want of memory where the record could not be read.
+    pub(crate) fn with_next(
         self,
         alloc: Global,
-        row: ByteRecord,
+        row: Result<ByteRecord, csv::Error>,
     ) -> Result<Rows, Fail<InstanceFault>>
-        requires { HasShortFields (fields_of row) }
-        ensures { UnlessNoMemory result (λ t. t ≡ self ++ fields_of row ∷ [])
-            (λ f. (rest : List Record) → parse_rows (self ++ fields_of row ∷ rest) ≡ Err f) }
+        requires { IfOk row (λ r. HasShortFields (fields_of r)) }
+        ensures { UnlessNoMemory result
+            (λ t. GaveRecord row (λ fields. t ≡ self ++ fields ∷ []))
+            (λ f. GaveRecord row
+            (λ fields. (rest : List Record) → parse_rows (self ++ fields ∷ rest) ≡ Err f)) }
     {
+        let Ok(row) = row else {
+            return Err(Fail::NoMemory);
+        };
         let Rows {
             header,
             places,
@@ -102,25 +110,6 @@ impl Rows {
         }
     }
 
-    /// A record as one more row, or the row's fault, and want of memory where the record could not
-    /// be read.
-    pub(crate) fn with_next(
-        self,
-        alloc: Global,
-        row: Result<ByteRecord, csv::Error>,
-    ) -> Result<Rows, Fail<InstanceFault>>
-        requires { IfOk row (λ r. HasShortFields (fields_of r)) }
-        ensures { UnlessNoMemory result
-            (λ t. GaveRecord row (λ fields. t ≡ self ++ fields ∷ []))
-            (λ f. GaveRecord row
-            (λ fields. (rest : List Record) → parse_rows (self ++ fields ∷ rest) ≡ Err f)) }
-    {
-        match row {
-            Ok(row) => self.with_row(alloc, row),
-            Err(_) => Err(Fail::NoMemory),
-        }
-    }
-
     /// The header, where its columns stand, and the rows.
     pub(crate) fn records(&self) -> (&ByteRecord, &ColumnPlaces, &[ByteRecord])
         ensures records { self.now ≡ fields_of result.0.now ∷ map fields_of result.2.now }
@@ -129,6 +118,42 @@ impl Rows {
         ensures few { length result.2.now ≤ buffer_limit }
     {
         (&self.header, &self.places, self.rows.as_slice())
+    }
+
+    /// The ids of the rows, in order.
+    pub(crate) fn ids(&self) -> &IndexSet<Vec<u8>>
+        ensures ids { map (λ k. k.items) result.now.keys ≡ ids_of self.now }
+        ensures few { length result.now.keys ≤ buffer_limit }
+    {
+        &self.ids
+    }
+
+    /// What a row says. The caller owes that `r` is below the count of rows.
+    fn row(&self, r: u32) -> &RowValues
+        requires { r + 1 < length self.now }
+        ensures value { buffer (values_of self.now) r ≡ value_of result.now }
+        ensures limits { AreKeptValues result.now }
+    {
+        &self.values[r as usize]
+    }
+
+    /// The buffer that a row tells of, or what is wrong with it. The caller owes that `r` is below
+    /// the count of rows.
+    pub(crate) fn buffer(&self, alloc: Global, r: u32) -> Result<Buffer, Fail<BufferFault>>
+        requires { r + 1 < length self.now }
+        ensures { let b = buffer (values_of self.now) r in UnlessNoMemory result
+            (λ made. (made ≡ b) × IsBuffer b) (λ fault. buffer_fault b ≡ Some fault) }
+    {
+        let RowValues { numbers, gaps } = self.row(r);
+        Buffer::new(
+            alloc,
+            numbers.lower,
+            numbers.upper,
+            numbers.size,
+            numbers.alignment,
+            gaps,
+            numbers.lowest,
+        )
     }
 
     /// The number of rows, at most `BUFFER_LIMIT` of the crate `dsa_model`.
@@ -146,7 +171,7 @@ impl Rows {
         ensures value { result ≡ (buffer (values_of self.now) r).lower }
         ensures limit { result ≤ time_limit }
     {
-        self.values[r as usize].numbers.lower
+        self.row(r).numbers.lower
     }
 
     /// The moment under `upper` in a row. The caller owes that `r` is below the count of rows.
@@ -155,7 +180,7 @@ impl Rows {
         ensures value { result ≡ (buffer (values_of self.now) r).upper }
         ensures limit { result ≤ time_limit }
     {
-        self.values[r as usize].numbers.upper
+        self.row(r).numbers.upper
     }
 
     /// The number under `size` in a row, in bytes. The caller owes that `r` is below the count of
@@ -164,7 +189,7 @@ impl Rows {
         requires { r + 1 < length self.now }
         ensures value { result ≡ (buffer (values_of self.now) r).size }
     {
-        self.values[r as usize].numbers.size
+        self.row(r).numbers.size
     }
 
     /// The number under `alignment` in a row, and 1 where it has none there. The caller owes that
@@ -173,7 +198,7 @@ impl Rows {
         requires { r + 1 < length self.now }
         ensures value { result ≡ (buffer (values_of self.now) r).alignment }
     {
-        self.values[r as usize].numbers.alignment
+        self.row(r).numbers.alignment
     }
 
     /// The number under `lowest` in a row, in bytes, and 0 where it has none there. The caller owes
@@ -182,7 +207,7 @@ impl Rows {
         requires { r + 1 < length self.now }
         ensures value { result ≡ (buffer (values_of self.now) r).lowest }
     {
-        self.values[r as usize].numbers.lowest
+        self.row(r).numbers.lowest
     }
 
     /// The gaps of a row as they were written, each by its first moment and the one after its last;
@@ -192,7 +217,7 @@ impl Rows {
         ensures value { result.now ≡ (buffer (values_of self.now) r).gaps }
         ensures few { length result.now < 2 ^ 31 }
     {
-        self.values[r as usize].gaps.as_slice()
+        self.row(r).gaps.as_slice()
     }
 }
 

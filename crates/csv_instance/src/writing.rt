@@ -10,7 +10,7 @@ use dsa_model::NoMemory;
 use std::alloc::Global;
 
 /// A writer into memory that has written nothing.
-pub(crate) fn text_writer(alloc: Global) -> Writer<Vec<u8>>
+pub fn text_writer(alloc: Global) -> Writer<Vec<u8>>
     ensures { Wrote result [] }
 {
     WriterBuilder::new().from_writer(Vec::new(alloc))
@@ -28,7 +28,7 @@ pub(crate) fn write_record(writer: &mut Writer<Vec<u8>>, row: &ByteRecord) -> Re
 }
 
 /// Writes the record of these fields.
-pub(crate) fn write_fields(writer: &mut Writer<Vec<u8>>, fields: &[&[u8]]) -> Result<(), NoMemory>
+pub fn write_fields(writer: &mut Writer<Vec<u8>>, fields: &[&[u8]]) -> Result<(), NoMemory>
     ensures { (text : List ℕ) → Wrote writer.old text → OnOk result
         (Wrote writer.new (text ++ row_text default_writer (map (λ f. f.now) fields.now))) }
 {
@@ -39,7 +39,7 @@ pub(crate) fn write_fields(writer: &mut Writer<Vec<u8>>, fields: &[&[u8]]) -> Re
 }
 
 /// The text that a writer has written.
-pub(crate) fn written_text(writer: Writer<Vec<u8>>) -> Result<Vec<u8>, NoMemory>
+pub fn written_text(writer: Writer<Vec<u8>>) -> Result<Vec<u8>, NoMemory>
     ensures { (text : List ℕ) → Wrote writer text → IfOk result (λ made. made.items ≡ text) }
 {
     match writer.into_inner() {

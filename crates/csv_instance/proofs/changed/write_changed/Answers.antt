@@ -1,4 +1,4 @@
-use Rattle.std.proofs.Common.{◌≡◌, ◌<◌, ◌+◌, ◌++◌, ◌∙◌, [], ℕ, List, Option, Some, None, length, map, drop, get_or, sym, ap, append_assoc, arith, refl, rules}
+use Rattle.std.proofs.Common.{◌≡◌, ◌<◌, ◌+◌, ◌++◌, ◌∙◌, [], ℕ, List, Option, Some, None, length, map, drop, get_or, sym, ap, append_assoc, arith, refl}
 use Rattle.std.proofs.lemmas.Grind.{common_steps}
 use Rattle.std.proofs.lemmas.List.{get_or-map, length-map}
 use Rattle.csv.specs.Records.{Row, fields_of}
@@ -6,9 +6,9 @@ use Rattle.csv.specs.Writing.{default_writer, row_text}
 use Rattle.csv_instance.specs.Changed.{Change, change_of, changed_header, changed_row, changed_rows, changed_text}
 use Rattle.csv_instance.specs.Layout.{text_of}
 use Rattle.csv_instance.specs.Records.{Record}
-use Rattle.csv_instance.specs.Wrote.{Wrote}
 use Rattle.csv_instance.proofs.ChangedLemmas.{changed_text-at, from_first, later_text, next_change, none_then, to_the_end}
 use Rattle.csv_instance.proofs.ChangedBack.{changed_back, changed_parse}
+use Rattle.csv_instance.proofs.FailLemmas.{IfOk-map}
 use Rattle.csv_instance.proofs.changed.write_changed.Goals.{in-Some+in_ok-write_change-in-Some, in-None+in_ok-write_carried-in-None}
 use Rattle.csv_instance.proofs.changed.write_changed.Goals as goal
 
@@ -17,7 +17,7 @@ loop-place-init c =
     let header = fields_of c.records.result.0.now in
     let rows = map fields_of c.records.result.2.now in
     let changes = c.args.changes.now in
-    let empty : Wrote c.from_writer-writer.result [] = search rules in (
+    let empty = c.text_writer-writer.ensures in (
       header,
       row_text default_writer (changed_header header),
       rw c.column_name.ensures at (c.in_ok-write_carried.ensures header c.records.ensures.places [] empty),
@@ -85,12 +85,26 @@ loop-place-preserved c =
           )
     ]
 
-pub returns-in-Ok-clause-back : goal.returns-in-Ok-clause-back
-returns-in-Ok-clause-back c =
-    let text : c.in-Ok.text.items ≡ changed_text c.args.rows.now c.args.changes.now = grind (arith, common_steps) in
-    rw text (changed_back c.args.rows.now c.args.changes.now c.records.ensures.parsed)
+pub returns-clause-text : goal.returns-clause-text
+returns-clause-text c =
+    let (header, text, wrote, places, is, from, within) = c.loop-place.invariant in
+    let all : changed_text c.args.rows.now c.args.changes.now ≡ text = grind (arith, common_steps) in
+    rw all (c.written_text.ensures text wrote)
 
-pub returns-in-Ok-clause-parsed : goal.returns-in-Ok-clause-parsed
-returns-in-Ok-clause-parsed c = λ moments.
-    let text : c.in-Ok.text.items ≡ changed_text c.args.rows.now c.args.changes.now = grind (arith, common_steps) in
-    rw text (changed_parse c.args.rows.now c.args.changes.now c.records.ensures.parsed moments)
+pub returns-clause-back : goal.returns-clause-back
+returns-clause-back c =
+    let (header, text, wrote, places, is, from, within) = c.loop-place.invariant in
+    let all : changed_text c.args.rows.now c.args.changes.now ≡ text = grind (arith, common_steps) in
+    IfOk-map c.written_text.result
+    (λ made e. let is : made.items ≡ changed_text c.args.rows.now c.args.changes.now = e ∙ sym all in
+    rw is (changed_back c.args.rows.now c.args.changes.now c.records.ensures.parsed))
+    (c.written_text.ensures text wrote)
+
+pub returns-clause-parsed : goal.returns-clause-parsed
+returns-clause-parsed c =
+    let (header, text, wrote, places, is, from, within) = c.loop-place.invariant in
+    let all : changed_text c.args.rows.now c.args.changes.now ≡ text = grind (arith, common_steps) in
+    IfOk-map c.written_text.result
+    (λ made e moments. let is : made.items ≡ changed_text c.args.rows.now c.args.changes.now = e ∙ sym all in
+    rw is (changed_parse c.args.rows.now c.args.changes.now c.records.ensures.parsed moments))
+    (c.written_text.ensures text wrote)

@@ -1,19 +1,31 @@
-use Rattle.std.proofs.Common.{◌∙◌, ap, sym}
+use Rattle.std.proofs.Common.{◌≡◌, ◌∙◌, ◌++◌, List, Err, ap, sym}
 use Rattle.csv_instance.specs.Parse.{parse}
-use Rattle.csv_instance.specs.Records.{HasShortFields, table_of}
-use Rattle.csv_instance.proofs.FailLemmas.{UnlessNoMemory-map}
+use Rattle.csv_instance.specs.Records.{HasShortFields, Record, table_of}
+use Rattle.csv_instance.specs.Rows.{parse_rows}
+use Rattle.csv_instance.specs.declared.fault.InstanceFault.{InstanceFault}
+use Rattle.csv_instance.proofs.FailLemmas.{IfFault-map, UnlessNoMemory-map}
 use Rattle.csv_instance.proofs.Short.{all_later, table_short}
 use Rattle.csv_instance.proofs.read.read_instance.Goals as goal
 
+pub start-requires : goal.start-requires
+start-requires c = (c.in-Ok.ensures (table_of c.args.bytes.now) c.records-records.ensures).0
+
 pub fill_table-requires : goal.fill_table-requires
 fill_table-requires c =
-    let (more, is, gives) = c.in-Ok.ensures (table_of c.args.bytes.now) c.records-records.ensures in
-    (more, gives, all_later HasShortFields c.in-Ok.table more (rw is at (table_short c.args.bytes.now c.requires)))
+    let (good, more, is, gives) = c.in-Ok.ensures (table_of c.args.bytes.now) c.records-records.ensures in
+    (more, gives, all_later HasShortFields c.in-Ok.rows more (rw is at (table_short c.args.bytes.now c.requires)))
 
 pub returns-in-Ok-clause-read : goal.returns-in-Ok-clause-read
 returns-in-Ok-clause-read c =
-    let (more, is, gives) = c.in-Ok.ensures (table_of c.args.bytes.now) c.records-records.ensures in
-    UnlessNoMemory-map c.fill_table.result (λ t e. e ∙ sym is) (λ f e. ap parse is ∙ e) (c.fill_table.ensures.read more gives)
+    let (good, more, is, gives) = c.in-Ok.ensures (table_of c.args.bytes.now) c.records-records.ensures in
+    let whole : table_of c.args.bytes.now ≡ c.start.result ++ more =
+    is ∙ ap (λ (t : List Record). t ++ more) (sym c.start.ensures) in
+    UnlessNoMemory-map c.fill_table.result (λ t e. e ∙ sym whole) (λ f e. ap parse whole ∙ e)
+    (c.fill_table.ensures.read more gives)
 
 pub returns-in-Err-clause-read : goal.returns-in-Err-clause-read
-returns-in-Err-clause-read c = c.in-Err.ensures (table_of c.args.bytes.now) c.records-records.ensures
+returns-in-Err-clause-read c =
+    let table = table_of c.args.bytes.now in
+    IfFault-map (λ (f : InstanceFault). (parse table ≡ Err f) × (parse_rows table ≡ Err f))
+    (λ (f : InstanceFault). parse table ≡ Err f) c.in-Err.failure (λ f both. both.0)
+    (c.in-Err.ensures table c.records-records.ensures)

@@ -1,19 +1,25 @@
-use Rattle.std.proofs.Common.{◌∙◌, ap, sym}
+use Rattle.std.proofs.Common.{◌≡◌, ◌∙◌, Err, ap, sym}
+use Rattle.csv_instance.specs.Parse.{parse}
 use Rattle.csv_instance.specs.Rows.{parse_rows}
 use Rattle.csv_instance.specs.Records.{HasShortFields, table_of}
-use Rattle.csv_instance.proofs.FailLemmas.{UnlessNoMemory-map}
+use Rattle.csv_instance.specs.declared.fault.InstanceFault.{InstanceFault}
+use Rattle.csv_instance.proofs.FailLemmas.{IfFault-map, UnlessNoMemory-map}
 use Rattle.csv_instance.proofs.Short.{all_later, table_short}
 use Rattle.csv_instance.proofs.read.read_rows.Goals as goal
 
 pub fill_rows-requires : goal.fill_rows-requires
 fill_rows-requires c =
-    let (more, is, gives) = c.in-Ok.ensures (table_of c.args.bytes.now) c.records-records.ensures in
+    let (good, more, is, gives) = c.in-Ok.ensures (table_of c.args.bytes.now) c.records-records.ensures in
     (more, gives, all_later HasShortFields c.in-Ok.rows more (rw is at (table_short c.args.bytes.now c.requires)))
 
 pub returns-in-Ok-clause-read : goal.returns-in-Ok-clause-read
 returns-in-Ok-clause-read c =
-    let (more, is, gives) = c.in-Ok.ensures (table_of c.args.bytes.now) c.records-records.ensures in
+    let (good, more, is, gives) = c.in-Ok.ensures (table_of c.args.bytes.now) c.records-records.ensures in
     UnlessNoMemory-map c.fill_rows.result (λ t e. e ∙ sym is) (λ f e. ap parse_rows is ∙ e) (c.fill_rows.ensures.read more gives)
 
 pub returns-in-Err-clause-read : goal.returns-in-Err-clause-read
-returns-in-Err-clause-read c = c.in-Err.ensures (table_of c.args.bytes.now) c.records-records.ensures
+returns-in-Err-clause-read c =
+    let table = table_of c.args.bytes.now in
+    IfFault-map (λ (f : InstanceFault). (parse table ≡ Err f) × (parse_rows table ≡ Err f))
+    (λ (f : InstanceFault). parse_rows table ≡ Err f) c.in-Err.failure (λ f both. both.1)
+    (c.in-Err.ensures table c.records-records.ensures)

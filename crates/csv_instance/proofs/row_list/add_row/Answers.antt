@@ -7,8 +7,8 @@ use Rattle.csv.specs.Records.{Row, fields_of}
 use Rattle.std.specs.Str.{bytes_eq}
 use Rattle.csv_instance.specs.Columns.{field_of}
 use Rattle.csv_instance.specs.Records.{Record}
-use Rattle.csv_instance.specs.Parse.{row_buffer, id_fault}
-use Rattle.csv_instance.specs.Rows.{AreKeptValues, form_fault, parse_rows, row_form_fault, value_of}
+use Rattle.csv_instance.specs.Parse.{form_fault, id_fault, row_buffer}
+use Rattle.csv_instance.specs.Rows.{AreKeptValues, parse_rows, row_form_fault, value_of}
 use Rattle.csv_instance.specs.declared.fault.InstanceFault.{InstanceFault}
 use Rattle.csv_instance.proofs.FailLemmas.{IfFault-map}
 use Rattle.csv_instance.specs.declared.columns.Column.TheVariants.{Id}

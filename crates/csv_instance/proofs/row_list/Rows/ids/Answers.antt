@@ -1,15 +1,11 @@
-use Rattle.std.proofs.Common.{◌∙◌}
-use Rattle.csv.specs.Records.{fields_of}
+use Rattle.std.proofs.Common.{◌∙◌, ap, arith, length}
+use Rattle.std.proofs.lemmas.List.{length-map}
+use Rattle.csv.specs.Records.{Row, fields_of}
 use Rattle.csv_instance.specs.Columns.{field_of}
 use Rattle.csv_instance.specs.Records.{Record}
 use Rattle.csv_instance.specs.declared.columns.Column.TheVariants.{Id}
 use Rattle.csv_instance.proofs.IdLemmas.{map-map}
-use Rattle.std.proofs.Common.{ap, map, length, arith}
-use Rattle.std.proofs.lemmas.List.{length-map}
-use Rattle.csv.specs.Records.{Row}
-use Rattle.csv_instance.specs.Parse.{row_buffer}
-use Rattle.csv_instance.proofs.TableLemmas.{parse-good}
-use Rattle.csv_instance.proofs.table.Table.ids.Goals as goal
+use Rattle.csv_instance.proofs.row_list.Rows.ids.Goals as goal
 
 pub returns-clause-ids : goal.returns-clause-ids
 returns-clause-ids c =
@@ -26,10 +22,3 @@ returns-clause-few c =
     let rows = length-map c.self.inside.rows.items
     (λ (row : Row). field_of (fields_of c.self.inside.header) (fields_of row) Id) in
     omega (arith, i.few, same, keys, rows)
-
-pub returns-clause-parsed : goal.returns-clause-parsed
-returns-clause-parsed c =
-    let i = c.self.invariant in (
-      map (row_buffer (fields_of c.self.inside.header)) (map fields_of c.self.inside.rows.items),
-      rw (← c.self.view_is) (parse-good _ _ i.header_good i.rows_good),
-    )
