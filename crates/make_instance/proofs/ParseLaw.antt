@@ -1,49 +1,24 @@
 -- A made text is the text of an instance.
-use Rattle.std.proofs.Common.{◌≡◌, ◌<◌, ◌≤◌, ◌+◌, ◌^◌, ◌++◌, ◌∷◌, ◌∙◌, ◌==◌, ℕ, zero, suc, List, [], Bool, true, false, None, Ok, length, map, nat_lt, position, refl, sym, ap, arith}
-use Rattle.std.proofs.lemmas.Bool.Decides.{nat_tests}
-use Rattle.std.proofs.lemmas.Fmt.{digits_value-decimal, length-decimal-le}
+use Rattle.std.proofs.Common.{◌≡◌, ◌<◌, ◌≤◌, ◌+◌, ◌++◌, ◌∷◌, ◌∙◌, ℕ, zero, suc, List, [], Bool, false, None, Ok, length, map, position, refl, sym, ap, arith}
 use Rattle.std.proofs.lemmas.Iterator.Adapters.{position_from-zero}
 use Rattle.std.proofs.lemmas.List.{length-map}
 use Rattle.std.proofs.lemmas.List.FromFn.{length-map-range_with_len, map-range_with_len_more}
-use Rattle.std.proofs.lemmas.Slice.Eq.{bytes_eq-Decides}
 use Rattle.std.specs.Fmt.{decimal}
 use Rattle.std.specs.List.{position_from, range_with_len}
 use Rattle.std.specs.Str.{bytes_eq}
-use Rattle.std.specs.Str.Parse.{digits_value}
 use Rattle.dsa_terms.specs.Buffers.{Buffer}
 use Rattle.dsa_terms.specs.Parts.{numbers}
 use Rattle.dsa_model.specs.Buffer.{buffer_limit}
-use Rattle.dsa_model.proofs.NumberLemmas.{own}
 use Rattle.csv_instance.specs.Columns.{field_of}
-use Rattle.csv_instance.specs.Parse.{row_buffer, id_fault, id_faults, parse, row_fault, rows_fault}
+use Rattle.csv_instance.specs.Parse.{row_buffer, id_fault, parse, row_fault, rows_fault}
 use Rattle.csv_instance.specs.Records.{Record, table_of}
 use Rattle.csv_instance.specs.declared.columns.Column.TheVariants.{Id}
-use Rattle.csv_instance.specs.declared.fault.InstanceFault.TheVariants as fault
 use Rattle.make_instance.specs.Made.{header, made_record, made_table, made_text}
 use Rattle.make_instance.specs.Rows.{made_row}
 use Rattle.make_instance.proofs.MadeRows.{made}
-use Rattle.make_instance.proofs.RowFaults.{content_good, none_first, none_mapped, none_when}
+use Rattle.csv_instance.proofs.NumberedIds.{ids_differ, numbered_good}
+use Rattle.make_instance.proofs.RowFaults.{content_good}
 use Rattle.make_instance.proofs.TextLemmas.{table-read}
-
--- ids of other numbers differ
-ids_differ : (i j : ℕ) → i < 2 ^ 64 → j < i → bytes_eq (98 ∷ decimal i) (98 ∷ decimal j) ≡ false
-ids_differ i j word less = differ _ (λ e. no (second (bytes_same e)))
-  where
-    differ : (b : Bool) → (b ≡ true → ⊥) → b ≡ false
-    differ true h = absurd (h refl)
-    differ false h = refl
-
-    bytes_same : bytes_eq (98 ∷ decimal i) (98 ∷ decimal j) ≡ true → (98 ∷ decimal i) ≡ (98 ∷ decimal j)
-    bytes_same e = (bytes_eq-Decides (98 ∷ decimal i) (98 ∷ decimal j)).0 e
-
-    second : (98 ∷ decimal i) ≡ (98 ∷ decimal j) → decimal i ≡ decimal j
-    second e = cc
-
-    no : decimal i ≡ decimal j → ⊥
-    no e =
-        let same : i ≡ j = sym (digits_value-decimal own i word) ∙ ap (digits_value 10) e
-        ∙ digits_value-decimal own j (omega arith) in
-        omega arith
 
 -- no row among these passes
 none_among : (p : Record → Bool) (f : ℕ → Record) (k a n : ℕ) → ((j : ℕ) → j < a + n → p (f j) ≡ false)
@@ -62,36 +37,11 @@ id_good seed count a less few =
     let rows = before seed count a in
     let id = 98 ∷ decimal a in
     let number : length rows ≡ a = length-map-range_with_len (made_record seed count) 0 a in
-    let room : (length rows == buffer_limit) ≡ false = not_limit (length rows) (omega arith) in
-    let some : (length id == 0) ≡ false = not_zero (length id) (omega arith) in
-    let long : length (decimal a) ≤ 20 = length-decimal-le 20 a (omega arith) (omega arith) (omega arith) in
-    let short : nat_lt 255 (length id) ≡ false = not_above (length id) (omega arith) in
     let fresh : position (λ earlier. bytes_eq id (field_of header earlier Id)) rows ≡ None =
     position_from-zero (λ earlier. bytes_eq id (field_of header earlier Id)) rows
     ∙ none_among (λ earlier. bytes_eq id (field_of header earlier Id)) (made_record seed count) 0 0 a
-    (λ j smaller. ids_differ a j (omega arith) (omega arith)) in
-    none_first (id_faults header rows (made_record seed count a)) (
-      none_when fault.TooManyBuffers _ room,
-      (
-        refl,
-        (
-          none_when (fault.EmptyId (length rows)) _ some,
-          (
-            none_when (fault.IdTooLong (length rows)) _ short,
-            (none_mapped (fault.DuplicateId (length rows)) _ fresh, tt),
-          ),
-        ),
-      ),
-    )
-  where
-    not_limit : (n : ℕ) → n < buffer_limit → (n == buffer_limit) ≡ false
-    not_limit n h = grind (arith, nat_tests)
-
-    not_zero : (n : ℕ) → 0 < n → (n == 0) ≡ false
-    not_zero n h = grind (arith, nat_tests)
-
-    not_above : (n : ℕ) → n ≤ 255 → nat_lt 255 n ≡ false
-    not_above n h = grind (arith, nat_tests)
+    (λ j smaller. ids_differ 98 a j (omega arith) (omega arith)) in
+    numbered_good header rows (made_record seed count a) 98 a refl refl (omega arith) (omega arith) fresh
 
 row_good : (seed count a : ℕ) → a < count → count ≤ buffer_limit
     → row_fault header (before seed count a) (made_record seed count a) ≡ None

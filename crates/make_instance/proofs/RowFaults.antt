@@ -1,36 +1,25 @@
 -- A row that is drawn has no fault.
-use Rattle.std.proofs.Common.{◌≡◌, ◌<◌, ◌≤◌, ◌^◌, ◌∷◌, ◌∙◌, ◌==◌, ℕ, List, [], Bool, true, false, not, Option, Some, None, length, nat_le, nat_lt, option_map, is_some, refl, ap, arith}
+use Rattle.std.proofs.Common.{◌≡◌, ◌<◌, ◌≤◌, ◌^◌, ◌∷◌, ◌∙◌, ◌==◌, ℕ, List, [], true, false, not, Option, Some, None, length, nat_le, nat_lt, is_some, refl, ap, arith}
 use Rattle.std.proofs.lemmas.Bool.Decides.{nat_tests}
 use Rattle.std.proofs.lemmas.Fmt.{decimal_nonempty}
 use Rattle.std.specs.Fmt.{decimal}
 use Rattle.std.specs.List.{list_any}
 use Rattle.std.specs.Option.{option_to_list}
 use Rattle.dsa_terms.specs.Buffers.{Buffer, is_within}
-use Rattle.dsa_model.specs.Buffer.{first_fault, when, buffer_fault, buffer_of, gap_fault, is_ever_live, number_fault}
+use Rattle.dsa_model.specs.Buffer.{buffer_fault, buffer_of, gap_fault, is_ever_live, number_fault}
 use Rattle.dsa_model.specs.Numbers.{written_number}
 use Rattle.dsa_model.proofs.Live.{is_ever, live_from}
 use Rattle.csv_instance.specs.Gaps.{gaps_of}
 use Rattle.csv_instance.specs.Numbers.{time_limit}
 use Rattle.csv_instance.specs.Parse.{number_or, bad_column, row_buffer, content_fault}
 use Rattle.csv_instance.specs.declared.fault.InstanceFault.TheVariants as fault
-use Rattle.csv_instance.proofs.IdLemmas.{AllNone}
+use Rattle.csv_instance.proofs.IdLemmas.{none_first, none_mapped, none_when}
 use Rattle.csv_instance.proofs.OffsetLemmas.{number-decimal}
+use Rattle.csv_instance.proofs.RowLemmas.{content-none}
 use Rattle.make_instance.specs.Made.{gap_text, header, record_of}
 use Rattle.make_instance.specs.declared.row.Row.{Row}
 use Rattle.csv_instance.proofs.GapTexts.{gaps-read}
 use Rattle.make_instance.proofs.MadeRows.{IsGapIn, IsMade}
-
--- ---- lists of faults, none of which holds
-
-pub none_first : {F : Type 0} (os : List (Option F)) → AllNone os → first_fault os ≡ None
-none_first [] h = refl
-none_first (o ∷ os) h = rw h.0 (none_first os h.1)
-
-pub none_when : {F : Type 0} (f : F) (b : Bool) → b ≡ false → when b f ≡ None
-none_when f b h = rw h refl
-
-pub none_mapped : {A F : Type 0} (f : A → F) (o : Option A) → o ≡ None → option_map f o ≡ None
-none_mapped f o h = rw h refl
 
 -- ---- the buffer
 
@@ -115,11 +104,11 @@ content_good i k row h =
     ) refl in
     let fine : buffer_fault (row_buffer header (record_of i row)) ≡ None =
     ap buffer_fault (buffer_is i row h) ∙ no_fault row h in
-    none_first (_ ∷ _ ∷ _ ∷ []) (
+    content-none header k (record_of i row) (none_first (_ ∷ _ ∷ []) (
       none_mapped (fault.BadNumber k) _ bad,
       (
         none_when (fault.BadGap k) _
             (ap (λ (o : Option (List (ℕ × ℕ))). not (is_some o)) (gaps_are row.lower row.upper row.gap h.soon h.gap)),
-        (none_mapped (fault.BadBuffer k) _ fine, tt),
+        tt,
       ),
-    )
+    )) fine

@@ -14,7 +14,7 @@ use dsa_model::{BUFFER_LIMIT, Fail};
 use std::alloc::Global;
 
 /// Why no instance is made.
-#[derive(Clone, Copy, Debug, PartialEq, Eq)]
+#[derive(Clone, Copy)]
 pub enum MakeFault {
     /// The count is above `BUFFER_LIMIT`.
     CountTooLarge { count: u64 },

@@ -1,48 +1,35 @@
 -- The text of a trace's instance parses as it.
-use Rattle.std.proofs.Common.{◌≡◌, ◌<◌, ◌≤◌, ◌+◌, ◌^◌, ◌++◌, ◌∷◌, ◌∙◌, ◌==◌, ℕ, inl, inr, List, [], Bool, true, false, Option, None, Some, Ok, codes, length, map, nat_le, nat_lt, option_map, position, refl, sym, ap, arith}
+use Rattle.std.proofs.Common.{◌≡◌, ◌<◌, ◌≤◌, ◌+◌, ◌^◌, ◌++◌, ◌∷◌, ◌∙◌, ◌==◌, ℕ, inl, inr, List, [], Bool, true, false, None, Some, Ok, codes, length, map, nat_le, nat_lt, position, refl, ap, arith}
 use Rattle.std.proofs.lemmas.Bool.Decides.{nat_tests}
-use Rattle.std.proofs.lemmas.Fmt.{decimal_nonempty, digits_value-decimal, length-decimal-le}
+use Rattle.std.proofs.lemmas.Fmt.{decimal_nonempty}
 use Rattle.std.proofs.lemmas.Iterator.Adapters.{position_from-zero}
-use Rattle.std.proofs.lemmas.Slice.Eq.{bytes_eq-Decides}
 use Rattle.std.specs.Fmt.{decimal}
 use Rattle.std.specs.List.{position_from}
 use Rattle.std.specs.Str.{bytes_eq}
-use Rattle.std.specs.Str.Parse.{digits_value}
 use Rattle.csv.specs.Reading.{default_config, records}
 use Rattle.dsa_terms.specs.Buffers.{Buffer}
 use Rattle.dsa_terms.specs.Claims.{IsIn}
-use Rattle.dsa_terms.specs.Firsts.{first_fault, when}
 use Rattle.dsa_terms.proofs.Lists.{from_append}
 use Rattle.dsa_model.specs.Buffer.{buffer_fault, buffer_of, gap_fault, is_ever_live, number_fault, buffer_limit}
 use Rattle.dsa_model.specs.Numbers.{written_number}
 use Rattle.dsa_model.proofs.Live.{is_ever, live_from}
-use Rattle.dsa_model.proofs.NumberLemmas.{own}
 use Rattle.csv_instance.specs.Columns.{field_of}
 use Rattle.csv_instance.specs.Layout.{text_of}
 use Rattle.csv_instance.specs.Numbers.{time_limit}
-use Rattle.csv_instance.specs.Parse.{number_or, bad_column, content_fault, id_fault, id_faults, parse, row_buffer, rows_fault}
+use Rattle.csv_instance.specs.Parse.{number_or, bad_column, content_fault, id_fault, parse, row_buffer, rows_fault}
 use Rattle.csv_instance.specs.Records.{Record, table_of}
 use Rattle.csv_instance.specs.declared.columns.Column.TheVariants.{Id}
 use Rattle.csv_instance.specs.declared.fault.InstanceFault.TheVariants as fault
-use Rattle.csv_instance.proofs.IdLemmas.{AllNone}
+use Rattle.csv_instance.proofs.IdLemmas.{none_first, none_mapped}
+use Rattle.csv_instance.proofs.NumberedIds.{ids_differ, numbered_good}
 use Rattle.csv_instance.proofs.Mark.{no_mark}
 use Rattle.csv_instance.proofs.OffsetLemmas.{number-decimal}
+use Rattle.csv_instance.proofs.RowLemmas.{content-none}
 use Rattle.csv_instance.proofs.ReadBack.{AllReadBack, text-read}
 use Rattle.trace_import.specs.Limits.{AreWithin}
 use Rattle.trace_import.specs.Traces.{Alloc, end_of, Event, Free, imported, imported_from, Trace}
 use Rattle.trace_import.specs.ImportText.{import_header, import_records, import_row, import_rows, import_text}
 use Rattle.trace_import.proofs.Events.{first_within}
-
--- ---- faults, none of which holds
-none_first : {F : Type 0} (os : List (Option F)) → AllNone os → first_fault os ≡ None
-none_first [] h = refl
-none_first (o ∷ os) h = rw h.0 (none_first os h.1)
-
-none_when : {F : Type 0} (f : F) (b : Bool) → b ≡ false → when b f ≡ None
-none_when f b h = rw h refl
-
-none_mapped : {A F : Type 0} (f : A → F) (o : Option A) → o ≡ None → option_map f o ≡ None
-none_mapped f o h = rw h refl
 
 -- ---- one row
 record IsRow (line upper size alignment : ℕ) : Type 0 where
@@ -109,29 +96,10 @@ module _ (line upper size alignment : ℕ) (id : List ℕ) (w : IsRow line upper
       rw (line_is, upper_is, size_is, its_alignment) refl in
       let fine : buffer_fault (row_buffer import_header (import_row line upper size alignment id)) ≡ None =
       ap buffer_fault buffer_is ∙ no_fault in
-      none_first (_ ∷ _ ∷ _ ∷ [])
-      (none_mapped (fault.BadNumber k) _ bad, (refl, (none_mapped (fault.BadBuffer k) _ fine, tt)))
+      content-none import_header k (import_row line upper size alignment id)
+      (none_first (_ ∷ _ ∷ []) (none_mapped (fault.BadNumber k) _ bad, (refl, tt))) fine
 
 -- ---- ids
-ids_differ : (i j : ℕ) → i < 2 ^ 64 → j < i → bytes_eq (97 ∷ decimal i) (97 ∷ decimal j) ≡ false
-ids_differ i j word less = differ _ (λ e. no (second (bytes_same e)))
-  where
-    differ : (b : Bool) → (b ≡ true → ⊥) → b ≡ false
-    differ true h = absurd (h refl)
-    differ false h = refl
-
-    bytes_same : bytes_eq (97 ∷ decimal i) (97 ∷ decimal j) ≡ true → (97 ∷ decimal i) ≡ (97 ∷ decimal j)
-    bytes_same e = (bytes_eq-Decides (97 ∷ decimal i) (97 ∷ decimal j)).0 e
-
-    second : (97 ∷ decimal i) ≡ (97 ∷ decimal j) → decimal i ≡ decimal j
-    second e = cc
-
-    no : decimal i ≡ decimal j → ⊥
-    no e =
-        let same : i ≡ j = sym (digits_value-decimal own i word) ∙ ap (digits_value 10) e
-        ∙ digits_value-decimal own j (omega arith) in
-        omega arith
-
 -- the rows before a line have the ids of lines before it
 abbrev AreBefore : ℕ → List Record → Type 0
 AreBefore line before = (row : Record) → IsIn row before →
@@ -146,36 +114,11 @@ id_good : (line upper size alignment : ℕ) (id : List ℕ) (before : List Recor
     length before < buffer_limit → id_fault import_header before (import_row line upper size alignment id) ≡ None
 id_good line upper size alignment id before soon are few =
     let own_id = 97 ∷ decimal line in
-    let room : (length before == buffer_limit) ≡ false = not_limit (length before) few in
-    let long : length (decimal line) ≤ 20 = length-decimal-le 20 line (omega arith) (omega arith) (omega arith) in
-    let some : (length own_id == 0) ≡ false = not_zero (length own_id) (omega arith) in
-    let short : nat_lt 255 (length own_id) ≡ false = not_above (length own_id) (omega arith) in
     let fresh : position (λ earlier. bytes_eq own_id (field_of import_header earlier Id)) before ≡ None =
     position_from-zero (λ earlier. bytes_eq own_id (field_of import_header earlier Id)) before
     ∙ none_has (λ earlier. bytes_eq own_id (field_of import_header earlier Id)) 0 before
-    (λ row i. let r = are row i in ap (bytes_eq own_id) r.2 ∙ ids_differ line r.0 (omega arith) r.1) in
-    none_first (id_faults import_header before (import_row line upper size alignment id)) (
-      none_when fault.TooManyBuffers _ room,
-      (
-        refl,
-        (
-          none_when (fault.EmptyId (length before)) _ some,
-          (
-            none_when (fault.IdTooLong (length before)) _ short,
-            (none_mapped (fault.DuplicateId (length before)) _ fresh, tt),
-          ),
-        ),
-      ),
-    )
-  where
-    not_zero : (n : ℕ) → 0 < n → (n == 0) ≡ false
-    not_zero n h = grind (arith, nat_tests)
-
-    not_limit : (n : ℕ) → n < buffer_limit → (n == buffer_limit) ≡ false
-    not_limit n h = grind (arith, nat_tests)
-
-    not_above : (n : ℕ) → n ≤ 255 → nat_lt 255 n ≡ false
-    not_above n h = grind (arith, nat_tests)
+    (λ row i. let r = are row i in ap (bytes_eq own_id) r.2 ∙ ids_differ 97 line r.0 (omega arith) r.1) in
+    numbered_good import_header before (import_row line upper size alignment id) 97 line refl refl soon few fresh
 
 -- ---- all rows
 row_within : (line : ℕ) (id : List ℕ) (size alignment : ℕ) (es : List Event) →

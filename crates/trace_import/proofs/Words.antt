@@ -1,16 +1,17 @@
 -- Words of lines.
-use Rattle.std.proofs.Common.{◌≡◌, ◌∙◌, ◌==◌, ◌&&◌, ◌^◌, ◌<◌, ◌≤◌, ℕ, List, [], ◌∷◌, Bool, true, false, cond, codes, is_some, Option, None, Some, nat_le, length, refl, sym, ap, arith}
+use Rattle.std.proofs.Common.{◌≡◌, ◌∙◌, ◌==◌, ◌&&◌, ◌^◌, ◌<◌, ◌≤◌, ℕ, List, [], ◌∷◌, Bool, true, false, cond, codes, is_some, option_map, Option, None, Some, nat_le, length, refl, sym, ap, arith}
 use Rattle.std.proofs.lemmas.Bool.Decides.{nat_tests}
 use Rattle.std.proofs.lemmas.Str.Parse.{digits_value_short}
 use Rattle.std.specs.Char.{is_ascii_digit}
 use Rattle.std.specs.List.{list_all}
+use Rattle.std.specs.Option.{option_zip}
 use Rattle.std.specs.Str.{all_ascii_digits, bytes_eq}
 use Rattle.std.specs.Str.Parse.{digits_value}
 use Rattle.dsa_model.specs.Numbers.{is_number}
 use Rattle.dsa_model.proofs.NumberLemmas.{own}
 use Rattle.dsa_terms.proofs.Moments.{and_true}
 use Rattle.dsa_terms.proofs.NumberTests.{is_at_most}
-use Rattle.trace_import.specs.Lines.{event_in, event_of, id_limit, is_id, is_id_byte, number_of, with_both, words_of}
+use Rattle.trace_import.specs.Lines.{event_in, event_of, id_limit, is_id, is_id_byte, number_of, words_of}
 use Rattle.trace_import.specs.Requests.{AreAllocWords, AreFreeWords, id_of}
 use Rattle.trace_import.specs.Traces.{Alloc, Event, Free}
 use Rattle.trace_import.proofs.Splits.{one_piece, unmarked}
@@ -120,7 +121,7 @@ alloc_not rest id others size alignment first second h =
     rw (first, second) (go (words_of alignment) (one_piece (λ c. c == 32) alignment))
   where
     by : (a : Bool) (s t : Option ℕ) → (a && is_some s && is_some t) ≡ false →
-        cond a (with_both s t (Alloc id)) None ≡ None
+        cond a (option_map (λ (n : ℕ × ℕ). Alloc id n.0 n.1) (option_zip s t)) None ≡ None
     by false s t e = refl
     by true None t e = refl
     by true (Some n) None e = refl
@@ -171,13 +172,14 @@ words_identify (a ∷ b ∷ c ∷ []) event e = absurd cc
 words_identify (a ∷ id ∷ size ∷ alignment ∷ []) event e =
     outer (bytes_eq a (codes "alloc")) (is_id id) refl (number_of size) (number_of alignment) e
   where
-    inner : (s t : Option ℕ) → with_both s t (Alloc id) ≡ Some event → id_of event ≡ id
+    inner : (s t : Option ℕ) →
+        option_map (λ (n : ℕ × ℕ). Alloc id n.0 n.1) (option_zip s t) ≡ Some event → id_of event ≡ id
     inner None t q = absurd cc
     inner (Some n) None q = absurd cc
     inner (Some n) (Some m) q = let same : Alloc id n m ≡ event = cc in ap id_of (sym same)
 
     outer : (b i : Bool) → is_id id ≡ i → (s t : Option ℕ) →
-        cond b (cond i (with_both s t (Alloc id)) None) None ≡ Some event → is_id (id_of event) ≡ true
+        cond b (cond i (option_map (λ (n : ℕ × ℕ). Alloc id n.0 n.1) (option_zip s t)) None) None ≡ Some event → is_id (id_of event) ≡ true
     outer true true h s t q = ap is_id (inner s t q) ∙ h
     outer true false h s t q = absurd cc
     outer false i h s t q = absurd cc

@@ -1,6 +1,7 @@
 -- The line of a trace that bytes write.
 use Rattle.std.specs.Prelude.{ℕ, ◌^◌, Bool, ◌==◌, ◌&&◌, nat_le, if◌then◌else◌, List, [], ◌∷◌, codes, length, Option, Some, None, option_map}
 use Rattle.std.specs.List.{list_all, slice_split}
+use Rattle.std.specs.Option.{option_zip}
 use Rattle.std.specs.Str.{bytes_eq}
 use Rattle.dsa_model.specs.Numbers.{written_number}
 use Rattle.trace_import.specs.Traces.{Event, Alloc, Free}
@@ -21,15 +22,11 @@ is_id id = nat_le 1 (length id) && nat_le (length id) id_limit && list_all is_id
 abbrev pub number_of : List ℕ → Option ℕ
 number_of field = written_number (10 ^ 20) field
 
--- both, where there are both
-abbrev pub with_both : Option ℕ → Option ℕ → (ℕ → ℕ → Event) → Option Event
-with_both None other f = None
-with_both (Some a) other f = option_map (f a) other
-
 -- an allocation with these words
 abbrev pub alloc_of : List ℕ → List ℕ → List ℕ → Option Event
 alloc_of id size alignment =
-    if is_id id then with_both (number_of size) (number_of alignment) (Alloc id) else None
+    if is_id id
+    then option_map (λ (n : ℕ × ℕ). Alloc id n.0 n.1) (option_zip (number_of size) (number_of alignment)) else None
 
 -- the line of these words
 abbrev pub event_of : List (List ℕ) → Option Event

@@ -5,6 +5,7 @@ use Rattle.std.specs.List.{position_or_len}
 use Rattle.std.specs.Str.{bytes_eq}
 use Rattle.dsa_terms.specs.Buffers.{Buffer, Instance, IsLive}
 use Rattle.dsa_terms.specs.Claims.{IsIn, Rises}
+use Rattle.dsa_model.specs.Buffer.{buffer_of}
 
 -- a line of a trace: an identifier is allocated, or freed
 pub data Event : Type 0 where
@@ -40,14 +41,7 @@ end_of line id after = line + 1 + position_or_len (frees id) after
 
 -- the buffer of an allocation at that line, with the lines after it
 abbrev pub allocated : (line : ℕ) (id : List ℕ) (size alignment : ℕ) (after : List Event) → Buffer
-allocated line id size alignment after = record {
-  lower = line;
-  upper = end_of line id after;
-  size = size;
-  alignment = alignment;
-  gaps = [];
-  lowest = 0;
-}
+allocated line id size alignment after = buffer_of line (end_of line id after) size alignment [] 0
 
 -- the buffers of lines that begin with that number
 abbrev pub imported_from : ℕ → List Event → List Buffer

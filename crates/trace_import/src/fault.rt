@@ -2,7 +2,7 @@
 
 /// Why bytes are no trace: the fault of the first line that has one, and in a line the first in
 /// this order. Lines are numbered from 0.
-#[derive(Clone, Copy, Debug, PartialEq, Eq)]
+#[derive(Clone, Copy)]
 pub enum TraceFault {
     /// The line is neither `alloc ID SIZE ALIGNMENT` nor `free ID`, or does not end.
     BadLine { line: u32 },

@@ -1,6 +1,6 @@
 //! The instance of a trace, written.
 
-ghost use Rattle.std.specs.Prelude.{◌≡◌, ◌≤◌, ◌<◌, ◌++◌, IfOk, OnOk, List, Ok, length, map, ℕ};
+ghost use Rattle.std.specs.Prelude.{◌≡◌, ◌≤◌, ◌<◌, ◌++◌, IfOk, OnOk, List, Ok, length, ℕ};
 ghost use Rattle.csv.specs.Writing.{default_writer, row_text};
 ghost use Rattle.csv_instance.specs.Parse.{parse};
 ghost use Rattle.csv_instance.specs.Records.{table_of};
@@ -11,39 +11,19 @@ ghost use Rattle.trace_import.specs.Traces.{IsTraced, imported};
 use crate::ends::ends;
 use crate::line::Line;
 use crate::trace::Trace;
-use csv::{Writer, WriterBuilder};
+use csv::Writer;
+use csv_instance::{text_writer, write_fields, written_text};
 use dsa_model::NoMemory;
 use std::alloc::Global;
-
-/// Writes a record of these fields.
-fn write_record(writer: &mut Writer<Vec<u8>>, fields: &[&[u8]]) -> Result<(), NoMemory>
-    ensures { (text : List ℕ) → Wrote writer.old text → OnOk result
-        (Wrote writer.new (text ++ row_text default_writer (map (λ f. f.now) fields.now))) }
-{
-    match writer.write_fields(fields) {
-        Ok(()) => Ok(()),
-        Err(_) => Err(NoMemory),
-    }
-}
 
 /// A writer that has written the names of the columns.
 fn start(alloc: Global) -> Result<Writer<Vec<u8>>, NoMemory>
     ensures { IfOk result (λ writer. Wrote writer (row_text default_writer import_header)) }
 {
-    let mut writer = WriterBuilder::new().from_writer(Vec::new(alloc));
+    let mut writer = text_writer(alloc);
     let names: [&[u8]; 6] = [b"id", b"lower", b"upper", b"size", b"alignment", b"name"];
-    write_record(&mut writer, &names)?;
+    write_fields(&mut writer, &names)?;
     Ok(writer)
-}
-
-/// What a writer has written.
-fn finish(writer: Writer<Vec<u8>>) -> Result<Vec<u8>, NoMemory>
-    ensures { (text : List ℕ) → Wrote writer text → IfOk result (λ bytes. bytes.items ≡ text) }
-{
-    match writer.into_inner() {
-        Ok(bytes) => Ok(bytes),
-        Err(_) => Err(NoMemory),
-    }
 }
 
 /// Writes the row of an allocation, from its line to its end.
@@ -72,7 +52,7 @@ fn write_row(
         multiple.format(alignment).as_bytes(),
         id,
     ];
-    write_record(writer, &fields)
+    write_fields(writer, &fields)
 }
 
 /// The instance of a trace, as an instance file: the columns `id`, `lower`, `upper`, `size`,
@@ -107,5 +87,5 @@ pub fn import(alloc: Global, trace: &Trace) -> Result<Vec<u8>, NoMemory>
             )?;
         }
     }
-    finish(writer)
+    written_text(writer)
 }

@@ -47,15 +47,15 @@ loop-place-preserved c =
 pub returns-clause-parsed : goal.returns-clause-parsed
 returns-clause-parsed c =
     let (text, wrote, is) = c.loop-place.invariant in
-    parsed_by c.finish.result text (import_text c.args.trace.now) (imported c.args.trace.now)
-    (c.finish.ensures text wrote) (whole_text c.args.trace.now c.kept-lines.result.now c.loop-place.place text
+    parsed_by c.written_text.result text (import_text c.args.trace.now) (imported c.args.trace.now)
+    (c.written_text.ensures text wrote) (whole_text c.args.trace.now c.kept-lines.result.now c.loop-place.place text
     c.loop-place-test.false is)
     (text_parses c.args.trace.now c.kept-lines.ensures.within (omega arith) c.kept-lines.ensures.few)
 
 pub returns-clause-short : goal.returns-clause-short
 returns-clause-short c =
     let (text, wrote, is) = c.loop-place.invariant in
-    short_by c.finish.result text (import_text c.args.trace.now)
-    (c.finish.ensures text wrote) (whole_text c.args.trace.now c.kept-lines.result.now c.loop-place.place text
+    short_by c.written_text.result text (import_text c.args.trace.now)
+    (c.written_text.ensures text wrote) (whole_text c.args.trace.now c.kept-lines.result.now c.loop-place.place text
     c.loop-place-test.false is)
     (text_short c.args.trace.now c.kept-lines.ensures.within (omega arith) c.kept-lines.ensures.few)

@@ -18,5 +18,5 @@ returns c = λ text wrote.
     (c.as_bytes-3.ensures.value ∙ c.format-3.ensures.text)
     (c.as_bytes-4.ensures.value ∙ c.format-4.ensures.text)
     (c.as_bytes-5.ensures.value ∙ c.format-5.ensures.text) in
-    subst (λ (fields : Record). OnOk c.write_record.result
-    (Wrote c.write_record.new.writer (text ++ row_text default_writer fields))) row (c.write_record.ensures text wrote)
+    subst (λ (fields : Record). OnOk c.write_fields.result
+    (Wrote c.write_fields.new.writer (text ++ row_text default_writer fields))) row (c.write_fields.ensures text wrote)
