@@ -1,5 +1,6 @@
-//! Tests of the crates from `dsa_model` on that know no search: buffers and what is live, parts and
-//! loads, claims and their rules, words, made and imported instances, plans by size class, reports.
+//! Tests of the crates from `dsa_model` on that know no search: buffers and what is live, parts,
+//! loads and the bound, claims and their rules, words, made and imported instances, plans by size
+//! class, reports.
 #![tactic(auto)]
 
 #[cfg(test)]
@@ -18,6 +19,10 @@ mod layout_report_tests;
 mod lifetime_tests;
 #[cfg(test)]
 mod load_profile_tests;
+#[cfg(test)]
+mod lower_bounds_tests;
+#[cfg(test)]
+mod made;
 #[cfg(test)]
 mod make_instance_tests;
 #[cfg(test)]

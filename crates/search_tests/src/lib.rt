@@ -1,5 +1,5 @@
-//! Tests of the starts, of orders of rows, of the bound, of the search and what it goes by, of the
-//! planner and the portfolio, and of cores.
+//! Tests of the starts, of orders of rows, of the search and what it goes by, of the planner and the
+//! portfolio, and of cores.
 #![tactic(auto)]
 
 #[cfg(test)]
@@ -12,8 +12,6 @@ mod draws;
 mod first_fit_tests;
 #[cfg(test)]
 mod line_index_tests;
-#[cfg(test)]
-mod lower_bounds_tests;
 #[cfg(test)]
 mod min_capacity_tests;
 #[cfg(test)]

@@ -1,0 +1,53 @@
+//! Instances for tests.
+
+ghost use Rattle.std.specs.Prelude.{◌<◌, ◌^◌, length};
+
+use dsa_model::{BUFFER_LIMIT, Buffer, BufferFault, Fail, Instance};
+use std::alloc::Global;
+
+/// A buffer by its lower, its upper, its size and its alignment.
+pub(crate) type Row = (u32, u32, u32, u32);
+
+/// The five buffers of the first example, of one size: three of them up to moment 9, and two after
+/// it.
+pub(crate) const FIVE: [Row; 5] = [
+    (0, 3, 4, 1),
+    (3, 9, 4, 1),
+    (0, 9, 4, 1),
+    (9, 21, 4, 1),
+    (0, 21, 4, 1),
+];
+
+/// One buffer alone, and then three.
+pub(crate) const ONE_THEN_THREE: [Row; 4] = [
+    (0, 2, 1, 1),
+    (2, 3, 1, 2),
+    (2, 3, 1, 2),
+    (2, 3, 2, 1),
+];
+
+/// The instance of these buffers.
+pub(crate) fn instance_of(alloc: Global, rows: &[Row]) -> Result<Instance, Fail<BufferFault>> {
+    with_gaps(alloc, rows, 0, &[])
+}
+
+/// The same, in which one of them has gaps.
+pub(crate) fn with_gaps(
+    alloc: Global,
+    rows: &[Row],
+    holed: u32,
+    gaps: &[(u64, u64)],
+) -> Result<Instance, Fail<BufferFault>>
+    requires { length gaps.now < 2 ^ 32 }
+{
+    let mut instance = Instance::new(alloc);
+    for (lower, upper, size, alignment) in rows {
+        let own = if instance.len() == holed { gaps } else { &[] };
+        let (lower, upper) = (*lower as u64, *upper as u64);
+        let buffer = Buffer::new(alloc, lower, upper, *size as u64, *alignment as u64, own, 0)?;
+        if instance.len() < BUFFER_LIMIT {
+            instance.push(buffer)?;
+        }
+    }
+    Ok(instance)
+}
