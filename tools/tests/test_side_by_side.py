@@ -57,13 +57,18 @@ class SideBySide(unittest.TestCase):
         self.assertEqual(Library.most, 2)
         self.assertEqual(said[0], "crate low: checked=1 --jobs 4")
         self.assertEqual({line.split(":")[0] for line in said}, {f"crate {it.name}" for it in self.all})
-        self.assertIn("crate left: checked=1 --jobs 4", said)
+        self.assertIn("crate left: checked=1 --jobs 2", said)
         self.assertIn("crate right: checked=1 --jobs 2", said)
 
     def test_no_more_are_built_at_a_time_than_may_be(self):
         crates = [Library(f"l{k}") for k in range(9)]
         self.assertTrue(self.build(crates, 3)[0])
         self.assertEqual(Library.most, 3)
+
+    def test_four_that_may_begin_have_a_job_each(self):
+        done, said = self.build([Library(f"l{k}") for k in range(4)])
+        self.assertTrue(done)
+        self.assertTrue(all(line.endswith("--jobs 1") for line in said))
 
     def test_no_more_are_built_at_a_time_than_memory_is_there_for(self):
         self.assertTrue(self.build([Library(f"l{k}") for k in range(9)], 4, memory=25)[0])
@@ -87,7 +92,7 @@ class SideBySide(unittest.TestCase):
         done, said = self.build(self.all)
         self.assertFalse(done)
         self.assertNotIn("top", Library.built)
-        self.assertIn("crate left: checked=1 --jobs 4", said)
+        self.assertIn("crate left: checked=1 --jobs 2", said)
 
     def test_an_error_fails_its_library(self):
         self.all[2].build_rlib = None
