@@ -10,7 +10,7 @@ use Rattle.dsa_terms.specs.Layouts.{IsLayout, IsApart}
 use Rattle.dsa_terms.proofs.Lists.{true_or_false}
 use Rattle.dsa_terms.proofs.Moments.{and_true, both_true, live_before}
 use Rattle.dsa_terms.proofs.NumberTests.{is_below, not_below, below_or_from}
-use Rattle.cyclic_plan.specs.Cycles.{IsCycleLayout, IsInPeriod, is_live_round, IsLiveRound, lasts_at, unrolled}
+use Rattle.cyclic_plan.specs.Cycles.{IsCycleLayout, IsInPeriod, does_wrap, is_live_round, IsLiveRound, lasts_at, unrolled}
 
 -- ---- tests
 le_is_not : (u t : ℕ) → nat_le u t ≡ not (nat_lt t u)
@@ -37,20 +37,17 @@ from_zero : (t : ℕ) → nat_le 0 t ≡ true
 from_zero t = grind (arith, nat_tests)
 
 -- ---- within the period
+-- what a row that wraps becomes
+abbrev wrapped : ℕ → Buffer → Buffer
+wrapped P b = record b { lower = 0; upper = P; gaps = b.gaps ++ (b.upper, b.lower) ∷ [] }
+
 live_within : (P t : ℕ) (b : Buffer) → t < P →
     is_live (unrolled P b) t ≡ (lasts_at b t && not (list_any (is_within t) b.gaps))
 unfolding unrolled lasts_at is_live
 live_within P t b lt = go (nat_lt b.upper b.lower)
   where
     go : (w : Bool) →
-        (let u : Buffer = cond w (record {
-          lower = 0;
-          upper = P;
-          size = b.size;
-          alignment = b.alignment;
-          gaps = b.gaps ++ (b.upper, b.lower) ∷ [];
-          lowest = b.lowest;
-        }) b in nat_le u.lower t && nat_lt t u.upper && not (list_any (is_within t) u.gaps))
+        (let u : Buffer = cond w (wrapped P b) b in nat_le u.lower t && nat_lt t u.upper && not (list_any (is_within t) u.gaps))
         ≡ (cond w (nat_le b.lower t || nat_lt t b.upper) (nat_le b.lower t && nat_lt t b.upper)
         && not (list_any (is_within t) b.gaps))
     go true = rw (from_zero t, is_below t P lt, list_any-append (is_within t) b.gaps ((b.upper, b.lower) ∷ []))
@@ -61,14 +58,7 @@ ends_in_period : (P : ℕ) (b : Buffer) → b.upper ≤ P → (unrolled P b).upp
 unfolding unrolled
 ends_in_period P b le = go (nat_lt b.upper b.lower)
   where
-    go : (w : Bool) → (let u : Buffer = cond w (record {
-      lower = 0;
-      upper = P;
-      size = b.size;
-      alignment = b.alignment;
-      gaps = b.gaps ++ (b.upper, b.lower) ∷ [];
-      lowest = b.lowest;
-    }) b in u.upper) ≤ P
+    go : (w : Bool) → (cond w (wrapped P b) b).upper ≤ P
     go true = omega arith
     go false = le
 
@@ -98,50 +88,23 @@ unfolding is_live_round
 round_of_rest P t b pos = rw (mod-eq_of_lt (mod-lt t pos)) refl
 
 -- ---- the buffer of a row
-size_stays : (P : ℕ) (b : Buffer) → (unrolled P b).size ≡ b.size
+-- what the whole period with a gap more has in common with the row is the unrolled row's
+stays : {A : Type 0} (f : Buffer → A) (P : ℕ) (b : Buffer) → f (wrapped P b) ≡ f b → f (unrolled P b) ≡ f b
 unfolding unrolled
-size_stays P b = go (nat_lt b.upper b.lower)
+stays f P b e = go (does_wrap b)
   where
-    go : (w : Bool) → (let u : Buffer = cond w (record {
-      lower = 0;
-      upper = P;
-      size = b.size;
-      alignment = b.alignment;
-      gaps = b.gaps ++ (b.upper, b.lower) ∷ [];
-      lowest = b.lowest;
-    }) b in u.size) ≡ b.size
-    go true = refl
+    go : (w : Bool) → f (cond w (wrapped P b) b) ≡ f b
+    go true = e
     go false = refl
+
+size_stays : (P : ℕ) (b : Buffer) → (unrolled P b).size ≡ b.size
+size_stays P b = stays (λ (u : Buffer). u.size) P b refl
 
 alignment_stays : (P : ℕ) (b : Buffer) → (unrolled P b).alignment ≡ b.alignment
-unfolding unrolled
-alignment_stays P b = go (nat_lt b.upper b.lower)
-  where
-    go : (w : Bool) → (let u : Buffer = cond w (record {
-      lower = 0;
-      upper = P;
-      size = b.size;
-      alignment = b.alignment;
-      gaps = b.gaps ++ (b.upper, b.lower) ∷ [];
-      lowest = b.lowest;
-    }) b in u.alignment) ≡ b.alignment
-    go true = refl
-    go false = refl
+alignment_stays P b = stays (λ (u : Buffer). u.alignment) P b refl
 
 lowest_stays : (P : ℕ) (b : Buffer) → (unrolled P b).lowest ≡ b.lowest
-unfolding unrolled
-lowest_stays P b = go (nat_lt b.upper b.lower)
-  where
-    go : (w : Bool) → (let u : Buffer = cond w (record {
-      lower = 0;
-      upper = P;
-      size = b.size;
-      alignment = b.alignment;
-      gaps = b.gaps ++ (b.upper, b.lower) ∷ [];
-      lowest = b.lowest;
-    }) b in u.lowest) ≡ b.lowest
-    go true = refl
-    go false = refl
+lowest_stays P b = stays (λ (u : Buffer). u.lowest) P b refl
 
 row_at : (P : ℕ) (rows : List Buffer) (b : ℕ) → b < length rows →
     buffer (map (unrolled P) rows) b ≡ unrolled P (buffer rows b)

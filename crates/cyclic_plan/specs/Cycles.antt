@@ -36,16 +36,7 @@ pub record IsCycleLayout (P C : ℕ) (rows : List Buffer) (offsets : List ℕ) :
 -- beginning, and else itself
 unfoldable pub unrolled : ℕ → Buffer → Buffer
 unrolled P b =
-    cond (does_wrap b)
-    (record {
-      lower = 0;
-      upper = P;
-      size = b.size;
-      alignment = b.alignment;
-      gaps = b.gaps ++ (b.upper, b.lower) ∷ [];
-      lowest = b.lowest;
-    })
-    b
+    cond (does_wrap b) (record b { lower = 0; upper = P; gaps = b.gaps ++ (b.upper, b.lower) ∷ [] }) b
 
 -- the row lies within one period
 abbrev pub IsInPeriod : ℕ → Buffer → Type 0

@@ -6,7 +6,7 @@ use dsa_model::BufferFault;
 /// Why a file holds no buffers of one period. The faults of the file come first, those of all rows
 /// among them; then the first row that has a fault, and in a row the first in this order. Rows are
 /// numbered from 0 after the header, as buffers are.
-#[derive(Clone, Copy, Debug, PartialEq, Eq)]
+#[derive(Clone, Copy)]
 pub enum CycleFault {
     /// The file has no rows that can be read, for their first fault.
     Instance(InstanceFault),
