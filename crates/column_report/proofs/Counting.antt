@@ -5,7 +5,6 @@ use Rattle.std.proofs.lemmas.List.Sums.{sum_by_more}
 use Rattle.std.specs.Int.{from_bool}
 use Rattle.dsa_terms.specs.Buffers.{Buffer, Instance, buffer, no_buffer}
 use Rattle.dsa_terms.specs.Parts.{is_empty}
-use Rattle.column_report.specs.Counts.{has_gap}
 
 -- one buffer more
 pub counted : (f : Buffer → Bool) (I : Instance) (b n more : ℕ) (x : Buffer) → b < length I → x ≡ buffer I b →
@@ -31,5 +30,5 @@ some_gap (g ∷ gaps) = ap not (not_zero (length gaps))
 
 -- some gaps count as 1
 pub gaps_told : (x : Buffer) (told : ℕ) (none : Bool) (gaps : List (ℕ × ℕ)) → told ≡ from_bool (not none) →
-    none ≡ (length gaps == 0) → gaps ≡ x.gaps → told ≡ cond (has_gap x) 1 0
+    none ≡ (length gaps == 0) → gaps ≡ x.gaps → told ≡ cond (not (is_empty x.gaps)) 1 0
 gaps_told x told none gaps t n e = t ∙ (rw (n, e) (byte (not (length x.gaps == 0)) ∙ rw (some_gap x.gaps) refl))

@@ -1,7 +1,7 @@
 //! How many buffers of an instance ask for more than a size and a lifetime.
 
 ghost use Rattle.std.specs.Prelude.{◌≡◌, IfOk, string_bytes};
-ghost use Rattle.column_report.specs.Counts.{asked_words, buffers_words, counts_line, counts_of};
+ghost use Rattle.column_report.specs.Counts.{counts_line, counts_of};
 
 use dsa_model::{BUFFER_LIMIT, Instance, NoMemory};
 use std::alloc::Global;
@@ -40,25 +40,18 @@ pub(crate) fn counts_of(instance: &Instance) -> Counts
     }
 }
 
-/// The first words of the line: how many buffers there are, and how many there may be.
-fn buffers_words(alloc: Global, buffers: u32, limit: u32) -> Result<String, NoMemory>
-    ensures { IfOk result (λ text. string_bytes text ≡ buffers_words buffers limit) }
-{
-    Ok(format!(in alloc; "buffers {buffers} of {limit}")?)
-}
-
-/// Its other words: how many buffers have an alignment, a gap and a lowest.
-fn asked_words(alloc: Global, aligned: u32, gaps: u32, lowest: u32) -> Result<String, NoMemory>
-    ensures { IfOk result (λ text. string_bytes text ≡ asked_words aligned gaps lowest) }
-{
-    Ok(format!(in alloc; " aligned {aligned} gaps {gaps} lowest {lowest}\n")?)
-}
-
 /// The line of the counts.
 pub(crate) fn counts_line(alloc: Global, counts: &Counts) -> Result<String, NoMemory>
     ensures { IfOk result (λ line. string_bytes line ≡ counts_line counts.now) }
 {
-    let first = buffers_words(alloc, counts.buffers, BUFFER_LIMIT)?;
-    let rest = asked_words(alloc, counts.aligned, counts.gaps, counts.lowest)?;
-    Ok(format!(in alloc; "{first}{rest}")?)
+    let Counts {
+        buffers,
+        aligned,
+        gaps,
+        lowest,
+    } = *counts;
+    let text = format!(in alloc;
+        "buffers {buffers} of {BUFFER_LIMIT} aligned {aligned} gaps {gaps} lowest {lowest}\n"
+    )?;
+    Ok(text)
 }
