@@ -7,7 +7,7 @@ use Rattle.dsa_terms.specs.Buffers.{Buffer, Instance, IsInstance, IsSound}
 use Rattle.dsa_model.specs.Buffer.{buffer_fault, gap_fault, lowest_fault, number_fault}
 use Rattle.dsa_model.proofs.Faults.{neither, not_so, map_none}
 use Rattle.csv_instance.specs.Records.{Record}
-use Rattle.csv_instance.specs.Parse.{content_fault, header_fault, id_fault, parse, row_buffer, row_fault, rows_fault}
+use Rattle.csv_instance.specs.Parse.{content_fault, form_fault, header_fault, id_fault, parse, row_buffer, row_fault, rows_fault}
 use Rattle.csv_instance.specs.declared.fault.InstanceFault.{InstanceFault}
 
 above : (m n : ℕ) → nat_le n m ≡ false → m < n
@@ -32,9 +32,8 @@ row_sound : (header : Record) (before : List Record) (row : Record) → row_faul
     IsSound (row_buffer header row)
 row_sound header before row is =
     let content = (neither (id_fault header before row) (content_fault header _ row) is).1 in
-    let gaps = (neither _ _ content).1 in
-    let buffer = (neither _ _ gaps).1 in
-    buffer_sound (row_buffer header row) (map_none _ (buffer_fault (row_buffer header row)) (neither _ _ buffer).0)
+    buffer_sound (row_buffer header row)
+    (map_none _ (buffer_fault (row_buffer header row)) (neither (form_fault header _ row) _ content).1)
 
 rows_sound : (header : Record) (before rows : List Record) → rows_fault header before rows ≡ None →
     All IsSound (map (row_buffer header) rows)

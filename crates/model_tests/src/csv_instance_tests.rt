@@ -3,33 +3,36 @@
 ghost use Rattle.std.specs.Prelude.{◌≤◌, length};
 
 use csv_instance::{
-    Column, InstanceFault, OffsetsFault, read_instance, read_offsets, read_rows, write_changed,
-    write_layout, write_rows,
+    read_instance, read_offsets, read_rows, write_changed, write_layout, write_rows,
 };
-use dsa_model::{BufferFault, Fail, NoMemory};
+use dsa_model::{Fail, NoMemory};
 use std::alloc::Global;
 use std::test::Fail as TestFail;
 
 const EXAMPLE: &[u8] = b"id,lower,upper,size\nb1,0,3,4\nb2,3,9,4\nb3,0,9,4\n";
 
-/// The fault of an instance file.
-fn fault_of(alloc: Global, text: &[u8]) -> Result<Option<InstanceFault>, NoMemory>
+/// The text of an instance file's fault, or nothing where it has none.
+fn fault_of(alloc: Global, text: &[u8]) -> Result<String, NoMemory>
     requires { length text.now ≤ 67108864 }
 {
     match read_instance(alloc, text) {
-        Ok(_) => Ok(None),
-        Err(Fail::Fault(fault)) => Ok(Some(fault)),
+        Ok(_) => Ok(String::new(alloc)),
+        Err(Fail::Fault(fault)) => fault.text(alloc),
         Err(Fail::NoMemory) => Err(NoMemory),
     }
 }
 
-/// What a layout file gives the example's buffers.
-fn offsets_of(alloc: Global, text: &[u8]) -> Result<Vec<u64>, Fail<OffsetsFault>>
+/// The text of a layout file's fault beside the example, or nothing where it has none.
+fn offsets_fault(alloc: Global, text: &[u8]) -> Result<String, NoMemory>
     requires { length text.now ≤ 67108864 }
 {
-    match read_instance(alloc, EXAMPLE) {
-        Ok(table) => read_offsets(alloc, &table, text),
-        Err(_) => Err(Fail::NoMemory),
+    let Ok(table) = read_instance(alloc, EXAMPLE) else {
+        return Err(NoMemory);
+    };
+    match read_offsets(alloc, &table, text) {
+        Ok(_) => Ok(String::new(alloc)),
+        Err(Fail::Fault(fault)) => fault.text(alloc),
+        Err(Fail::NoMemory) => Err(NoMemory),
     }
 }
 
@@ -106,37 +109,27 @@ fn rows_are_written_with_other_moments(rt: HostRuntime) -> Result<(), TestFail> 
 
 #[test]
 fn a_bad_header_is_named(rt: HostRuntime) {
-    let table: [(&[u8], Option<InstanceFault>); 7] = [
-        (b"", Some(InstanceFault::NoHeader)),
+    let table: [(&[u8], &str); 7] = [
+        (b"", "no header"),
         (
             b"\"\xEF\xBB\xBFnote\",id,lower,upper,size\n",
-            Some(InstanceFault::MarkedHeader),
+            "marked header",
         ),
-        (b"\xEF\xBB\xBFid,lower,upper,size\n", None),
-        (
-            b"size,id,lower,upper,size,id\n",
-            Some(InstanceFault::DuplicateColumn { column: Column::Id }),
-        ),
-        (
-            b"id,lower,upper,size,offset\nb1,0,3,4,0\n",
-            Some(InstanceFault::OffsetColumn),
-        ),
-        (
-            b"id,lower,size\n",
-            Some(InstanceFault::MissingColumn {
-                column: Column::Upper,
-            }),
-        ),
-        (b"id,lower,upper,size,note,note\n", None),
+        (b"\xEF\xBB\xBFid,lower,upper,size\n", ""),
+        (b"size,id,lower,upper,size,id\n", "duplicate column id"),
+        (b"id,lower,upper,size,offset\nb1,0,3,4,0\n", "offset column"),
+        (b"id,lower,size\n", "missing column upper"),
+        (b"id,lower,upper,size,note,note\n", ""),
     ];
     for (text, want) in table {
         assert!(rt; text.len() <= 67108864);
-        assert_eq!(rt; fault_of(rt.alloc(), text), Ok(want));
+        let fault = fault_of(rt.alloc(), text).expect(&rt, "memory");
+        assert_eq!(rt; fault.as_str(), want);
     }
 }
 
-/// The fault of one record after the header with alignments.
-fn row_fault(alloc: Global, row: &[u8]) -> Result<Option<InstanceFault>, NoMemory>
+/// The text of the fault of one record after the header with alignments.
+fn row_fault(alloc: Global, row: &[u8]) -> Result<String, NoMemory>
     requires { length row.now ≤ 1000 }
 {
     let mut text = Vec::from_slice(alloc, b"id,lower,upper,size,alignment\n")?;
@@ -146,130 +139,68 @@ fn row_fault(alloc: Global, row: &[u8]) -> Result<Option<InstanceFault>, NoMemor
 
 #[test]
 fn a_bad_record_is_named(rt: HostRuntime) {
-    let table: [(&[u8], Option<InstanceFault>); 11] = [
-        (
-            b"A,0,1,1099511627777,1",
-            Some(InstanceFault::BadBuffer {
-                row: 0,
-                fault: BufferFault::TooLarge,
-            }),
-        ),
-        (
-            b"A,0,1,000000000000000000001,1",
-            Some(InstanceFault::BadNumber {
-                row: 0,
-                column: Column::Size,
-            }),
-        ),
-        (b"A,0,1,00000000000000000001,1", None),
-        (
-            b"A,0,1,0,1",
-            Some(InstanceFault::BadBuffer {
-                row: 0,
-                fault: BufferFault::ZeroSize,
-            }),
-        ),
-        (
-            b"A,1,1,4,1",
-            Some(InstanceFault::BadBuffer {
-                row: 0,
-                fault: BufferFault::EmptyLifetime,
-            }),
-        ),
-        (
-            b"A,0,4611686018427387904,4,1",
-            Some(InstanceFault::BadNumber {
-                row: 0,
-                column: Column::Upper,
-            }),
-        ),
-        (
-            b"A,0,1,4,0",
-            Some(InstanceFault::BadBuffer {
-                row: 0,
-                fault: BufferFault::ZeroAlignment,
-            }),
-        ),
-        (b",0,1,4,1", Some(InstanceFault::EmptyId { row: 0 })),
-        (b"A,0,1,4", Some(InstanceFault::FieldCount { row: 0 })),
-        (b"A,0,1,4,", None),
-        (
-            b"A,0,1,4,1\nA,0,1,4,1",
-            Some(InstanceFault::DuplicateId { row: 1, earlier: 0 }),
-        ),
+    let table: [(&[u8], &str); 11] = [
+        (b"A,0,1,1099511627777,1", "row 0 too large"),
+        (b"A,0,1,000000000000000000001,1", "row 0 bad number size"),
+        (b"A,0,1,00000000000000000001,1", ""),
+        (b"A,0,1,0,1", "row 0 zero size"),
+        (b"A,1,1,4,1", "row 0 empty lifetime"),
+        (b"A,0,4611686018427387904,4,1", "row 0 bad number upper"),
+        (b"A,0,1,4,0", "row 0 zero alignment"),
+        (b",0,1,4,1", "row 0 empty id"),
+        (b"A,0,1,4", "row 0 field count"),
+        (b"A,0,1,4,", ""),
+        (b"A,0,1,4,1\nA,0,1,4,1", "row 1 duplicate id 0"),
     ];
     for (row, want) in table {
         assert!(rt; row.len() <= 1000);
-        assert_eq!(rt; row_fault(rt.alloc(), row), Ok(want));
+        let fault = row_fault(rt.alloc(), row).expect(&rt, "memory");
+        assert_eq!(rt; fault.as_str(), want);
     }
 }
 
 #[test]
 fn gaps_are_pieces_between_spaces(rt: HostRuntime) {
-    let table: [(&[u8], Option<InstanceFault>); 4] = [
-        (b"id,lower,upper,size,gaps\nA,0,10,4,4-6 1-2\n", None),
+    let table: [(&[u8], &str); 4] = [
+        (b"id,lower,upper,size,gaps\nA,0,10,4,4-6 1-2\n", ""),
         (
             b"id,lower,upper,size,gaps\nA,0,10,4,1-2  4-6\n",
-            Some(InstanceFault::BadGap { row: 0 }),
+            "row 0 bad gap",
         ),
         (
             b"id,lower,upper,size,gaps\nA,0,10,4,0-6 4-10\n",
-            Some(InstanceFault::BadBuffer {
-                row: 0,
-                fault: BufferFault::NeverLive,
-            }),
+            "row 0 never live",
         ),
         (
             b"id,lower,upper,size,gaps\nA,0,10,4,1-2 6-6\n",
-            Some(InstanceFault::BadBuffer {
-                row: 0,
-                fault: BufferFault::GapEmpty { gap: 1 },
-            }),
+            "row 0 gap 1 empty",
         ),
     ];
     for (text, want) in table {
         assert!(rt; text.len() <= 67108864);
-        assert_eq!(rt; fault_of(rt.alloc(), text), Ok(want));
+        let fault = fault_of(rt.alloc(), text).expect(&rt, "memory");
+        assert_eq!(rt; fault.as_str(), want);
     }
 }
 
 #[test]
 fn a_layout_file_has_a_row_for_each_buffer(rt: HostRuntime) {
-    let table: [(&[u8], OffsetsFault); 8] = [
-        (b"\n\n", OffsetsFault::NoHeader),
-        (
-            b"offset,offset,id,id\n",
-            OffsetsFault::DuplicateColumn { column: Column::Id },
-        ),
-        (
-            b"id,size,size\n",
-            OffsetsFault::MissingColumn {
-                column: Column::Offset,
-            },
-        ),
-        (
-            b"id,offset\nb3,0\nb1\n",
-            OffsetsFault::FieldCount { row: 1 },
-        ),
-        (b"id,offset\nb4,x\n", OffsetsFault::UnknownId { row: 0 }),
-        (
-            b"id,offset\nb3,1\nb2,0\nb3,x\n",
-            OffsetsFault::DuplicateId { row: 2, earlier: 0 },
-        ),
+    let table: [(&[u8], &str); 8] = [
+        (b"\n\n", "no header"),
+        (b"offset,offset,id,id\n", "duplicate column id"),
+        (b"id,size,size\n", "missing column offset"),
+        (b"id,offset\nb3,0\nb1\n", "row 1 field count"),
+        (b"id,offset\nb4,x\n", "row 0 unknown id"),
+        (b"id,offset\nb3,1\nb2,0\nb3,x\n", "row 2 duplicate id 0"),
         (
             b"id,offset\nb3,1152921504606846977\n",
-            OffsetsFault::BadNumber { row: 0 },
+            "row 0 bad number offset",
         ),
-        (
-            b"offset,id\n1152921504606846976,b3\n0,b1\n",
-            OffsetsFault::MissingId { buffer: 1 },
-        ),
+        (b"offset,id\n1152921504606846976,b3\n0,b1\n", "missing id 1"),
     ];
     for (text, want) in table {
         assert!(rt; text.len() <= 67108864);
-        match offsets_of(rt.alloc(), text) {
-            Err(Fail::Fault(fault)) => assert_eq!(rt; fault, want),
-            _ => panic!(rt; "no fault"),
-        }
+        let fault = offsets_fault(rt.alloc(), text).expect(&rt, "memory");
+        assert_eq!(rt; fault.as_str(), want);
     }
 }

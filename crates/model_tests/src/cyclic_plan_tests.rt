@@ -2,19 +2,19 @@
 
 ghost use Rattle.std.specs.Prelude.{◌≤◌, length};
 
-use csv_instance::InstanceFault;
-use cyclic_plan::{CycleFault, unroll};
-use dsa_model::{BufferFault, Fail, NoMemory};
+use cyclic_plan::unroll;
+use dsa_model::{Fail, NoMemory};
 use std::alloc::Global;
 use std::test::Fail as TestFail;
 
-/// The fault of a file whose moments repeat with a period of 10.
-fn fault_of(alloc: Global, text: &[u8]) -> Result<Option<CycleFault>, NoMemory>
+/// The text of the fault of a file whose moments repeat with a period of 10, or nothing where it
+/// has none.
+fn fault_of(alloc: Global, text: &[u8]) -> Result<String, NoMemory>
     requires { length text.now ≤ 67108864 }
 {
     match unroll(alloc, text, 10) {
-        Ok(_) => Ok(None),
-        Err(Fail::Fault(fault)) => Ok(Some(fault)),
+        Ok(_) => Ok(String::new(alloc)),
+        Err(Fail::Fault(fault)) => fault.text(alloc),
         Err(Fail::NoMemory) => Err(NoMemory),
     }
 }
@@ -32,30 +32,22 @@ fn a_row_that_wraps_becomes_the_whole_period_with_a_gap(rt: HostRuntime) -> Resu
 
 #[test]
 fn a_bad_circle_is_named(rt: HostRuntime) {
-    let table: [(&[u8], Option<CycleFault>); 5] = [
-        (b"id,lower,upper,size\nA,8,10,4\n", None),
-        (
-            b"id,lower,upper,size\nA,10,2,4\n",
-            Some(CycleFault::Outside { row: 0 }),
-        ),
-        (
-            b"id,lower,upper,size\nA,2,11,4\n",
-            Some(CycleFault::Outside { row: 0 }),
-        ),
+    let table: [(&[u8], &str); 5] = [
+        (b"id,lower,upper,size\nA,8,10,4\n", ""),
+        (b"id,lower,upper,size\nA,10,2,4\n", "row 0 outside"),
+        (b"id,lower,upper,size\nA,2,11,4\n", "row 0 outside"),
         (
             b"id,lower,upper,size\nA,8,2,4\nB,3,3,4\n",
-            Some(CycleFault::BadBuffer {
-                row: 1,
-                fault: BufferFault::EmptyLifetime,
-            }),
+            "row 1 empty lifetime",
         ),
         (
             b"id,lower,upper,size\nA,3,3,4\nA,8,2,4\n",
-            Some(CycleFault::Instance(InstanceFault::DuplicateId { row: 1, earlier: 0 })),
+            "row 1 duplicate id 0",
         ),
     ];
     for (text, want) in table {
         assert!(rt; text.len() <= 67108864);
-        assert_eq!(rt; fault_of(rt.alloc(), text), Ok(want));
+        let fault = fault_of(rt.alloc(), text).expect(&rt, "memory");
+        assert_eq!(rt; fault.as_str(), want);
     }
 }

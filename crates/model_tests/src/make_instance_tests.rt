@@ -29,6 +29,10 @@ fn no_more_buffers_than_an_instance_has_are_made(rt: HostRuntime) {
     let most = make(rt.alloc(), 1, BUFFER_LIMIT as u64).expect(&rt, "memory");
     assert!(rt; most.len() > 0);
     let refused = make(rt.alloc(), 1, 4097);
-    let fault = MakeFault::CountTooLarge { count: 4097 };
-    assert!(rt; matches!(refused, Err(Fail::Fault(found)) if found == fault));
+    assert!(rt;
+        matches!(
+            refused,
+            Err(Fail::Fault(MakeFault::CountTooLarge { count: 4097 }))
+        )
+    );
 }
