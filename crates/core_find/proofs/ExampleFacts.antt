@@ -59,3 +59,10 @@ five_core = record {
     ),
   );
 }
+
+-- what fits has no core
+no_core_at_12 : (members : List ℕ) → IsCore five 12 members → ⊥
+unfolding are_sound searched parts part_of is_cut last_cut first is_tall comes_before ends_below is_twin child up step
+    have_same_moments do_share some_before is_live buffer
+no_core_at_12 members core =
+    let fits = does five 12 (0 ∷ 0 ∷ 4 ∷ 0 ∷ 8 ∷ []) refl refl in core.infeasible fits.0 fits.1
