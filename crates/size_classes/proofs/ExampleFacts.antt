@@ -6,7 +6,7 @@ use Rattle.dsa_terms.specs.Claims.{IsIn}
 use Rattle.dsa_terms.specs.Orders.{rises_by}
 use Rattle.dsa_terms.specs.Parts.{has}
 use Rattle.dsa_terms.specs.Plans.{load}
-use Rattle.dsa_terms.proofs.Examples.{five, plain, two_of_four}
+use Rattle.dsa_terms.proofs.Examples.{five, gapped, plain, two_of_four}
 use Rattle.size_classes.specs.Classes.{class_of, in_class, last_class, widest}
 use Rattle.size_classes.specs.Plain.{first_rough}
 use Rattle.size_classes.specs.Plans.{class_height, class_offset, class_plan, offset_in, power_height}
@@ -153,6 +153,23 @@ mixed_powers : power_height mixed ≡ 9
 unfolding power_height last_class class_of in_class most_live live_among moments is_live buffer
 mixed_powers = refl
 
+-- widths of 3 and 6 that are no powers of two; the last slot has a buffer of size 5, which ends below the height
+abbrev narrow : Instance
+narrow = plain 0 2 3 1 ∷ plain 0 2 3 1 ∷ plain 0 2 6 1 ∷ plain 0 2 5 1 ∷ []
+
+narrow_plan : class_plan narrow ≡ 0 ∷ 3 ∷ 6 ∷ 12 ∷ []
+unfolding class_plan class_offset offset_in class_of widest in_class most_live live_among moments slot_of held
+    least_free rises_by has is_live buffer
+narrow_plan = refl
+
+narrow_height : class_height narrow ≡ 18
+unfolding class_height last_class class_of widest in_class most_live live_among moments is_live buffer
+narrow_height = refl
+
+narrow_powers : power_height narrow ≡ 24
+unfolding power_height last_class class_of in_class most_live live_among moments is_live buffer
+narrow_powers = refl
+
 -- a slot is free again at the moment at which it ends
 in_turn_of_one_slot : class_plan (plain 0 2 3 1 ∷ plain 2 3 3 1 ∷ plain 1 2 3 1 ∷ []) ≡ 0 ∷ 0 ∷ 3 ∷ []
 unfolding class_plan class_offset offset_in class_of widest in_class most_live live_among moments slot_of held
@@ -163,6 +180,11 @@ in_turn_of_one_slot = refl
 two_of_four_is_rough : first_rough two_of_four ≡ Some 0
 unfolding first_rough
 two_of_four_is_rough = refl
+
+-- a buffer with a gap
+gapped_is_rough : first_rough (gapped ∷ []) ≡ Some 0
+unfolding first_rough
+gapped_is_rough = refl
 
 -- a buffer that may not be at 0
 lowered_is_rough : first_rough (plain 0 2 3 1 ∷
