@@ -1,5 +1,5 @@
 -- What traces come to on small texts.
-use Rattle.std.proofs.Common.{◌≡◌, [], ◌∷◌, codes, Some, None, Ok, Err, refl, true, false}
+use Rattle.std.proofs.Common.{◌≡◌, [], ◌∷◌, codes, replicate, Some, None, Ok, Err, refl, true, false}
 use Rattle.std.specs.Fmt.{digits}
 use Rattle.csv.specs.Machine.{next_record}
 use Rattle.csv.specs.Reading.{records_from, strip_bom}
@@ -21,7 +21,7 @@ use Rattle.trace_import.specs.FaultTexts.{trace_fault_text}
 use Rattle.trace_import.specs.Found.{ends_from}
 use Rattle.trace_import.specs.Lines.{event_in, is_id}
 use Rattle.trace_import.specs.Traces.{Alloc, Free, Trace, imported}
-use Rattle.trace_import.specs.Faults.{holder, trace_of}
+use Rattle.trace_import.specs.Faults.{holder, place_fault, trace_of}
 use Rattle.trace_import.specs.ImportText.{import_text}
 use Rattle.trace_import.specs.declared.fault.TraceFault.TheVariants as fault
 
@@ -98,6 +98,11 @@ size_before_alignment = refl
 numbers_before_held : trace_of (codes "alloc a 4 1\nalloc a 4 0\n") ≡ Err (fault.BadAlignment 1)
 unfolding trace_of holder
 numbers_before_held = refl
+
+-- lines that free are no buffers, of which there may be 4096
+freed_are_no_buffers : place_fault (replicate 4096 (Free (codes "b"))) (Alloc (codes "a") 4 1) ≡ None
+unfolding holder
+freed_are_no_buffers = refl
 
 -- ---- lines
 event_of_alloc : event_in (codes "alloc a 007 1") ≡ Some (Alloc (codes "a") 7 1)
