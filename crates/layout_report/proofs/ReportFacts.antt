@@ -1,5 +1,5 @@
 -- Small layouts, and what the report says of them.
-use Rattle.std.proofs.Common.{◌≡◌, ℕ, zero, suc, ◌+◌, ◌<◌, ◌≤◌, ◌⊎◌, inl, inr, List, [], ◌∷◌, ◌++◌, slice_index, Some, None, codes, refl, ap₂, sym, arith, lit<, lit≤}
+use Rattle.std.proofs.Common.{◌≡◌, ℕ, zero, suc, ◌+◌, ◌<◌, ◌≤◌, ◌⊎◌, inl, inr, List, [], ◌∷◌, ◌++◌, slice_index, Some, None, codes, refl, ap, ap₂, sym, arith, lit<, lit≤}
 use Rattle.std.specs.Fmt.{digits}
 use Rattle.csv.specs.Writing.{escaped, fields_text, is_blank}
 use Rattle.csv_instance.specs.Offsets.{ids_of}
@@ -146,6 +146,25 @@ free_at_3 = record { unused = record { not_empty = lit< tt; under = lit≤ tt; f
 
 not_free : IsFreeAt evens offsets 0 5 (range 3 5) → ⊥
 not_free f = over_a_buffer f.unused
+
+-- a part of a free range is none: 5..7 is free below the height 7
+part_is_not_free : IsFreeAt evens offsets 0 7 (range 5 6) → ⊥
+unfolding buffer is_live
+part_is_not_free f =
+    let e = ap stop_of (f.greatest (range 5 7) whole (lit≤ tt) (lit≤ tt)) in omega (arith, e)
+  where
+    stop_of : Range → ℕ
+    stop_of r = r.stop
+
+    free_of : (b : ℕ) → b < 3 → IsLive (buffer evens b) 0 →
+        (7 ≤ slice_index offsets b) ⊎ (slice_index offsets b + (buffer evens b).size ≤ 5)
+    free_of zero lt l = inr (lit≤ tt)
+    free_of (suc zero) lt l = inr (lit≤ tt)
+    free_of (suc (suc zero)) lt l = inr (lit≤ tt)
+    free_of (suc (suc (suc b))) lt l = absurd (omega arith)
+
+    whole : IsUnused evens offsets 0 7 (range 5 7)
+    whole = record { not_empty = lit< tt; under = lit≤ tt; free = free_of }
 
 row_of_a_range : IsRowAt evens offsets 0 5 (free 3 1)
 row_of_a_range = inr (range 3 4, free_at_3, refl)
