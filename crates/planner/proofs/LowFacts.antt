@@ -4,7 +4,7 @@ use Rattle.dsa_terms.specs.Bounds.{bound_modulus, counted, heights, highest_at, 
 use Rattle.dsa_terms.specs.Buffers.{buffer, floor, is_live}
 use Rattle.dsa_terms.specs.Claims.{IsIn}
 use Rattle.dsa_terms.specs.Logs.{Over}
-use Rattle.dsa_terms.proofs.Examples.{low}
+use Rattle.dsa_terms.proofs.Examples.{low, tied}
 use Rattle.lower_bounds.specs.declared.value.Bound.{Bound}
 use Rattle.lower_bounds.proofs.MomentFacts.{low_moment}
 use Rattle.planner.specs.Decides.{IsBoundLog}
@@ -39,6 +39,11 @@ ten_from_zero h = elim h.reached [
   | inl e ↦ omega (arith, e)
   | inr r ↦ let e = r.2 in omega (arith, e)
 ]
+
+-- two of which one just fits below the other come to 8 from 0 on and from 4 on, and the bound has the lower height
+eight_from_four : IsLowerBound tied (record { capacity = 8; moment = 0; modulus = 1; height = 4 }) → ⊥
+unfolding heights floor stack pile counted rounded_size is_live buffer
+eight_from_four h = let k : 4 ≤ 0 = h.least 0 (inl refl) refl in omega arith
 
 -- the first buffer alone, from 6 on, is too much for 9
 low_log : IsBoundLog low 9 (record { count = 2; capacity = 9; lines = Over ((0, 6) ∷ []) 0 6 1 ∷ []; final = 0 })
