@@ -9,5 +9,6 @@ pub mod Tightest
 pub mod Planned
 pub mod Peaks
 mod ExampleFacts
+mod PlanFacts
 mod FittingFacts
 mod ReachingFacts
