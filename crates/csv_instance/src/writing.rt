@@ -16,7 +16,7 @@ pub fn text_writer(alloc: Global) -> Writer<Vec<u8>>
     WriterBuilder::new().from_writer(Vec::new(alloc))
 }
 
-/// Writes a record as it is.
+/// Writes a record as it is; after want of memory part of it may have been written.
 pub(crate) fn write_record(writer: &mut Writer<Vec<u8>>, row: &ByteRecord) -> Result<(), NoMemory>
     ensures { (text : List ℕ) → Wrote writer.old text → OnOk result
         (Wrote writer.new (text ++ row_text default_writer (fields_of row.now))) }
@@ -27,7 +27,8 @@ pub(crate) fn write_record(writer: &mut Writer<Vec<u8>>, row: &ByteRecord) -> Re
     }
 }
 
-/// Writes the record of these fields.
+/// Writes the record of these fields. The caller owes that it has as many fields as the first that
+/// was written, or want of memory is answered; after it part of the record may have been written.
 pub fn write_fields(writer: &mut Writer<Vec<u8>>, fields: &[&[u8]]) -> Result<(), NoMemory>
     ensures { (text : List ℕ) → Wrote writer.old text → OnOk result
         (Wrote writer.new (text ++ row_text default_writer (map (λ f. f.now) fields.now))) }
@@ -38,7 +39,7 @@ pub fn write_fields(writer: &mut Writer<Vec<u8>>, fields: &[&[u8]]) -> Result<()
     }
 }
 
-/// The text that a writer has written.
+/// The text that a writer into memory has written.
 pub fn written_text(writer: Writer<Vec<u8>>) -> Result<Vec<u8>, NoMemory>
     ensures { (text : List ℕ) → Wrote writer text → IfOk result (λ made. made.items ≡ text) }
 {

@@ -31,7 +31,7 @@ pub(crate) fn instance_of(alloc: Global, rows: &[Row]) -> Result<Instance, Fail<
     with_gaps(alloc, rows, 0, &[])
 }
 
-/// The same, in which one of them has gaps.
+/// The same, in which buffer `holed` has gaps.
 pub(crate) fn with_gaps(
     alloc: Global,
     rows: &[Row],

@@ -179,7 +179,8 @@ words_identify (a ∷ id ∷ size ∷ alignment ∷ []) event e =
     inner (Some n) (Some m) q = let same : Alloc id n m ≡ event = cc in ap id_of (sym same)
 
     outer : (b i : Bool) → is_id id ≡ i → (s t : Option ℕ) →
-        cond b (cond i (option_map (λ (n : ℕ × ℕ). Alloc id n.0 n.1) (option_zip s t)) None) None ≡ Some event → is_id (id_of event) ≡ true
+        cond b (cond i (option_map (λ (n : ℕ × ℕ). Alloc id n.0 n.1) (option_zip s t)) None) None ≡ Some event →
+        is_id (id_of event) ≡ true
     outer true true h s t q = ap is_id (inner s t q) ∙ h
     outer true false h s t q = absurd cc
     outer false i h s t q = absurd cc
