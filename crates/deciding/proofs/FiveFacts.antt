@@ -1,5 +1,5 @@
 -- Five buffers whose least capacity is 12: how `solve` goes on them from their file on.
-use Rattle.std.proofs.Common.{◌≡◌, ℕ, zero, suc, List, inl, [], ◌∷◌, None, Some, Ok, codes, refl, sym, ap, ◌∙◌, lit<, lit≤, arith}
+use Rattle.std.proofs.Common.{◌≡◌, ℕ, zero, suc, List, [], ◌∷◌, None, Some, Ok, codes, refl, sym, ap, ◌∙◌, lit<, lit≤, arith}
 use Rattle.std.specs.FinMap.{empty, insert}
 use Rattle.std.specs.Fmt.{digits}
 use Rattle.csv.specs.Machine.{next_record}
@@ -18,11 +18,11 @@ use Rattle.csv_instance.specs.Parse.{parse}
 use Rattle.csv_instance.specs.Records.{Record, table_of}
 use Rattle.run_status.specs.declared.status.Role.TheVariants.{Output}
 use Rattle.run_status.specs.declared.status.Status.TheVariants.{Feasible}
-use Rattle.run_course.specs.Course.{Comes, Concludes, Outcome, says, writes}
+use Rattle.run_course.specs.Course.{Comes, Concludes, Outcome, writes}
 use Rattle.readings.specs.Opens.{IsInput}
 use Rattle.readings.proofs.Opening.{with_input}
 use Rattle.writings.specs.Writings.{Names}
-use Rattle.deciding.specs.Deciding.{LaysOut, Solves, solve}
+use Rattle.deciding.specs.Deciding.{IsPlanWithin, Solves, answer_files, solve}
 
 -- ---- the table
 abbrev five_file : List ℕ
@@ -75,23 +75,27 @@ names = record { input = codes "i"; output = codes "o"; log = codes "l" }
 abbrev laid_out : Outcome
 laid_out = writes (record { role = Output; name = codes "o"; bytes = laid_file } ∷ []) (Feasible 12)
 
-lays_out : LaysOut 12 None names five_rows five laid_out
+within_12 : IsPlanWithin five 12 None at_12
+within_12 = record { planned = five_plan_at_12; layout = laid; searched = λ none. tt }
+
+lays_out : Solves 12 None names five_rows five laid_out
 lays_out = record {
-  offsets = at_12;
-  planned = five_plan_at_12;
-  layout = laid;
-  searched = λ none. tt;
+  status = Feasible 12;
+  layout = Some at_12;
+  log = None;
+  answer = (refl, within_12);
+  readable = tt;
   written = ap (λ (text : List ℕ). writes (record { role = Output; name = codes "o"; bytes = text } ∷ []) (Feasible 12))
       (sym laid_text);
 }
 
 -- within 11 there is none
-not_at_11 : (o : Outcome) → LaysOut 11 None names five_rows five o → ⊥
-not_at_11 o h = let e = sym five_plan_at_11 ∙ h.planned in absurd cc
+not_at_11 : (offsets : List ℕ) → IsPlanWithin five 11 None offsets → ⊥
+not_at_11 offsets h = let e = sym five_plan_at_11 ∙ h.planned in absurd cc
 
 -- the layout has to be written
-not_without_a_write : LaysOut 12 None names five_rows five (says (Feasible 12)) → ⊥
-not_without_a_write h = let e = ap (λ (o : Outcome). o.writes) h.written in absurd cc
+not_without_a_write : answer_files names five_rows (Some at_12) None ≡ [] → ⊥
+not_without_a_write e = absurd cc
 
 -- ---- from the file on
 abbrev files : FilesSeen
@@ -107,4 +111,4 @@ its_input = record {
 
 goes : Comes files files (solve 12 None names) laid_out
 goes = with_input files files files (codes "i") five_rows five (λ t I. Concludes (Solves 12 None names t I))
-    (five, its_input) rows_are_five refl (λ name. lit≤ tt) laid_out (tt, inl lays_out)
+    (five, its_input) rows_are_five refl (λ name. lit≤ tt) laid_out (tt, lays_out)

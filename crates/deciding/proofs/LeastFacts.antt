@@ -1,8 +1,9 @@
 -- What `least` concludes of two buffers whose best start ends at 5, and whose lower bound and least capacity are 4, and
 -- of no buffers.
-use Rattle.std.proofs.Common.{◌≡◌, ℕ, List, inl, inr, [], ◌∷◌, Some, None, refl, sym, ap, ap₂, subst, codes, lit≤, arith}
+use Rattle.std.proofs.Common.{◌≡◌, ℕ, List, inl, inr, [], ◌∷◌, Option, Some, None, refl, sym, ap, ap₂, codes, lit≤, arith}
 use Rattle.dsa_terms.specs.Fits.{best_fit, first_fit}
 use Rattle.dsa_terms.specs.Layouts.{IsLayout}
+use Rattle.dsa_terms.specs.Logs.{Log}
 use Rattle.dsa_terms.specs.Orders.{orders}
 use Rattle.dsa_terms.specs.Parts.{is_cut, last_cut, part_of, parts, searched}
 use Rattle.dsa_terms.specs.Plans.{layout_height, plan}
@@ -11,16 +12,15 @@ use Rattle.dsa_terms.proofs.ExamplePlanFacts.{small_below_plan_at_4}
 use Rattle.dsa_terms.proofs.Examples.{small_below}
 use Rattle.csv_instance.specs.Layout.{layout_text}
 use Rattle.csv_instance.specs.Records.{Record}
-use Rattle.planner.specs.LeastCapacity.{AreWithinSteps}
 use Rattle.planner.proofs.ExampleFacts.{facts_of_none}
 use Rattle.planner.proofs.ExampleLeastFacts.{below_best, below_bound, other_without_steps}
 use Rattle.planner.proofs.ShortageFacts.{four_of_the_hunt, short_of_the_hunt}
-use Rattle.planner.proofs.StepFacts.{four_is_least, laid_at_4}
+use Rattle.planner.proofs.StepFacts.{four_high, four_is_least, laid_at_4}
 use Rattle.run_status.specs.declared.status.Role.TheVariants as role
-use Rattle.run_status.specs.declared.status.Status.TheVariants.{Least, Open}
+use Rattle.run_status.specs.declared.status.Status.TheVariants.{Feasible, Least, Open}
 use Rattle.run_course.specs.Course.{Outcome, Write, writes}
 use Rattle.writings.specs.Writings.{Names}
-use Rattle.deciding.specs.Deciding.{AllReadBack, Finds, FindsLeast, LeavesLeastOpen, log_files}
+use Rattle.deciding.specs.Deciding.{AllReadBack, Finds, IsFound, IsLeftOpen, IsSought, log_files}
 use Rattle.deciding.proofs.BelowFacts.{below_rows, four_to_five, low_file, low_text, start_file, start_text, three_by_bound, three_file, three_log, three_reads, three_refutes, three_text}
 
 abbrev names : Names
@@ -49,15 +49,13 @@ the_log_reads_back = three_reads
 abbrev found : Outcome
 found = writes (to_output low_file ∷ to_log three_file ∷ []) (Least 4)
 
-finds_4 : FindsLeast (Some 1) names below_rows small_below found
-finds_4 = record {
-  capacity = 4;
-  offsets = 1 ∷ 0 ∷ [];
-  refutation = Some three_log;
-  least = four_is_least;
+found_4 : IsFound small_below (Some 1) 4 (1 ∷ 0 ∷ []) (Some three_log)
+found_4 = record {
+  is_least = four_is_least;
   zero_for_none = (λ e. absurd cc, λ e. absurd (omega arith));
   planned = small_below_plan_at_4;
   layout = laid_at_4;
+  height = four_high;
   refuted = (lit≤ tt, three_refutes);
   within_steps = record {
     layout_steps = 1;
@@ -66,39 +64,37 @@ finds_4 = record {
     log = inl (rw below_bound (lit≤ tt, record { refutation = three_refutes; by_bound = three_by_bound }));
     given = lit≤ tt;
   };
+}
+
+finds_4 : Finds (Some 1) names below_rows small_below found
+finds_4 = record {
+  status = Least 4;
+  layout = Some (1 ∷ 0 ∷ []);
+  log = Some three_log;
+  answer = found_4;
   readable = three_reads;
   written = ap₂ (λ (layout : Write) (logs : List Write). writes (layout ∷ logs) (Least 4))
       (sym (ap to_output low_text)) (sym the_log);
 }
 
 -- without steps that layout does not come
-not_without_steps : (o : Outcome) (h : FindsLeast (Some 0) names below_rows small_below o) →
-    h.offsets ≡ 1 ∷ 0 ∷ [] → ⊥
-not_without_steps o h is =
-    other_without_steps h.capacity h.refutation
-    (subst (λ (o : List ℕ). AreWithinSteps small_below (Some 0) h.capacity o h.refutation) is h.within_steps)
+not_without_steps : (C : ℕ) (log : Option Log) → IsFound small_below (Some 0) C (1 ∷ 0 ∷ []) log → ⊥
+not_without_steps C log h = other_without_steps C log h.within_steps
 
 -- above 0 there is a log
-not_without_a_log : (o : Outcome) (h : FindsLeast None names below_rows small_below o) → h.refutation ≡ None → ⊥
-not_without_a_log o h none =
-    let zero : h.capacity ≡ 0 = rw none at h.refuted in
-    let e : small_below ≡ [] = h.zero_for_none.1 zero in
-    absurd cc
+not_without_a_log : (C : ℕ) (offsets : List ℕ) → IsFound small_below None C offsets None → ⊥
+not_without_a_log C offsets h = let e : small_below ≡ [] = h.zero_for_none.1 h.refuted in absurd cc
 
 -- ---- with three steps it stays open
 abbrev opened : Outcome
 opened = writes (to_output start_file ∷ to_log three_file ∷ []) (Open 4 5)
 
-leaves_open : LeavesLeastOpen (Some 3) names below_rows small_below opened
-leaves_open = record {
+left_open : IsLeftOpen small_below (Some 3) 4 5 (0 ∷ 4 ∷ []) three_log
+left_open = record {
   number = 3;
-  low = 4;
-  high = 5;
-  offsets = 0 ∷ 4 ∷ [];
-  refutation = three_log;
   given = refl;
   short = short_of_the_hunt 3 (lit≤ tt);
-  opened = four_to_five;
+  stays_open = four_to_five;
   within_steps = record {
     layout_steps = 0;
     log_steps = 0;
@@ -106,23 +102,29 @@ leaves_open = record {
     log = inl (rw below_bound (lit≤ tt, record { refutation = three_refutes; by_bound = three_by_bound }));
     given = lit≤ tt;
   };
+}
+
+leaves_open : Finds (Some 3) names below_rows small_below opened
+leaves_open = record {
+  status = Open 4 5;
+  layout = Some (0 ∷ 4 ∷ []);
+  log = Some three_log;
+  answer = left_open;
   readable = three_reads;
   written = ap₂ (λ (layout log : Write). writes (layout ∷ log ∷ []) (Open 4 5))
       (sym (ap to_output start_text)) (sym (ap to_log three_text));
 }
 
 -- four are enough
-not_open_with_four_steps : (o : Outcome) → LeavesLeastOpen (Some 4) names below_rows small_below o → ⊥
-not_open_with_four_steps o h =
+not_open_with_four_steps : (low high : ℕ) (offsets : List ℕ) (log : Log) →
+    IsLeftOpen small_below (Some 4) low high offsets log → ⊥
+not_open_with_four_steps low high offsets log h =
     let k : 4 ≡ h.number = (let e = h.given in cc) in
-    four_of_the_hunt h.low h.high (rw (sym k) at h.short)
+    four_of_the_hunt low high (rw (sym k) at h.short)
 
--- ---- these are ends of `least`
-by_search : Finds (Some 1) names below_rows small_below found
-by_search = inl finds_4
-
-by_neither : Finds (Some 3) names below_rows small_below opened
-by_neither = inr leaves_open
+-- no other status is an answer
+not_as_feasible : IsSought small_below None (Feasible 4) (Some (1 ∷ 0 ∷ [])) None → ⊥
+not_as_feasible h = h
 
 -- ---- no buffers need no bytes, and no log is written
 none_planned : planned [] 0 ≡ Some []
@@ -142,16 +144,17 @@ none_laid = record {
   apart = λ b c t lt. absurd (omega arith);
 }
 
-finds_0 : (table : List Record) →
-    FindsLeast (Some 0) names table [] (writes (to_output (layout_text table []) ∷ []) (Least 0))
-finds_0 table = record {
-  capacity = 0;
-  offsets = [];
-  refutation = None;
-  least = (([], none_laid), inl refl);
+none_high : layout_height [] [] ≡ 0
+unfolding layout_height
+none_high = refl
+
+found_0 : IsFound [] (Some 0) 0 [] None
+found_0 = record {
+  is_least = (([], none_laid), inl refl);
   zero_for_none = (λ e. refl, λ e. refl);
   planned = none_planned;
   layout = none_laid;
+  height = none_high;
   refuted = refl;
   within_steps = record {
     layout_steps = 0;
@@ -160,6 +163,15 @@ finds_0 table = record {
     log = inl (sym facts_of_none.bound);
     given = lit≤ tt;
   };
+}
+
+finds_0 : (table : List Record) →
+    Finds (Some 0) names table [] (writes (to_output (layout_text table []) ∷ []) (Least 0))
+finds_0 table = record {
+  status = Least 0;
+  layout = Some [];
+  log = None;
+  answer = found_0;
   readable = tt;
   written = refl;
 }

@@ -79,5 +79,5 @@ module _ (words : List Word) (old new : FilesSeen) (before after : SinkSeen) (pa
       (λ s asked o comes.
       let same : s ≡ request = (let a = is in let b = asked in cc) in
       refuted o (subst (λ (s : Request). Comes old new (course_with s.verb s.pairs) o) same comes)) o comes)
-      (λ role o comes left. absurd (not_broken old new before after I words request is ready calm role o comes left))
+      (λ role o comes left. absurd (not_broken old new before after words request is calm role o comes left))
       (λ rose. absurd (calm.sink rose)) tt

@@ -1,6 +1,7 @@
 -- By which statuses a command is concluded where nothing outside it goes wrong.
-use Rattle.std.proofs.Common.{◌≡◌, ◌^◌, List, Result, Ok, Err, refl, sym, subst, inl, inr}
+use Rattle.std.proofs.Common.{◌≡◌, ◌^◌, ℕ, List, Option, Some, None, Result, Ok, Err, refl, sym, subst, inl, inr}
 use Rattle.dsa_terms.specs.Buffers.{Instance}
+use Rattle.dsa_terms.specs.Logs.{Log}
 use Rattle.dsa_outside.specs.Seen.{FilesSeen, SinkSeen}
 use Rattle.dsa_model.specs.Counts.{Rose}
 use Rattle.csv_instance.specs.Records.{Record, file_limit, table_of}
@@ -30,13 +31,11 @@ use Rattle.importing.specs.Unrolling.{unrolls}
 use Rattle.cyclic_plan.specs.Unrolled.{unrolled_of}
 use Rattle.cyclic_plan.specs.declared.fault.CycleFault.{CycleFault}
 use Rattle.planning.specs.Planning.{Plans}
-use Rattle.size_classes.proofs.PlainLemmas.{plain_from}
-use Rattle.dsaplan_core.specs.Courses.{course, course_with}
-use Rattle.dsaplan_core.specs.Choice.{MayStayOpen}
+use Rattle.deciding.specs.Deciding.{Gives}
+use Rattle.dsaplan_core.specs.Courses.{ConcludesWith, IsAnswer, course, course_with, names_in}
 use Rattle.dsaplan_core.specs.Complete.{IsReady, IsUndisturbed}
-use Rattle.dsaplan_core.specs.Conclusions.{IsConclusion}
+use Rattle.dsaplan_core.specs.Conclusions.{IsConclusion, MayStayOpen}
 use Rattle.dsaplan_core.specs.Lost.{IsOwnWrite, option_of_role}
-use Rattle.dsaplan_core.proofs.Deciding.{ExplainsAs, FindsAs, PacksAs, SolvesAs}
 use Rattle.dsaplan_core.proofs.Answered.{answered, words_give}
 use Rattle.dsaplan_core.proofs.Gives as gives
 use Rattle.dsaplan_core.proofs.Gives.{trial_gives}
@@ -63,53 +62,52 @@ memory verb.Unroll pairs I = tt
 memory verb.Classes pairs I = tt
 memory verb.Core pairs I = tt
 
-solved : (pairs : List Pair) (table : List Record) (J : Instance) (o : Outcome) → SolvesAs pairs table J o →
-    IsConclusion verb.Solve pairs J o.status
-solved pairs table J o (inl lays) =
-    subst (λ (o : Outcome). IsConclusion verb.Solve pairs J o.status) (sym lays.written)
-    (refl, (lays.offsets, lays.layout))
-solved pairs table J o (inr (inl none)) =
-    subst (λ (o : Outcome). IsConclusion verb.Solve pairs J o.status) (sym none.written) (refl, none.refuted.infeasible)
-solved pairs table J o (inr (inr left)) =
-    subst (λ (o : Outcome). IsConclusion verb.Solve pairs J o.status) (sym left.written)
-    (subst (λ k. MayStayOpen verb.Solve pairs k J left.low left.high) (sym left.given) left.short)
+solved : (pairs : List Pair) (J : Instance) (s : Status) (layout : Option (List ℕ)) (log : Option Log) →
+    IsAnswer verb.Solve pairs J s layout log → IsConclusion verb.Solve pairs J s
+solved pairs J (status.Feasible C) (Some offsets) None answer = (answer.0, (offsets, answer.1.layout))
+solved pairs J (status.Infeasible C) None (Some log) answer = (answer.0, answer.1.refuted.infeasible)
+solved pairs J (status.Open low high) (Some offsets) (Some log) answer =
+    subst (λ k. MayStayOpen verb.Solve pairs k J low high) (sym answer.given) answer.short
+solved pairs J s layout log answer = absurd answer
 
-found : (pairs : List Pair) (table : List Record) (J : Instance) (o : Outcome) → FindsAs pairs table J o →
-    IsConclusion verb.Least pairs J o.status
-found pairs table J o (inl finds) =
-    subst (λ (o : Outcome). IsConclusion verb.Least pairs J o.status) (sym finds.written) finds.least
-found pairs table J o (inr left) =
-    subst (λ (o : Outcome). IsConclusion verb.Least pairs J o.status) (sym left.written)
-    (subst (λ k. MayStayOpen verb.Least pairs k J left.low left.high) (sym left.given) left.short)
+found : (pairs : List Pair) (J : Instance) (s : Status) (layout : Option (List ℕ)) (log : Option Log) →
+    IsAnswer verb.Least pairs J s layout log → IsConclusion verb.Least pairs J s
+found pairs J (status.Least C) (Some offsets) log answer = answer.is_least
+found pairs J (status.Open low high) (Some offsets) (Some log) answer =
+    subst (λ k. MayStayOpen verb.Least pairs k J low high) (sym answer.given) answer.short
+found pairs J s layout log answer = absurd answer
 
-packed : (pairs : List Pair) (table : List Record) (J : Instance) (o : Outcome) → PacksAs pairs table J o →
-    IsConclusion verb.Pack pairs J o.status
-packed pairs table J o (inl least) =
-    subst (λ (o : Outcome). IsConclusion verb.Pack pairs J o.status) (sym least.written) (least.none_given, least.least)
-packed pairs table J o (inr (inl laid)) =
-    subst (λ (o : Outcome). IsConclusion verb.Pack pairs J o.status) (sym laid.written)
-    (laid.given, (laid.offsets, laid.layout))
-packed pairs table J o (inr (inr (inl none))) =
-    subst (λ (o : Outcome). IsConclusion verb.Pack pairs J o.status) (sym none.written)
-    (none.given, none.refuted.infeasible)
-packed pairs table J o (inr (inr (inr left))) =
-    subst (λ (o : Outcome). IsConclusion verb.Pack pairs J o.status) (sym left.written) left.ends
+packed : (pairs : List Pair) (J : Instance) (s : Status) (layout : Option (List ℕ)) (log : Option Log) →
+    IsAnswer verb.Pack pairs J s layout log → IsConclusion verb.Pack pairs J s
+packed pairs J (status.Feasible C) (Some offsets) None answer = (answer.0, (offsets, answer.1))
+packed pairs J (status.Infeasible C) None (Some log) answer = (answer.0, answer.1.infeasible)
+packed pairs J (status.Least C) (Some offsets) log answer = (answer.0, answer.1.is_least)
+packed pairs J (status.Open low high) (Some offsets) (Some log) answer = answer.ends
+packed pairs J s layout log answer = absurd answer
+
+-- what a command concludes that decides
+decided : (v : Verb) (pairs : List Pair) (J : Instance) →
+    ((s : Status) (layout : Option (List ℕ)) (log : Option Log) → IsAnswer v pairs J s layout log →
+    IsConclusion v pairs J s) →
+    (table : List Record) (o : Outcome) → Gives (IsAnswer v pairs J) (names_in pairs) table o →
+    IsConclusion v pairs J o.status
+decided v pairs J concludes table o given = subst (λ (o : Outcome). IsConclusion v pairs J o.status) (sym given.written)
+    (concludes given.status given.layout given.log given.answer)
 
 planned : (pairs : List Pair) (table : List Record) (J : Instance) (o : Outcome) →
     Plans (word_at pairs option.Output) table J o →
     IsConclusion verb.Classes pairs J o.status
 planned pairs table J o (inl plan) =
-    subst (λ (o : Outcome). IsConclusion verb.Classes pairs J o.status) (sym plan.written)
-    (plain_from J plan.plain)
+    subst (λ (o : Outcome). IsConclusion verb.Classes pairs J o.status) (sym plan.2) plan.1.plain
 planned pairs table J o (inr rough) =
-    subst (λ (o : Outcome). IsConclusion verb.Classes pairs J o.status) (sym rough.told) rough.rough
+    subst (λ (o : Outcome). IsConclusion verb.Classes pairs J o.status) (sym rough.2) rough.1
 
 explained : (pairs : List Pair) (table : List Record) (J : Instance) (o : Outcome) →
-    ExplainsAs pairs table J o → IsConclusion verb.Core pairs J o.status
+    ConcludesWith verb.Core pairs table J o → IsConclusion verb.Core pairs J o.status
 explained pairs table J o (inl core) =
-    subst (λ (o : Outcome). IsConclusion verb.Core pairs J o.status) (sym core.written) core.core.infeasible
+    subst (λ (o : Outcome). IsConclusion verb.Core pairs J o.status) (sym core.3) core.2.is_core.infeasible
 explained pairs table J o (inr fits) =
-    subst (λ (o : Outcome). IsConclusion verb.Core pairs J o.status) (sym fits.told) (refl, fits.feasible)
+    subst (λ (o : Outcome). IsConclusion verb.Core pairs J o.status) (sym fits.1) (refl, fits.0)
 
 imports_conclude : (pairs : List Pair) (J : Instance) (r : Result Trace TraceFault) →
     IsConclusion verb.Import pairs J (imports (word_at pairs option.Output) r).status
@@ -121,6 +119,21 @@ unrolls_conclude : (pairs : List Pair) (table : List Record) (J : Instance) (r :
     (unrolls (number_at pairs option.Period) (word_at pairs option.Output) table r).status
 unrolls_conclude pairs table J (Ok I) = tt
 unrolls_conclude pairs table J (Err fault) = tt
+
+-- where nothing outside fails, no write does
+pub not_broken : (old new : FilesSeen) (before after : SinkSeen) (words : List Word) (r : Request) →
+    request_of words ≡ Ok r → IsUndisturbed r old new before after → (role : Role) (o : Outcome) →
+    Comes old new (course words) o → AreBroken old new o.writes role → ⊥
+not_broken old new before after words r is calm role =
+    words_give old new words (λ o. AreBroken old new o.writes role → ⊥) (λ fault bad left. absurd cc)
+    (λ s asked o comes left.
+    let same : s ≡ r = (let a = is in let b = asked in cc) in
+    let own = one_own s left.made left.lost left.rest
+    (subst (AreOwn s) left.order (promised words old new s.verb s.pairs asked o comes).1) in
+    let mine : IsOwnWrite r left.lost = subst (λ (s : Request). IsOwnWrite s left.lost) same own in
+    let rose = subst (λ n. Rose (old.faults n) (new.faults n)) mine.1 left.rose in
+    calm.files (word_at r.pairs (option_of_role left.lost.role))
+    (write_named r (option_of_role left.lost.role) mine.0) rose)
 
 module _ (old new : FilesSeen) (before after : SinkSeen) (I : Instance) where
   -- a request whose files are readable and are not disturbed
@@ -155,19 +168,20 @@ module _ (old new : FilesSeen) (before after : SinkSeen) (I : Instance) where
       opened_served old new before after I (record { verb = verb.Solve; pairs = pairs }) ready calm
       (inl refl, λ same. cc)
       (IsDone verb.Solve pairs)
-      (λ table J. Concludes (SolvesAs pairs table J)) (λ table o comes. solved pairs table I o comes.1)
+      (λ table J. Concludes (ConcludesWith verb.Solve pairs table J))
+      (λ table o comes. decided verb.Solve pairs I (solved pairs I) table o comes.1)
   done verb.Least pairs (ready, calm) =
       opened_served old new before after I (record { verb = verb.Least; pairs = pairs }) ready calm
       (inl refl, λ same. cc)
       (IsDone verb.Least pairs)
-      (λ table J. Concludes (FindsAs pairs table J))
-      (λ table o comes. found pairs table I o comes.1)
+      (λ table J. Concludes (ConcludesWith verb.Least pairs table J))
+      (λ table o comes. decided verb.Least pairs I (found pairs I) table o comes.1)
   done verb.Pack pairs (ready, calm) =
       opened_served old new before after I (record { verb = verb.Pack; pairs = pairs }) ready calm
       (inl refl, λ same. cc)
       (IsDone verb.Pack pairs)
-      (λ table J. Concludes (PacksAs pairs table J))
-      (λ table o comes. packed pairs table I o comes.1)
+      (λ table J. Concludes (ConcludesWith verb.Pack pairs table J))
+      (λ table o comes. decided verb.Pack pairs I (packed pairs I) table o comes.1)
   done verb.Verify pairs (ready, calm) =
       let r : Request = record { verb = verb.Verify; pairs = pairs } in
       let capacity = number_at pairs option.Capacity in
@@ -235,7 +249,7 @@ module _ (old new : FilesSeen) (before after : SinkSeen) (I : Instance) where
       opened_served old new before after I (record { verb = verb.Core; pairs = pairs }) ready calm
       (inl refl, λ same. cc)
       (IsDone verb.Core pairs)
-      (λ table J. Concludes (ExplainsAs pairs table J))
+      (λ table J. Concludes (ConcludesWith verb.Core pairs table J))
       (λ table o comes. explained pairs table I o comes.1)
   done verb.Trial pairs (ready, calm) = trial_gives old new (IsDone verb.Trial pairs) (number_at pairs option.Seed)
       (number_at pairs option.Count) (number_at pairs option.Steps)
@@ -243,18 +257,6 @@ module _ (old new : FilesSeen) (before after : SinkSeen) (I : Instance) where
 
   module _ (words : List Word) (r : Request) (is : request_of words ≡ Ok r) (ready : IsReady old r I)
       (calm : IsUndisturbed r old new before after) where
-    pub not_broken : (role : Role) (o : Outcome) → Comes old new (course words) o → AreBroken old new o.writes role → ⊥
-    not_broken role = words_give old new words (λ o. AreBroken old new o.writes role → ⊥)
-        (λ fault bad left. absurd cc)
-        (λ s asked o comes left.
-        let same : s ≡ r = (let a = is in let b = asked in cc) in
-        let own = one_own s left.made left.lost left.rest
-        (subst (AreOwn s) left.order (promised words old new s.verb s.pairs asked o comes).1) in
-        let mine : IsOwnWrite r left.lost = subst (λ (s : Request). IsOwnWrite s left.lost) same own in
-        let rose = subst (λ n. Rose (old.faults n) (new.faults n)) mine.1 left.rose in
-        calm.files (word_at r.pairs (option_of_role left.lost.role))
-        (write_named r (option_of_role left.lost.role) mine.0) rose)
-
     own_outcome : (o : Outcome) → Comes old new (course words) o → IsConclusion r.verb r.pairs I o.status
     own_outcome = words_give old new words (λ o. IsConclusion r.verb r.pairs I o.status) (λ fault bad. absurd cc)
         (λ s asked o comes.
@@ -265,5 +267,6 @@ module _ (old new : FilesSeen) (before after : SinkSeen) (I : Instance) where
     -- the status is one of those that conclude the command
     pub conclusion : (s : Status) → Answers (course words) old new before after s → IsConclusion r.verb r.pairs I s
     conclusion = answered (course words) old new before after (IsConclusion r.verb r.pairs I)
-        (λ o comes files. own_outcome o comes) (λ role o comes left. absurd (not_broken role o comes left))
+        (λ o comes files. own_outcome o comes)
+        (λ role o comes left. absurd (not_broken old new before after words r is calm role o comes left))
         (λ rose. absurd (calm.sink rose)) (memory r.verb r.pairs I)

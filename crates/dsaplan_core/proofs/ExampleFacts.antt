@@ -31,9 +31,8 @@ use Rattle.packing.specs.Packing.{AreEnds, pack}
 use Rattle.explaining.proofs.ExampleFacts.{laid_at_8, none_at_7}
 use Rattle.planning.proofs.ExampleFacts.{one, one_plain}
 use Rattle.dsaplan_core.specs.Courses.{course}
-use Rattle.dsaplan_core.specs.Choice.{MayStayOpen}
 use Rattle.dsaplan_core.specs.Complete.{IsAcceptedAt, limit_of}
-use Rattle.dsaplan_core.specs.Conclusions.{IsConclusion}
+use Rattle.dsaplan_core.specs.Conclusions.{IsConclusion, MayStayOpen}
 use Rattle.dsaplan_core.specs.Causes.{IsChecking, IsJudgedAt}
 use Rattle.dsaplan_core.specs.Theorem.{Decides, ReadsInstance, SeeksLeast}
 use Rattle.dsaplan_core.specs.Lost.{option_of_role}

@@ -1,5 +1,5 @@
 -- What statuses promise of files, on an input of two buffers that are both live at 4.
-use Rattle.std.proofs.Common.{◌≡◌, ◌∙◌, ◌++◌, List, [], ◌∷◌, Some, codes, Result, refl, sym, ap, subst, inl, inr, lit<, lit≤, arith}
+use Rattle.std.proofs.Common.{◌≡◌, ◌≤◌, ◌∙◌, ◌++◌, ℕ, List, [], ◌∷◌, length, None, Some, codes, Result, refl, sym, ap, subst, inl, inr, lit<, lit≤, arith}
 use Rattle.std.specs.FinMap.{empty, insert}
 use Rattle.dsa_terms.specs.Buffers.{Instance}
 use Rattle.dsa_terms.specs.Claims.{IsIn}
@@ -7,15 +7,16 @@ use Rattle.column_report.specs.Report.{inspect_text}
 use Rattle.column_report.proofs.ExampleFacts.{two_told}
 use Rattle.dsa_terms.specs.Logs.{Log, Over}
 use Rattle.csv_instance.specs.Layout.{layout_text}
-use Rattle.log_text.specs.Text.{log_text}
+use Rattle.csv_instance.specs.Parse.{parse}
 use Rattle.csv_instance.specs.Records.{table_of}
 use Rattle.csv_instance.specs.declared.fault.InstanceFault.{InstanceFault}
 use Rattle.csv_instance.specs.declared.fault.InstanceFault.TheVariants as instance
 use Rattle.csv_instance.proofs.FileFacts.{no_bytes, two, two_file, two_rows}
+use Rattle.dsa_outside.specs.Held.{file_at}
 use Rattle.dsa_outside.specs.Seen.{FilesSeen, SinkSeen}
 use Rattle.dsa_outside.proofs.Lookups.{file_at-with_file}
 use Rattle.command_words.specs.Options.{Word}
-use Rattle.command_words.specs.Pairs.{pairs_of, word_at}
+use Rattle.command_words.specs.Pairs.{Pair, number_at, pairs_of, word_at}
 use Rattle.command_words.specs.Requests.{Request}
 use Rattle.command_words.specs.declared.option.OptionName.{OptionName}
 use Rattle.command_words.specs.declared.option.OptionName.TheVariants as option
@@ -24,13 +25,16 @@ use Rattle.command_words.specs.declared.fault.UsageFault.TheVariants as usage
 use Rattle.run_course.specs.Complete.{ConcludesOn, IsReadable}
 use Rattle.run_course.specs.Course.{Concludes, Outcome, shows}
 use Rattle.readings.specs.Input.{instance_or_fault}
+use Rattle.packer.specs.Packs.{IsTrimmed}
 use Rattle.fact_reports.specs.Reporting.{ShowsColumns}
 use Rattle.run_status.specs.declared.status.Status.TheVariants as status
 use Rattle.run_status.specs.declared.status.Role.{Role}
 use Rattle.run_status.specs.declared.status.Role.TheVariants as role
-use Rattle.explaining.proofs.ExampleFacts.{laid_at_8, none_at_7}
+use Rattle.explaining.proofs.ExampleFacts.{fits_at_8, laid_at_8, none_at_7}
 use Rattle.dsaplan_core.specs.Causes.{AreNoCommand, AskTooMany, RefusesInput}
-use Rattle.dsaplan_core.specs.Choice.{ChosenBy, HoldsBrief}
+use Rattle.dsaplan_core.specs.Choice.{Choice}
+use Rattle.dsaplan_core.specs.Courses.{ConcludesWith, IsAnswer}
+use Rattle.dsaplan_core.specs.Derived.{Derived}
 use Rattle.dsaplan_core.specs.Complete.{IsConcluded, IsReady, IsUndisturbed, limit_of}
 use Rattle.dsaplan_core.specs.Lost.{LosesFile, MissesFile}
 use Rattle.dsaplan_core.specs.Shown.{Tells}
@@ -76,24 +80,33 @@ packed_is_laid = record {
 packed_at_8 : Headline (codes "pack" ∷ pack_within (codes "8")) (told input_alone) laid_files (status.Feasible 8)
 packed_at_8 = (pack_8, refl, packed_is_laid)
 
-any_layout_at_8 : ChosenBy verb.Pack pack_8 laid_files (status.Feasible 8)
-any_layout_at_8 = tt
+any_layout_at_8 : Choice (codes "pack" ∷ pack_within (codes "8")) (told input_alone) laid_files (status.Feasible 8)
+any_layout_at_8 = (pack_8, Some (0 ∷ 4 ∷ []), None, (refl, laid_at_8), refl)
 
--- ---- a log of one line, for which nine steps are enough
-abbrev pack_7 : Asked (codes "pack" ∷ pack_within (codes "7")) (told input_alone)
-pack_7 = asking (codes "pack" ∷ pack_within (codes "7")) verb.Pack (pairs_of (pack_within (codes "7"))) refl refl
+-- `draw` decides nothing
+draw_answers_nothing : (pairs : List Pair) → IsAnswer verb.Draw pairs two (status.Feasible 8) None None → ⊥
+draw_answers_nothing pairs h = h
 
+-- ---- where all buffers fit there is no core, and nothing is written
+abbrev core_8 : Asked (codes "core" ∷ core_values (codes "8")) (told input_alone)
+core_8 = asking (codes "core" ∷ core_values (codes "8")) verb.Core (pairs_of (core_values (codes "8"))) refl refl
+
+no_core_at_8 : Derived (codes "core" ∷ core_values (codes "8")) (told input_alone) (told input_alone) (status.NoCore 8)
+no_core_at_8 = (core_8, refl, refl, fits_at_8.0, refl)
+
+-- a command that judges a layout concludes with nothing of its instance alone
+verify_reads_more : (pairs : List Pair) (o : Outcome) → ConcludesWith verb.Verify pairs two_rows two o → ⊥
+verify_reads_more pairs o h = h.answer
+
+-- ---- a log of one line has none that is needless, and nine steps are enough for it
 abbrev seven_log : Log
 seven_log = record { count = 2; capacity = 7; lines = Over ((0, 0) ∷ (1, 0) ∷ []) 4 0 1 ∷ []; final = 0 }
 
-log_is_brief : HoldsBrief pack_7 (told (insert input_alone (codes "l") (log_text seven_log))) 7
-log_is_brief = record {
-  refutation = seven_log;
-  its_capacity = refl;
-  trimmed = record { last = refl; cited = λ k lt. absurd (omega arith) };
-  few = inr (lit≤ tt);
-  held = λ there. file_at-with_file (Some input_alone) (codes "l") (log_text seven_log) refl;
-}
+log_is_trimmed : IsTrimmed seven_log
+log_is_trimmed = record { last = refl; cited = λ k lt. absurd (omega arith) }
+
+nine_are_enough : length seven_log.lines ≤ number_at (pairs_of (pack_within (codes "7"))) option.Steps
+nine_are_enough = lit≤ tt
 
 -- ---- where a layout fits, no log's file refutes
 not_refuted_at_8 : (new : FilesSeen) → HoldsRefutation solve_8 new 8 → ⊥
@@ -196,23 +209,20 @@ abbrev columns_shown : Outcome
 columns_shown = shows (inspect_text (table_of two_file) two)
 
 concluded_by_a_report : IsConcluded (told input_alone) inspect_request status.Shown
-concluded_by_a_report = (
-  columns_shown,
-  (
-    input_is_readable,
-    subst (λ (p : Result Instance InstanceFault).
-        ConcludesOn (told input_alone)
-        (instance_or_fault p (λ I. Concludes (ShowsColumns (table_of two_file) I))) columns_shown)
-        (sym in_parse) (tt, refl),
-  ),
-  refl,
-)
+concluded_by_a_report = λ file.
+    let there : file_at (Some input_alone) (codes "i") ≡ Some file.bytes = file.held in
+    let same : two_file ≡ file.bytes = (let a = reads_input in cc) in
+    subst (λ (bytes : List ℕ). ConcludesOn (told input_alone)
+    (instance_or_fault (parse (table_of bytes)) (λ I. Concludes (ShowsColumns (table_of bytes) I))) status.Shown) same
+    (subst (λ (p : Result Instance InstanceFault).
+    ConcludesOn (told input_alone) (instance_or_fault p (λ I. Concludes (ShowsColumns (table_of two_file) I)))
+    status.Shown) (sym in_parse) (columns_shown, tt, refl, refl))
 
 abbrev trial_request : Request
 trial_request = record { verb = verb.Trial; pairs = pairs_of (trial_values (codes "4096")) }
 
 not_concluded_by_a_read : (files : FilesSeen) → IsConcluded files trial_request (status.ReadFault role.Input) → ⊥
 not_concluded_by_a_read files h =
-    let e : h.0.status ≡ status.Shown = ap (λ (o : Outcome). o.status) h.1.1.shown in
-    let is = h.2 in
+    let e : h.0.status ≡ status.Shown = ap (λ (o : Outcome). o.status) h.2.shown in
+    let is = h.3 in
     cc

@@ -1,4 +1,3 @@
-mod Deciding
 mod Gives
 mod Answered
 mod Requests

@@ -1,5 +1,5 @@
--- Where nothing outside fails and the files of a command are readable, it concludes from what they hold.
-use Rattle.std.proofs.Common.{◌≡◌, ◌^◌, ℕ, Bool, true, false, nat_lt, List, Option, Some, None, Result, Ok, Err, refl, sym, subst, inl, inr}
+-- Where nothing outside fails, a command concludes from what its files hold, if they are readable.
+use Rattle.std.proofs.Common.{◌≡◌, ◌^◌, ℕ, Bool, true, false, nat_lt, List, Option, Some, None, Result, Ok, Err, refl, subst, inl, inr}
 use Rattle.dsa_terms.specs.Buffers.{Instance}
 use Rattle.dsa_terms.specs.Claims.{IsIn}
 use Rattle.dsa_terms.specs.Logs.{Log}
@@ -9,6 +9,7 @@ use Rattle.dsa_model.specs.declared.layout.LayoutFault.{LayoutFault}
 use Rattle.dsa_outside.specs.Seen.{FilesSeen, SinkSeen}
 use Rattle.csv_instance.specs.Records.{Record, table_of}
 use Rattle.csv_instance.specs.Offsets.{ids_of, parsed_offsets}
+use Rattle.csv_instance.specs.Parse.{parse}
 use Rattle.csv_instance.specs.declared.fault.InstanceFault.{InstanceFault}
 use Rattle.csv_instance.specs.declared.fault.OffsetsFault.{OffsetsFault}
 use Rattle.command_words.specs.Options.{Word}
@@ -31,152 +32,133 @@ use Rattle.readings.specs.Checking.{checked}
 use Rattle.judging.specs.Judging.{ShowsLayout}
 use Rattle.judging.specs.Drawing.{drawing}
 use Rattle.checking.specs.Checking.{Trims, upgrading}
-use Rattle.fact_reports.specs.Reporting.{ShowsColumns, ShowsFacts, ShowsTrial, unless_many}
-use Rattle.planning.specs.Planning.{Plans}
-use Rattle.dsaplan_core.specs.Courses.{course, course_with}
-use Rattle.dsaplan_core.specs.Complete.{IsConcluded, IsReady, IsUndisturbed}
-use Rattle.dsaplan_core.specs.Theorem.{ReadsInstance}
-use Rattle.dsaplan_core.proofs.Deciding.{ExplainsAs, FindsAs, PacksAs, SolvesAs}
+use Rattle.fact_reports.specs.Reporting.{ShowsTrial, unless_many}
+use Rattle.dsaplan_core.specs.Courses.{ConcludesWith, course, course_with}
+use Rattle.dsaplan_core.specs.Complete.{IsConcluded, IsUndisturbed}
 use Rattle.dsaplan_core.proofs.Answered.{answered, words_give}
 use Rattle.dsaplan_core.proofs.Concluded.{not_broken}
 use Rattle.dsaplan_core.proofs.Requests.{read_named}
 
-module _ (old new : FilesSeen) (before after : SinkSeen) (I : Instance) where
-  module _ (r : Request) (ready : IsReady old r I) (calm : IsUndisturbed r old new before after) where
+module _ (old new : FilesSeen) (before after : SinkSeen) where
+  module _ (r : Request) (calm : IsUndisturbed r old new before after) where
     is_calm : (o : OptionName) → IsIn o (reads_of r.verb) → IsCalm old new (word_at r.pairs o)
     is_calm o among = calm.files (word_at r.pairs o) (read_named r o among)
 
-    -- a course that reads the input, and goes on with this instance
-    pub opened_is : ReadsInstance r.verb → (next : List Record → Instance → Course) →
-        ((table : List Record) → IsServed old new (next table I)) →
+    -- a course that reads the input
+    opened_is : IsIn option.Input (reads_of r.verb) → (next : List Record → Instance → Course) →
+        ((table : List Record) (I : Instance) → IsServed old new (next table I)) →
         IsServed old new (opened (word_at r.pairs option.Input) next)
     opened_is among next served =
-        let there = ready.input among in
-        let table = table_of there.file.bytes in (
-          is_calm option.Input among.0,
-          (
-            there.file,
-            subst (λ (p : Result Instance InstanceFault). IsServed old new (instance_or_fault p (next table)))
-                (sym there.parsed) (served table),
-          ),
-        )
+        (is_calm option.Input among, λ bytes. parsed (table_of bytes) (parse (table_of bytes)))
+      where
+        parsed : (table : List Record) (p : Result Instance InstanceFault) →
+            IsServed old new (instance_or_fault p (next table))
+        parsed table (Ok I) = served table I
+        parsed table (Err fault) = tt
 
     -- a course that judges a layout file
-    pub judged_is : IsIn option.Layout (reads_of r.verb) → (table : List Record) (C : ℕ) (next : List ℕ → Course) →
-        ((offsets : List ℕ) → IsServed old new (next offsets)) →
-        IsServed old new (judged (word_at r.pairs option.Layout) table I C next)
-    judged_is among table C next served =
-        let there = ready.files option.Layout among in (
-          is_calm option.Layout among,
-          (there, parsed (parsed_offsets (ids_of table) (table_of there.bytes))),
-        )
+    judged_is : IsIn option.Layout (reads_of r.verb) → (C : ℕ) (next : List Record → Instance → List ℕ → Course) →
+        ((table : List Record) (I : Instance) (offsets : List ℕ) → IsServed old new (next table I offsets)) →
+        (table : List Record) (I : Instance) →
+        IsServed old new (judged (word_at r.pairs option.Layout) table I C (next table I))
+    judged_is among C next served table I =
+        (is_calm option.Layout among, λ bytes. parsed (parsed_offsets (ids_of table) (table_of bytes)))
       where
-        legal : (offsets : List ℕ) (f : Option LayoutFault) → IsServed old new (layout_or_fault f (next offsets))
-        legal offsets None = served offsets
+        legal : (offsets : List ℕ) (f : Option LayoutFault) →
+            IsServed old new (layout_or_fault f (next table I offsets))
+        legal offsets None = served table I offsets
         legal offsets (Some fault) = tt
 
-        parsed : (p : Result (List ℕ) OffsetsFault) → IsServed old new (offsets_or_fault p I C next)
+        parsed : (p : Result (List ℕ) OffsetsFault) → IsServed old new (offsets_or_fault p I C (next table I))
         parsed (Ok offsets) = legal offsets (layout_fault I C offsets)
         parsed (Err fault) = tt
 
     -- a course that checks a log's file
-    pub checked_is : IsIn option.Log (reads_of r.verb) → (accepted : Log → Outcome → Type 0) →
-        IsServed old new (checked (word_at r.pairs option.Log) I accepted)
-    checked_is among accepted = (is_calm option.Log among, (ready.files option.Log among, tt))
+    checked_is : IsIn option.Log (reads_of r.verb) → (accepted : Log → Outcome → Type 0) (table : List Record)
+        (I : Instance) → IsServed old new (checked (word_at r.pairs option.Log) I accepted)
+    checked_is among accepted table I = (is_calm option.Log among, λ bytes. tt)
 
   trial_is : (many : Bool) (count : ℕ) (allowed : Outcome → Type 0) →
       IsServed old new (unless_many many count (Concludes allowed))
   trial_is true count allowed = tt
   trial_is false count allowed = tt
 
+  -- a command that reads its instance alone
+  alone_is : (v : Verb) (pairs : List Pair) → IsUndisturbed (record { verb = v; pairs = pairs }) old new before after →
+      IsIn option.Input (reads_of v) →
+      IsServed old new (opened (word_at pairs option.Input) (λ table I. Concludes (ConcludesWith v pairs table I)))
+  alone_is v pairs calm among = opened_is (record { verb = v; pairs = pairs }) calm among
+      (λ table I. Concludes (ConcludesWith v pairs table I)) (λ table I. tt)
+
   -- the course of each command
-  course_is : (v : Verb) (pairs : List Pair) → IsReady old (record { verb = v; pairs = pairs }) I →
-      IsUndisturbed (record { verb = v; pairs = pairs }) old new before after → IsServed old new (course_with v pairs)
-  course_is verb.Solve pairs ready calm =
-      opened_is (record { verb = verb.Solve; pairs = pairs }) ready calm (inl refl, λ same. cc)
-      (λ table J. Concludes (SolvesAs pairs table J)) (λ table. tt)
-  course_is verb.Least pairs ready calm =
-      opened_is (record { verb = verb.Least; pairs = pairs }) ready calm (inl refl, λ same. cc)
-      (λ table J. Concludes (FindsAs pairs table J)) (λ table. tt)
-  course_is verb.Pack pairs ready calm =
-      opened_is (record { verb = verb.Pack; pairs = pairs }) ready calm (inl refl, λ same. cc)
-      (λ table J. Concludes (PacksAs pairs table J)) (λ table. tt)
-  course_is verb.Verify pairs ready calm =
+  course_is : (v : Verb) (pairs : List Pair) → IsUndisturbed (record { verb = v; pairs = pairs }) old new before after →
+      IsServed old new (course_with v pairs)
+  course_is verb.Solve pairs calm = alone_is verb.Solve pairs calm (inl refl)
+  course_is verb.Least pairs calm = alone_is verb.Least pairs calm (inl refl)
+  course_is verb.Pack pairs calm = alone_is verb.Pack pairs calm (inl refl)
+  course_is verb.Bounds pairs calm = alone_is verb.Bounds pairs calm (inl refl)
+  course_is verb.Inspect pairs calm = alone_is verb.Inspect pairs calm (inl refl)
+  course_is verb.Classes pairs calm = alone_is verb.Classes pairs calm (inl refl)
+  course_is verb.Core pairs calm = alone_is verb.Core pairs calm (inl refl)
+  course_is verb.Verify pairs calm =
       let r : Request = record { verb = verb.Verify; pairs = pairs } in
-      let capacity = number_at pairs option.Capacity in
-      opened_is r ready calm (inl refl, λ same. cc)
-      (λ table J. judged (word_at pairs option.Layout) table J capacity (λ offsets. Ends (says status.Right)))
-      (λ table. judged_is r ready calm (inr (inl refl)) table capacity (λ offsets. Ends (says status.Right))
-      (λ offsets. tt))
-  course_is verb.Refute pairs ready calm =
+      let C = number_at pairs option.Capacity in
+      opened_is r calm (inl refl)
+      (λ table I. judged (word_at pairs option.Layout) table I C (λ offsets. Ends (says status.Right)))
+      (judged_is r calm (inr (inl refl)) C (λ table I offsets. Ends (says status.Right)) (λ table I offsets. tt))
+  course_is verb.Refute pairs calm =
       let r : Request = record { verb = verb.Refute; pairs = pairs } in
-      opened_is r ready calm (inl refl, λ same. cc)
-      (λ table J. checked (word_at pairs option.Log) J (λ log o. o ≡ says (status.Accepted log.capacity)))
-      (λ table. checked_is r ready calm (inr (inl refl)) (λ log o. o ≡ says (status.Accepted log.capacity)))
-  course_is verb.Trim pairs ready calm =
+      opened_is r calm (inl refl)
+      (λ table I. checked (word_at pairs option.Log) I (λ log o. o ≡ says (status.Accepted log.capacity)))
+      (checked_is r calm (inr (inl refl)) (λ log o. o ≡ says (status.Accepted log.capacity)))
+  course_is verb.Trim pairs calm =
       let r : Request = record { verb = verb.Trim; pairs = pairs } in
-      opened_is r ready calm (inl refl, λ same. cc)
-      (λ table J. checked (word_at pairs option.Log) J (Trims (word_at pairs option.Output)))
-      (λ table. checked_is r ready calm (inr (inl refl)) (Trims (word_at pairs option.Output)))
-  course_is verb.Upgrade pairs ready calm =
+      opened_is r calm (inl refl)
+      (λ table I. checked (word_at pairs option.Log) I (Trims (word_at pairs option.Output)))
+      (checked_is r calm (inr (inl refl)) (Trims (word_at pairs option.Output)))
+  course_is verb.Upgrade pairs calm =
       let r : Request = record { verb = verb.Upgrade; pairs = pairs } in
-      opened_is r ready calm (inl refl, λ same. cc)
-      (λ table J. checked (word_at pairs option.Log) J (λ log o. o ≡ upgrading (word_at pairs option.Output) log))
-      (λ table. checked_is r ready calm (inr (inl refl)) (λ log o. o ≡ upgrading (word_at pairs option.Output) log))
-  course_is verb.Bounds pairs ready calm =
-      opened_is (record { verb = verb.Bounds; pairs = pairs }) ready calm (inl refl, λ same. cc)
-      (λ table J. Concludes (ShowsFacts J)) (λ table. tt)
-  course_is verb.Inspect pairs ready calm =
-      opened_is (record { verb = verb.Inspect; pairs = pairs }) ready calm (inl refl, λ same. cc)
-      (λ table J. Concludes (ShowsColumns table J)) (λ table. tt)
-  course_is verb.Report pairs ready calm =
+      opened_is r calm (inl refl)
+      (λ table I. checked (word_at pairs option.Log) I (λ log o. o ≡ upgrading (word_at pairs option.Output) log))
+      (checked_is r calm (inr (inl refl)) (λ log o. o ≡ upgrading (word_at pairs option.Output) log))
+  course_is verb.Report pairs calm =
       let r : Request = record { verb = verb.Report; pairs = pairs } in
-      opened_is r ready calm (inl refl, λ same. cc)
-      (λ table J. judged (word_at pairs option.Layout) table J (2 ^ 60)
-      (λ offsets. Concludes (ShowsLayout table J offsets)))
-      (λ table. judged_is r ready calm (inr (inl refl)) table (2 ^ 60)
-      (λ offsets. Concludes (ShowsLayout table I offsets)) (λ offsets. tt))
-  course_is verb.Draw pairs ready calm =
+      opened_is r calm (inl refl)
+      (λ table I. judged (word_at pairs option.Layout) table I (2 ^ 60)
+      (λ offsets. Concludes (ShowsLayout table I offsets)))
+      (judged_is r calm (inr (inl refl)) (2 ^ 60) (λ table I offsets. Concludes (ShowsLayout table I offsets))
+      (λ table I offsets. tt))
+  course_is verb.Draw pairs calm =
       let r : Request = record { verb = verb.Draw; pairs = pairs } in
-      opened_is r ready calm (inl refl, λ same. cc)
-      (λ table J. judged (word_at pairs option.Layout) table J (2 ^ 60)
-      (λ offsets. Ends (drawing (word_at pairs option.Output) table J offsets)))
-      (λ table. judged_is r ready calm (inr (inl refl)) table (2 ^ 60)
-      (λ offsets. Ends (drawing (word_at pairs option.Output) table I offsets)) (λ offsets. tt))
-  course_is verb.Trial pairs ready calm =
+      opened_is r calm (inl refl)
+      (λ table I. judged (word_at pairs option.Layout) table I (2 ^ 60)
+      (λ offsets. Ends (drawing (word_at pairs option.Output) table I offsets)))
+      (judged_is r calm (inr (inl refl)) (2 ^ 60)
+      (λ table I offsets. Ends (drawing (word_at pairs option.Output) table I offsets)) (λ table I offsets. tt))
+  course_is verb.Trial pairs calm =
       trial_is (nat_lt buffer_limit (number_at pairs option.Count)) (number_at pairs option.Count)
       (ShowsTrial (number_at pairs option.Seed) (number_at pairs option.Count) (number_at pairs option.Steps))
-  course_is verb.Import pairs ready calm =
-      let r : Request = record { verb = verb.Import; pairs = pairs } in
-      (is_calm r ready calm option.Trace (inl refl), (ready.files option.Trace (inl refl), tt))
-  course_is verb.Unroll pairs ready calm =
-      let r : Request = record { verb = verb.Unroll; pairs = pairs } in
-      (is_calm r ready calm option.Input (inl refl), (ready.files option.Input (inl refl), tt))
-  course_is verb.Classes pairs ready calm =
-      opened_is (record { verb = verb.Classes; pairs = pairs }) ready calm (inl refl, λ same. cc)
-      (λ table J. Concludes (Plans (word_at pairs option.Output) table J)) (λ table. tt)
-  course_is verb.Core pairs ready calm =
-      opened_is (record { verb = verb.Core; pairs = pairs }) ready calm (inl refl, λ same. cc)
-      (λ table J. Concludes (ExplainsAs pairs table J)) (λ table. tt)
+  course_is verb.Import pairs calm =
+      (is_calm (record { verb = verb.Import; pairs = pairs }) calm option.Trace (inl refl), λ bytes. tt)
+  course_is verb.Unroll pairs calm =
+      (is_calm (record { verb = verb.Unroll; pairs = pairs }) calm option.Input (inl refl), λ bytes. tt)
 
-  module _ (words : List Word) (r : Request) (is : request_of words ≡ Ok r) (ready : IsReady old r I)
+  module _ (words : List Word) (r : Request) (is : request_of words ≡ Ok r)
       (calm : IsUndisturbed r old new before after) where
-    told : (s : Status) (o : Outcome) → ConcludesOn old (course_with r.verb r.pairs) o → s ≡ o.status →
-        IsConcluded old r s
-    told status.NoMemory o on same = tt
-    told s o on same = (o, on, same)
+    told : (s : Status) → ConcludesOn old (course_with r.verb r.pairs) s → IsConcluded old r s
+    told status.NoMemory on = tt
+    told s on = on
 
     own_outcome : (o : Outcome) → Comes old new (course words) o → IsConcluded old r o.status
     own_outcome = words_give old new words (λ o. IsConcluded old r o.status) (λ fault bad. absurd cc)
         (λ s asked o comes.
         let same : s ≡ r = (let a = is in let b = asked in cc) in
-        told o.status o (concludes_on old new (course_with r.verb r.pairs) o (course_is r.verb r.pairs ready calm)
-        (subst (λ (s : Request). Comes old new (course_with s.verb s.pairs) o) same comes)) refl)
+        told o.status (concludes_on old new (course_with r.verb r.pairs) o (course_is r.verb r.pairs calm)
+        (subst (λ (s : Request). Comes old new (course_with s.verb s.pairs) o) same comes)))
 
     -- the command is concluded, or memory ran out
     pub concluded : (s : Status) → Answers (course words) old new before after s → IsConcluded old r s
     concluded = answered (course words) old new before after (IsConcluded old r)
         (λ o comes files. own_outcome o comes)
-        (λ role o comes left.
-        absurd (not_broken old new before after I words r is ready calm role o comes left))
+        (λ role o comes left. absurd (not_broken old new before after words r is calm role o comes left))
         (λ rose. absurd (calm.sink rose)) tt

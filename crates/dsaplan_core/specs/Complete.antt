@@ -17,7 +17,6 @@ use Rattle.command_words.specs.Requests.{Request, names_of}
 use Rattle.command_words.specs.declared.option.OptionName.{OptionName}
 use Rattle.command_words.specs.declared.option.OptionName.TheVariants as option
 use Rattle.run_course.specs.Complete.{ConcludesOn, IsCalm, IsReadable}
-use Rattle.run_course.specs.Course.{Outcome}
 use Rattle.readings.specs.Checking.{log_limit}
 use Rattle.run_status.specs.declared.status.Status.{Status}
 use Rattle.run_status.specs.declared.status.Status.TheVariants as status
@@ -57,7 +56,7 @@ pub record IsUndisturbed (r : Request) (old new : FilesSeen) (before after : Sin
   pub files : (name : Word) → IsIn name (names_of r) → IsCalm old new name
   pub sink : ¬ Rose before.faults after.faults
 
--- the command concludes with the status from what its files hold, or memory ran out
+-- the command concludes with the status from what its files hold, where they are readable, or memory ran out
 abbrev pub IsConcluded : FilesSeen → Request → Status → Type 0
 IsConcluded seen r status.NoMemory = Unit {0}
-IsConcluded seen r s = (o : Outcome) × ConcludesOn seen (course_with r.verb r.pairs) o × (s ≡ o.status)
+IsConcluded seen r s = ConcludesOn seen (course_with r.verb r.pairs) s

@@ -1,5 +1,5 @@
 -- By which statuses each command is concluded.
-use Rattle.std.specs.Prelude.{◌≡◌, ◌≤◌, ◌<◌, List, None, Some}
+use Rattle.std.specs.Prelude.{◌≡◌, ◌≤◌, ◌<◌, ℕ, List, Option, None, Some}
 use Rattle.dsa_terms.specs.Buffers.{Instance}
 use Rattle.dsa_terms.specs.Layouts.{IsFeasible, IsInfeasible, IsLeast}
 use Rattle.dsa_model.specs.Buffer.{buffer_limit}
@@ -11,7 +11,13 @@ use Rattle.command_words.specs.declared.verb.Verb.TheVariants as verb
 use Rattle.run_status.specs.declared.status.Status.{Status}
 use Rattle.run_status.specs.declared.status.Status.TheVariants as status
 use Rattle.packing.specs.Packing.{AreEnds}
-use Rattle.dsaplan_core.specs.Choice.{MayStayOpen}
+use Rattle.planner.specs.Shortage.{IsShortOfHunt, IsShortOfWork}
+
+-- so many steps may run out on the instance, and leave its least capacity between L and H
+abbrev pub MayStayOpen : Verb → List Pair → Option ℕ → Instance → ℕ → ℕ → Type 0
+MayStayOpen verb.Solve pairs (Some k) I L H = IsShortOfWork I (number_at pairs option.Capacity) k L H
+MayStayOpen verb.Least pairs (Some k) I L H = IsShortOfHunt I k L H
+MayStayOpen verb pairs steps I L H = ⊥
 
 -- the statuses that conclude a command on an instance: a layout where there is one and a refutation where there is
 -- none, the least capacity, or neither where the command's steps are too few, or `pack` did not find out; a plan where

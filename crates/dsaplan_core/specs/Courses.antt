@@ -1,5 +1,8 @@
 -- How each command goes.
-use Rattle.std.specs.Prelude.{List, Result, Ok, Err}
+use Rattle.std.specs.Prelude.{ℕ, List, Option, Result, Ok, Err}
+use Rattle.dsa_terms.specs.Buffers.{Instance}
+use Rattle.dsa_terms.specs.Logs.{Log as LogTerm}
+use Rattle.csv_instance.specs.Records.{Record}
 use Rattle.command_words.specs.Options.{Word}
 use Rattle.command_words.specs.Pairs.{Pair, number_at, number_given, word_at}
 use Rattle.command_words.specs.Requests.{Request, request_of}
@@ -7,42 +10,53 @@ use Rattle.command_words.specs.declared.option.OptionName.TheVariants.{Capacity,
 use Rattle.command_words.specs.declared.verb.Verb.{Verb}
 use Rattle.command_words.specs.declared.verb.Verb.TheVariants as verb
 use Rattle.command_words.specs.declared.fault.UsageFault.{UsageFault}
+use Rattle.run_status.specs.declared.status.Status.{Status}
 use Rattle.run_status.specs.declared.status.Status.TheVariants.{Usage}
-use Rattle.run_course.specs.Course.{Course, Ends, says}
+use Rattle.run_course.specs.Course.{Concludes, Course, Ends, Outcome, says}
+use Rattle.readings.specs.Input.{opened}
 use Rattle.judging.specs.Judging.{report, verify}
 use Rattle.judging.specs.Drawing.{draw}
 use Rattle.checking.specs.Checking.{refute, trim, upgrade}
-use Rattle.fact_reports.specs.Reporting.{bounds, inspect, trial}
+use Rattle.fact_reports.specs.Reporting.{ShowsColumns, ShowsFacts, trial}
 use Rattle.importing.specs.Importing.{import_course}
 use Rattle.importing.specs.Unrolling.{unroll_course}
-use Rattle.planning.specs.Planning.{classes}
+use Rattle.planning.specs.Planning.{Plans}
 use Rattle.writings.specs.Writings.{Names}
-use Rattle.explaining.specs.Explaining.{core}
-use Rattle.deciding.specs.Deciding.{least, solve}
-use Rattle.packing.specs.Packing.{pack}
+use Rattle.explaining.specs.Explaining.{ExplainsOrFits}
+use Rattle.deciding.specs.Deciding.{Gives, IsSolved, IsSought}
+use Rattle.packing.specs.Packing.{IsPacked}
 
 -- the names that the pairs give the files of a command that decides
 abbrev pub names_in : List Pair → Names
 names_in pairs = record { input = word_at pairs Input; output = word_at pairs Output; log = word_at pairs Log }
 
+-- what a command that decides answers of an instance: a status, with a layout and a log where it has them
+abbrev pub IsAnswer : Verb → List Pair → Instance → Status → Option (List ℕ) → Option LogTerm → Type 0
+IsAnswer verb.Solve pairs I = IsSolved I (number_at pairs Capacity) (number_given pairs Steps)
+IsAnswer verb.Least pairs I = IsSought I (number_given pairs Steps)
+IsAnswer verb.Pack pairs I = IsPacked I (number_given pairs Capacity) (number_at pairs Steps)
+IsAnswer verb pairs I = λ status layout log. ⊥
+
+-- with which outcomes a command that reads no second file concludes, of the table of its instance and of that
+abbrev pub ConcludesWith : Verb → List Pair → List Record → Instance → Outcome → Type 0
+ConcludesWith verb.Bounds pairs = λ table. ShowsFacts
+ConcludesWith verb.Inspect pairs = ShowsColumns
+ConcludesWith verb.Classes pairs = Plans (word_at pairs Output)
+ConcludesWith verb.Core pairs = ExplainsOrFits (number_at pairs Capacity) (names_in pairs)
+ConcludesWith verb pairs = λ table I. Gives (IsAnswer verb pairs I) (names_in pairs) table
+
 -- how a command goes
 abbrev pub course_with : Verb → List Pair → Course
-course_with verb.Solve pairs = solve (number_at pairs Capacity) (number_given pairs Steps) (names_in pairs)
-course_with verb.Least pairs = least (number_given pairs Steps) (names_in pairs)
-course_with verb.Pack pairs = pack (number_given pairs Capacity) (number_at pairs Steps) (names_in pairs)
 course_with verb.Verify pairs = verify (number_at pairs Capacity) (word_at pairs Input) (word_at pairs Layout)
 course_with verb.Refute pairs = refute (word_at pairs Input) (word_at pairs Log)
 course_with verb.Trim pairs = trim (word_at pairs Input) (word_at pairs Log) (word_at pairs Output)
 course_with verb.Upgrade pairs = upgrade (word_at pairs Input) (word_at pairs Log) (word_at pairs Output)
-course_with verb.Bounds pairs = bounds (word_at pairs Input)
-course_with verb.Inspect pairs = inspect (word_at pairs Input)
 course_with verb.Report pairs = report (word_at pairs Input) (word_at pairs Layout)
 course_with verb.Draw pairs = draw (word_at pairs Input) (word_at pairs Layout) (word_at pairs Output)
 course_with verb.Trial pairs = trial (number_at pairs Seed) (number_at pairs Count) (number_at pairs Steps)
 course_with verb.Import pairs = import_course (word_at pairs Trace) (word_at pairs Output)
 course_with verb.Unroll pairs = unroll_course (number_at pairs Period) (word_at pairs Input) (word_at pairs Output)
-course_with verb.Classes pairs = classes (word_at pairs Input) (word_at pairs Output)
-course_with verb.Core pairs = core (number_at pairs Capacity) (names_in pairs)
+course_with verb pairs = opened (word_at pairs Input) (λ table I. Concludes (ConcludesWith verb pairs table I))
 
 -- how words go: as their command, or their first fault is told
 abbrev pub course_or_fault : Result Request UsageFault → Course

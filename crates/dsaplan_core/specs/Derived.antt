@@ -1,29 +1,24 @@
 -- What is promised of the files that are derived: 'upgraded' writes the accepted log in the second version of its
 -- text, 'drawn' a picture of the layout, 'classes' a plan by size class, 'core' an irreducible set of buffers that do
 -- not fit, 'imported' the instance of the trace, and 'unrolled' that of one period.
-use Rattle.std.specs.Prelude.{◌≡◌, ◌≤◌, ◌^◌, ℕ, List, length, Some, Ok, Err}
+use Rattle.std.specs.Prelude.{◌≡◌, ◌^◌, ℕ, List, [], ◌∷◌, length, Some, Ok, Err}
 use Rattle.dsa_terms.specs.Buffers.{Instance}
-use Rattle.dsa_terms.specs.Claims.{IsIn}
-use Rattle.dsa_terms.specs.Layouts.{IsFeasible, IsLayout, IsInfeasible, IsLeast}
-use Rattle.dsa_terms.specs.Logs.{Log, IsAccepted}
+use Rattle.dsa_terms.specs.Layouts.{IsFeasible}
+use Rattle.dsa_terms.specs.Logs.{Log}
 use Rattle.dsa_outside.specs.Held.{with_file}
 use Rattle.dsa_outside.specs.Seen.{FilesSeen}
 use Rattle.csv_instance.specs.Records.{file_limit, table_of}
-use Rattle.csv_instance.specs.Chosen.{chosen_text}
 use Rattle.csv_instance.specs.Layout.{layout_text}
 use Rattle.csv_instance.specs.Parse.{parse}
 use Rattle.csv_instance.specs.Offsets.{ids_of}
-use Rattle.log_text.specs.RawTexts.{IsTextOf}
 use Rattle.log_text.specs.Says.{Says}
 use Rattle.log_text.specs.Spellings.{log_text2}
-use Rattle.log_text.specs.Text.{log_text, raw_log_of}
-use Rattle.dsa_model.specs.Chosen.{some_of}
-use Rattle.core_find.specs.Cores.{IsCore, without}
+use Rattle.log_text.specs.Text.{raw_log_of}
+use Rattle.size_classes.specs.Plain.{first_rough}
+use Rattle.size_classes.specs.Plans.{class_height, class_plan}
 use Rattle.cyclic_plan.specs.Unrolled.{IsUnrolled, unrolled_of, unrolled_text}
 use Rattle.layout_picture.specs.Rectangles.{rectangles}
 use Rattle.layout_picture.specs.Texts.{picture_text}
-use Rattle.size_classes.specs.Plain.{first_rough, IsPlain}
-use Rattle.size_classes.specs.Plans.{AllOf, IsPeakLoad, class_height, class_plan, power_height}
 use Rattle.trace_import.specs.Faults.{trace_of}
 use Rattle.trace_import.specs.ImportText.{import_text}
 use Rattle.trace_import.specs.Traces.{IsTraced, Trace, imported}
@@ -34,9 +29,13 @@ use Rattle.command_words.specs.declared.option.OptionName.{OptionName}
 use Rattle.command_words.specs.declared.option.OptionName.TheVariants as option
 use Rattle.command_words.specs.declared.verb.Verb.{Verb}
 use Rattle.command_words.specs.declared.verb.Verb.TheVariants as verb
+use Rattle.run_course.specs.Answers.{with_writes}
 use Rattle.run_course.specs.Readings.{IsWholeFile}
 use Rattle.run_status.specs.declared.status.Status.{Status}
 use Rattle.run_status.specs.declared.status.Status.TheVariants as status
+use Rattle.explaining.specs.Explaining.{IsExplained, rows_file}
+use Rattle.planning.specs.Planning.{IsPlanned}
+use Rattle.writings.specs.Writings.{log_file}
 use Rattle.dsaplan_core.specs.Theorem.{Asked, GivesLayoutAt, GivesLog}
 
 -- the output holds the log's text of version 2, which says it
@@ -52,37 +51,6 @@ pub record HoldsPicture {words : List Word} {old : FilesSeen} (a : Asked words o
   pub its_count : length (rectangles a.instance given.offsets) ≡ count
   pub files : new.held ≡ with_file old.held (word_at a.pairs option.Output)
       (picture_text a.instance (ids_of a.table) given.offsets)
-
--- the instance is plain, and the output holds the text of the plan by size class, a layout at its height, which is at
--- most the sum of two to the power of each class times its count; where all sizes are equal it is the least capacity,
--- and the load of the peak
-pub record HoldsClassPlan {words : List Word} {old : FilesSeen} (a : Asked words old) (new : FilesSeen)
-    (height load : ℕ) : Type 0 where
-  pub plain : IsPlain a.instance
-  pub its_height : class_height a.instance ≡ height
-  pub peak : IsPeakLoad a.instance load
-  pub layout : IsLayout a.instance height (class_plan a.instance)
-  pub powers : height ≤ power_height a.instance
-  pub least : (size : ℕ) → AllOf a.instance size → IsLeast a.instance height × (height ≡ load)
-  pub files : new.held
-      ≡ with_file old.held (word_at a.pairs option.Output) (layout_text a.table (class_plan a.instance))
-
--- the output holds the rows of the core of the instance at the capacity, an instance of these buffers alone, and the
--- log's file the text of a log that is accepted for them, so they do not fit; without any one of them the others do
-pub record HoldsCore {words : List Word} {old : FilesSeen} (a : Asked words old) (new : FilesSeen) (C count : ℕ) :
-    Type 0 where
-  pub members : List ℕ
-  pub refutation : Log
-  pub its_count : length members ≡ count
-  pub core : IsCore a.instance C members
-  pub parsed : parse (table_of (chosen_text a.table members)) ≡ Ok (some_of a.instance members)
-  pub accepted : IsAccepted (some_of a.instance members) refutation
-  pub its_capacity : refutation.capacity ≡ C
-  pub infeasible : IsInfeasible (some_of a.instance members) C
-  pub rests : (b : ℕ) → IsIn b members → IsFeasible (some_of a.instance (without b members)) C
-  pub readable : IsTextOf (log_text refutation) (raw_log_of refutation)
-  pub files : new.held ≡ with_file (with_file old.held (word_at a.pairs option.Output) (chosen_text a.table members))
-      (word_at a.pairs option.Log) (log_text refutation)
 
 -- the words ask for this command, and these are all bytes of the file that the option names
 pub record AskedOf (words : List Word) (old : FilesSeen) (command : Verb) (file : OptionName) : Type 0 where
@@ -127,11 +95,15 @@ Derived words old new (status.Unrolled count) = (a : AskedOf words old verb.Unro
 Derived words old new (status.CycleRefused fault) = (a : AskedOf words old verb.Unroll option.Input)
     × (unrolled_of (number_at a.pairs option.Period) (table_of a.bytes) ≡ Err fault) × (new.held ≡ old.held)
 Derived words old new (status.Classed height load) = (a : Asked words old) × (a.verb ≡ verb.Classes)
-    × HoldsClassPlan a new height load
+    × IsPlanned a.instance load × (class_height a.instance ≡ height)
+    × (new.held ≡ with_file old.held (word_at a.pairs option.Output) (layout_text a.table (class_plan a.instance)))
 Derived words old new (status.NotPlain b) = (a : Asked words old) × (a.verb ≡ verb.Classes)
     × (first_rough a.instance ≡ Some b) × (new.held ≡ old.held)
 Derived words old new (status.Core count) = (a : Asked words old) × (a.verb ≡ verb.Core)
-    × HoldsCore a new (number_at a.pairs option.Capacity) count
+    × ((members : List ℕ) × (refutation : Log) × (length members ≡ count)
+    × IsExplained (number_at a.pairs option.Capacity) a.table a.instance members refutation
+    × (new.held ≡ with_writes old.held (rows_file (word_at a.pairs option.Output) a.table members
+    ∷ log_file (word_at a.pairs option.Log) refutation ∷ [])))
 Derived words old new (status.NoCore C) = (a : Asked words old) × (a.verb ≡ verb.Core)
     × (number_at a.pairs option.Capacity ≡ C) × IsFeasible a.instance C × (new.held ≡ old.held)
 Derived words old new status = Unit {0}

@@ -1,14 +1,13 @@
 //! The one call.
 
 ghost use Rattle.std.specs.Prelude.{◌≡◌, map, string_bytes, Ok};
-ghost use Rattle.dsa_terms.specs.Buffers.{Instance};
 ghost use Rattle.command_words.specs.Requests.{Request as RequestTerm, request_of};
 ghost use Rattle.run_course.specs.Answers.{Answers};
 ghost use Rattle.dsaplan_core.specs.Courses.{course, course_with};
 ghost use Rattle.dsaplan_core.specs.Theorem.{Headline};
 ghost use Rattle.dsaplan_core.specs.Derived.{Derived};
 ghost use Rattle.dsaplan_core.specs.Choice.{Choice};
-ghost use Rattle.dsaplan_core.specs.Complete.{IsConcluded, IsReady, IsUndisturbed};
+ghost use Rattle.dsaplan_core.specs.Complete.{IsConcluded, IsUndisturbed};
 
 use crate::misuse::Misuse;
 use checking::{Refute, Trim, Upgrade};
@@ -158,13 +157,11 @@ pub fn run<F: Files, S: Sink>(alloc: Global, words: &[String], files: &mut F, ou
     ensures choice { Choice (map string_bytes words.now)
         (F.seen files.old) (F.seen files.new) result }
 
-    // Where the words are a command, the files that it reads are there and within their limits, its
-    // input is an instance (where it has one), and nothing outside fails, the command concludes
-    // from what they hold, unless memory runs out: no word, file or print is blamed, and without
-    // steps 'open' never comes.
-    ensures complete { (request : RequestTerm) (I : Instance) →
+    // Where the words are a command and nothing outside fails, the command concludes from what the
+    // files that it reads hold, if they are there and within their limits, unless memory runs out:
+    // no word, file or print is blamed, and without steps 'open' never comes.
+    ensures complete { (request : RequestTerm) →
         request_of (map string_bytes words.now) ≡ Ok request →
-        IsReady (F.seen files.old) request I →
         IsUndisturbed request
         (F.seen files.old) (F.seen files.new) (S.seen out.old) (S.seen out.new) →
         IsConcluded (F.seen files.old) request result }

@@ -21,14 +21,14 @@ unfolding buffer is_live some_before faults.first_unaligned faults.first_too_low
     faults.overlap_after faults.overlap first_common
 laid_at_8 = (layout_exactly two 8 (0 ∷ 4 ∷ [])).0 refl
 
-fits_at_8 : FitsAll 8 two (says (status.NoCore 8))
-fits_at_8 = record { feasible = (0 ∷ 4 ∷ [], laid_at_8); told = refl }
+pub fits_at_8 : FitsAll 8 two (says (status.NoCore 8))
+fits_at_8 = ((0 ∷ 4 ∷ [], laid_at_8), refl)
 
 concluded_at_8 : ExplainsOrFits 8 names two_rows two (says (status.NoCore 8))
 concluded_at_8 = inr fits_at_8
 
 no_core_at_8 : (o : Outcome) → Explains 8 names two_rows two o → ⊥
-no_core_at_8 o h = h.core.infeasible (0 ∷ 4 ∷ []) laid_at_8
+no_core_at_8 o h = h.2.is_core.infeasible (0 ∷ 4 ∷ []) laid_at_8
 
 -- ---- at 7 they do not
 one_above_the_other : (x y : ℕ) → x + 4 ≤ 7 → y + 4 ≤ 7 → (x + 4 ≤ y) ⊎ (y + 4 ≤ x) → ⊥
@@ -41,4 +41,4 @@ none_at_7 offsets l = one_above_the_other _ _ (l.within 0 (lit< tt)) (l.within 1
     (l.apart 0 1 4 (lit< tt) (lit< tt) (λ e. omega (arith, e)) refl refl)
 
 not_told_at_7 : (o : Outcome) → FitsAll 7 two o → ⊥
-not_told_at_7 o h = let fits = h.feasible in none_at_7 fits.0 fits.1
+not_told_at_7 o h = none_at_7 h.0.0 h.0.1

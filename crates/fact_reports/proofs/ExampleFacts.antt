@@ -1,10 +1,11 @@
 -- The reports of two buffers whose best start ends at 5, and whose lower bound and least capacity are 4; and trials.
-use Rattle.std.proofs.Common.{◌≡◌, ◌+◌, ◌≤◌, ℕ, zero, suc, inl, inr, [], ◌∷◌, ◌++◌, Some, None, codes, refl, sym, ap, lit≤, arith}
+use Rattle.std.proofs.Common.{◌≡◌, ◌+◌, ◌≤◌, ℕ, zero, suc, inl, inr, List, [], ◌∷◌, ◌++◌, Option, Some, None, codes, refl, sym, ap, lit≤, arith}
 use Rattle.std.specs.Fmt.{digits}
 use Rattle.dsa_terms.specs.Bounds.{stack_log}
 use Rattle.dsa_terms.specs.Buffers.{buffer, do_share, is_live, some_before}
 use Rattle.dsa_terms.specs.Fits.{best_fit, first_fit}
 use Rattle.dsa_terms.specs.Layouts.{IsLayout}
+use Rattle.dsa_terms.specs.Logs.{Log}
 use Rattle.dsa_terms.specs.Orders.{orders}
 use Rattle.dsa_terms.specs.Parts.{is_cut, last_cut, part_of, parts, searched}
 use Rattle.dsa_terms.specs.Plans.{layout_height, load, plan}
@@ -28,7 +29,8 @@ use Rattle.planner.proofs.ShortageFacts.{not_above_the_best, short_of_the_hunt}
 use Rattle.planner.proofs.StepFacts.{best_at_5, four_high, four_is_least, laid_at_4, refuted_at_3}
 use Rattle.run_status.specs.declared.status.Status.TheVariants as status
 use Rattle.run_course.specs.Course.{Comes, Outcome, says, shows}
-use Rattle.fact_reports.specs.Reporting.{IsFoundWithin, IsLeftOpen, IsVerdict, ShowsColumns, ShowsFacts, ShowsTrial, trial}
+use Rattle.deciding.specs.Deciding.{IsFound, IsLeftOpen}
+use Rattle.fact_reports.specs.Reporting.{IsVerdict, ShowsColumns, ShowsFacts, ShowsTrial, trial}
 
 -- ---- the peak
 below_load : load small_below 0 ≡ 4
@@ -97,11 +99,10 @@ not_silently : ShowsColumns two_rows two (says status.Right) → ⊥
 not_silently h = let e = ap (λ (o : Outcome). o.status) h in absurd cc
 
 -- ---- the verdict of a trial
-found_with_four_steps : IsFoundWithin small_below 4 4
+found_with_four_steps : IsFound small_below (Some 4) 4 (1 ∷ 0 ∷ []) (Some (stack_log small_below 0 0 1 3))
 found_with_four_steps = record {
-  least = four_is_least;
-  offsets = 1 ∷ 0 ∷ [];
-  refutation = Some (stack_log small_below 0 0 1 3);
+  is_least = four_is_least;
+  zero_for_none = (λ e. absurd cc, λ e. absurd (omega arith));
   planned = small_below_plan_at_4;
   layout = laid_at_4;
   height = four_high;
@@ -116,21 +117,21 @@ found_with_four_steps = record {
 }
 
 -- no start is as low as the least capacity
-not_found_without_steps : IsFoundWithin small_below 0 4 → ⊥
-not_found_without_steps h = go h.within_steps.layout h.within_steps.given
+not_found_without_steps : (offsets : List ℕ) (log : Option Log) → IsFound small_below (Some 0) 4 offsets log → ⊥
+not_found_without_steps offsets log h = go h.within_steps.layout h.within_steps.given
   where
-    go : {k : ℕ} → IsLayoutWithin small_below k h.offsets → k + h.within_steps.log_steps ≤ 0 → ⊥
+    go : {k : ℕ} → IsLayoutWithin small_below k offsets → k + h.within_steps.log_steps ≤ 0 → ⊥
     go (inl e) le =
         let a = ap (layout_height small_below) e in let b = best_at_5 in let k = h.height in omega (arith, a, b, k)
     go (inr some) le = omega (arith, some, le)
 
 -- without steps the bound's log and the best start come, and what lies between them stays open
-open_between_4_and_5 : IsLeftOpen small_below 0 4 5
+open_between_4_and_5 : IsLeftOpen small_below (Some 0) 4 5 (0 ∷ 4 ∷ []) (stack_log small_below 0 0 1 3)
 open_between_4_and_5 = record {
+  number = 0;
+  given = refl;
   short = short_of_the_hunt 0 (lit≤ tt);
-  offsets = 0 ∷ 4 ∷ [];
-  refutation = stack_log small_below 0 0 1 3;
-  opened = four_is_open;
+  stays_open = four_is_open;
   within_steps = record {
     layout_steps = 0;
     log_steps = 0;
@@ -141,18 +142,18 @@ open_between_4_and_5 = record {
 }
 
 -- the best start ends at 5
-open_between_5_and_6 : IsLeftOpen small_below 0 5 6 → ⊥
-open_between_5_and_6 h = not_above_the_best 0 5 h.short
+open_between_5_and_6 : (offsets : List ℕ) (log : Log) → IsLeftOpen small_below (Some 0) 5 6 offsets log → ⊥
+open_between_5_and_6 offsets log h = not_above_the_best h.number 5 h.short
 
 four_is_a_verdict : IsVerdict small_below 4 (status.Least 4)
-four_is_a_verdict = found_with_four_steps
+four_is_a_verdict = (Some (1 ∷ 0 ∷ []), Some (stack_log small_below 0 0 1 3), found_with_four_steps)
 
 open_is_a_verdict : IsVerdict small_below 0 (status.Open 4 5)
-open_is_a_verdict = open_between_4_and_5
+open_is_a_verdict = (Some (0 ∷ 4 ∷ []), Some (stack_log small_below 0 0 1 3), open_between_4_and_5)
 
 -- a verdict is of the least capacity
 no_verdict : IsVerdict small_below 4 (status.Feasible 4) → ⊥
-no_verdict h = h
+no_verdict h = h.2
 
 -- ---- a trial without buffers
 none_laid : IsLayout [] 0 []
@@ -176,11 +177,10 @@ none_high : layout_height [] [] ≡ 0
 unfolding layout_height
 none_high = refl
 
-found_of_none : IsFoundWithin [] 5 0
+found_of_none : IsFound [] (Some 5) 0 [] None
 found_of_none = record {
-  least = (([], none_laid), inl refl);
-  offsets = [];
-  refutation = None;
+  is_least = (([], none_laid), inl refl);
+  zero_for_none = (λ e. refl, λ e. refl);
   planned = none_planned;
   layout = none_laid;
   height = none_high;
@@ -210,7 +210,7 @@ shows_trial = record {
   verdict = status.Least 0;
   made = ap parse (table-read 7 0 (lit≤ tt));
   true_facts = facts_of_none;
-  true_verdict = found_of_none;
+  true_verdict = (Some [], None, found_of_none);
   shown = ap shows trial_text;
 }
 

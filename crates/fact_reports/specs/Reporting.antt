@@ -1,10 +1,7 @@
 -- How the commands go that print the facts of an instance.
 use Rattle.std.specs.Prelude.{◌≡◌, ◌++◌, ℕ, List, Option, Some, Ok, Bool, true, false, nat_lt}
 use Rattle.dsa_terms.specs.Buffers.{Instance}
-use Rattle.dsa_terms.specs.Layouts.{IsLayout, IsLeast}
 use Rattle.dsa_terms.specs.Logs.{Log}
-use Rattle.dsa_terms.specs.Plans.{layout_height}
-use Rattle.dsa_terms.specs.Starts.{planned}
 use Rattle.dsa_model.specs.Buffer.{buffer_limit}
 use Rattle.csv_instance.specs.Records.{Record, table_of}
 use Rattle.csv_instance.specs.Parse.{parse}
@@ -13,15 +10,13 @@ use Rattle.layout_report.specs.Facts.{bounds_text}
 use Rattle.layout_report.specs.declared.facts.Facts.{Facts}
 use Rattle.make_instance.specs.Made.{made_text}
 use Rattle.planner.specs.InstanceFacts.{AreFactsOf}
-use Rattle.planner.specs.LeastCapacity.{AreWithinSteps, RefutesBelow}
-use Rattle.planner.specs.Openings.{StaysOpen}
-use Rattle.planner.specs.Shortage.{IsShortOfHunt}
 use Rattle.command_words.specs.Options.{Word}
 use Rattle.run_status.specs.Lines.{line}
 use Rattle.run_status.specs.declared.status.Status.{Status}
 use Rattle.run_status.specs.declared.status.Status.TheVariants as status
 use Rattle.run_course.specs.Course.{Course, Outcome, Concludes, Ends, says, shows}
 use Rattle.readings.specs.Input.{opened}
+use Rattle.deciding.specs.Deciding.{IsSought}
 
 -- the facts of the instance are shown
 pub record ShowsFacts (I : Instance) (o : Outcome) : Type 0 where
@@ -41,32 +36,9 @@ ShowsColumns table I o = o ≡ shows (inspect_text table I)
 abbrev pub inspect : (input : Word) → Course
 inspect input = opened input (λ table I. Concludes (ShowsColumns table I))
 
--- C is the least capacity: the plan at it is so high, and a log refutes one byte less, unless C is 0; k units are
--- enough for what the starts and the bound do not give
-pub record IsFoundWithin (I : Instance) (k C : ℕ) : Type 0 where
-  pub least : IsLeast I C
-  pub offsets : List ℕ
-  pub refutation : Option Log
-  pub planned : planned I C ≡ Some offsets
-  pub layout : IsLayout I C offsets
-  pub height : layout_height I offsets ≡ C
-  pub refuted : RefutesBelow I C refutation
-  pub within_steps : AreWithinSteps I (Some k) C offsets refutation
-
--- k units are too few to find the least capacity, which lies between L and H: there is a layout of height H, and a log
--- refutes one byte less than L; k units are enough for what the starts and the bound do not give
-pub record IsLeftOpen (I : Instance) (k L H : ℕ) : Type 0 where
-  pub short : IsShortOfHunt I k L H
-  pub offsets : List ℕ
-  pub refutation : Log
-  pub opened : StaysOpen I L H offsets refutation
-  pub within_steps : AreWithinSteps I (Some k) L offsets (Some refutation)
-
--- the verdict on the least capacity of the instance with k units
+-- the verdict on the least capacity of the instance with k units: the status that `least` answers
 abbrev pub IsVerdict : Instance → ℕ → Status → Type 0
-IsVerdict I k (status.Least C) = IsFoundWithin I k C
-IsVerdict I k (status.Open L H) = IsLeftOpen I k L H
-IsVerdict I k s = ⊥
+IsVerdict I k s = (layout : Option (List ℕ)) × (log : Option Log) × IsSought I (Some k) s layout log
 
 -- the facts of the instance that is made of so many buffers from the seed are shown, and the verdict on it
 pub record ShowsTrial (seed count steps : ℕ) (o : Outcome) : Type 0 where

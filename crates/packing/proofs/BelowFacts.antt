@@ -1,19 +1,18 @@
 -- What `pack` concludes of two buffers whose best start ends at 5, and whose lower bound and least capacity are 4.
-use Rattle.std.proofs.Common.{◌≡◌, ◌<◌, ◌≤◌, ℕ, List, inl, inr, [], ◌∷◌, Option, Some, None, codes, refl, sym, subst, ap, ap₂, lit<, lit≤, arith}
+use Rattle.std.proofs.Common.{◌<◌, ◌≤◌, ℕ, List, inl, [], ◌∷◌, Option, Some, None, codes, refl, sym, ap, ap₂, lit<, lit≤, arith}
 use Rattle.std.specs.Prelude.{IfSome}
-use Rattle.dsa_terms.specs.Layouts.{IsInfeasible}
+use Rattle.dsa_terms.specs.Logs.{Log}
 use Rattle.dsa_terms.proofs.Examples.{small_below}
-use Rattle.dsa_terms.proofs.Lists.{same_some}
 use Rattle.planner.proofs.ExampleLeastFacts.{below_bound}
 use Rattle.planner.proofs.StepFacts.{best_at_5, four_high, four_is_least, laid_at_4}
 use Rattle.packer.specs.Packs.{RefutesWithin}
 use Rattle.packer.proofs.Brief.{one_line}
 use Rattle.run_status.specs.declared.status.Role.TheVariants as role
-use Rattle.run_status.specs.declared.status.Status.TheVariants.{Feasible, Infeasible, Least, Open}
-use Rattle.run_course.specs.Course.{Outcome, Write, says, writes}
+use Rattle.run_status.specs.declared.status.Status.TheVariants.{Feasible, Infeasible, Least, Open, Right}
+use Rattle.run_course.specs.Course.{Outcome, Write, writes}
 use Rattle.deciding.proofs.BelowFacts.{below_rows, four_to_five, low_file, low_text, start_file, start_text, three_by_bound, three_file, three_log, three_reads, three_refutes, three_text}
 use Rattle.writings.specs.Writings.{Names}
-use Rattle.packing.specs.Packing.{LeavesPackedOpen, Packs, PacksAt, PacksLeast, RefutesAt}
+use Rattle.packing.specs.Packing.{IsPacked, IsPackedBetween, Packs}
 
 -- ---- the input is in the file i, the output goes to o, the log to l
 abbrev names : Names
@@ -39,36 +38,37 @@ abbrev found : Outcome
 found = writes (to_output low_file ∷ to_log three_file ∷ []) (Least 4)
 
 packs_4 : Packs None 8 names below_rows small_below found
-packs_4 = inl (record {
-  capacity = 4;
-  offsets = 1 ∷ 0 ∷ [];
-  refutation = Some three_log;
-  none_given = refl;
-  least = four_is_least;
-  zero_for_none = (λ e. absurd cc, λ e. absurd (omega arith));
-  layout = laid_at_4;
-  its_height = four_high;
-  refuted = (lit≤ tt, within_3 8);
+packs_4 = record {
+  status = Least 4;
+  layout = Some (1 ∷ 0 ∷ []);
+  log = Some three_log;
+  answer = (
+    refl,
+    record {
+      is_least = four_is_least;
+      zero_for_none = (λ e. absurd cc, λ e. absurd (omega arith));
+      layout = laid_at_4;
+      its_height = four_high;
+      refuted = (lit≤ tt, within_3 8);
+    },
+  );
   readable = three_reads;
   written = ap₂ (λ (layout log : List ℕ). writes (to_output layout ∷ to_log log ∷ []) (Least 4)) (sym low_text)
       (sym three_text);
-})
+}
 
 -- where a capacity is given, it is that one which is decided
-no_least_of_a_capacity : (o : Outcome) → PacksLeast (Some 4) 8 names below_rows small_below o → ⊥
-no_least_of_a_capacity o h = let none = h.none_given in absurd cc
+no_least_of_a_capacity : (offsets : List ℕ) (log : Option Log) →
+    IsPacked small_below (Some 4) 8 (Least 4) (Some offsets) log → ⊥
+no_least_of_a_capacity offsets log h = let none = h.0 in absurd cc
 
 -- ---- without steps it stays open
 abbrev opened : Outcome
 opened = writes (to_output start_file ∷ to_log three_file ∷ []) (Open 4 5)
 
-leaves_open : (capacity : Option ℕ) → IfSome capacity (λ C. (4 ≤ C) × (C < 5)) →
-    LeavesPackedOpen capacity 0 names below_rows small_below opened
-leaves_open capacity between = record {
-  low = 4;
-  high = 5;
-  offsets = 0 ∷ 4 ∷ [];
-  refutation = three_log;
+between_4_and_5 : (capacity : Option ℕ) → IfSome capacity (λ C. (4 ≤ C) × (C < 5)) →
+    IsPackedBetween small_below capacity 0 4 5 (0 ∷ 4 ∷ []) three_log
+between_4_and_5 capacity between = record {
   ends_apart = four_to_five.ends_apart;
   positive = four_to_five.positive;
   ends = record {
@@ -79,43 +79,54 @@ leaves_open capacity between = record {
   layout = four_to_five.layout;
   its_height = four_to_five.its_height;
   refuted = within_3 0;
+}
+
+leaves_open : (capacity : Option ℕ) → IfSome capacity (λ C. (4 ≤ C) × (C < 5)) →
+    Packs capacity 0 names below_rows small_below opened
+leaves_open capacity between = record {
+  status = Open 4 5;
+  layout = Some (0 ∷ 4 ∷ []);
+  log = Some three_log;
+  answer = between_4_and_5 capacity between;
   readable = three_reads;
   written = ap₂ (λ (layout log : List ℕ). writes (to_output layout ∷ to_log log ∷ []) (Open 4 5)) (sym start_text)
       (sym three_text);
 }
 
 open_without_a_capacity : Packs None 0 names below_rows small_below opened
-open_without_a_capacity = inr (inr (inr (leaves_open None tt)))
+open_without_a_capacity = leaves_open None tt
 
 open_at_4 : Packs (Some 4) 0 names below_rows small_below opened
-open_at_4 = inr (inr (inr (leaves_open (Some 4) (lit≤ tt, lit< tt))))
+open_at_4 = leaves_open (Some 4) (lit≤ tt, lit< tt)
 
 -- ---- a capacity
 packs_at_5 : Packs (Some 5) 0 names below_rows small_below (writes (to_output start_file ∷ []) (Feasible 5))
-packs_at_5 = inr (inl (record {
-  capacity = 5;
-  offsets = 0 ∷ 4 ∷ [];
-  given = refl;
-  layout = four_to_five.layout;
+packs_at_5 = record {
+  status = Feasible 5;
+  layout = Some (0 ∷ 4 ∷ []);
+  log = None;
+  answer = (refl, four_to_five.layout);
+  readable = tt;
   written = ap (λ (layout : List ℕ). writes (to_output layout ∷ []) (Feasible 5)) (sym start_text);
-}))
+}
 
 refutes_3 : Packs (Some 3) 0 names below_rows small_below (writes (to_log three_file ∷ []) (Infeasible 3))
-refutes_3 = inr (inr (inl (record {
-  capacity = 3;
-  refutation = three_log;
-  given = refl;
-  refuted = within_3 0;
+refutes_3 = record {
+  status = Infeasible 3;
+  layout = None;
+  log = Some three_log;
+  answer = (refl, within_3 0);
   readable = three_reads;
   written = ap (λ (log : List ℕ). writes (to_log log ∷ []) (Infeasible 3)) (sym three_text);
-})))
+}
 
--- 4 is not refuted, and the layout has to be written
-not_refuted_at_4 : (o : Outcome) → RefutesAt (Some 4) 8 names small_below o → ⊥
-not_refuted_at_4 o h = go h.given h.refuted.infeasible
-  where
-    go : {C : ℕ} → Some 4 ≡ Some C → IsInfeasible small_below C → ⊥
-    go e none = subst (IsInfeasible small_below) (sym (same_some e)) none (1 ∷ 0 ∷ []) laid_at_4
+-- 4 is not refuted, nor is another capacity than the one that is given
+not_refuted_at_4 : (log : Log) → IsPacked small_below (Some 4) 8 (Infeasible 4) None (Some log) → ⊥
+not_refuted_at_4 log h = h.1.infeasible (1 ∷ 0 ∷ []) laid_at_4
 
-not_without_a_write : PacksAt (Some 5) names below_rows small_below (says (Feasible 5)) → ⊥
-not_without_a_write h = let e = ap (λ (o : Outcome). o.writes) h.written in absurd cc
+not_refuted_at_3 : (log : Log) → IsPacked small_below (Some 4) 8 (Infeasible 3) None (Some log) → ⊥
+not_refuted_at_3 log h = let e = h.0 in absurd cc
+
+-- no other status is an answer
+not_right : IsPacked small_below None 8 Right None None → ⊥
+not_right h = h

@@ -1,5 +1,5 @@
 -- Five buffers whose least capacity is 12: how `pack` goes on them from their file on.
-use Rattle.std.proofs.Common.{◌≡◌, ℕ, List, inl, inr, [], ◌∷◌, Some, codes, refl, sym, ap, lit≤}
+use Rattle.std.proofs.Common.{◌≡◌, ℕ, List, [], ◌∷◌, None, Some, codes, refl, sym, ap, lit≤}
 use Rattle.std.specs.FinMap.{empty, insert}
 use Rattle.std.specs.Fmt.{digits}
 use Rattle.csv.specs.Writing.{escaped, fields_text, is_blank}
@@ -15,7 +15,7 @@ use Rattle.run_course.specs.Course.{Comes, Concludes, Outcome, writes}
 use Rattle.readings.specs.Opens.{IsInput}
 use Rattle.readings.proofs.Opening.{with_input}
 use Rattle.writings.specs.Writings.{Names}
-use Rattle.packing.specs.Packing.{Packs, PacksAt, pack}
+use Rattle.packing.specs.Packing.{Packs, pack}
 
 -- ---- the layout within 12
 abbrev at_12 : List ℕ
@@ -35,12 +35,13 @@ names = record { input = codes "i"; output = codes "o"; log = codes "l" }
 abbrev laid_out : Outcome
 laid_out = writes (record { role = Output; name = codes "o"; bytes = laid_file } ∷ []) (Feasible 12)
 
-packs : PacksAt (Some 12) names five_rows five laid_out
+packs : Packs (Some 12) 0 names five_rows five laid_out
 packs = record {
-  capacity = 12;
-  offsets = at_12;
-  given = refl;
-  layout = five_laid;
+  status = Feasible 12;
+  layout = Some at_12;
+  log = None;
+  answer = (refl, five_laid);
+  readable = tt;
   written = ap (λ (text : List ℕ). writes (record { role = Output; name = codes "o"; bytes = text } ∷ []) (Feasible 12))
       (sym laid_text);
 }
@@ -59,4 +60,4 @@ its_input = record {
 
 goes : Comes files files (pack (Some 12) 0 names) laid_out
 goes = with_input files files files (codes "i") five_rows five (λ t I. Concludes (Packs (Some 12) 0 names t I))
-    (five, its_input) five_parse refl (λ name. lit≤ tt) laid_out (tt, inr (inl packs))
+    (five, its_input) five_parse refl (λ name. lit≤ tt) laid_out (tt, packs)

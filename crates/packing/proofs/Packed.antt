@@ -1,5 +1,5 @@
 -- What packing comes to, as it is written.
-use Rattle.std.proofs.Common.{◌≡◌, ℕ, ◌<◌, ◌≤◌, List, ◌∷◌, Option, None, Some, Result, Ok, Err, IfOk, refl, subst, inl, inr, sym, arith}
+use Rattle.std.proofs.Common.{◌≡◌, ℕ, ◌<◌, ◌≤◌, List, Option, None, Some, Result, Ok, Err, IfOk, subst, arith}
 use Rattle.std.specs.Prelude.{IfSome}
 use Rattle.dsa_terms.specs.Buffers.{Instance}
 use Rattle.dsa_terms.specs.Logs.{Log}
@@ -13,67 +13,48 @@ use Rattle.dsa_model.specs.declared.fail.NoMemory.{NoMemory}
 use Rattle.run_course.specs.Course.{Outcome, Write, writes}
 use Rattle.run_course.specs.Prepares.{outcome_of}
 use Rattle.run_course.specs.declared.prepared.Prepared.{Prepared}
-use Rattle.deciding.proofs.Concluding.{told}
+use Rattle.deciding.proofs.Concluding.{gives_spoken, told}
 use Rattle.packing.specs.Used.{IfLeavesOpen}
-use Rattle.writings.specs.Writings.{Names, layout_file}
-use Rattle.deciding.specs.Deciding.{AllReadBack, log_files}
-use Rattle.packing.specs.Packing.{LeavesPackedOpen, Packs, PacksLeast}
+use Rattle.writings.specs.Writings.{Names}
+use Rattle.packing.specs.Packing.{IsPacked, Packs}
 
 -- the least capacity is found
-pub packs_least : (within : Option ℕ) (steps : ℕ) (names : Names) (table : List Record) (I : Instance) (b : Bracket) →
-    within ≡ None → IsPackedTight I steps b → AllReadBack b.log →
-    PacksLeast within steps names table I
-    (writes (layout_file names.output table b.layout.items ∷ log_files names.log b.log) (Least b.high))
-packs_least within steps names table I b none h readable = record {
-  capacity = b.high;
-  offsets = b.layout.items;
-  refutation = b.log;
-  none_given = none;
-  least = h.least;
-  zero_for_none = h.zero_for_none;
-  layout = h.between.layout;
-  its_height = h.between.its_height;
-  refuted = subst (λ (C : ℕ). RefutesOneLess I C steps b.log) h.ends_met h.between.refuted_below;
-  readable = readable;
-  written = refl;
-}
+pub packs_least : (within : Option ℕ) (steps : ℕ) (I : Instance) (b : Bracket) → within ≡ None →
+    IsPackedTight I steps b → IsPacked I within steps (Least b.high) (Some b.layout.items) b.log
+packs_least within steps I b none h = (
+  none,
+  record {
+    is_least = h.least;
+    zero_for_none = h.zero_for_none;
+    layout = h.between.layout;
+    its_height = h.between.its_height;
+    refuted = subst (λ (C : ℕ). RefutesOneLess I C steps b.log) h.ends_met h.between.refuted_below;
+  },
+)
 
 -- it is left open
-pub leaves_open : (within : Option ℕ) (steps : ℕ) (names : Names) (table : List Record) (I : Instance) (b : Bracket) →
-    IsPackedOpen I steps b →
-    IfSome within (λ C. (b.low ≤ C) × (C < b.high)) → AllReadBack b.log →
-    LeavesPackedOpen within steps names table I
-    (writes (layout_file names.output table b.layout.items ∷ log_files names.log b.log) (Open b.low b.high))
-leaves_open within steps names table I b h between = go b.log h.between.refuted_below
+pub leaves_open : (within : Option ℕ) (steps : ℕ) (I : Instance) (b : Bracket) → IsPackedOpen I steps b →
+    IfSome within (λ C. (b.low ≤ C) × (C < b.high)) →
+    IsPacked I within steps (Open b.low b.high) (Some b.layout.items) b.log
+leaves_open within steps I b h between = go b.log h.between.refuted_below
   where
-    go : (o : Option Log) → RefutesOneLess I b.low steps o → AllReadBack o →
-        LeavesPackedOpen within steps names table I
-        (writes (layout_file names.output table b.layout.items ∷ log_files names.log o) (Open b.low b.high))
-    go None zero readable = absurd (let some = h.positive in omega arith)
-    go (Some log) refuted readable = record {
-      low = b.low;
-      high = b.high;
-      offsets = b.layout.items;
-      refutation = log;
+    go : (o : Option Log) → RefutesOneLess I b.low steps o →
+        IsPacked I within steps (Open b.low b.high) (Some b.layout.items) o
+    go None zero = absurd (let some = h.positive in omega arith)
+    go (Some log) refuted = record {
       ends_apart = h.ends_apart;
       positive = h.positive;
       ends = record { from_bound = h.from_bound; to_best = h.to_best; between = between };
       layout = h.between.layout;
       its_height = h.between.its_height;
       refuted = refuted.1;
-      readable = readable;
-      written = refl;
     }
 
 -- each end is spoken
 pub packed_spoken : (within : Option ℕ) (steps : ℕ) (names : Names) (table : List Record) (I : Instance) (o : Outcome) →
     Packs within steps names table I o → IsSpoken o.status
-packed_spoken within steps names table I o (inl h) = subst (λ (o : Outcome). IsSpoken o.status) (sym h.written) tt
-packed_spoken within steps names table I o (inr (inl h)) = subst (λ (o : Outcome). IsSpoken o.status) (sym h.written) tt
-packed_spoken within steps names table I o (inr (inr (inl h))) = subst (λ (o : Outcome). IsSpoken o.status)
-    (sym h.written) tt
-packed_spoken within steps names table I o (inr (inr (inr h))) = subst (λ (o : Outcome). IsSpoken o.status)
-    (sym h.written) tt
+packed_spoken within steps names table I =
+    gives_spoken (IsPacked I within steps) names table (λ layout log answer. answer) (λ layout log answer. answer)
 
 -- ---- where it is left open
 -- a fact holds whatever the outcome

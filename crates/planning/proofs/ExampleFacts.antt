@@ -1,8 +1,8 @@
 -- What `classes` concludes of one buffer of one byte, and of two whose alignment is 4.
-use Rattle.std.proofs.Common.{◌≡◌, ℕ, zero, suc, ◌+◌, ◌≤◌, ◌<◌, slice_index, List, [], ◌∷◌, None, Some, codes, refl, sym, ap, ap₂, inl, lit<, lit≤, arith}
+use Rattle.std.proofs.Common.{◌≡◌, ℕ, zero, suc, ◌+◌, ◌≤◌, ◌<◌, slice_index, List, [], ◌∷◌, Some, codes, refl, sym, subst, ap, ap₂, inl, inr, lit<, lit≤, arith}
 use Rattle.dsa_terms.specs.Bounds.{moments}
 use Rattle.dsa_terms.specs.Buffers.{Instance, buffer, is_live}
-use Rattle.dsa_terms.specs.Layouts.{IsInfeasible, IsLayout, IsMultiple}
+use Rattle.dsa_terms.specs.Layouts.{IsInfeasible, IsLayout, IsLeast, IsMultiple}
 use Rattle.dsa_terms.specs.Orders.{rises_by}
 use Rattle.dsa_terms.specs.Parts.{has}
 use Rattle.dsa_terms.specs.Plans.{IsPeak, load}
@@ -16,18 +16,18 @@ use Rattle.size_classes.specs.Slots.{held, least_free, live_among, most_live, sl
 use Rattle.run_status.specs.declared.status.Status.TheVariants.{Classed, NotPlain}
 use Rattle.run_course.specs.Course.{Outcome, says, writes}
 use Rattle.writings.specs.Writings.{layout_file}
-use Rattle.planning.specs.Planning.{Plans, PlansByClass, RefusesRough}
+use Rattle.planning.specs.Planning.{IsPlanned, Plans, PlansByClass, RefusesRough}
 
 -- ---- two of alignment 4
 first_is_rough : RefusesRough two_of_four (says (NotPlain 0))
 unfolding first_rough
-first_is_rough = record { buffer = 0; rough = refl; told = refl }
+first_is_rough = (0, refl, refl)
 
 told_as : (b : ℕ) → RefusesRough two_of_four (says (NotPlain b)) → Some 0 ≡ Some b
 unfolding first_rough
 told_as b h =
-    let same : NotPlain b ≡ NotPlain h.buffer = ap (λ (o : Outcome). o.status) h.told in
-    let first : Some 0 ≡ Some h.buffer = h.rough in
+    let same : NotPlain b ≡ NotPlain h.0 = ap (λ (o : Outcome). o.status) h.2 in
+    let first : Some 0 ≡ Some h.0 = h.1 in
     cc
 
 -- the second is not the first
@@ -48,9 +48,9 @@ unfolding buffer
 one_plain zero lt = (refl, lit≤ tt, refl)
 one_plain (suc b) lt = absurd (omega arith)
 
-one_smooth : first_rough one ≡ None
+one_is_not_rough : (o : Outcome) → RefusesRough one o → ⊥
 unfolding first_rough
-one_smooth = refl
+one_is_not_rough o h = let is = h.1 in absurd cc
 
 pub one_laid : IsLayout one 1 (0 ∷ [])
 unfolding buffer
@@ -117,14 +117,24 @@ one_powers = refl
 abbrev written : Outcome
 written = writes (layout_file (codes "o") rows (0 ∷ []) ∷ []) (Classed 1 1)
 
-pub plans_one : PlansByClass (codes "o") rows one written
-plans_one = record {
-  load = 1;
-  plain = one_smooth;
+pub one_planned : IsPlanned one 1
+one_planned = record {
+  plain = one_plain;
   peak = one_at_the_peak;
-  written = ap₂ (λ (plan : List ℕ) (high : ℕ). writes (layout_file (codes "o") rows plan ∷ []) (Classed high 1))
-      (sym one_plan) (sym one_high);
+  layout = subst (IsLayout one (class_height one)) (sym one_plan)
+      (subst (λ h. IsLayout one h (0 ∷ [])) (sym one_high) one_laid);
+  powers = (let a = one_high in let b = one_powers in omega (arith, a, b));
+  least = λ size all. subst (λ h. IsLeast one h × (h ≡ 1)) (sym one_high)
+      (((0 ∷ [], one_laid), inr nothing_at_0), refl);
 }
+
+pub plans_one : PlansByClass (codes "o") rows one written
+plans_one = (
+  1,
+  one_planned,
+  ap₂ (λ (plan : List ℕ) (high : ℕ). writes (layout_file (codes "o") rows plan ∷ []) (Classed high 1))
+      (sym one_plan) (sym one_high),
+)
 
 plan_is_concluded : Plans (codes "o") rows one written
 plan_is_concluded = inl plans_one
@@ -132,11 +142,11 @@ plan_is_concluded = inl plans_one
 -- the load is told after the height, and both are the plan's own
 not_at_2 : PlansByClass (codes "o") rows one (writes (layout_file (codes "o") rows (0 ∷ []) ∷ []) (Classed 2 1)) → ⊥
 not_at_2 h =
-    let same : Classed 2 1 ≡ Classed (class_height one) h.load = ap (λ (o : Outcome). o.status) h.written in
+    let same : Classed 2 1 ≡ Classed (class_height one) h.0 = ap (λ (o : Outcome). o.status) h.2 in
     let high = one_high in
     let two : 2 ≡ class_height one = cc in
     omega (arith, two, high)
 
 -- nothing is concluded without the write
 not_unwritten : PlansByClass (codes "o") rows one (says (Classed 1 1)) → ⊥
-not_unwritten h = let e = ap (λ (o : Outcome). o.writes) h.written in absurd cc
+not_unwritten h = let e = ap (λ (o : Outcome). o.writes) h.2 in absurd cc

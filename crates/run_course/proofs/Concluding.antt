@@ -52,19 +52,17 @@ too_long files name most file more =
     let short : length more.bytes ≤ most = subst (λ b. length b ≤ most) e file.short in
     omega (arith, short, more.long)
 
--- where its files are served, the course comes to an outcome of its own
+-- where no call on its files failed, the course concludes with the status of the outcome that it comes to
 pub concludes_on : (old new : FilesSeen) (course : Course) (o : Outcome) → IsServed old new course →
-    Comes old new course o → ConcludesOn old course o
-concludes_on old new (Concludes allowed) o served comes = comes
-concludes_on old new (Reads role name most next) o served (inl (inl (is, inl rose), same)) = absurd (served.0 rose)
+    Comes old new course o → ConcludesOn old course o.status
+concludes_on old new (Concludes allowed) o served comes = (o, comes.0, comes.1, refl)
+concludes_on old new (Reads role name most next) o served (inl (inl (is, inl rose), same)) =
+    λ file. absurd (served.0 rose)
 concludes_on old new (Reads role name most next) o served (inl (inl (is, inr missing), same)) =
-    absurd (not_missing old.held name served.1.0.bytes served.1.0.held missing)
+    λ file. absurd (not_missing old.held name file.bytes file.held missing)
 concludes_on old new (Reads role name most next) o served (inl (inr (is, more), same)) =
-    absurd (too_long old name most served.1.0
-    (more (is_told old.held name served.1.0.bytes served.1.0.held)))
-concludes_on old new (Reads role name most next) o served (inr (bytes, whole, comes)) =
-    let e : served.1.0.bytes ≡ bytes = same_bytes old.held name served.1.0.bytes bytes served.1.0.held whole.held in (
-      served.1.0,
-      concludes_on old new (next served.1.0.bytes) o served.1.1
-          (subst (λ b. Comes old new (next b) o) (sym e) comes),
-    )
+    λ file. absurd (too_long old name most file (more (is_told old.held name file.bytes file.held)))
+concludes_on old new (Reads role name most next) o served (inr (bytes, whole, comes)) = λ file.
+    let e : file.bytes ≡ bytes = same_bytes old.held name file.bytes bytes file.held whole.held in
+    concludes_on old new (next file.bytes) o (served.1 file.bytes)
+    (subst (λ b. Comes old new (next b) o) (sym e) comes)

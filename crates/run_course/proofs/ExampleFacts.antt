@@ -75,13 +75,18 @@ no_other_file old new (inl (inr (e, long), ended)) = absurd cc
 no_other_file old new (inr (bytes, whole, (spoken, e))) = let k = ap (λ (o : Outcome). o.status) e in absurd cc
 
 served : IsServed (told before) (told before) copy
-served = (
-  λ rose. omega (arith, rose),
-  (record { bytes = codes "ab"; held = reads_i (codes "ab"); short = lit≤ tt }, tt),
-)
+served = (λ rose. omega (arith, rose), λ bytes. tt)
 
-concludes : ConcludesOn (told before) copy (copied (codes "ab"))
-concludes = (record { bytes = codes "ab"; held = reads_i (codes "ab"); short = lit≤ tt }, (tt, refl))
+concludes : ConcludesOn (told before) copy status.Right
+concludes = λ file. (copied file.bytes, tt, refl, refl)
+
+-- with no other status, where the file is there
+not_concluded_otherwise : ConcludesOn (told before) copy (status.ReadFault role.Input) → ⊥
+not_concluded_otherwise h =
+    let ends = h (record { bytes = codes "ab"; held = reads_i (codes "ab"); short = lit≤ tt }) in
+    let same = ap (λ (o : Outcome). o.status) ends.2 in
+    let told = ends.3 in
+    cc
 
 -- ---- writing
 all_written : Leaves (told before) (told after) (copied (codes "ab")).writes None

@@ -1,10 +1,11 @@
--- Courses whose files are there and are not disturbed.
+-- How a course concludes where nothing outside it goes wrong.
 use Rattle.std.specs.Prelude.{◌≡◌, ◌≤◌, ℕ, List, length, Some}
 use Rattle.dsa_outside.specs.Held.{file_at}
 use Rattle.dsa_model.specs.Counts.{Rose}
 use Rattle.command_words.specs.Options.{Word}
 use Rattle.dsa_outside.specs.Seen.{FilesSeen}
 use Rattle.run_status.specs.Spoken.{IsSpoken}
+use Rattle.run_status.specs.declared.status.Status.{Status}
 use Rattle.run_course.specs.Course.{Course, Concludes, Reads, Outcome}
 
 -- the name holds bytes, and no more than that
@@ -17,14 +18,15 @@ pub record IsReadable (files : FilesSeen) (name : Word) (most : ℕ) : Type 0 wh
 abbrev pub IsCalm : FilesSeen → FilesSeen → Word → Type 0
 IsCalm old new name = ¬ Rose (old.faults name) (new.faults name)
 
--- each file that the course reads is readable, and no call on it failed
+-- no call failed on a file that the course may read
 abbrev pub IsServed : FilesSeen → FilesSeen → Course → Type 0
 IsServed old new (Concludes allowed) = Unit {0}
 IsServed old new (Reads role name most next) =
-    IsCalm old new name × ((file : IsReadable old name most) × IsServed old new (next file.bytes))
+    IsCalm old new name × ((bytes : List ℕ) → IsServed old new (next bytes))
 
--- the course concludes with this outcome from what the files hold
-abbrev pub ConcludesOn : FilesSeen → Course → Outcome → Type 0
-ConcludesOn files (Concludes allowed) outcome = IsSpoken outcome.status × allowed outcome
-ConcludesOn files (Reads role name most next) outcome =
-    (file : IsReadable files name most) × ConcludesOn files (next file.bytes) outcome
+-- the course concludes with this status from what the files hold, where each file that it reads is readable
+abbrev pub ConcludesOn : FilesSeen → Course → Status → Type 0
+ConcludesOn files (Concludes allowed) status =
+    (outcome : Outcome) × IsSpoken outcome.status × allowed outcome × (status ≡ outcome.status)
+ConcludesOn files (Reads role name most next) status =
+    (file : IsReadable files name most) → ConcludesOn files (next file.bytes) status

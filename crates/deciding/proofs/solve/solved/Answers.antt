@@ -1,4 +1,4 @@
-use Rattle.std.proofs.Common.{◌≡◌, ℕ, List, [], ◌∷◌, inl, inr, refl, subst}
+use Rattle.std.proofs.Common.{◌≡◌, ℕ, List, [], ◌∷◌, Some, None, refl, subst}
 use Rattle.dsa_model.proofs.Instances.{sound_instance}
 use Rattle.planner.proofs.Stepping.{layout_given, no_start}
 use Rattle.run_status.specs.declared.status.Status.TheVariants.{Feasible, Infeasible, Open}
@@ -6,9 +6,9 @@ use Rattle.run_course.specs.Course.{writes}
 use Rattle.run_course.specs.Prepares.{write_of}
 use Rattle.writings.specs.Named.{names_of}
 use Rattle.writings.specs.Writings.{layout_file, log_file}
-use Rattle.deciding.specs.Deciding.{AllReadBack, Solves, log_files}
-use Rattle.deciding.proofs.Concluding.{told, told_by, with_files}
-use Rattle.deciding.proofs.Decided.{leaves_open}
+use Rattle.deciding.specs.Deciding.{AllReadBack, IsSolved, Solves, answer_files}
+use Rattle.deciding.proofs.Concluding.{gives, told, told_by, with_files}
+use Rattle.deciding.proofs.Decided.{undecided}
 use Rattle.deciding.proofs.solve.solved.Goals as goal
 
 pub returns-in_ok-file-in-Layout : goal.returns-in_ok-file-in-Layout
@@ -27,15 +27,16 @@ returns-in_ok-file-in-Layout c =
     c.one_write.result
     (with_files (write_of c.in_ok-file-in-Layout.file) (layout_file names.output table offsets) [] []
     (Feasible C) c.one_write.result file refl c.one_write.ensures)
-    (inl (record {
-      offsets = offsets;
-      planned = answer.chosen;
-      layout = answer.layout;
-      searched = layout_given I C steps
-          (λ low. rw c.in-Layout.is at (c.in_ok-offsets.ensures.bound low))
-          (λ none le. rw c.in-Layout.is at (c.in_ok-offsets.ensures.steps none le));
-      written = refl;
-    }))
+    (gives (IsSolved I C steps) names table (Feasible C) (Some offsets) None (
+      refl,
+      record {
+        planned = answer.chosen;
+        layout = answer.layout;
+        searched = layout_given I C steps
+            (λ low. rw c.in-Layout.is at (c.in_ok-offsets.ensures.bound low))
+            (λ none le. rw c.in-Layout.is at (c.in_ok-offsets.ensures.steps none le));
+      },
+    ) tt)
 
 pub returns-in_ok-file-in-Refuted : goal.returns-in_ok-file-in-Refuted
 returns-in_ok-file-in-Refuted c =
@@ -49,15 +50,15 @@ returns-in_ok-file-in-Refuted c =
     c.one_write-in-Refuted.result
     (with_files (write_of c.in_ok-file-in-Refuted.file) (log_file names.log log) [] [] (Infeasible C)
     c.one_write-in-Refuted.result c.in_ok-file-in-Refuted.ensures.file refl c.one_write-in-Refuted.ensures)
-    (inr (inl (record {
-      refutation = log;
-      refuted = refuted;
-      by_bound = λ low. rw c.in-Refuted.is at (c.in_ok-offsets.ensures.bound low);
-      searched = λ le. rw c.in-Refuted.is at (c.in_ok-offsets.ensures.steps
-          (no_start I C (sound_instance I c.len-count.ensures.buffers) refuted.infeasible) le);
-      readable = c.in_ok-file-in-Refuted.ensures.readable;
-      written = refl;
-    })))
+    (gives (IsSolved I C steps) names c.args.table.now (Infeasible C) None (Some log) (
+      refl,
+      record {
+        refuted = refuted;
+        by_bound = λ low. rw c.in-Refuted.is at (c.in_ok-offsets.ensures.bound low);
+        searched = λ le. rw c.in-Refuted.is at (c.in_ok-offsets.ensures.steps
+            (no_start I C (sound_instance I c.len-count.ensures.buffers) refuted.infeasible) le);
+      },
+    ) c.in_ok-file-in-Refuted.ensures.readable)
 
 pub returns-in-Open : goal.returns-in-Open
 returns-in-Open c =
@@ -68,7 +69,7 @@ returns-in-Open c =
     let I = c.args.instance.now in
     let b = c.in-Open.bracket in
     told_by (Solves C steps names table I)
-    (writes (layout_file names.output table b.layout.items ∷ log_files names.log b.log) (Open b.low b.high))
+    (writes (answer_files names table (Some b.layout.items) b.log) (Open b.low b.high))
     (AllReadBack b.log) c.both_files.result c.both_files.ensures.files c.both_files.ensures.readable
-    (λ readable. inr (inr (leaves_open C steps names table I b (rw c.in-Open.is at c.in_ok-offsets.ensures.value)
-    readable)))
+    (gives (IsSolved I C steps) names table (Open b.low b.high) (Some b.layout.items) b.log
+    (undecided C steps I b (rw c.in-Open.is at c.in_ok-offsets.ensures.value)))

@@ -19,6 +19,6 @@ returns-clause-choice g c = choice (map string_bytes c.args.words.now) (g.F.File
     c.execute.result c.execute.ensures
 
 pub returns-clause-complete : goal.returns-clause-complete
-returns-clause-complete g c = λ request I is ready calm. concluded (g.F.Files.seen c.args.files.now)
-    (g.F.Files.seen c.execute.new.files) (g.S.Sink.seen c.args.out.now) (g.S.Sink.seen c.execute.new.out) I
-    (map string_bytes c.args.words.now) request is ready calm c.execute.result c.execute.ensures
+returns-clause-complete g c = λ request is calm. concluded (g.F.Files.seen c.args.files.now)
+    (g.F.Files.seen c.execute.new.files) (g.S.Sink.seen c.args.out.now) (g.S.Sink.seen c.execute.new.out)
+    (map string_bytes c.args.words.now) request is calm c.execute.result c.execute.ensures
