@@ -45,10 +45,10 @@ module _ (I : Instance) (C : ℕ) (levels : List ℕ) where
     none = λ l h e i. inl (a.all e.0 (let p = level_inside I l levels h e.0 (in_buffers l e i) in omega (arith, p)));
   }
 
-  module _ (rest more : List ℕ) (b level : ℕ) (q : rest ≡ b ∷ more) (is : level ≡ slice_index levels b) where
+  module _ (rest more : List ℕ) (b level : ℕ) (q : rest ≡ b ∷ more) (is : level ≡ slice_index levels b)
+      (some : 0 < level) where
     -- one more buffer that is not
-    pub next_fits : (0 < level → level - 1 + (buffer I b).size ≤ C) → NoneAmong I C levels rest →
-        NoneAmong I C levels more
+    pub next_fits : level - 1 + (buffer I b).size ≤ C → NoneAmong I C levels rest → NoneAmong I C levels more
     next_fits fits h = record {
       rises = (subst (λ (bs : List ℕ). Rises bs) q h.rises).1;
       none = λ l a e i. elim (h.none l a e i) [
@@ -63,19 +63,17 @@ module _ (I : Instance) (C : ℕ) (levels : List ℕ) where
             let m = level_inside I l levels a e.0 (in_buffers l e i) in
             let z : slice_index levels e.0 ≡ slice_index levels b = ap (slice_index levels) p in
             let s : (buffer I e.0).size ≡ (buffer I b).size = ap (λ (n : ℕ). (buffer I n).size) p in
-            let k = fits (omega (arith, m, z, is)) in
-            fits_is I C l levels a e (omega (arith, u, m, z, s, is, k))
+            fits_is I C l levels a e (omega (arith, u, m, z, s, is, fits))
 
     -- the first one that is
-    pub first_ends : (0 < level) × (C < level - 1 + (buffer I b).size) → NoneAmong I C levels rest →
-        (l : Claim) → AreLevels I l levels → Some b ≡ least_buffer (is_tall I C) l
+    pub first_ends : C < level - 1 + (buffer I b).size → NoneAmong I C levels rest → (l : Claim) →
+        AreLevels I l levels → Some b ≡ least_buffer (is_tall I C) l
     first_ends ends h l a =
-        let more_than = ends.0 in
-        let has = has_level I l levels a b (omega (arith, is, more_than)) in
+        let has = has_level I l levels a b (omega (arith, is, some)) in
         let rising = subst (λ (bs : List ℕ). Rises bs) q h.rises in
         first_passes (is_tall I C) l b a.claim.rises has
         (ends_is I C l levels a (entry_of l b)
-        (let p = level_inside I l levels a b has in let k = ends.1 in omega (arith, p, is, k)))
+        (let p = level_inside I l levels a b has in omega (arith, p, is, ends)))
         (λ e i lt. elim (h.none l a e i) [
           | inl j ↦ absurd (elim (subst (IsIn e.0) q j) [
             | inl p ↦ omega (arith, p, lt)

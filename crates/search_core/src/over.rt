@@ -19,20 +19,18 @@ use refute_log::Line;
 use skyline::Skyline;
 use std::alloc::Global;
 
-/// Whether the buffer has a level, and ends above the capacity there. Where one of the greatest
-/// size does not, its own size is not looked up.
+/// Whether the buffer, which has this level, ends above the capacity. Where one of the greatest size
+/// does not, its own size is not looked up.
 fn is_tall(task: &Task, b: u32, level: u64) -> bool
     requires b_in { b < length task.now.instance.now }
+    requires some { 0 < level }
     requires limit { level ≤ 2 ^ 55 }
-    ensures some { result ≡ true → (0 < level) ×
-        (task.now.capacity < level - 1 + (buffer_at task.now.instance.now b).size) }
-    ensures none { result ≡ false → 0 < level →
+    ensures some { result ≡ true →
+        task.now.capacity < level - 1 + (buffer_at task.now.instance.now b).size }
+    ensures none { result ≡ false →
         level - 1 + (buffer_at task.now.instance.now b).size ≤ task.now.capacity }
 {
     if level + task.size <= task.capacity + 1 {
-        return false;
-    }
-    if level == 0 {
         return false;
     }
     task.capacity < level - 1 + task.instance.buffer(b).size()

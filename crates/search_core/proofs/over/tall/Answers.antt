@@ -1,9 +1,10 @@
-use Rattle.std.proofs.Common.{arith, slice_index}
+use Rattle.std.proofs.Common.{◌<◌, arith, slice_index}
 use Rattle.dsa_terms.proofs.Places.{in_at}
 use Rattle.line_index.proofs.Finding.{next_of, none_of}
 use Rattle.search_core.proofs.LeftBuffers.{left_within}
 use Rattle.search_core.proofs.TallLevels.{all_fit, first_ends, next_fits, none_at_first, none_ends}
 use Rattle.search_core.proofs.over.tall.Goals as goal
+use Rattle.search_core.proofs.over.tall.Goals.{After-at}
 
 pub returns-then-top-task : goal.returns-then-top-task
 returns-then-top-task c = λ k h. all_fit c.args.task.now.instance.now c.args.task.now.capacity k c.args.levels.now h
@@ -12,6 +13,15 @@ returns-then-top-task c = λ k h. all_fit c.args.task.now.instance.now c.args.ta
 pub loop-i-init : goal.loop-i-init
 loop-i-init c = none_at_first c.args.task.now.instance.now c.args.task.now.capacity c.args.levels.now
     c.left-left.result.now c.left-left.ensures
+
+some : (c : After-at) → 0 < c.at.result
+some c =
+    let left = c.left-left.result.now in
+    let more = c.left-left.ensures.some (slice_index left c.loop-i.i) (in_at left c.loop-i.i 0 c.loop-i-test.true) in
+    omega (arith, more, c.at.ensures.value)
+
+pub is_tall-requires-clause-some : goal.is_tall-requires-clause-some
+is_tall-requires-clause-some c = some (goal.at.is_tall-requires-clause-some c).After-at
 
 pub is_tall-requires-clause-b_in : goal.is_tall-requires-clause-b_in
 is_tall-requires-clause-b_in c =
@@ -24,12 +34,12 @@ is_tall-requires-clause-b_in c =
 pub loop-i-preserved : goal.loop-i-preserved
 loop-i-preserved c = next_fits c.args.task.now.instance.now c.args.task.now.capacity c.args.levels.now _ _ _
     c.at.result (next_of c.left-left.result.now c.loop-i.i c.loop-i-test.true) c.at.ensures.value
-    (c.is_tall.ensures.none c.if-is_tall.false) c.loop-i.invariant
+    (some (goal.at.loop-i-preserved c).After-at) (c.is_tall.ensures.none c.if-is_tall.false) c.loop-i.invariant
 
 pub returns-then-is_tall : goal.returns-then-is_tall
 returns-then-is_tall c = λ k h. first_ends c.args.task.now.instance.now c.args.task.now.capacity c.args.levels.now _ _ _
     c.at.result (next_of c.left-left.result.now c.loop-i.i c.loop-i-test.true) c.at.ensures.value
-    (c.is_tall.ensures.some c.if-is_tall.true) c.loop-i.invariant k h
+    (some (goal.at.returns-then-is_tall c).After-at) (c.is_tall.ensures.some c.if-is_tall.true) c.loop-i.invariant k h
 
 pub returns : goal.returns
 returns c = λ k h. none_ends c.args.task.now.instance.now c.args.task.now.capacity c.args.levels.now _
