@@ -1,54 +1,43 @@
-use Rattle.std.proofs.Common.{◌∙◌, length, refl, arith}
+use Rattle.std.proofs.Common.{◌+◌, ◌∙◌, ◌≤◌, length, refl, arith}
+use Rattle.dsa_terms.specs.Parts.{whole_work}
 use Rattle.search_core.proofs.Counting.{more_by_after}
 use Rattle.search_core.proofs.Joining.{all_joined, all_taken, all_work, is_part, joining_next, part_refuted, part_work}
 use Rattle.search_core.proofs.Taking.{more_after}
 use Rattle.search_core.proofs.whole.search_parts.Goals as goal
+use Rattle.search_core.proofs.whole.search_parts.Goals.{After-search_part}
 
 pub search_part-requires-clause-part : goal.search_part-requires-clause-part
 search_part-requires-clause-part c =
     rw c.members.ensures.value (is_part c.args.task.now.instance.now c.args.task.now.capacity c.args.parts.now
     c.loop-p.p c.requires.parts (omega arith))
 
-pub returns-in_err-found-clause-used : goal.returns-in_err-found-clause-used
-returns-in_err-found-clause-used c =
+-- how many units are used once the next part is searched
+used : (c : After-search_part) → c.search_part.new.meter.used ≤ c.args.meter.now.used
+    + whole_work c.args.task.now.instance.now c.args.task.now.capacity
+used c =
     let n = part_work c.args.task.now.instance.now c.args.task.now.capacity c.args.parts.now c.loop-p.p
-    c.loop-p.seats.items c.args.meter.now c.loop-p.meter c.requires.parts
-    (omega arith) c.loop-p.invariant in
+    c.loop-p.seats.items c.args.meter.now c.loop-p.meter c.requires.parts (omega arith) c.loop-p.invariant in
     let u = rw c.members.ensures.value at c.search_part.ensures.used in
-    omega arith
+    omega (arith, n, u)
+
+pub returns-in_err-found-clause-used : goal.returns-in_err-found-clause-used
+returns-in_err-found-clause-used c = used (goal.at.returns-in_err-found-clause-used c).After-search_part
 
 pub returns-in_err-extend_from_slice-in-Seats-clause-used : goal.returns-in_err-extend_from_slice-in-Seats-clause-used
-returns-in_err-extend_from_slice-in-Seats-clause-used c =
-    let n = part_work c.args.task.now.instance.now c.args.task.now.capacity c.args.parts.now c.loop-p.p
-    c.loop-p.seats.items c.args.meter.now c.loop-p.meter c.requires.parts
-    (omega arith) c.loop-p.invariant in
-    let u = rw c.members.ensures.value at c.search_part.ensures.used in
-    omega arith
+returns-in_err-extend_from_slice-in-Seats-clause-used c = used (goal.at.returns-in_err-extend_from_slice-in-Seats-clause-used c).After-search_part
 
 pub returns-in-Refuted-clause-used : goal.returns-in-Refuted-clause-used
-returns-in-Refuted-clause-used c =
-    let n = part_work c.args.task.now.instance.now c.args.task.now.capacity c.args.parts.now c.loop-p.p
-    c.loop-p.seats.items c.args.meter.now c.loop-p.meter c.requires.parts
-    (omega arith) c.loop-p.invariant in
-    let u = rw c.members.ensures.value at c.search_part.ensures.used in
-    omega arith
+returns-in-Refuted-clause-used c = used (goal.at.returns-in-Refuted-clause-used c).After-search_part
 
 pub returns-in-Spent-clause-used : goal.returns-in-Spent-clause-used
-returns-in-Spent-clause-used c =
-    let n = part_work c.args.task.now.instance.now c.args.task.now.capacity c.args.parts.now c.loop-p.p
-    c.loop-p.seats.items c.args.meter.now c.loop-p.meter c.requires.parts
-    (omega arith) c.loop-p.invariant in
-    let u = rw c.members.ensures.value at c.search_part.ensures.used in
-    omega arith
+returns-in-Spent-clause-used c = used (goal.at.returns-in-Spent-clause-used c).After-search_part
 
 pub returns-in-Spent-clause-spent : goal.returns-in-Spent-clause-spent
 returns-in-Spent-clause-spent c =
     let n = part_work c.args.task.now.instance.now c.args.task.now.capacity c.args.parts.now c.loop-p.p
-    c.loop-p.seats.items c.args.meter.now c.loop-p.meter c.requires.parts
-    (omega arith) c.loop-p.invariant in
-    let u = rw c.members.ensures.value at c.search_part.ensures.used in
+    c.loop-p.seats.items c.args.meter.now c.loop-p.meter c.requires.parts (omega arith) c.loop-p.invariant in
     let s = rw (c.in-Spent.is, c.members.ensures.value) at c.in_ok-found.ensures.spent in
-    (s.0, omega (arith, s.1))
+    (s.0, omega (arith, n, s.1))
 
 pub returns-in-Refuted-clause-decided : goal.returns-in-Refuted-clause-decided
 returns-in-Refuted-clause-decided c =
@@ -95,11 +84,9 @@ pub returns-clause-decided : goal.returns-clause-decided
 returns-clause-decided c =
     rw (c.in_ok-offsets.ensures, c.deref-2.ensures.value)
     (all_joined c.args.task.now.instance.now c.args.task.now.capacity c.args.parts.now c.loop-p.p c.loop-p.seats.items
-    c.args.meter.now c.loop-p.meter c.requires.parts
-    (omega arith) c.loop-p.invariant)
+    c.args.meter.now c.loop-p.meter c.requires.parts (omega arith) c.loop-p.invariant)
 
 pub returns-clause-taken : goal.returns-clause-taken
 returns-clause-taken c =
     all_taken c.args.task.now.instance.now c.args.task.now.capacity c.args.parts.now c.loop-p.p c.loop-p.seats.items
-    c.args.meter.now c.loop-p.meter c.requires.parts
-    (omega arith) c.loop-p.invariant
+    c.args.meter.now c.loop-p.meter c.requires.parts (omega arith) c.loop-p.invariant

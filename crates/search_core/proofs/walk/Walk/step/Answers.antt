@@ -1,123 +1,113 @@
-use Rattle.std.proofs.Common.{◌+◌, ap, arith, length}
+use Rattle.std.proofs.Common.{◌+◌, ◌≤◌, ap, arith, length}
 use Rattle.skyline.specs.Skies.{last_claim}
-use Rattle.search_core.specs.Descents.{above_of, claim_at}
+use Rattle.canonical_order.specs.Stands.{Stands}
+use Rattle.line_index.specs.Watches.{AreWatched}
+use Rattle.search_core.specs.Descents.{above_of, claim_at, owed, sky_root}
+use Rattle.search_core.specs.Logs.{Extends}
 use Rattle.search_core.specs.Walks.{place_of, place_on}
+use Rattle.search_core.specs.Watches.{AreWatchedAt}
 use Rattle.search_core.proofs.Counting.{counted_with}
 use Rattle.search_core.proofs.Descent.{is_instance}
-use Rattle.search_core.proofs.Descending.{are_raised, under_last, back_noted, path_still}
+use Rattle.search_core.proofs.Descending.{IsBack, are_raised, under_last, back_noted, path_still}
 use Rattle.search_core.proofs.Growing.{extends_along}
 use Rattle.search_core.proofs.Stepping.{asked_above, grown_below, is_back_from, known_line, on_back, on_line, root_refuted, some_owed}
 use Rattle.search_core.proofs.Watched.{all_watched_pop}
 use Rattle.search_core.proofs.walk.Walk.step.Goals as goal
+use Rattle.search_core.proofs.walk.Walk.step.Goals.{In-None, In-Some-2, In_ok-k-in-None}
 
 -- ---- back
-pub chosen-requires : goal.chosen-requires
-chosen-requires c =
-    let I = c.args.task.now.instance.now in
-    let C = c.args.task.now.capacity in
-    let p = c.requires.place in
-    let f = c.in-Some-2.frame in
-    let lines = c.args.log.now.lines in
-    let here = place_of c.args.self.now in
-    let popped = place_on c.go_back.new.self c.args.self.now.line in
+-- what is known of the claim that the search is back at
+back : (c : In-Some-2) → IsBack c.args.task.now.instance.now c.args.task.now.capacity c.args.log.now.lines
+    (place_of c.args.self.now) (place_on c.go_back.new.self c.args.self.now.line) c.in-Some-2.frame
+back c = is_back_from c.args.task.now.instance.now c.args.task.now.capacity c.args.log.now.lines c.args.self.now.path
+    c.go_back.new.self c.args.self.now.line c.in-Some-2.frame c.requires.place.path
+    (rw c.in-Some-2.is at c.in_ok-frame-in-Some.ensures.some)
+
+-- and what is watched above it and there
+watched : (c : In-Some-2) → AreWatchedAt c.args.log.now.lines c.args.self.now.watches c.go_back.new.self.frames
+    × AreWatched c.args.log.now.lines c.args.self.now.watches c.in-Some-2.frame.levels c.in-Some-2.frame.asked
+watched c =
     let off = rw c.in-Some-2.is at c.in_ok-frame-in-Some.ensures.some in
-    let b = is_back_from I C lines c.args.self.now.path c.go_back.new.self c.args.self.now.line f p.path off in
-    b.standing.is_left
+    all_watched_pop c.args.log.now.lines c.args.self.now.watches c.args.self.now.path.frames c.go_back.new.self.frames
+    c.in-Some-2.frame off.frames c.requires.watched
+
+pub chosen-requires : goal.chosen-requires
+chosen-requires c = (back (goal.at.chosen-requires c).In-Some-2).standing.is_left
 
 pub note-requires-in-Some-2 : goal.note-requires-in-Some-2
-note-requires-in-Some-2 c =
-    let I = c.args.task.now.instance.now in
-    let C = c.args.task.now.capacity in
-    let p = c.requires.place in
-    let f = c.in-Some-2.frame in
-    let lines = c.args.log.now.lines in
-    let off = rw c.in-Some-2.is at c.in_ok-frame-in-Some.ensures.some in
-    let b = is_back_from I C lines c.args.self.now.path c.go_back.new.self c.args.self.now.line f p.path off in
-    b.standing.is_left
+note-requires-in-Some-2 c = (back (goal.at.note-requires-in-Some-2 c).In-Some-2).standing.is_left
 
 pub resume-requires-clause-watched : goal.resume-requires-clause-watched
-resume-requires-clause-watched c =
-    let off = rw c.in-Some-2.is at c.in_ok-frame-in-Some.ensures.some in
-    (all_watched_pop c.args.log.now.lines c.args.self.now.watches c.args.self.now.path.frames c.go_back.new.self.frames
-    c.in-Some-2.frame off.frames c.requires.watched).0
+resume-requires-clause-watched c = (watched (goal.at.resume-requires-clause-watched c).In-Some-2).0
 
 pub resume-requires-clause-held : goal.resume-requires-clause-held
 resume-requires-clause-held c =
-    let off = rw c.in-Some-2.is at c.in_ok-frame-in-Some.ensures.some in
-    rw c.in_ok-note-in-Some-2.ensures
-    (all_watched_pop c.args.log.now.lines c.args.self.now.watches c.args.self.now.path.frames c.go_back.new.self.frames
-    c.in-Some-2.frame off.frames c.requires.watched).1
+    rw c.in_ok-note-in-Some-2.ensures (watched (goal.at.resume-requires-clause-held c).In-Some-2).1
 
 pub resume-requires-clause-opened : goal.resume-requires-clause-opened
 resume-requires-clause-opened c =
     let I = c.args.task.now.instance.now in
     let C = c.args.task.now.capacity in
-    let p = c.requires.place in
-    let f = c.in-Some-2.frame in
     let lines = c.args.log.now.lines in
     let here = place_of c.args.self.now in
     let popped = place_on c.go_back.new.self c.args.self.now.line in
-    let off = rw c.in-Some-2.is at c.in_ok-frame-in-Some.ensures.some in
-    let b = is_back_from I C lines c.args.self.now.path c.go_back.new.self c.args.self.now.line f p.path off in
+    let b = back (goal.at.resume-requires-clause-opened c).In-Some-2 in
     rw c.in_ok-note-in-Some-2.ensures (record {
       path = b.path;
       not_empty = b.not_empty;
-      trying = back_noted I C lines here popped f c.in-Some.k b
-          (known_line I C lines here p c.in-Some.k c.in-Some.is);
+      trying = back_noted I C lines here popped c.in-Some-2.frame c.in-Some.k b
+          (known_line I C lines here c.requires.place c.in-Some.k c.in-Some.is);
     })
 
 pub returns-in_ok-resume-in-Some-2-clause-grown : goal.returns-in_ok-resume-in-Some-2-clause-grown
 returns-in_ok-resume-in-Some-2-clause-grown c =
-    let I = c.args.task.now.instance.now in
-    let C = c.args.task.now.capacity in
-    let p = c.requires.place in
-    let f = c.in-Some-2.frame in
-    let lines = c.args.log.now.lines in
-    let here = place_of c.args.self.now in
-    let popped = place_on c.go_back.new.self c.args.self.now.line in
-    let off = rw c.in-Some-2.is at c.in_ok-frame-in-Some.ensures.some in
-    let b = is_back_from I C lines c.args.self.now.path c.go_back.new.self c.args.self.now.line f p.path off in
-    rw b.root (grown_below I C lines c.resume.new.log.lines popped b.path c.in_ok-resume-in-Some-2.ensures.grown)
+    let b = back (goal.at.returns-in_ok-resume-in-Some-2-clause-grown c).In-Some-2 in
+    rw b.root (grown_below c.args.task.now.instance.now c.args.task.now.capacity c.args.log.now.lines
+    c.resume.new.log.lines (place_on c.go_back.new.self c.args.self.now.line) b.path
+    c.in_ok-resume-in-Some-2.ensures.grown)
 
 pub returns-in_ok-resume-in-Some-2-clause-turned : goal.returns-in_ok-resume-in-Some-2-clause-turned
 returns-in_ok-resume-in-Some-2-clause-turned c =
-    let I = c.args.task.now.instance.now in
-    let C = c.args.task.now.capacity in
-    let p = c.requires.place in
-    let f = c.in-Some-2.frame in
-    let lines = c.args.log.now.lines in
-    let here = place_of c.args.self.now in
-    let popped = place_on c.go_back.new.self c.args.self.now.line in
     let off = rw c.in-Some-2.is at c.in_ok-frame-in-Some.ensures.some in
-    let b = is_back_from I C lines c.args.self.now.path c.go_back.new.self c.args.self.now.line f p.path off in
-    on_back I C lines here p c.resume.new.log.lines popped
-    (place_of c.resume.new.self) f
-    c.in-Some.k c.args.meter.now c.in-Some.is off.frames b
+    on_back c.args.task.now.instance.now c.args.task.now.capacity c.args.log.now.lines (place_of c.args.self.now)
+    c.requires.place c.resume.new.log.lines (place_on c.go_back.new.self c.args.self.now.line)
+    (place_of c.resume.new.self) c.in-Some-2.frame c.in-Some.k c.args.meter.now c.in-Some.is off.frames
+    (back (goal.at.returns-in_ok-resume-in-Some-2-clause-turned c).In-Some-2)
     (rw c.in_ok-note-in-Some-2.ensures at c.in_ok-resume-in-Some-2.ensures.ahead)
 
 pub returns-in_ok-resume-in-Some-2-clause-watched : goal.returns-in_ok-resume-in-Some-2-clause-watched
 returns-in_ok-resume-in-Some-2-clause-watched c =
-    let off = rw c.in-Some-2.is at c.in_ok-frame-in-Some.ensures.some in
-    let w = all_watched_pop c.args.log.now.lines c.args.self.now.watches c.args.self.now.path.frames
-    c.go_back.new.self.frames c.in-Some-2.frame off.frames c.requires.watched in
+    let w = watched (goal.at.returns-in_ok-resume-in-Some-2-clause-watched c).In-Some-2 in
     c.in_ok-resume-in-Some-2.ensures.watched w.0 (rw c.in_ok-note-in-Some-2.ensures w.1)
 
 pub returns-in-None-2-clause-turned : goal.returns-in-None-2-clause-turned
 returns-in-None-2-clause-turned c =
-    let here = place_of c.args.self.now in
     let none = rw c.in-None-2.is at c.in_ok-frame-in-Some.ensures.none in
     record {
-      found = root_refuted c.args.task.now.instance.now c.args.task.now.capacity c.args.log.now.lines here
-          c.requires.place c.in-Some.k c.in-Some.is none.0;
+      found = root_refuted c.args.task.now.instance.now c.args.task.now.capacity c.args.log.now.lines
+          (place_of c.args.self.now) c.requires.place c.in-Some.k c.in-Some.is none.0;
       spent = tt;
     }
 
 -- ---- forth
+-- the claim that the search is at
+stands : (c : In-None) → Stands c.args.task.now.instance.now (last_claim c.args.self.now.path.sky.claims)
+stands c = rw (c.instance.ensures.value, c.requires.place.path.subject) at c.instance.ensures.stands
+
+-- it is left to look at
+some : (c : In-None) → 1 ≤ owed c.args.task.now.instance.now c.args.task.now.capacity (place_of c.args.self.now)
+some c = some_owed c.args.task.now.instance.now c.args.task.now.capacity c.args.log.now.lines (place_of c.args.self.now)
+    c.requires.place c.in-None.is (stands c).claim
+
+-- what the log has once it is opened
+grown : (c : In_ok-k-in-None) → Extends (sky_root c.args.self.now.path.sky) c.args.log.now.lines c.open.new.log.lines
+grown c = grown_below c.args.task.now.instance.now c.args.task.now.capacity c.args.log.now.lines c.open.new.log.lines
+    (place_of c.args.self.now) c.requires.place.path c.in_ok-k-in-None.ensures.grown
+
 pub open-requires-clause-latest : goal.open-requires-clause-latest
 open-requires-clause-latest c =
-    let here = place_of c.args.self.now in
-    (asked_above c.args.task.now.instance.now c.args.task.now.capacity c.args.log.now.lines here c.requires.place
-    c.in-None.is)
+    asked_above c.args.task.now.instance.now c.args.task.now.capacity c.args.log.now.lines (place_of c.args.self.now)
+    c.requires.place c.in-None.is
 
 pub open-requires-clause-under : goal.open-requires-clause-under
 open-requires-clause-under c =
@@ -128,20 +118,14 @@ open-requires-clause-under c =
 pub open-requires-clause-raised : goal.open-requires-clause-raised
 open-requires-clause-raised c = λ levels a.
     let I = c.args.task.now.instance.now in
-    let l = last_claim c.args.self.now.path.sky.claims in
-    let p = c.requires.place.path in
-    let s = rw (c.instance.ensures.value, p.subject) at c.instance.ensures.stands in
-    (are_raised I c.args.task.now.capacity c.args.log.now.lines l levels (above_of c.args.self.now.path.sky.claims)
-    c.args.self.now.path.frames (is_instance I l s) p.descends a)
+    let path = c.args.self.now.path in
+    let l = last_claim path.sky.claims in
+    are_raised I c.args.task.now.capacity c.args.log.now.lines l levels (above_of path.sky.claims) path.frames
+    (is_instance I l (stands (goal.at.open-requires-clause-raised c).In-None)) c.requires.place.path.descends a
 
 pub returns-in_err-k-in-None-clause-used : goal.returns-in_err-k-in-None-clause-used
 returns-in_err-k-in-None-clause-used c =
-    let p = c.requires.place in
-    let s = rw (c.instance.ensures.value, p.path.subject) at c.instance.ensures.stands in
-    let here = place_of c.args.self.now in
-    let o = some_owed c.args.task.now.instance.now c.args.task.now.capacity c.args.log.now.lines here p c.in-None.is
-    s.claim in
-    omega (arith, o, c.open.ensures.one)
+    omega (arith, some (goal.at.returns-in_err-k-in-None-clause-used c).In-None, c.open.ensures.one)
 
 pub begin-requires-clause-first : goal.begin-requires-clause-first
 begin-requires-clause-first c = (rw c.in-Choices.is at c.in_ok-k-in-None.ensures.opened).0
@@ -164,35 +148,20 @@ begin-requires-clause-ready c =
 
 pub returns-in_err-seats-in-Empty-clause-used : goal.returns-in_err-seats-in-Empty-clause-used
 returns-in_err-seats-in-Empty-clause-used c =
-    let p = c.requires.place in
-    let s = rw (c.instance.ensures.value, p.path.subject) at c.instance.ensures.stands in
-    let here = place_of c.args.self.now in
-    let o = some_owed c.args.task.now.instance.now c.args.task.now.capacity c.args.log.now.lines here p c.in-None.is
-    s.claim in
-    omega (arith, o, c.open.ensures.one)
+    omega (arith, some (goal.at.returns-in_err-seats-in-Empty-clause-used c).In-None, c.open.ensures.one)
 
 pub returns-in-Line-clause-grown : goal.returns-in-Line-clause-grown
-returns-in-Line-clause-grown c =
-    let here = place_of c.args.self.now in
-    grown_below c.args.task.now.instance.now c.args.task.now.capacity c.args.log.now.lines c.open.new.log.lines here
-    c.requires.place.path c.in_ok-k-in-None.ensures.grown
+returns-in-Line-clause-grown c = grown (goal.at.returns-in-Line-clause-grown c).In_ok-k-in-None
 
 pub returns-in-Line-clause-used : goal.returns-in-Line-clause-used
 returns-in-Line-clause-used c =
-    let p = c.requires.place in
-    let s = rw (c.instance.ensures.value, p.path.subject) at c.instance.ensures.stands in
-    let here = place_of c.args.self.now in
-    let o = some_owed c.args.task.now.instance.now c.args.task.now.capacity c.args.log.now.lines here p c.in-None.is
-    s.claim in
-    omega (arith, o, c.open.ensures.one)
+    omega (arith, some (goal.at.returns-in-Line-clause-used c).In-None, c.open.ensures.one)
 
 pub returns-in-Line-clause-turned : goal.returns-in-Line-clause-turned
 returns-in-Line-clause-turned c =
-    let p = c.requires.place in
-    let s = rw (c.instance.ensures.value, p.path.subject) at c.instance.ensures.stands in
-    let here = place_of c.args.self.now in
-    on_line c.args.task.now.instance.now c.args.task.now.capacity c.args.log.now.lines here p c.open.new.log.lines
-    c.in-Line.k c.args.meter.now c.open.new.meter c.in-None.is s.claim c.in_ok-k-in-None.ensures.grown
+    on_line c.args.task.now.instance.now c.args.task.now.capacity c.args.log.now.lines (place_of c.args.self.now)
+    c.requires.place c.open.new.log.lines c.in-Line.k c.args.meter.now c.open.new.meter c.in-None.is
+    (stands (goal.at.returns-in-Line-clause-turned c).In-None).claim c.in_ok-k-in-None.ensures.grown
     (rw c.in-Line.is at c.in_ok-k-in-None.ensures.opened) c.open.ensures.one
 
 pub returns-in_ok-begin-in-Choices-clause-grown : goal.returns-in_ok-begin-in-Choices-clause-grown
@@ -206,32 +175,18 @@ returns-in_ok-begin-in-Choices-clause-grown c =
 
 pub returns-in_ok-seats-in-Empty-clause-grown : goal.returns-in_ok-seats-in-Empty-clause-grown
 returns-in_ok-seats-in-Empty-clause-grown c =
-    let here = place_of c.args.self.now in
-    grown_below c.args.task.now.instance.now c.args.task.now.capacity c.args.log.now.lines c.open.new.log.lines here
-    c.requires.place.path c.in_ok-k-in-None.ensures.grown
+    grown (goal.at.returns-in_ok-seats-in-Empty-clause-grown c).In_ok-k-in-None
 
 pub returns-in_ok-seats-in-Empty-clause-used : goal.returns-in_ok-seats-in-Empty-clause-used
 returns-in_ok-seats-in-Empty-clause-used c =
-    let p = c.requires.place in
-    let s = rw (c.instance.ensures.value, p.path.subject) at c.instance.ensures.stands in
-    let here = place_of c.args.self.now in
-    let o = some_owed c.args.task.now.instance.now c.args.task.now.capacity c.args.log.now.lines here p c.in-None.is
-    s.claim in
-    omega (arith, o, c.open.ensures.one)
+    omega (arith, some (goal.at.returns-in_ok-seats-in-Empty-clause-used c).In-None, c.open.ensures.one)
 
 pub returns-in-Spent-clause-grown : goal.returns-in-Spent-clause-grown
-returns-in-Spent-clause-grown c =
-    let here = place_of c.args.self.now in
-    grown_below c.args.task.now.instance.now c.args.task.now.capacity c.args.log.now.lines c.open.new.log.lines here
-    c.requires.place.path c.in_ok-k-in-None.ensures.grown
+returns-in-Spent-clause-grown c = grown (goal.at.returns-in-Spent-clause-grown c).In_ok-k-in-None
 
 pub returns-in-Spent-clause-turned : goal.returns-in-Spent-clause-turned
 returns-in-Spent-clause-turned c =
-    let p = c.requires.place in
-    let s = rw (c.instance.ensures.value, p.path.subject) at c.instance.ensures.stands in
-    let here = place_of c.args.self.now in
-    let o = some_owed c.args.task.now.instance.now c.args.task.now.capacity c.args.log.now.lines here p c.in-None.is
-    s.claim in
+    let o = some (goal.at.returns-in-Spent-clause-turned c).In-None in
     let h = rw c.in-Spent.is at c.in_ok-k-in-None.ensures.opened in
     record { found = tt; spent = (h.0, omega (arith, o, h.1)) }
 
