@@ -4,12 +4,12 @@ use Rattle.std.proofs.lemmas.List.{append-nil, append_assoc, get_or_past}
 use Rattle.std.specs.List.{All}
 use Rattle.dsa_terms.specs.Buffers.{Instance}
 use Rattle.dsa_terms.specs.Claims.{Claim, Entry, IsIn, Rises, buffers_of, up}
-use Rattle.dsa_terms.proofs.Lists.{from_append, from_map, left_append, right_append}
+use Rattle.dsa_terms.proofs.Lists.{from_map}
 use Rattle.dsa_terms.proofs.NumberTests.{below_or_from}
 use Rattle.dsa_model.specs.Buffer.{buffer_limit}
 use Rattle.dsa_search_laws.proofs.Placing.{in_buffers}
 use Rattle.split_sections.proofs.Lists.{rises_same}
-use Rattle.canonical_order.specs.Claims.{HasBuffer, IsBoundedBy, entry_of}
+use Rattle.canonical_order.specs.Claims.{IsBoundedBy, entry_of}
 use Rattle.canonical_order.specs.Levels.{AreLevels}
 use Rattle.canonical_order.proofs.CoverLemmas.{length_within}
 use Rattle.canonical_order.proofs.Entries.{entry_in, is_entry}

@@ -1,5 +1,5 @@
 -- The buffers that have a level: found one after another, and those that are left in a child.
-use Rattle.std.proofs.Common.{◌≡◌, ◌≢◌, ℕ, ◌+◌, ◌<◌, ◌≤◌, inl, inr, true, false, List, [], ◌∷◌, ◌++◌, length, slice_index, refl, sym, ap, ◌∙◌, subst, arith}
+use Rattle.std.proofs.Common.{◌≡◌, ◌≢◌, ℕ, ◌+◌, ◌<◌, ◌≤◌, inl, inr, true, false, List, [], ◌∷◌, ◌++◌, length, slice_index, sym, ap, ◌∙◌, subst, arith}
 use Rattle.dsa_terms.specs.Buffers.{Instance}
 use Rattle.dsa_terms.specs.Claims.{Claim, IsIn, Rises, child}
 use Rattle.dsa_terms.specs.Parts.{has}
@@ -7,7 +7,7 @@ use Rattle.dsa_terms.proofs.Lists.{from_append, has_in, in_has, left_append, rig
 use Rattle.dsa_terms.proofs.NumberTests.{below_or_last}
 use Rattle.dsa_terms.proofs.Ranges.{rises-push}
 use Rattle.lifetime.specs.Switching.{IsSwitched}
-use Rattle.canonical_order.specs.Claims.{HasBuffer, entry_of}
+use Rattle.canonical_order.specs.Claims.{entry_of}
 use Rattle.canonical_order.specs.Levels.{AreLevels}
 use Rattle.canonical_order.proofs.CoverLemmas.{from_child, in_child_by}
 use Rattle.canonical_order.proofs.LevelLemmas.{has_level, level_inside}
@@ -24,9 +24,6 @@ pub record AreLeftBelow (levels : List ℕ) (n : ℕ) (left : List ℕ) : Type 0
   pub all : (b : ℕ) → b < n → 0 < slice_index levels b → IsIn b left
 
 module _ (levels : List ℕ) where
-  pub left_none : AreLeftBelow levels 0 []
-  left_none = record { rises = tt; below = λ b i. absurd i; some = λ b i. absurd i; all = λ b lt. absurd (omega arith) }
-
   pub left_next : (n : ℕ) (before after : List ℕ) → after ≡ before ++ n ∷ [] → 0 < slice_index levels n →
       AreLeftBelow levels n before → AreLeftBelow levels (n + 1) after
   left_next n before after q more h = subst (λ (xs : List ℕ). AreLeftBelow levels (n + 1) xs) (sym q) (record {

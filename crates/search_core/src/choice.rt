@@ -1,6 +1,6 @@
 //! Which buffers of a claim the search takes first, and in which order.
 
-ghost use Rattle.std.specs.Prelude.{◌≡◌, [], length, map, not, true, is_some, IfOk, IfSome};
+ghost use Rattle.std.specs.Prelude.{◌≡◌, [], length, map, not, is_some, IfOk, IfSome};
 ghost use Rattle.dsa_terms.specs.Claims.{IsIn};
 ghost use Rattle.dsa_terms.specs.Lean.{IsOwnCite};
 ghost use Rattle.dsa_terms.specs.Logs.{IsLegalCite};

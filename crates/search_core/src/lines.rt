@@ -1,6 +1,6 @@
 //! The lines that the search appends to its log.
 
-ghost use Rattle.std.specs.Prelude.{◌≡◌, ◌+◌, ◌-◌, ◌^◌, ◌<◌, ◌≤◌, [], ◌∷◌, List, length, IfOk, OnOk};
+ghost use Rattle.std.specs.Prelude.{◌≡◌, ◌+◌, ◌-◌, ◌^◌, ◌<◌, [], ◌∷◌, List, length, IfOk, OnOk};
 ghost use Rattle.dsa_terms.specs.Buffers.{IsLive, buffer as buffer_at};
 ghost use Rattle.dsa_terms.specs.Claims.{Claim as ClaimTerm, Covers};
 ghost use Rattle.dsa_terms.specs.Logs.{IsLegal, Line as LineTerm, claim_of};

@@ -1,6 +1,6 @@
 //! Where a search is.
 
-ghost use Rattle.std.specs.Prelude.{◌≡◌, ◌<◌, ◌+◌, ◌∷◌, ◌++◌, [], length, map, IfNone, IfOk, IfSome, OnOk};
+ghost use Rattle.std.specs.Prelude.{◌≡◌, ◌<◌, ◌∷◌, ◌++◌, [], length, map, IfNone, IfOk, IfSome, OnOk};
 ghost use Rattle.dsa_terms.specs.Claims.{child};
 ghost use Rattle.dsa_terms.specs.Search.{choices, not_excluded};
 ghost use Rattle.canonical_order.specs.Claims.{HasBuffer, entry_of};

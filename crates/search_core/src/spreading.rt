@@ -1,8 +1,7 @@
 //! The levels of a child, one buffer after another.
 
-ghost use Rattle.std.specs.Prelude.{◌≡◌, ℕ, ◌+◌, ◌<◌, OnOk, slice_index};
+ghost use Rattle.std.specs.Prelude.{◌≡◌, ℕ, ◌<◌, OnOk};
 ghost use Rattle.std.specs.List.{All};
-ghost use Rattle.dsa_terms.specs.Buffers.{buffer as buffer_at};
 ghost use Rattle.dsa_terms.specs.Claims.{IsIn};
 ghost use Rattle.lifetime.specs.SectionList.{AreSectionsOf, count_of, members_of, sections_of};
 ghost use Rattle.search_core.specs.Levels.{HasLowChild, IsLeastLevel};
@@ -13,8 +12,9 @@ use crate::raising::Raising;
 use dsa_model::{Instance, NoMemory};
 use lifetime::Sections;
 
-/// Writes the level of c in the child by b, if c is in the claim. No buffer rises that is as high
-/// as the reach of b, so most are passed by with one look.
+/// Writes the level of c in the child by b, if c is in the claim. The reach of b is its level and its
+/// size: a buffer whose level is as high as that is above the end of b, and does not rise. So most
+/// are passed by with one look.
 fn raise(
     raising: &mut Raising,
     instance: &Instance,

@@ -91,7 +91,7 @@ impl<'a> Walk<'a> {
     }
 
     /// Takes the next choice of the claim for which no line is at hand, as `advance` does.
-    pub(crate) fn proceed(
+    fn proceed(
         &mut self,
         alloc: Global,
         task: &Task,

@@ -1,4 +1,4 @@
-use Rattle.std.proofs.Common.{◌<◌, ◌^◌, ◌∙◌, arith, length, slice_index, sym}
+use Rattle.std.proofs.Common.{◌<◌, ◌^◌, arith, length, slice_index}
 use Rattle.search_core.proofs.Grounding.{some_within}
 use Rattle.search_core.proofs.RaisingSteps.{raised_high, raised_still, raised_without, raised_written, raising_next, some_before, some_level}
 use Rattle.search_core.proofs.spreading.raise.Goals as goal
