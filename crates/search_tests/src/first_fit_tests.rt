@@ -1,7 +1,5 @@
 //! Worked instances, and each call that takes memory with ample memory.
 
-ghost use Rattle.std.specs.Prelude.{◌≡◌, length};
-
 use dsa_model::{BUFFER_LIMIT, Buffer, Instance};
 use first_fit::{best_fit, best_start, first_fit, first_within, starts};
 use std::alloc::Global;

@@ -1,8 +1,5 @@
 //! A worked table of pushes and pops, and a long run of them.
 
-ghost use Rattle.std.specs.Prelude.{◌<◌, IfOk};
-ghost use Rattle.std.specs.List.{All};
-ghost use Rattle.dsa_terms.specs.Claims.{Rises};
 ghost use Rattle.lifetime.specs.SectionList.{AreSectionsOf};
 
 use crate::numbers::numbers_below;

@@ -1,4 +1,4 @@
-use Rattle.std.proofs.Common.{◌<◌, length, arith}
+use Rattle.std.proofs.Common.{arith}
 use Rattle.core_find.proofs.Bounding.{whole_is_bounded}
 use Rattle.search_tests.proofs.core_find_tests.over_all.Goals as goal
 
