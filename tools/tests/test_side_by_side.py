@@ -71,12 +71,16 @@ class SideBySide(unittest.TestCase):
         self.assertTrue(all(line.endswith("--jobs 1") for line in said))
 
     def test_no_more_are_built_at_a_time_than_memory_is_there_for(self):
-        self.assertTrue(self.build([Library(f"l{k}") for k in range(9)], 4, memory=25)[0])
+        done, said = self.build([Library(f"l{k}") for k in range(9)], 4, memory=25)
+        self.assertTrue(done)
         self.assertEqual(Library.most, 2)
+        self.assertTrue(all(line.endswith("--jobs 2") for line in said[:2]))
 
     def test_a_library_that_needs_more_than_there_is_is_built_alone(self):
-        self.assertTrue(self.build([Library(f"l{k}") for k in range(3)], 4, memory=5)[0])
+        done, said = self.build([Library(f"l{k}") for k in range(3)], 4, memory=5)
+        self.assertTrue(done)
         self.assertEqual(Library.most, 1)
+        self.assertTrue(all(line.endswith("--jobs 4") for line in said))
 
     def test_a_reader_that_is_gone_ends_the_build(self):
         reader, writer = os.pipe()
