@@ -1,5 +1,5 @@
 -- Five buffers whose least capacity is 12: how `solve` goes on them from their file on.
-use Rattle.std.proofs.Common.{◌≡◌, ℕ, zero, suc, List, [], ◌∷◌, None, Some, Ok, codes, refl, sym, ap, ◌∙◌, lit<, lit≤, arith}
+use Rattle.std.proofs.Common.{◌≡◌, ℕ, zero, suc, List, [], ◌∷◌, Option, None, Some, Ok, codes, refl, sym, ap, subst, ◌∙◌, lit<, lit≤, arith}
 use Rattle.std.specs.FinMap.{empty, insert}
 use Rattle.std.specs.Fmt.{digits}
 use Rattle.csv.specs.Machine.{next_record}
@@ -7,6 +7,7 @@ use Rattle.csv.specs.Reading.{records_from, strip_bom}
 use Rattle.csv.specs.Writing.{escaped, fields_text, is_blank}
 use Rattle.dsa_terms.specs.Buffers.{IsInstance, is_live, some_before}
 use Rattle.dsa_terms.specs.Layouts.{IsLayout}
+use Rattle.dsa_terms.specs.Logs.{Log}
 use Rattle.dsa_terms.proofs.ExamplePlanFacts.{five_plan_at_11, five_plan_at_12}
 use Rattle.dsa_terms.proofs.Examples.{five}
 use Rattle.dsa_model.specs.Buffer.{is_ever_live}
@@ -17,12 +18,13 @@ use Rattle.csv_instance.specs.Layout.{layout_text}
 use Rattle.csv_instance.specs.Parse.{parse}
 use Rattle.csv_instance.specs.Records.{Record, table_of}
 use Rattle.run_status.specs.declared.status.Role.TheVariants.{Output}
+use Rattle.run_status.specs.declared.status.Status.{Status}
 use Rattle.run_status.specs.declared.status.Status.TheVariants.{Feasible}
-use Rattle.run_course.specs.Course.{Comes, Concludes, Outcome, writes}
+use Rattle.run_course.specs.Course.{Comes, Concludes, Outcome, says, writes}
 use Rattle.readings.specs.Opens.{IsInput}
 use Rattle.readings.proofs.Opening.{with_input}
 use Rattle.writings.specs.Writings.{Names}
-use Rattle.deciding.specs.Deciding.{IsPlanWithin, Solves, answer_files, solve}
+use Rattle.deciding.specs.Deciding.{IsPlanWithin, IsSolved, Solves, answer_files, solve}
 
 -- ---- the table
 abbrev five_file : List ℕ
@@ -94,8 +96,17 @@ not_at_11 : (offsets : List ℕ) → IsPlanWithin five 11 None offsets → ⊥
 not_at_11 offsets h = let e = sym five_plan_at_11 ∙ h.planned in absurd cc
 
 -- the layout has to be written
-not_without_a_write : answer_files names five_rows (Some at_12) None ≡ [] → ⊥
-not_without_a_write e = absurd cc
+written_12 : (layout : Option (List ℕ)) (log : Option Log) → IsSolved five 12 None (Feasible 12) layout log →
+    [] ≡ answer_files names five_rows layout log → ⊥
+written_12 None log a w = a
+written_12 (Some offsets) None a w = absurd cc
+written_12 (Some offsets) (Some log) a w = a
+
+not_without_a_write : Solves 12 None names five_rows five (says (Feasible 12)) → ⊥
+not_without_a_write h =
+    let same = sym (ap (λ (o : Outcome). o.status) h.written) in
+    written_12 h.layout h.log (subst (λ (s : Status). IsSolved five 12 None s h.layout h.log) same h.answer)
+    (ap (λ (o : Outcome). o.writes) h.written)
 
 -- ---- from the file on
 abbrev files : FilesSeen

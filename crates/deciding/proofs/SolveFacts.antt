@@ -1,5 +1,5 @@
 -- What `solve` concludes of two buffers whose best start ends at 5, and whose lower bound and least capacity are 4.
-use Rattle.std.proofs.Common.{◌≡◌, ℕ, List, length, map, [], ◌∷◌, Some, None, refl, sym, ap, ap₂, codes, lit≤, arith}
+use Rattle.std.proofs.Common.{◌≡◌, ℕ, List, length, map, [], ◌∷◌, Option, Some, None, refl, sym, ap, ap₂, subst, codes, lit≤, arith}
 use Rattle.dsa_terms.specs.Bounds.{counted, highest_stack, lower_bound, moduli, moments, rounded_size, stack, pile, heights, highest_at}
 use Rattle.dsa_terms.specs.Buffers.{buffer, is_live, floor}
 use Rattle.dsa_terms.specs.Logs.{Log}
@@ -10,6 +10,7 @@ use Rattle.planner.proofs.ExampleLeastFacts.{below_best, below_bound}
 use Rattle.planner.proofs.ShortageFacts.{four_of_four, short_of_four_steps}
 use Rattle.planner.proofs.StepFacts.{laid_at_4, none_within_4}
 use Rattle.run_status.specs.declared.status.Role.TheVariants as role
+use Rattle.run_status.specs.declared.status.Status.{Status}
 use Rattle.run_status.specs.declared.status.Status.TheVariants.{Feasible, Infeasible, Least, Open}
 use Rattle.run_course.specs.Course.{Outcome, Write, writes}
 use Rattle.writings.specs.Writings.{Names, layout_file, log_file}
@@ -77,8 +78,18 @@ roles_differ : role.Output ∷ [] ≡ role.Log ∷ [] → ⊥
 roles_differ e = absurd cc
 
 -- the log goes to its own file
-not_to_the_output : answer_files names below_rows None (Some three_log) ≡ to_output three_file ∷ [] → ⊥
-not_to_the_output is = roles_differ (ap (map (λ (w : Write). w.role)) (sym is))
+to_its_own : (layout : Option (List ℕ)) (log : Option Log) → IsSolved small_below 3 None (Infeasible 3) layout log →
+    to_output three_file ∷ [] ≡ answer_files names below_rows layout log → ⊥
+to_its_own None None a w = a
+to_its_own None (Some log) a w = roles_differ (ap (map (λ (w : Write). w.role)) w)
+to_its_own (Some offsets) log a w = a
+
+not_to_the_output :
+    Solves 3 None names below_rows small_below (writes (to_output three_file ∷ []) (Infeasible 3)) → ⊥
+not_to_the_output h =
+    let same = sym (ap (λ (o : Outcome). o.status) h.written) in
+    to_its_own h.layout h.log (subst (λ (s : Status). IsSolved small_below 3 None s h.layout h.log) same h.answer)
+    (ap (λ (o : Outcome). o.writes) h.written)
 
 -- four steps are too few for a log of five lines
 evens_bound : lower_bound evens ≡ 4

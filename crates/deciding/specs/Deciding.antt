@@ -30,7 +30,7 @@ abbrev pub log_files : Word → Option Log → List Write
 log_files name None = []
 log_files name (Some log) = log_file name log ∷ []
 
--- both
+-- the layout and then the log, where there are
 abbrev pub answer_files : Names → List Record → Option (List ℕ) → Option Log → List Write
 answer_files names table layout log = layout_files names.output table layout ++ log_files names.log log
 

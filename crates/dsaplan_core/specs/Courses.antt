@@ -37,7 +37,7 @@ IsAnswer verb.Least pairs I = IsSought I (number_given pairs Steps)
 IsAnswer verb.Pack pairs I = IsPacked I (number_given pairs Capacity) (number_at pairs Steps)
 IsAnswer verb pairs I = λ status layout log. ⊥
 
--- with which outcomes a command that reads no second file concludes, of the table of its instance and of that
+-- with which outcomes a command concludes that reads its instance alone, by the table and the instance
 abbrev pub ConcludesWith : Verb → List Pair → List Record → Instance → Outcome → Type 0
 ConcludesWith verb.Bounds pairs = λ table. ShowsFacts
 ConcludesWith verb.Inspect pairs = ShowsColumns

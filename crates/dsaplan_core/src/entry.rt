@@ -159,7 +159,7 @@ pub fn run<F: Files, S: Sink>(alloc: Global, words: &[String], files: &mut F, ou
 
     // Where the words are a command and nothing outside fails, the command concludes from what the
     // files that it reads hold, if they are there and within their limits, unless memory runs out:
-    // no word, file or print is blamed, and without steps 'open' never comes.
+    // no word is blamed, no file is said to be unread, too long or unwritten, nor the print.
     ensures complete { (request : RequestTerm) →
         request_of (map string_bytes words.now) ≡ Ok request →
         IsUndisturbed request

@@ -1,5 +1,5 @@
 -- What `pack` concludes of two buffers whose best start ends at 5, and whose lower bound and least capacity are 4.
-use Rattle.std.proofs.Common.{◌<◌, ◌≤◌, ℕ, List, inl, [], ◌∷◌, Option, Some, None, codes, refl, sym, ap, ap₂, lit<, lit≤, arith}
+use Rattle.std.proofs.Common.{◌<◌, ◌≤◌, ℕ, List, inl, [], ◌∷◌, Option, Some, None, codes, refl, sym, ap, ap₂, subst, lit<, lit≤, arith}
 use Rattle.std.specs.Prelude.{IfSome}
 use Rattle.dsa_terms.specs.Logs.{Log}
 use Rattle.dsa_terms.proofs.Examples.{small_below}
@@ -8,9 +8,11 @@ use Rattle.planner.proofs.StepFacts.{best_at_5, four_high, four_is_least, laid_a
 use Rattle.packer.specs.Packs.{RefutesWithin}
 use Rattle.packer.proofs.Brief.{one_line}
 use Rattle.run_status.specs.declared.status.Role.TheVariants as role
+use Rattle.run_status.specs.declared.status.Status.{Status}
 use Rattle.run_status.specs.declared.status.Status.TheVariants.{Feasible, Infeasible, Least, Open, Right}
-use Rattle.run_course.specs.Course.{Outcome, Write, writes}
+use Rattle.run_course.specs.Course.{Outcome, Write, says, writes}
 use Rattle.deciding.proofs.BelowFacts.{below_rows, four_to_five, low_file, low_text, start_file, start_text, three_by_bound, three_file, three_log, three_reads, three_refutes, three_text}
+use Rattle.deciding.specs.Deciding.{answer_files}
 use Rattle.writings.specs.Writings.{Names}
 use Rattle.packing.specs.Packing.{IsPacked, IsPackedBetween, Packs}
 
@@ -126,6 +128,19 @@ not_refuted_at_4 log h = h.1.infeasible (1 ∷ 0 ∷ []) laid_at_4
 
 not_refuted_at_3 : (log : Log) → IsPacked small_below (Some 4) 8 (Infeasible 3) None (Some log) → ⊥
 not_refuted_at_3 log h = let e = h.0 in absurd cc
+
+-- the layout has to be written
+written_5 : (layout : Option (List ℕ)) (log : Option Log) → IsPacked small_below (Some 5) 0 (Feasible 5) layout log →
+    [] ≡ answer_files names below_rows layout log → ⊥
+written_5 None log a w = a
+written_5 (Some offsets) None a w = absurd cc
+written_5 (Some offsets) (Some log) a w = a
+
+not_without_a_write : Packs (Some 5) 0 names below_rows small_below (says (Feasible 5)) → ⊥
+not_without_a_write h =
+    let same = sym (ap (λ (o : Outcome). o.status) h.written) in
+    written_5 h.layout h.log (subst (λ (s : Status). IsPacked small_below (Some 5) 0 s h.layout h.log) same h.answer)
+    (ap (λ (o : Outcome). o.writes) h.written)
 
 -- no other status is an answer
 not_right : IsPacked small_below None 8 Right None None → ⊥
