@@ -63,7 +63,9 @@ fn a_trace_is_written_as_its_instance(rt: HostRuntime) {
         if bytes.len() > 100 {
             panic!(rt; "a longer case");
         }
-        let (read, counted, text) = instance_of(rt.alloc(), bytes).expect(&rt, "an instance");
+        let (read, counted, text) = instance_of(rt.alloc(), bytes)
+            .ok()
+            .expect(&rt, "an instance");
         assert_eq!(rt; read, lines);
         assert_eq!(rt; counted, buffers);
         assert_eq!(rt; text.as_slice(), want);
@@ -138,7 +140,9 @@ fn there_are_no_more_buffers_than_an_instance_has(rt: HostRuntime) {
     if text.len() > 1000000 {
         panic!(rt; "longer lines");
     }
-    let (lines, buffers, _) = instance_of(rt.alloc(), text.as_bytes()).expect(&rt, "an instance");
+    let (lines, buffers, _) = instance_of(rt.alloc(), text.as_bytes())
+        .ok()
+        .expect(&rt, "an instance");
     assert_eq!(rt; lines, BUFFER_LIMIT);
     assert_eq!(rt; buffers, BUFFER_LIMIT);
     text.push_str("free 0\nalloc 0 8 1\n").expect(&rt, "memory");
