@@ -1,5 +1,5 @@
 -- What `pack` concludes of two buffers whose best start ends at 5, and whose lower bound and least capacity are 4.
-use Rattle.std.proofs.Common.{◌<◌, ◌≤◌, ℕ, List, inl, [], ◌∷◌, Option, Some, None, codes, refl, sym, ap, ap₂, subst, lit<, lit≤, arith}
+use Rattle.std.proofs.Common.{◌≡◌, ◌<◌, ◌≤◌, ℕ, List, inl, [], ◌∷◌, Option, Some, None, codes, refl, sym, ap, ap₂, subst, lit<, lit≤, arith}
 use Rattle.std.specs.Prelude.{IfSome}
 use Rattle.dsa_terms.specs.Logs.{Log}
 use Rattle.dsa_terms.proofs.Examples.{small_below}
