@@ -14,6 +14,7 @@ use Rattle.run_course.specs.Course.{Comes, Outcome, Write}
 use Rattle.run_course.specs.Answers.{Answers, AreBroken, Leaves, as_told, with_writes}
 use Rattle.dsaplan_core.specs.Courses.{course, course_with}
 use Rattle.dsaplan_core.specs.Theorem.{Headline}
+use Rattle.dsaplan_core.specs.Judged.{Judged}
 use Rattle.dsaplan_core.specs.Derived.{Derived}
 use Rattle.dsaplan_core.specs.Choice.{Choice}
 use Rattle.dsaplan_core.specs.Causes.{IsCaused}
@@ -21,7 +22,7 @@ use Rattle.dsaplan_core.specs.Lost.{Blames, IsOwnWrite, LosesFile}
 use Rattle.dsaplan_core.specs.Refused.{IsMisuse}
 use Rattle.dsaplan_core.specs.Shown.{Shows, Tells}
 use Rattle.dsaplan_core.proofs.Answered.{answered, words_give}
-use Rattle.dsaplan_core.proofs.Promised.{Promised, to_derived, to_headline}
+use Rattle.dsaplan_core.proofs.Promised.{Promised, to_derived, to_headline, to_judged}
 use Rattle.dsaplan_core.proofs.Promises.{AreOwn, Promises}
 use Rattle.dsaplan_core.proofs.Solving.{solve_promises}
 use Rattle.dsaplan_core.proofs.Finding.{least_promises}
@@ -105,6 +106,11 @@ module _ (words : List Word) (old new : FilesSeen) where
     pub headline : (s : Status) → Answers (course words) old new before after s → Headline words old new s
     headline = answered (course words) old new before after (Headline words old new)
         (λ o comes files. to_headline words old new o.status (written o comes files).0) (λ role o comes left. tt)
+        (λ rose. tt) tt
+
+    pub judged : (s : Status) → Answers (course words) old new before after s → Judged words old new s
+    judged = answered (course words) old new before after (Judged words old new)
+        (λ o comes files. to_judged words old new o.status (written o comes files).0) (λ role o comes left. tt)
         (λ rose. tt) tt
 
     pub derived : (s : Status) → Answers (course words) old new before after s → Derived words old new s

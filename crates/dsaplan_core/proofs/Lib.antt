@@ -24,3 +24,4 @@ mod Going
 mod WorldFacts
 mod ExampleFacts
 mod HeldFacts
+mod JudgedFacts

@@ -26,7 +26,7 @@ use Rattle.dsaplan_core.specs.Courses.{course_with}
 use Rattle.dsaplan_core.specs.Theorem.{Asked}
 use Rattle.dsaplan_core.proofs.Promises.{Promises, asked}
 use Rattle.dsaplan_core.proofs.Refusals.{checked_promises, judged_promises, opened_promises}
-use Rattle.dsaplan_core.specs.Theorem.{GivesLayoutAt, GivesLog}
+use Rattle.dsaplan_core.specs.Judged.{GivesLayoutAt, GivesLog}
 use Rattle.dsaplan_core.proofs.ParsedInstances.{parsed_is_instance}
 use Rattle.dsaplan_core.proofs.TrimmedTexts.{trim_reads_back}
 

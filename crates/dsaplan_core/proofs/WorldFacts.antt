@@ -66,7 +66,7 @@ abbrev pub input_alone : FileMap
 input_alone = insert empty (codes "i") two_file
 
 -- lists of which the first numbers differ
-first_differs : (xs ys : List ℕ) → slice_index xs 0 < slice_index ys 0 → xs ≢ ys
+pub first_differs : (xs ys : List ℕ) → slice_index xs 0 < slice_index ys 0 → xs ≢ ys
 first_differs xs ys lt e = omega (arith, lt, ap (λ (zs : List ℕ). slice_index zs 0) e)
 
 pub i_is_not_o : codes "i" ≢ codes "o"

@@ -1,7 +1,6 @@
--- What is promised of the files that are derived: 'upgraded' writes the accepted log in the second version of its
--- text, 'drawn' a picture of the layout, 'classes' a plan by size class, 'core' an irreducible set of buffers that do
--- not fit, 'imported' the instance of the trace, and 'unrolled' that of one period.
-use Rattle.std.specs.Prelude.{◌≡◌, ◌^◌, ℕ, List, [], ◌∷◌, length, Some, Ok, Err}
+-- What is promised of the files that are derived: 'classes' writes a plan by size class, 'core' an irreducible set of
+-- buffers that do not fit, 'imported' the instance of the trace, and 'unrolled' that of one period.
+use Rattle.std.specs.Prelude.{◌≡◌, ℕ, List, [], ◌∷◌, length, Some, Ok, Err}
 use Rattle.dsa_terms.specs.Buffers.{Instance}
 use Rattle.dsa_terms.specs.Layouts.{IsFeasible}
 use Rattle.dsa_terms.specs.Logs.{Log}
@@ -10,15 +9,9 @@ use Rattle.dsa_outside.specs.Seen.{FilesSeen}
 use Rattle.csv_instance.specs.Records.{file_limit, table_of}
 use Rattle.csv_instance.specs.Layout.{layout_text}
 use Rattle.csv_instance.specs.Parse.{parse}
-use Rattle.csv_instance.specs.Offsets.{ids_of}
-use Rattle.log_text.specs.Says.{Says}
-use Rattle.log_text.specs.Spellings.{log_text2}
-use Rattle.log_text.specs.Text.{raw_log_of}
 use Rattle.size_classes.specs.Plain.{first_rough}
 use Rattle.size_classes.specs.Plans.{class_height, class_plan}
 use Rattle.cyclic_plan.specs.Unrolled.{IsUnrolled, unrolled_of, unrolled_text}
-use Rattle.layout_picture.specs.Rectangles.{rectangles}
-use Rattle.layout_picture.specs.Texts.{picture_text}
 use Rattle.trace_import.specs.Faults.{trace_of}
 use Rattle.trace_import.specs.ImportText.{import_text}
 use Rattle.trace_import.specs.Traces.{IsTraced, Trace, imported}
@@ -36,21 +29,7 @@ use Rattle.run_status.specs.declared.status.Status.TheVariants as status
 use Rattle.explaining.specs.Explaining.{IsExplained, rows_file}
 use Rattle.planning.specs.Planning.{IsPlanned}
 use Rattle.writings.specs.Writings.{log_file}
-use Rattle.dsaplan_core.specs.Theorem.{Asked, GivesLayoutAt, GivesLog}
-
--- the output holds the log's text of version 2, which says it
-pub record HoldsUpgraded {words : List Word} {old : FilesSeen} (a : Asked words old) (new : FilesSeen)
-    (log : Log) : Type 0 where
-  pub readable : Says (log_text2 log) (raw_log_of log)
-  pub files : new.held ≡ with_file old.held (word_at a.pairs option.Output) (log_text2 log)
-
--- the layout file gives a layout, and the output holds its picture, with so many rectangles
-pub record HoldsPicture {words : List Word} {old : FilesSeen} (a : Asked words old) (new : FilesSeen)
-    (count : ℕ) : Type 0 where
-  pub given : GivesLayoutAt a (2 ^ 60)
-  pub its_count : length (rectangles a.instance given.offsets) ≡ count
-  pub files : new.held ≡ with_file old.held (word_at a.pairs option.Output)
-      (picture_text a.instance (ids_of a.table) given.offsets)
+use Rattle.dsaplan_core.specs.Theorem.{Asked}
 
 -- the words ask for this command, and these are all bytes of the file that the option names
 pub record AskedOf (words : List Word) (old : FilesSeen) (command : Verb) (file : OptionName) : Type 0 where
@@ -81,11 +60,8 @@ pub record HoldsUnrolled {words : List Word} {old : FilesSeen} (a : AskedOf word
   pub files : new.held ≡ with_file old.held (word_at a.pairs option.Output)
       (unrolled_text (number_at a.pairs option.Period) (table_of a.bytes))
 
--- what the status promises of a file that is derived from an instance, a layout, a log or a trace
+-- what the status promises of a file that is derived from an instance or a trace
 abbrev pub Derived : List Word → FilesSeen → FilesSeen → Status → Type 0
-Derived words old new (status.Upgraded lines) = (a : Asked words old) × (a.verb ≡ verb.Upgrade)
-    × ((log : Log) × GivesLog a log × (length log.lines ≡ lines) × HoldsUpgraded a new log)
-Derived words old new (status.Drawn count) = (a : Asked words old) × (a.verb ≡ verb.Draw) × HoldsPicture a new count
 Derived words old new (status.Imported count) = (a : AskedOf words old verb.Import option.Trace)
     × HoldsImport a new count
 Derived words old new (status.TraceRefused fault) = (a : AskedOf words old verb.Import option.Trace)

@@ -1,5 +1,6 @@
 pub mod Courses
 pub mod Theorem
+pub mod Judged
 pub mod Derived
 pub mod Choice
 pub mod Complete

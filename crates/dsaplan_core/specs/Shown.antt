@@ -21,7 +21,8 @@ use Rattle.run_status.specs.Lines.{line}
 use Rattle.run_status.specs.declared.status.Status.{Status}
 use Rattle.run_status.specs.declared.status.Status.TheVariants as status
 use Rattle.fact_reports.specs.Reporting.{IsVerdict}
-use Rattle.dsaplan_core.specs.Theorem.{Asked, GivesLayoutAt}
+use Rattle.dsaplan_core.specs.Theorem.{Asked}
+use Rattle.dsaplan_core.specs.Judged.{GivesLayoutAt}
 
 -- the facts of the input's instance
 pub record TellsFacts {words : List Word} {old : FilesSeen} (a : Asked words old) (text : List ℕ) : Type 0 where

@@ -1,20 +1,16 @@
 -- The promise of a run in few words. The layout that is written with 'feasible', 'least C' or 'open L H' is aligned,
 -- within its capacity and free of overlap at every moment; with 'infeasible', 'least C' or 'open L H' the written log,
--- at C - 1 unless C is zero, or at L - 1, is accepted, and an accepted log means that no layout fits. With 'right' the
--- layout file gives a layout, and with 'accepted' and 'trimmed' the log's file is an accepted log.
-use Rattle.std.specs.Prelude.{◌≡◌, ◌≢◌, ◌-◌, ◌≤◌, ◌<◌, ℕ, List, length, IsSome, None, Some, Ok}
+-- at C - 1 unless C is zero, or at L - 1, is accepted, and an accepted log means that no layout fits.
+use Rattle.std.specs.Prelude.{◌≡◌, ◌≢◌, ◌-◌, ◌≤◌, ◌<◌, ℕ, List, IsSome, None, Some, Ok}
 use Rattle.dsa_terms.specs.Buffers.{Instance}
 use Rattle.dsa_terms.specs.Claims.{IsIn}
 use Rattle.dsa_terms.specs.Layouts.{IsLayout, IsInfeasible, IsLeast}
 use Rattle.dsa_terms.specs.Logs.{Log, IsAccepted}
-use Rattle.dsa_terms.specs.Trims.{IsTrimOf}
-use Rattle.dsa_outside.specs.Held.{file_at, with_file}
+use Rattle.dsa_outside.specs.Held.{file_at}
 use Rattle.dsa_outside.specs.Seen.{FilesSeen}
-use Rattle.csv_instance.specs.Records.{Record, file_limit, table_of}
+use Rattle.csv_instance.specs.Records.{Record}
 use Rattle.csv_instance.specs.Layout.{layout_text}
-use Rattle.csv_instance.specs.Offsets.{ids_of, parsed_offsets}
 use Rattle.log_text.specs.RawTexts.{IsTextOf}
-use Rattle.log_text.specs.Says.{Says}
 use Rattle.log_text.specs.Text.{log_text, raw_log_of}
 use Rattle.command_words.specs.Options.{Word}
 use Rattle.command_words.specs.Forms.{reads_of}
@@ -23,8 +19,6 @@ use Rattle.command_words.specs.Requests.{request_of}
 use Rattle.command_words.specs.declared.option.OptionName.TheVariants as option
 use Rattle.command_words.specs.declared.verb.Verb.{Verb}
 use Rattle.command_words.specs.declared.verb.Verb.TheVariants as verb
-use Rattle.run_course.specs.Readings.{IsWholeFile}
-use Rattle.readings.specs.Checking.{log_limit}
 use Rattle.readings.specs.Opens.{IsInput}
 use Rattle.run_status.specs.declared.status.Status.{Status}
 use Rattle.run_status.specs.declared.status.Status.TheVariants as status
@@ -72,33 +66,7 @@ pub record HoldsRefutation {words : List Word} {old : FilesSeen} (a : Asked word
   pub readable : IsTextOf (log_text refutation) (raw_log_of refutation)
   pub held : IsSome old.held → file_at new.held (word_at a.pairs option.Log) ≡ Some (log_text refutation)
 
--- the layout file that was read gives a layout at the capacity
-pub record GivesLayoutAt {words : List Word} {old : FilesSeen} (a : Asked words old) (C : ℕ) : Type 0 where
-  pub bytes : List ℕ
-  pub offsets : List ℕ
-  pub whole : IsWholeFile old (word_at a.pairs option.Layout) file_limit bytes
-  pub parsed : parsed_offsets (ids_of a.table) (table_of bytes) ≡ Ok offsets
-  pub layout : IsLayout a.instance C offsets
-
--- the log's file that was read says this log, which is accepted
-pub record GivesLog {words : List Word} {old : FilesSeen} (a : Asked words old) (log : Log) : Type 0 where
-  pub bytes : List ℕ
-  pub whole : IsWholeFile old (word_at a.pairs option.Log) log_limit bytes
-  pub says : Says bytes (raw_log_of log)
-  pub accepted : IsAccepted a.instance log
-  pub infeasible : IsInfeasible a.instance log.capacity
-
--- the output holds the text of the log trimmed, which has that many lines and is accepted too
-pub record HoldsTrimmed {words : List Word} {old : FilesSeen} (a : Asked words old) (new : FilesSeen)
-    (log : Log) (lines : ℕ) : Type 0 where
-  pub trim : Log
-  pub is_trim : IsTrimOf log trim
-  pub count : length trim.lines ≡ lines
-  pub accepted : IsAccepted a.instance trim
-  pub readable : IsTextOf (log_text trim) (raw_log_of trim)
-  pub files : new.held ≡ with_file old.held (word_at a.pairs option.Output) (log_text trim)
-
--- what the status promises of the files
+-- what the status of a command that decides promises of the files
 abbrev pub Headline : List Word → FilesSeen → FilesSeen → Status → Type 0
 Headline words old new (status.Feasible C) = (a : Asked words old) × Decides a.verb a.pairs C × HoldsLayout a new C
 Headline words old new (status.Infeasible C) = (a : Asked words old) × Decides a.verb a.pairs C
@@ -107,10 +75,4 @@ Headline words old new (status.Least C) = (a : Asked words old) × SeeksLeast a.
     × IsLeast a.instance C × HoldsLayout a new C × (1 ≤ C → HoldsRefutation a new (C - 1))
 Headline words old new (status.Open L H) = (a : Asked words old) × (1 ≤ L) × (L < H)
     × HoldsLayout a new H × HoldsRefutation a new (L - 1)
-Headline words old new status.Right = (a : Asked words old) × (a.verb ≡ verb.Verify)
-    × GivesLayoutAt a (number_at a.pairs option.Capacity) × (new.held ≡ old.held)
-Headline words old new (status.Accepted C) = (a : Asked words old) × (a.verb ≡ verb.Refute)
-    × ((log : Log) × GivesLog a log × (log.capacity ≡ C)) × (new.held ≡ old.held)
-Headline words old new (status.Trimmed before after) = (a : Asked words old) × (a.verb ≡ verb.Trim)
-    × ((log : Log) × GivesLog a log × (length log.lines ≡ before) × HoldsTrimmed a new log after)
 Headline words old new status = Unit {0}
