@@ -1,6 +1,5 @@
 -- The words of options, and the values that they can have.
-use Rattle.std.specs.Prelude.{ℕ, ◌^◌, Bool, true, false, not, List, codes, is_some, if◌then◌else◌}
-use Rattle.dsa_terms.specs.Parts.{is_empty}
+use Rattle.std.specs.Prelude.{ℕ, ◌^◌, Bool, true, false, not, List, length, ◌==◌, codes, is_some, if◌then◌else◌}
 use Rattle.dsa_model.specs.Numbers.{written_number}
 use Rattle.command_words.specs.declared.option.OptionName.{OptionName}
 use Rattle.command_words.specs.declared.option.OptionName.TheVariants.{Capacity, Input, Output, Log, Layout, Trace, Steps, Seed, Count, Period}
@@ -42,4 +41,4 @@ is_output other = false
 
 -- a value that the option can't have: an empty name, or a word that writes no number where one is wanted
 abbrev pub is_bad : OptionName → Word → Bool
-is_bad option value = if is_file option then is_empty value else not (is_some (written_number number_limit value))
+is_bad option value = if is_file option then length value == 0 else not (is_some (written_number number_limit value))

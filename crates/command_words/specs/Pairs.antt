@@ -1,7 +1,7 @@
 -- The words after the command, taken two by two: options with their values.
-use Rattle.std.specs.Prelude.{ℕ, ◌+◌, ◌*◌, ◌-◌, ◌^◌, min, Bool, false, not, ◌||◌, List, [], ◌∷◌, ◌++◌, length, Option, Some, None, is_some, unwrap_or, option_map, find}
-use Rattle.std.specs.List.{list_any}
-use Rattle.std.specs.Option.{option_or, option_and_then}
+use Rattle.std.specs.Prelude.{ℕ, ◌+◌, ◌*◌, ◌-◌, ◌^◌, min, Bool, false, not, ◌||◌, List, [], ◌∷◌, length, Option, Some, None, is_some, unwrap_or, option_map, find, scan}
+use Rattle.std.specs.List.{list_any, push}
+use Rattle.std.specs.Option.{option_and_then}
 use Rattle.std.specs.Str.{bytes_eq}
 use Rattle.dsa_terms.specs.Firsts.{when, first_fault}
 use Rattle.dsa_model.specs.Numbers.{written_number}
@@ -47,9 +47,7 @@ pair_fault verb earlier pair = option_fault (place_after (length earlier)) earli
 
 -- the fault of the first pair that has one, after the earlier pairs
 abbrev pub pairs_fault : Verb → List Pair → List Pair → Option UsageFault
-pairs_fault verb earlier [] = None
-pairs_fault verb earlier (pair ∷ pairs) =
-    option_or (pair_fault verb earlier pair) (pairs_fault verb (earlier ++ pair ∷ []) pairs)
+pairs_fault verb earlier pairs = first_fault (scan push (pair_fault verb) earlier pairs)
 
 -- the value that the pairs give an option
 abbrev pub value_of : List Pair → OptionName → Option Word
