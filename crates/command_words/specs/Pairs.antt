@@ -51,13 +51,11 @@ pairs_fault verb earlier pairs = first_fault (scan push (pair_fault verb) earlie
 
 -- the value that the pairs give an option
 abbrev pub value_of : List Pair → OptionName → Option Word
-value_of pairs option =
-    option_and_then (λ (p : Pair). p.value) (find (λ (p : Pair). bytes_eq p.option (option_word option)) pairs)
+value_of ps o = option_and_then (λ (p : Pair). p.value) (find (λ (p : Pair). bytes_eq p.option (option_word o)) ps)
 
 -- the first option that the command needs and the pairs don't give
 abbrev pub missing_fault : Verb → List Pair → Option UsageFault
-missing_fault verb pairs =
-    option_map fault.MissingOption (find (λ o. not (is_some (value_of pairs o))) (form_of verb).needed)
+missing_fault v pairs = option_map fault.MissingOption (find (λ o. not (is_some (value_of pairs o))) (form_of v).needed)
 
 -- two of the words are equal
 abbrev pub has_equal : List Word → Bool

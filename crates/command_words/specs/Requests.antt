@@ -26,13 +26,12 @@ request_fault r = first_fault (
     ∷ when (has_equal (names_of r)) fault.SameName
     ∷ [])
 
--- the request of that command with these pairs, or its first fault
-abbrev pub request_or_fault : Option Verb → List Pair → Result Request UsageFault
-request_or_fault None pairs = Err fault.UnknownCommand
-request_or_fault (Some verb) pairs =
-    let r : Request = record { verb = verb; pairs = pairs } in option_map_or Err (request_fault r) (Ok r)
+-- the request, or its first fault
+abbrev pub request_or_fault : Request → Result Request UsageFault
+request_or_fault r = option_map_or Err (request_fault r) (Ok r)
 
 -- the command that words ask for, or their first fault
 abbrev pub request_of : List Word → Result Request UsageFault
 request_of [] = Err fault.NoCommand
-request_of (word ∷ words) = request_or_fault (verb_of word) (pairs_of words)
+request_of (word ∷ words) = option_map_or (λ verb. request_or_fault (record { verb = verb; pairs = pairs_of words }))
+    (verb_of word) (Err fault.UnknownCommand)
