@@ -34,6 +34,11 @@ told_as b h =
 second_is_not_told : RefusesRough two_of_four (says (NotPlain 1)) → ⊥
 second_is_not_told h = let e = told_as 1 h in cc
 
+-- there is no plan for them
+rough_is_not_planned : (most : ℕ) → IsPlanned two_of_four most → ⊥
+unfolding buffer
+rough_is_not_planned most h = let le : 4 ≤ 1 = (h.plain 0 (lit< tt)).1 in omega (arith, le)
+
 -- ---- one buffer of one byte
 abbrev pub one : Instance
 one = plain 0 1 1 1 ∷ []
