@@ -1,2 +1,3 @@
 mod Concluding
 pub mod ExampleFacts
+pub mod CoreFacts
