@@ -50,15 +50,13 @@ SeeksLeast verb pairs = ⊥
 
 -- the output holds the text of offsets that are a layout at the capacity: each is aligned, at or above its buffer's
 -- lowest and within the capacity, and no two buffers overlap at a moment at which both are live
-pub record HoldsLayout {words : List Word} {old : FilesSeen} (a : Asked words old) (new : FilesSeen)
-    (C : ℕ) : Type 0 where
+pub record HoldsLayout {w : List Word} {old : FilesSeen} (a : Asked w old) (new : FilesSeen) (C : ℕ) : Type 0 where
   pub offsets : List ℕ
   pub layout : IsLayout a.instance C offsets
   pub held : IsSome old.held → file_at new.held (word_at a.pairs option.Output) ≡ Some (layout_text a.table offsets)
 
 -- the log's file holds the text of a log that is accepted at the capacity, and no layout fits within it
-pub record HoldsRefutation {words : List Word} {old : FilesSeen} (a : Asked words old) (new : FilesSeen)
-    (C : ℕ) : Type 0 where
+pub record HoldsRefutation {w : List Word} {old : FilesSeen} (a : Asked w old) (new : FilesSeen) (C : ℕ) : Type 0 where
   pub refutation : Log
   pub accepted : IsAccepted a.instance refutation
   pub its_capacity : refutation.capacity ≡ C
@@ -68,11 +66,10 @@ pub record HoldsRefutation {words : List Word} {old : FilesSeen} (a : Asked word
 
 -- what the status of a command that decides promises of the files
 abbrev pub Headline : List Word → FilesSeen → FilesSeen → Status → Type 0
-Headline words old new (status.Feasible C) = (a : Asked words old) × Decides a.verb a.pairs C × HoldsLayout a new C
-Headline words old new (status.Infeasible C) = (a : Asked words old) × Decides a.verb a.pairs C
-    × HoldsRefutation a new C
-Headline words old new (status.Least C) = (a : Asked words old) × SeeksLeast a.verb a.pairs
+Headline w old new (status.Feasible C) = (a : Asked w old) × Decides a.verb a.pairs C × HoldsLayout a new C
+Headline w old new (status.Infeasible C) = (a : Asked w old) × Decides a.verb a.pairs C × HoldsRefutation a new C
+Headline w old new (status.Least C) = (a : Asked w old) × SeeksLeast a.verb a.pairs
     × IsLeast a.instance C × HoldsLayout a new C × (1 ≤ C → HoldsRefutation a new (C - 1))
-Headline words old new (status.Open L H) = (a : Asked words old) × (1 ≤ L) × (L < H)
+Headline w old new (status.Open L H) = (a : Asked w old) × (1 ≤ L) × (L < H)
     × HoldsLayout a new H × HoldsRefutation a new (L - 1)
-Headline words old new status = Unit {0}
+Headline w old new status = Unit {0}
