@@ -14,9 +14,10 @@ use Rattle.csv_instance.specs.Changed.{AreMoments, Change, change_of, changed_fr
 use Rattle.csv_instance.specs.Columns.{column_place, field_of, has_column, name_of, named_columns, needed_columns, stands_twice}
 use Rattle.csv_instance.specs.Gaps.{gaps_of}
 use Rattle.csv_instance.specs.Numbers.{time_limit}
-use Rattle.csv_instance.specs.Parse.{bad_column, form_fault, header_fault, header_faults, id_fault, id_faults, id_limit, mark, number_under, row_buffer}
+use Rattle.csv_instance.specs.Parse.{header_fault, header_faults, id_limit, mark, number_under, row_buffer, row_form_fault}
 use Rattle.csv_instance.specs.Records.{Record, table_of}
-use Rattle.csv_instance.specs.Rows.{parse_rows, row_form_fault, rows_form_fault, values_of}
+use Rattle.csv_instance.specs.RowSteps.{form_fault, form_faults, id_fault, id_faults}
+use Rattle.csv_instance.specs.Rows.{parse_rows, rows_form_fault, values_of}
 use Rattle.csv_instance.specs.declared.columns.Column.{Column}
 use Rattle.csv_instance.specs.declared.columns.Column.TheVariants.{Id, Lower, Upper, Size, Alignment, Gaps, Offset, Lowest}
 use Rattle.csv_instance.specs.declared.fault.InstanceFault.TheVariants as fault
@@ -27,6 +28,7 @@ use Rattle.csv_instance.proofs.IdLemmas.{all_none, new_id, none_any, position-ma
 use Rattle.csv_instance.proofs.OffsetLemmas.{number-decimal}
 use Rattle.csv_instance.proofs.ReadBack.{AllReadBack}
 use Rattle.csv_instance.proofs.RowLemmas.{readable, rows-good}
+use Rattle.csv_instance.proofs.RowStepLemmas.{form-content, form_parts}
 use Rattle.csv_instance.proofs.SomeBack.{reads_back, records_read, some_columns}
 
 -- ---- the header
@@ -152,8 +154,7 @@ there_is (Some x) d e = refl
 says_its_own : (header : Record) (n : ℕ) (row : Record) → form_fault header n row ≡ None →
     Says header row (row_buffer header row)
 says_its_own header n row e =
-    let all = all_none (option_map (fault.BadNumber n) (bad_column header row)
-    ∷ when (not (is_some (gaps_of (field_of header row Gaps)))) (fault.BadGap n) ∷ []) e in
+    let all = all_none (form_faults header n row) e in
     let missing = λ (c : Column). not (is_some (number_under header row c)) in
     let m1 = find_none missing Lower (Upper ∷ Size ∷ Alignment ∷ Lowest ∷ []) (map_none (fault.BadNumber n) _ all.0) in
     let m2 = find_none missing Upper (Size ∷ Alignment ∷ Lowest ∷ []) m1.1 in
@@ -304,7 +305,7 @@ rows_after header cs n before before2 [] good m same e = (refl, refl)
 rows_after header cs n before before2 (row ∷ rows) good m same e =
     let (here, later) = neither (row_form_fault header before row)
     (rows_form_fault header (before ++ row ∷ []) rows) e in
-    let (id_good, form_good) = neither (id_fault header before row) (form_fault header (length before) row) here in
+    let (id_good, form_good) = form_parts header before row here in
     let o = change_of cs n in
     let row2 = changed_row header o row in
     let (even, id_is, says) = row_after header row o (row_buffer header row) good (even_row header before row id_good)
@@ -314,7 +315,7 @@ rows_after header cs n before before2 (row ∷ rows) good m same e =
     let id = id_still header before before2 row row2 same even id_is id_good in
     let (rest, values) = rows_after header cs (n + 1) (before ++ row ∷ []) (before2 ++ row2 ∷ []) rows good m
     (same_more header before before2 row row2 same id_is) later in
-    (rw (id, form) rest, rw (is, values) refl)
+    (rw (form-content (changed_header header) before2 row2 None id form) rest, rw (is, values) refl)
 
 -- ---- the text
 length_after : (header row : Record) (o : Option Change) → header_fault header ≡ None → length row ≡ length header →
@@ -331,7 +332,7 @@ rows_read header cs n before [] good e = tt
 rows_read header cs n before (row ∷ rows) good e =
     let (here, later) = neither (row_form_fault header before row)
     (rows_form_fault header (before ++ row ∷ []) rows) e in
-    let id_good = (neither (id_fault header before row) (form_fault header (length before) row) here).0 in
+    let id_good = (form_parts header before row here).0 in
     let even = length_after header row (change_of cs n) good (even_row header before row id_good) in
     let some = some_columns (changed_header header) (header_still header good) in (
       reads_back (changed_row header (change_of cs n) row) (omega arith),

@@ -20,7 +20,7 @@ use Rattle.csv_instance.proofs.FailLemmas.{UnlessNoMemory-map}
 use Rattle.csv_instance.proofs.GivesLemmas.{put-first, seen-more}
 use Rattle.csv_instance.proofs.OffsetRows.{count_is}
 use Rattle.csv_instance.proofs.IdLemmas.{map-map, position-map}
-use Rattle.csv_instance.proofs.TableLemmas.{option_or-assoc}
+use Rattle.csv_instance.proofs.Basics.{option_or-assoc}
 use Rattle.std.proofs.lemmas.List.{append-nil}
 
 -- ---- rows with a fault

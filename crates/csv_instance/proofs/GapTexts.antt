@@ -14,7 +14,7 @@ use Rattle.std.specs.Prelude.{◌&&◌}
 use Rattle.std.specs.Str.{all_ascii_digits}
 use Rattle.dsa_model.proofs.NumberLemmas.{own}
 use Rattle.csv_instance.specs.Changed.{gap_added}
-use Rattle.csv_instance.specs.Gaps.{all_some, gap_of, gap_pair_text, gaps_of, pieces_of}
+use Rattle.csv_instance.specs.Gaps.{all_some, gap_of, gap_pair_text, gaps_of}
 use Rattle.csv_instance.specs.Numbers.{time_limit}
 use Rattle.csv_instance.proofs.OffsetLemmas.{number-decimal}
 
@@ -99,6 +99,13 @@ gap_read a b la lb =
     rw (place, left, right, number-decimal time_limit a (omega arith) wa, number-decimal time_limit b (omega arith) wb)
     refl
 
+-- a written gap is one piece
+one_piece : (a b : ℕ) → a < 2 ^ 62 → b < 2 ^ 62 →
+    slice_split (λ c. c == 32) (gap_pair_text a b) ≡ gap_pair_text a b ∷ []
+one_piece a b la lb =
+    one_part (λ c. c == 32) (gap_pair_text a b)
+    (none_in_pair (λ c. c == 32) a b (λ c h. digit_other c 32 h refl) refl (omega arith) (omega arith))
+
 -- the one gap of a field
 pub gaps-read : (a b : ℕ) → a < 2 ^ 62 → b < 2 ^ 62 → gaps_of (gap_pair_text a b) ≡ Some ((a, b) ∷ [])
 gaps-read a b la lb =
@@ -107,9 +114,7 @@ gaps-read a b la lb =
       length-append (decimal a ++ 45 ∷ []) (decimal b),
       length-append (decimal a) (45 ∷ []),
     )) in
-    let parts : pieces_of (gap_pair_text a b) ≡ gap_pair_text a b ∷ [] = one_part (λ c. c == 32) (gap_pair_text a b)
-    (none_in_pair (λ c. c == 32) a b (λ c h. digit_other c 32 h refl) refl (omega arith) (omega arith)) in
-    rw (some, parts, gap_read a b la lb) refl
+    rw (some, one_piece a b la lb, gap_read a b la lb) refl
   where
     long : (n : ℕ) → 0 < n → (n == 0) ≡ false
     long n h = grind (arith, nat_tests)
@@ -157,15 +162,13 @@ gap_added-read [] gs a b e la lb =
 gap_added-read (f ∷ fs) gs a b e la lb =
     let text : gap_added (f ∷ fs) a b ≡ (f ∷ fs) ++ 32 ∷ gap_pair_text a b =
     rw (some f fs) (append_assoc (f ∷ fs) (32 ∷ []) (gap_pair_text a b)) in
-    let whole : all_some (map gap_of (pieces_of (f ∷ fs))) ≡ Some gs = rw (some f fs) at e in
-    let last : slice_split (λ c. c == 32) (gap_pair_text a b) ≡ gap_pair_text a b ∷ [] =
-    one_part (λ c. c == 32) (gap_pair_text a b)
-    (none_in_pair (λ c. c == 32) a b (λ c h. digit_other c 32 h refl) refl (omega arith) (omega arith)) in
-    let parts : pieces_of ((f ∷ fs) ++ 32 ∷ gap_pair_text a b) ≡ pieces_of (f ∷ fs) ++ gap_pair_text a b ∷ [] =
+    let pieces = slice_split (λ c. c == 32) (f ∷ fs) in
+    let whole : all_some (map gap_of pieces) ≡ Some gs = rw (some f fs) at e in
+    let parts : slice_split (λ c. c == 32) ((f ∷ fs) ++ 32 ∷ gap_pair_text a b) ≡ pieces ++ gap_pair_text a b ∷ [] =
     parts_between (λ c. c == 32) (f ∷ fs) 32 (gap_pair_text a b) refl
-    ∙ ap (λ (ps : List (List ℕ)). pieces_of (f ∷ fs) ++ ps) last in
+    ∙ ap (λ (ps : List (List ℕ)). pieces ++ ps) (one_piece a b (omega arith) (omega arith)) in
     rw (text, some f (fs ++ 32 ∷ gap_pair_text a b), parts)
-    (gap_last (pieces_of (f ∷ fs)) (gap_pair_text a b) gs (a, b) whole (gap_read a b (omega arith) (omega arith)))
+    (gap_last pieces (gap_pair_text a b) gs (a, b) whole (gap_read a b (omega arith) (omega arith)))
   where
     some : (x : ℕ) (xs : List ℕ) → (length (x ∷ xs) == 0) ≡ false
     some x xs = grind (arith, nat_tests)

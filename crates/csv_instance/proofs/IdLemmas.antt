@@ -7,8 +7,9 @@ use Rattle.std.specs.List.{list_any, position_from}
 use Rattle.std.specs.Option.{option_or}
 use Rattle.std.specs.Str.{bytes_eq}
 use Rattle.csv_instance.specs.Columns.{field_of}
-use Rattle.csv_instance.specs.Parse.{id_fault, id_faults, id_limit}
+use Rattle.csv_instance.specs.Parse.{id_limit}
 use Rattle.csv_instance.specs.Row.{length_fault}
+use Rattle.csv_instance.specs.RowSteps.{id_fault, id_faults}
 use Rattle.csv_instance.specs.declared.fault.InstanceFault.{InstanceFault}
 use Rattle.csv_instance.specs.declared.fault.InstanceFault.TheVariants as fault
 use Rattle.dsa_model.specs.Buffer.{first_fault, when, buffer_limit}

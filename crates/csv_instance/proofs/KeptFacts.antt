@@ -12,7 +12,7 @@ use Rattle.dsa_model.specs.Buffer.{buffer_limit}
 use Rattle.csv_instance.specs.Found.{AreColumns, AreFound, AreOf, by_buffer, found_for}
 use Rattle.csv_instance.specs.Gives.{Gives, records_left}
 use Rattle.csv_instance.specs.Offsets.{layout_row_fault}
-use Rattle.csv_instance.specs.Parse.{id_fault}
+use Rattle.csv_instance.specs.RowSteps.{id_fault}
 use Rattle.csv_instance.specs.Records.{HasShortFields, Record, file_limit}
 use Rattle.csv_instance.specs.Row.{AreNumbers, length_fault}
 use Rattle.csv_instance.specs.Wrote.{Wrote}

@@ -10,7 +10,9 @@ use Rattle.std.specs.Prelude.{⊤, nat_le, ◌==◌}
 use Rattle.csv_instance.specs.Columns.{field_of, name_of, column_place, stands_twice, has_column}
 use Rattle.csv_instance.specs.Layout.{layout_records, layout_text, rows_with}
 use Rattle.csv_instance.specs.Offsets.{AreOffsets, ids_of, is_of, layout_header_fault, layout_row_fault, layout_rows_fault, offset_in, offset_limit, offset_of, parsed_offsets}
-use Rattle.csv_instance.specs.Parse.{row_buffer, header_fault, header_faults, id_fault, id_faults, row_fault, rows_fault, parse}
+use Rattle.csv_instance.specs.Parse.{row_buffer, header_fault, header_faults, row_fault, rows_fault, parse}
+use Rattle.csv_instance.specs.RowSteps.{id_fault, id_faults}
+use Rattle.csv_instance.proofs.RowStepLemmas.{row_parts}
 use Rattle.csv_instance.specs.Records.{Record, table_of}
 use Rattle.csv_instance.proofs.Basics.{any_after, counted_last, find_after, find_none, none_counted, none_if, not_false, some_if, text_same}
 use Rattle.csv_instance.proofs.ReadBack.{layout-read}
@@ -136,7 +138,7 @@ rows-good ids header before before2 [] os g same e small known = refl
 rows-good ids header before before2 (row ∷ rows) [] g same e small known = refl
 rows-good ids header before before2 (row ∷ rows) (o ∷ os) g same e small known =
     let (here, later) = neither (row_fault header before row) (rows_fault header (before ++ row ∷ []) rows) e in
-    let id_good = (neither (id_fault header before row) _ here).0 in
+    let id_good = (row_parts header before row here).0 in
     let (fine, id_is, value) = row-good ids header before before2 row o g same id_good small.0 known.0 in
     let rest = rows-good ids header (before ++ row ∷ []) (before2 ++ row_with row o ∷ []) rows os g
     (same_more header before before2 row (row_with row o) same id_is) later small.1 known.1 in
@@ -152,7 +154,7 @@ offsets-are header before before2 [] (o ∷ os) g same e small even = absurd (om
 offsets-are header before before2 (row ∷ rows) [] g same e small even = absurd (omega arith)
 offsets-are header before before2 (row ∷ rows) (o ∷ os) g same e small even =
     let (here, later) = neither (row_fault header before row) (rows_fault header (before ++ row ∷ []) rows) e in
-    let id_good = (neither (id_fault header before row) _ here).0 in
+    let id_good = (row_parts header before row here).0 in
     let id = field_of header row Id in
     let (fine, id_is, value) = row-good (id ∷ []) header before before2 row o g same id_good small.0
     (rw (text_same id) refl) in
@@ -197,7 +199,7 @@ all_there header before before2 [] os g same e small even = tt
 all_there header before before2 (row ∷ rows) [] g same e small even = absurd (omega arith)
 all_there header before before2 (row ∷ rows) (o ∷ os) g same e small even =
     let (here, later) = neither (row_fault header before row) (rows_fault header (before ++ row ∷ []) rows) e in
-    let id_good = (neither (id_fault header before row) _ here).0 in
+    let id_good = (row_parts header before row here).0 in
     let id = field_of header row Id in
     let (fine, id_is, value) = row-good (id ∷ []) header before before2 row o g same id_good small.0
     (rw (text_same id) refl) in

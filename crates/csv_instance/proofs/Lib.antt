@@ -10,6 +10,7 @@ pub mod GivesLemmas
 pub mod FieldLemmas
 pub mod IdLemmas
 pub mod NumberedIds
+pub mod RowStepLemmas
 pub mod TableLemmas
 pub mod FailLemmas
 pub mod LayoutLemmas

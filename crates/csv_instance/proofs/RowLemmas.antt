@@ -1,15 +1,14 @@
 -- Rows that can be read, row by row.
-use Rattle.std.proofs.Common.{◌≡◌, ◌++◌, ◌∷◌, ◌∙◌, ℕ, List, [], Option, Some, None, Ok, Err, length, map, refl, sym, ap, subst, inl, inr, append_assoc}
+use Rattle.std.proofs.Common.{◌≡◌, ◌++◌, ◌∷◌, ◌∙◌, List, [], Option, Some, None, Ok, Err, map, refl, sym, ap, subst, inl, inr, append_assoc}
 use Rattle.std.proofs.lemmas.List.{append-nil}
 use Rattle.std.specs.Option.{option_or}
 use Rattle.csv_instance.specs.Records.{Record}
-use Rattle.csv_instance.specs.Parse.{content_fault, form_fault, header_fault, id_fault, parse, row_buffer, rows_fault}
-use Rattle.csv_instance.specs.Rows.{parse_rows, row_form_fault, rows_form_fault, values_of}
+use Rattle.csv_instance.specs.Parse.{header_fault, parse, row_buffer, row_form_fault, rows_fault}
+use Rattle.csv_instance.specs.Rows.{parse_rows, rows_form_fault, values_of}
 use Rattle.csv_instance.specs.declared.fault.InstanceFault.{InstanceFault}
-use Rattle.csv_instance.specs.declared.fault.InstanceFault.TheVariants as fault
 use Rattle.dsa_model.specs.Buffer.{buffer_fault}
-use Rattle.dsa_model.specs.declared.buffer_fault.BufferFault.{BufferFault}
-use Rattle.csv_instance.proofs.TableLemmas.{answered, option_or-assoc, parse-good, parsed}
+use Rattle.csv_instance.proofs.Basics.{option_or-assoc}
+use Rattle.csv_instance.proofs.TableLemmas.{answered, parse-good, parsed}
 use Rattle.dsa_model.proofs.Faults.{neither}
 use Rattle.dsa_terms.specs.Buffers.{Buffer}
 use Rattle.dsa_terms.specs.Claims.{IsIn}
@@ -62,24 +61,6 @@ rows-fault header rows row rest f h r e =
     ∙ rw (r, e) refl in
     rw (h, whole) refl
 
-pub form-id : (header : Record) (rows : List Record) (row : Record) (f : InstanceFault)
-    → id_fault header rows row ≡ Some f → row_form_fault header rows row ≡ Some f
-form-id header rows row f e = rw e refl
-
-pub form-content : (header : Record) (rows : List Record) (row : Record) (o : Option InstanceFault)
-    → id_fault header rows row ≡ None → form_fault header (length rows) row ≡ o → row_form_fault header rows row ≡ o
-form-content header rows row o e g = rw (e, g) refl
-
--- what is wrong with a row's content is what is wrong with its numbers and gaps, or else with its buffer
-pub content-buffer : (header : Record) (number : ℕ) (row : Record) (f : BufferFault)
-    → form_fault header number row ≡ None → buffer_fault (row_buffer header row) ≡ Some f
-    → content_fault header number row ≡ Some (fault.BadBuffer number f)
-content-buffer header number row f e b = rw (e, b) refl
-
-pub content-none : (header : Record) (number : ℕ) (row : Record) → form_fault header number row ≡ None
-    → buffer_fault (row_buffer header row) ≡ None → content_fault header number row ≡ None
-content-none header number row e b = rw (e, b) refl
-
 -- rows that can be read and are all buffers have no fault
 buffers-good : (header : Record) (before rows : List Record) → rows_form_fault header before rows ≡ None
     → ((b : Buffer) → IsIn b (map (row_buffer header) rows) → buffer_fault b ≡ None)
@@ -88,10 +69,8 @@ buffers-good header before [] e sound = refl
 buffers-good header before (row ∷ rows) e sound =
     let (here, later) = neither (row_form_fault header before row)
     (rows_form_fault header (before ++ row ∷ []) rows) e in
-    let (id, form) = neither (id_fault header before row) (form_fault header (length before) row) here in
-    let content = content-none header (length before) row form (sound (row_buffer header row) (inl refl)) in
     let rest = buffers-good header (before ++ row ∷ []) rows later (λ b i. sound b (inr i)) in
-    rw (id, content) rest
+    rw (here, sound (row_buffer header row) (inl refl)) rest
 
 -- a table whose rows are all buffers is an instance
 pub rows-parse : (table : List Record) (I : List Buffer) → parse_rows table ≡ Ok I

@@ -15,8 +15,9 @@ use Rattle.dsa_model.proofs.Faults.{map_none, neither, not_so}
 use Rattle.csv_instance.specs.Chosen.{chosen_records, chosen_text, rows_at}
 use Rattle.csv_instance.specs.Columns.{has_column, name_of}
 use Rattle.csv_instance.specs.Layout.{text_of}
-use Rattle.csv_instance.specs.Parse.{content_fault, header_fault, header_faults, id_fault, id_faults, mark, parse, row_buffer, row_fault, rows_fault}
+use Rattle.csv_instance.specs.Parse.{header_fault, header_faults, mark, parse, row_buffer, row_fault, rows_fault}
 use Rattle.csv_instance.specs.Records.{Record, table_of}
+use Rattle.csv_instance.specs.RowSteps.{id_faults}
 use Rattle.csv_instance.specs.declared.columns.Column.{Column}
 use Rattle.csv_instance.specs.declared.columns.Column.TheVariants.{Id, Lower, Upper, Size}
 use Rattle.csv_instance.specs.declared.fault.InstanceFault.TheVariants as fault
@@ -25,6 +26,7 @@ use Rattle.csv_instance.proofs.IdLemmas.{all_none}
 use Rattle.csv_instance.proofs.LayoutLaw.{good}
 use Rattle.csv_instance.proofs.Mark.{no_mark}
 use Rattle.csv_instance.proofs.ReadBack.{AllReadBack, text-read}
+use Rattle.csv_instance.proofs.RowStepLemmas.{row_parts}
 use Rattle.csv_instance.proofs.SomeRows.{some_parse}
 use Rattle.csv_instance.proofs.TableLemmas.{answered, faultless}
 
@@ -46,8 +48,7 @@ pub even_rows : (header : Record) (before rows : List Record) (k : ℕ) → rows
 even_rows header before [] k e lt = absurd (omega arith)
 even_rows header before (row ∷ rows) zero e lt =
     let here = (neither (row_fault header before row) (rows_fault header (before ++ row ∷ []) rows) e).0 in
-    let none = all_none (id_faults header before row)
-    (neither (id_fault header before row) (content_fault header (length before) row) here).0 in
+    let none = all_none (id_faults header before row) (row_parts header before row here).0 in
     eqb-true _ _ (not_false _ (not_so _ (fault.FieldCount (length before)) none.1.0))
 even_rows header before (row ∷ rows) (suc k) e lt =
     even_rows header (before ++ row ∷ []) rows k

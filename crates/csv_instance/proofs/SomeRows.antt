@@ -6,18 +6,19 @@ use Rattle.std.specs.List.{position_from}
 use Rattle.std.specs.Str.{bytes_eq}
 use Rattle.dsa_terms.specs.Buffers.{Buffer, buffer, no_buffer}
 use Rattle.dsa_terms.specs.Claims.{IsIn, Rises}
-use Rattle.dsa_terms.specs.Firsts.{when}
 use Rattle.dsa_terms.proofs.Lists.{from_append, left_append, none_passes, right_append}
 use Rattle.dsa_terms.proofs.NumberTests.{apart, differ}
 use Rattle.dsa_model.specs.Buffer.{buffer_fault, buffer_limit}
 use Rattle.dsa_model.proofs.Faults.{map_none, neither, not_so}
 use Rattle.csv_instance.specs.Columns.{field_of}
 use Rattle.csv_instance.specs.Gaps.{gaps_of}
-use Rattle.csv_instance.specs.Parse.{bad_column, content_fault, form_fault, id_fault, id_faults, parse, row_buffer, row_fault, rows_fault}
+use Rattle.csv_instance.specs.Parse.{bad_column, parse, row_buffer, row_fault, rows_fault}
 use Rattle.csv_instance.specs.Records.{Record}
+use Rattle.csv_instance.specs.RowSteps.{content_fault, form_fault, form_faults, id_fault, id_faults}
 use Rattle.csv_instance.specs.declared.columns.Column.TheVariants.{Gaps, Id}
 use Rattle.csv_instance.specs.declared.fault.InstanceFault.TheVariants as fault
 use Rattle.csv_instance.proofs.IdLemmas.{all_none, none_any}
+use Rattle.csv_instance.proofs.RowStepLemmas.{row-content, row_parts}
 use Rattle.csv_instance.proofs.TableLemmas.{answered, faultless, parse-good}
 use Rattle.dsa_model.specs.Chosen.{some_of}
 use Rattle.csv_instance.specs.Chosen.{rows_at}
@@ -47,8 +48,7 @@ content_stays : (header : Record) (m n : ℕ) (row : Record) → content_fault h
 content_stays header m n row e =
     let (form, told) = neither (form_fault header m row)
     (option_map (fault.BadBuffer m) (buffer_fault (row_buffer header row))) e in
-    let all = all_none (option_map (fault.BadNumber m) (bad_column header row)
-    ∷ when (not (is_some (gaps_of (field_of header row Gaps)))) (fault.BadGap m) ∷ []) form in
+    let all = all_none (form_faults header m row) form in
     let a = map_none (fault.BadNumber m) (bad_column header row) all.0 in
     let b = not_so (not (is_some (gaps_of (field_of header row Gaps)))) (fault.BadGap m) all.1.0 in
     let c = map_none (fault.BadBuffer m) (buffer_fault (row_buffer header row)) told in
@@ -86,7 +86,7 @@ rows_stay header rows before [] fewer e t h le lim = refl
 rows_stay header [] before (x ∷ xs) fewer e t h le lim = absurd t
 rows_stay header (y ∷ ys) before (x ∷ xs) fewer e (inl t) h le lim =
     let here = neither (row_fault header before y) (rows_fault header (before ++ y ∷ []) ys) e in
-    let both = neither (id_fault header before y) (content_fault header (length before) y) here.0 in
+    let both = row_parts header before y here.0 in
     let ne = not_the_limit header before y both.0 in
     let i : id_fault header fewer x ≡ None = subst (λ (r : Record). id_fault header fewer r ≡ None) (sym t.0)
     (id_stays header before fewer y h (omega arith) both.0) in
@@ -95,7 +95,7 @@ rows_stay header (y ∷ ys) before (x ∷ xs) fewer e (inl t) h le lim =
     (content_stays header (length before) (length fewer) y both.1) in
     let rest = rows_stay header ys (before ++ y ∷ []) xs (fewer ++ x ∷ []) here.1 t.1 (more t.0)
     (longer (length_last before y) (length_last fewer x)) (within (length_last before y) ne) in
-    rw (i, c) rest
+    rw (row-content header fewer x None i c) rest
   where
     length_last : (zs : List Record) (z : Record) → length (zs ++ z ∷ []) ≡ length zs + 1
     length_last [] z = omega arith
@@ -116,7 +116,7 @@ rows_stay header (y ∷ ys) before (x ∷ xs) fewer e (inl t) h le lim =
     ]
 rows_stay header (y ∷ ys) before (x ∷ xs) fewer e (inr t) h le lim =
     let here = neither (row_fault header before y) (rows_fault header (before ++ y ∷ []) ys) e in
-    let both = neither (id_fault header before y) (content_fault header (length before) y) here.0 in
+    let both = row_parts header before y here.0 in
     let ne = not_the_limit header before y both.0 in
     rows_stay header ys (before ++ y ∷ []) (x ∷ xs) fewer here.1 t
     (λ row i. left_append before (y ∷ []) row (h row i))

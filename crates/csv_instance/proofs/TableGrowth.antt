@@ -1,19 +1,21 @@
 -- A table that is an instance, with one more row.
-use Rattle.std.proofs.Common.{◌≡◌, ◌++◌, ◌∷◌, ◌∙◌, ℕ, List, [], Option, Some, None, Ok, Err, get_or, length, map, option_map, refl, sym, ap, subst}
+use Rattle.std.proofs.Common.{◌≡◌, ◌++◌, ◌∷◌, ◌∙◌, ℕ, List, [], Option, Some, None, Ok, Err, get_or, length, map, refl, sym, ap, subst}
 use Rattle.std.proofs.lemmas.List.{length-map, map-append}
 use Rattle.std.specs.Option.{option_or}
 use Rattle.dsa_terms.specs.Buffers.{Buffer, buffer, no_buffer}
 use Rattle.dsa_model.specs.Buffer.{buffer_fault}
 use Rattle.dsa_model.specs.declared.buffer_fault.BufferFault.{BufferFault}
 use Rattle.dsa_model.proofs.Faults.{neither}
-use Rattle.csv_instance.specs.Parse.{content_fault, form_fault, header_fault, id_fault, parse, row_buffer, row_fault, rows_fault}
+use Rattle.csv_instance.specs.Parse.{header_fault, parse, row_buffer, row_fault, row_form_fault, rows_fault}
 use Rattle.csv_instance.specs.Records.{Record}
-use Rattle.csv_instance.specs.Rows.{parse_rows, row_form_fault, rows_form_fault, values_of}
+use Rattle.csv_instance.specs.RowSteps.{form_fault, id_fault}
+use Rattle.csv_instance.specs.Rows.{parse_rows, rows_form_fault, values_of}
 use Rattle.csv_instance.specs.declared.fault.InstanceFault.{InstanceFault}
 use Rattle.csv_instance.specs.declared.fault.InstanceFault.TheVariants as fault
 use Rattle.csv_instance.proofs.OffsetLemmas.{get-last}
-use Rattle.csv_instance.proofs.RowLemmas.{content-buffer, content-none, form-append, readable}
-use Rattle.csv_instance.proofs.TableLemmas.{answered, faultless, option_or-assoc, parse-fault, parse-good, refused, row-content, rows-more}
+use Rattle.csv_instance.proofs.RowLemmas.{form-append, readable}
+use Rattle.csv_instance.proofs.RowStepLemmas.{content-buffer, content-none, form_parts, row-content}
+use Rattle.csv_instance.proofs.TableLemmas.{answered, faultless, parse-fault, parse-good, refused, rows-more}
 
 -- ---- the last row
 -- what the last row says
@@ -33,8 +35,7 @@ last_read header rows row bs e =
     let all = (readable header (rows ++ row ∷ []) bs e).1 in
     let here = (neither (rows_form_fault header [] rows) (rows_form_fault header rows (row ∷ []))
     (sym (form-append header [] rows (row ∷ [])) ∙ all)).1 in
-    neither (id_fault header rows row) (form_fault header (length rows) row)
-    (neither (row_form_fault header rows row) None here).0
+    form_parts header rows row (neither (row_form_fault header rows row) None here).0
 
 row_count : (header : Record) (rows : List Record) (I : List Buffer) → parse (header ∷ rows) ≡ Ok I →
     length I ≡ length rows
@@ -79,17 +80,13 @@ all_read : (header : Record) (before rows : List Record) → rows_fault header b
 all_read header before [] e = refl
 all_read header before (row ∷ rows) e =
     let (here, later) = neither (row_fault header before row) (rows_fault header (before ++ row ∷ []) rows) e in
-    let (id, content) = neither (id_fault header before row) (content_fault header (length before) row) here in
-    let form = (neither (form_fault header (length before) row) _ content).0 in
-    rw (id, form) (all_read header (before ++ row ∷ []) rows later)
+    let form = (neither (row_form_fault header before row) _ here).0 in
+    rw form (all_read header (before ++ row ∷ []) rows later)
 
 -- a row that can't be read has that fault
 unread_row : (header : Record) (rows : List Record) (row : Record) (f : InstanceFault) →
     row_form_fault header rows row ≡ Some f → row_fault header rows row ≡ Some f
-unread_row header rows row f e =
-    let told = option_map (fault.BadBuffer (length rows)) (buffer_fault (row_buffer header row)) in
-    option_or-assoc (id_fault header rows row) (form_fault header (length rows) row) told
-    ∙ ap (λ (o : Option InstanceFault). option_or o told) e
+unread_row header rows row f e = rw e refl
 
 or_none : {A : Type 0} (o : Option A) → option_or o None ≡ o
 or_none None = refl

@@ -3,22 +3,20 @@ use Rattle.std.proofs.Common.{zero, suc, get_or, ◌≡◌, ◌≢◌, ◌≤◌
 use Rattle.std.proofs.lemmas.List.{append-nil}
 use Rattle.std.specs.Option.{option_map_or, option_or}
 use Rattle.csv_instance.specs.Records.{Record}
-use Rattle.csv_instance.specs.Parse.{row_buffer, content_fault, header_fault, id_fault, row_fault, rows_fault, parse}
+use Rattle.csv_instance.specs.Parse.{row_buffer, header_fault, row_fault, rows_fault, parse}
 use Rattle.std.specs.Prelude.{nat_lt, ◌==◌}
 use Rattle.std.proofs.lemmas.Bool.Decides.{nat_tests}
 use Rattle.dsa_model.specs.Buffer.{buffer_limit}
 use Rattle.dsa_terms.specs.Buffers.{Buffer}
 use Rattle.dsa_model.proofs.Faults.{neither, not_so}
 use Rattle.csv_instance.specs.Columns.{field_of}
-use Rattle.csv_instance.specs.Parse.{id_faults}
+use Rattle.csv_instance.specs.RowSteps.{id_fault, id_faults}
 use Rattle.csv_instance.specs.declared.columns.Column.TheVariants.{Id}
 use Rattle.csv_instance.specs.declared.fault.InstanceFault.{InstanceFault}
 use Rattle.csv_instance.specs.declared.fault.InstanceFault.TheVariants as fault
+use Rattle.csv_instance.proofs.Basics.{option_or-assoc}
 use Rattle.csv_instance.proofs.IdLemmas.{all_none}
-
-pub option_or-assoc : {A : Type 0} (a b c : Option A) → option_or a (option_or b c) ≡ option_or (option_or a b) c
-option_or-assoc None b c = refl
-option_or-assoc (Some x) b c = refl
+use Rattle.csv_instance.proofs.RowStepLemmas.{row_parts}
 
 -- what is answered where nothing is wrong, or what is wrong
 pub parsed : {F B : Type 0} (o : Option F) (x : B) (b : B) → option_map_or Err o (Ok x) ≡ Ok b → o ≡ None
@@ -72,10 +70,6 @@ parse-fault header rows row rest f h r e =
     ∙ rw (r, e) refl in
     rw (h, whole) refl
 
-pub row-content : (header : Record) (rows : List Record) (row : Record) (o : Option InstanceFault)
-    → id_fault header rows row ≡ None → content_fault header (length rows) row ≡ o → row_fault header rows row ≡ o
-row-content header rows row o e g = rw (e, g) refl
-
 -- there is room for a row that is not one too many
 pub room : (header : Record) (rows : List Record) (row : Record) → id_fault header rows row ≡ None →
     length rows ≢ buffer_limit
@@ -92,8 +86,7 @@ pub id-limits : (header : Record) (before rows : List Record) (b : ℕ) → rows
 id-limits header before [] b e h = absurd (omega arith)
 id-limits header before (row ∷ rows) zero e h =
     let here = (neither (row_fault header before row) (rows_fault header (before ++ row ∷ []) rows) e).0 in
-    let none = all_none (id_faults header before row)
-    (neither (id_fault header before row) (content_fault header (length before) row) here).0 in (
+    let none = all_none (id_faults header before row) (row_parts header before row here).0 in (
       some_byte _ (not_so _ (fault.EmptyId (length before)) none.1.1.0),
       few_bytes _ (not_so _ (fault.IdTooLong (length before)) none.1.1.1.0),
     )

@@ -17,13 +17,9 @@ gap_of piece =
     (λ k. option_zip (written_number time_limit (take k piece)) (written_number time_limit (drop (k + 1) piece)))
     (position (λ c. c == 45) piece)
 
--- the pieces of a field between its spaces
-abbrev pub pieces_of : List ℕ → List (List ℕ)
-pieces_of field = slice_split (λ c. c == 32) field
-
 -- the gaps that a field writes: none where it is empty, and else one for each piece between its spaces
 abbrev pub gaps_of : List ℕ → Option (List (ℕ × ℕ))
-gaps_of field = if length field == 0 then Some [] else all_some (map gap_of (pieces_of field))
+gaps_of field = if length field == 0 then Some [] else all_some (map gap_of (slice_split (λ c. c == 32) field))
 
 -- a gap's two moments, as they are written
 abbrev pub gap_pair_text : ℕ → ℕ → List ℕ

@@ -4,6 +4,7 @@ pub mod Gaps
 pub mod Columns
 pub mod Places
 pub mod Parse
+pub mod RowSteps
 pub mod Row
 pub mod Gives
 pub mod Layout

@@ -42,13 +42,10 @@ number_under header row Alignment = number_or 1 (field_of header row Alignment)
 number_under header row Lowest = number_or 0 (field_of header row Lowest)
 number_under header row c = written_number time_limit (field_of header row c)
 
--- the columns that hold numbers
-abbrev pub number_columns : List Column
-number_columns = Lower ∷ Upper ∷ Size ∷ Alignment ∷ Lowest ∷ []
-
--- the first of them that has no number
+-- the first column of numbers that has no number
 abbrev pub bad_column : Record → Record → Option Column
-bad_column header row = find (λ c. not (is_some (number_under header row c))) number_columns
+bad_column header row =
+    find (λ c. not (is_some (number_under header row c))) (Lower ∷ Upper ∷ Size ∷ Alignment ∷ Lowest ∷ [])
 
 -- the buffer of a row whose fields are right
 abbrev pub row_buffer : Record → Record → Buffer
@@ -65,9 +62,9 @@ row_buffer header row = record {
 abbrev pub id_limit : ℕ
 id_limit = 255
 
--- what can be wrong with a row's length and id, given the rows before it
-abbrev pub id_faults : Record → List Record → Record → List (Option InstanceFault)
-id_faults header before row =
+-- what can be wrong with how a row is written, given the rows before it, in the order in which it is told
+abbrev pub row_form_faults : Record → List Record → Record → List (Option InstanceFault)
+row_form_faults header before row =
     let number = length before in
     let id = field_of header row Id in
     when (number == buffer_limit) fault.TooManyBuffers
@@ -75,27 +72,18 @@ id_faults header before row =
     ∷ when (length id == 0) (fault.EmptyId number)
     ∷ when (nat_lt id_limit (length id)) (fault.IdTooLong number)
     ∷ option_map (fault.DuplicateId number) (position (λ earlier. bytes_eq id (field_of header earlier Id)) before)
+    ∷ option_map (fault.BadNumber number) (bad_column header row)
+    ∷ when (not (is_some (gaps_of (field_of header row Gaps)))) (fault.BadGap number)
     ∷ []
 
 -- the first of these
-abbrev pub id_fault : Record → List Record → Record → Option InstanceFault
-id_fault header before row = first_fault (id_faults header before row)
+abbrev pub row_form_fault : Record → List Record → Record → Option InstanceFault
+row_form_fault header before row = first_fault (row_form_faults header before row)
 
--- the first fault of the numbers and the gaps that a row writes
-abbrev pub form_fault : Record → ℕ → Record → Option InstanceFault
-form_fault header number row = first_fault (
-    option_map (fault.BadNumber number) (bad_column header row)
-    ∷ when (not (is_some (gaps_of (field_of header row Gaps)))) (fault.BadGap number)
-    ∷ [])
-
--- the first fault of what a row says of its buffer
-abbrev pub content_fault : Record → ℕ → Record → Option InstanceFault
-content_fault header number row = option_or (form_fault header number row)
-    (option_map (fault.BadBuffer number) (buffer_fault (row_buffer header row)))
-
--- the first fault of a row, given the rows before it
+-- the first fault of a row: of how it is written, or else of its buffer
 abbrev pub row_fault : Record → List Record → Record → Option InstanceFault
-row_fault header before row = option_or (id_fault header before row) (content_fault header (length before) row)
+row_fault header before row = option_or (row_form_fault header before row)
+    (option_map (fault.BadBuffer (length before)) (buffer_fault (row_buffer header row)))
 
 -- the first fault of rows, after those before them
 abbrev pub rows_fault : Record → List Record → List Record → Option InstanceFault

@@ -5,17 +5,13 @@ use Rattle.std.specs.Option.{option_or, option_map_or}
 use Rattle.dsa_terms.specs.Buffers.{Buffer}
 use Rattle.dsa_model.specs.Buffer.{buffer_of, first_fault}
 use Rattle.csv_instance.specs.Numbers.{time_limit}
-use Rattle.csv_instance.specs.Parse.{form_fault, header_fault, id_fault, row_buffer}
+use Rattle.csv_instance.specs.Parse.{header_fault, row_buffer, row_form_fault}
 use Rattle.csv_instance.specs.Records.{Record}
 use Rattle.csv_instance.specs.declared.fault.InstanceFault.{InstanceFault}
 use Rattle.csv_instance.specs.declared.fault.InstanceFault.TheVariants as fault
 use Rattle.csv_instance.specs.declared.row.RowValues.{RowValues}
 
--- the first fault of a row, given the rows before it, whatever its buffer would be
-abbrev pub row_form_fault : Record → List Record → Record → Option InstanceFault
-row_form_fault header before row = option_or (id_fault header before row) (form_fault header (length before) row)
-
--- the first such fault of rows, after those before them
+-- the first fault of how rows are written, after those before them, whatever their buffers would be
 abbrev pub rows_form_fault : Record → List Record → List Record → Option InstanceFault
 rows_form_fault header before rows = first_fault (scan push (row_form_fault header) before rows)
 

@@ -1,7 +1,8 @@
 //! Gaps in fields.
 
 ghost use Rattle.std.specs.Prelude.{◌≡◌, ◌==◌, ◌+◌, ◌≤◌, IfOk, IfSome, length, map, option_map, position};
-ghost use Rattle.csv_instance.specs.Gaps.{gap_of, gaps_of, pieces_of};
+ghost use Rattle.std.specs.List.{slice_split};
+ghost use Rattle.csv_instance.specs.Gaps.{gap_of, gaps_of};
 
 use crate::numbers::TIME_LIMIT;
 use dsa_model::{NoMemory, parse_number};
@@ -33,7 +34,7 @@ fn read_gap(piece: &[u8]) -> Option<(u64, u64)>
 /// The pieces of a field between its spaces.
 fn split_pieces(alloc: Global, field: &[u8]) -> Result<Vec<&[u8]>, NoMemory>
     ensures pieces { IfOk result
-        (λ pieces. map (λ piece. piece.now) pieces.items ≡ pieces_of field.now) }
+        (λ pieces. map (λ piece. piece.now) pieces.items ≡ slice_split (λ c. c == 32) field.now) }
     ensures count { IfOk result (λ pieces. length pieces.items ≤ length field.now + 1) }
 {
     match field.split(|byte| *byte == b' ').collect(alloc) {

@@ -7,7 +7,7 @@ use Rattle.dsa_terms.specs.Buffers.{Buffer, Instance, IsInstance, IsSound}
 use Rattle.dsa_model.specs.Buffer.{buffer_fault, gap_fault, lowest_fault, number_fault}
 use Rattle.dsa_model.proofs.Faults.{neither, not_so, map_none}
 use Rattle.csv_instance.specs.Records.{Record}
-use Rattle.csv_instance.specs.Parse.{content_fault, form_fault, header_fault, id_fault, parse, row_buffer, row_fault, rows_fault}
+use Rattle.csv_instance.specs.Parse.{header_fault, parse, row_buffer, row_fault, row_form_fault, rows_fault}
 use Rattle.csv_instance.specs.declared.fault.InstanceFault.{InstanceFault}
 
 above : (m n : ℕ) → nat_le n m ≡ false → m < n
@@ -31,9 +31,8 @@ buffer_sound b is =
 row_sound : (header : Record) (before : List Record) (row : Record) → row_fault header before row ≡ None →
     IsSound (row_buffer header row)
 row_sound header before row is =
-    let content = (neither (id_fault header before row) (content_fault header _ row) is).1 in
     buffer_sound (row_buffer header row)
-    (map_none _ (buffer_fault (row_buffer header row)) (neither (form_fault header _ row) _ content).1)
+    (map_none _ (buffer_fault (row_buffer header row)) (neither (row_form_fault header before row) _ is).1)
 
 rows_sound : (header : Record) (before rows : List Record) → rows_fault header before rows ≡ None →
     All IsSound (map (row_buffer header) rows)

@@ -10,13 +10,15 @@ use Rattle.dsa_terms.specs.Buffers.{Buffer}
 use Rattle.dsa_terms.specs.Parts.{numbers}
 use Rattle.dsa_model.specs.Buffer.{buffer_limit}
 use Rattle.csv_instance.specs.Columns.{field_of}
-use Rattle.csv_instance.specs.Parse.{row_buffer, id_fault, parse, row_fault, rows_fault}
+use Rattle.csv_instance.specs.Parse.{row_buffer, parse, row_fault, rows_fault}
 use Rattle.csv_instance.specs.Records.{Record, table_of}
+use Rattle.csv_instance.specs.RowSteps.{id_fault}
 use Rattle.csv_instance.specs.declared.columns.Column.TheVariants.{Id}
 use Rattle.make_instance.specs.Made.{header, made_record, made_table, made_text}
 use Rattle.make_instance.specs.Rows.{made_row}
 use Rattle.make_instance.proofs.MadeRows.{made}
 use Rattle.csv_instance.proofs.NumberedIds.{ids_differ, numbered_good}
+use Rattle.csv_instance.proofs.RowStepLemmas.{row-content}
 use Rattle.make_instance.proofs.RowFaults.{content_good}
 use Rattle.make_instance.proofs.TextLemmas.{table-read}
 
@@ -46,7 +48,7 @@ id_good seed count a less few =
 row_good : (seed count a : ℕ) → a < count → count ≤ buffer_limit
     → row_fault header (before seed count a) (made_record seed count a) ≡ None
 row_good seed count a less few =
-    rw (id_good seed count a less few)
+    row-content header (before seed count a) (made_record seed count a) None (id_good seed count a less few)
     (content_good a (length (before seed count a)) (made_row seed count a) (made seed count a less few))
 
 rows_good : (seed count a n : ℕ) → a + n ≤ count → count ≤ buffer_limit

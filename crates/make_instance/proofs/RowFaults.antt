@@ -11,11 +11,12 @@ use Rattle.dsa_model.specs.Numbers.{written_number}
 use Rattle.dsa_model.proofs.Live.{is_ever, live_from}
 use Rattle.csv_instance.specs.Gaps.{gaps_of}
 use Rattle.csv_instance.specs.Numbers.{time_limit}
-use Rattle.csv_instance.specs.Parse.{number_or, bad_column, row_buffer, content_fault}
+use Rattle.csv_instance.specs.Parse.{number_or, bad_column, row_buffer}
+use Rattle.csv_instance.specs.RowSteps.{content_fault}
 use Rattle.csv_instance.specs.declared.fault.InstanceFault.TheVariants as fault
 use Rattle.csv_instance.proofs.IdLemmas.{none_first, none_mapped, none_when}
 use Rattle.csv_instance.proofs.OffsetLemmas.{number-decimal}
-use Rattle.csv_instance.proofs.RowLemmas.{content-none}
+use Rattle.csv_instance.proofs.RowStepLemmas.{content-none}
 use Rattle.make_instance.specs.Made.{gap_text, header, record_of}
 use Rattle.make_instance.specs.declared.row.Row.{Row}
 use Rattle.csv_instance.proofs.GapTexts.{gaps-read}

@@ -16,7 +16,8 @@ use Rattle.dsa_model.proofs.Live.{is_ever, live_from}
 use Rattle.csv_instance.specs.Columns.{field_of}
 use Rattle.csv_instance.specs.Layout.{text_of}
 use Rattle.csv_instance.specs.Numbers.{time_limit}
-use Rattle.csv_instance.specs.Parse.{number_or, bad_column, content_fault, id_fault, parse, row_buffer, rows_fault}
+use Rattle.csv_instance.specs.Parse.{number_or, bad_column, parse, row_buffer, rows_fault}
+use Rattle.csv_instance.specs.RowSteps.{content_fault, id_fault}
 use Rattle.csv_instance.specs.Records.{Record, table_of}
 use Rattle.csv_instance.specs.declared.columns.Column.TheVariants.{Id}
 use Rattle.csv_instance.specs.declared.fault.InstanceFault.TheVariants as fault
@@ -24,7 +25,7 @@ use Rattle.csv_instance.proofs.IdLemmas.{none_first, none_mapped}
 use Rattle.csv_instance.proofs.NumberedIds.{ids_differ, numbered_good}
 use Rattle.csv_instance.proofs.Mark.{no_mark}
 use Rattle.csv_instance.proofs.OffsetLemmas.{number-decimal}
-use Rattle.csv_instance.proofs.RowLemmas.{content-none}
+use Rattle.csv_instance.proofs.RowStepLemmas.{content-none, row-content}
 use Rattle.csv_instance.proofs.ReadBack.{AllReadBack, text-read}
 use Rattle.trace_import.specs.Limits.{AreWithin}
 use Rattle.trace_import.specs.Traces.{Alloc, end_of, Event, Free, imported, imported_from, Trace}
@@ -166,7 +167,7 @@ rows_good (Alloc id size alignment ∷ es) line before w soon are few =
     let n = length_last before row in
     let rest = rows_good es (line + 1) (before ++ row ∷ []) (λ i s a j. w i s a (inr j)) (omega arith)
     (later_ids line before row are refl) (omega arith) in
-    rw (ids, content) rest
+    rw (row-content import_header before row None ids content) rest
 
 buffers_are : (es : List Event) (line : ℕ) → AreWithin es → line + length es ≤ 2 ^ 60 →
     map (row_buffer import_header) (import_rows line es) ≡ imported_from line es
