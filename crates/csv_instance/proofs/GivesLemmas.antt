@@ -13,7 +13,7 @@ use Rattle.csv.proofs.ReadFacts.{rows-end, rows-more}
 use Rattle.csv_instance.specs.Records.{HasShortFields, Record, table_of}
 use Rattle.csv_instance.specs.Gives.{GaveRecord, Gives, records_left}
 use Rattle.csv_instance.proofs.Left.{left-first, left-none}
-use Rattle.csv_instance.proofs.Short.{all_middle}
+use Rattle.csv_instance.proofs.Short.{all_middle, all_tail}
 
 -- a step that gives a record gives the first of them
 pub gives-some : (a b : ByteRecordsIntoIter (Bor (List ℕ))) (left : List Record) (fields : Record) → Gives a left
@@ -107,3 +107,29 @@ seen-more all seen left more fields is first = is ∙ ap (λ t. seen ++ t) first
 pub put-first : (all seen left more : List Record) (fields : Record) → all ≡ seen ++ left → left ≡ fields ∷ more
     → all ≡ seen ++ (fields ∷ more)
 put-first all seen left more fields is first = is ∙ ap (λ t. seen ++ t) first
+
+-- what is wrong with the next record, whatever comes after, is wrong with all
+pub next-bad : {V F : Type 0} (a b : ByteRecordsIntoIter (Bor (List ℕ))) (left : List Record) (row : Result Row Error)
+    (parsed : List Record → Result V F) (all seen : List Record) (f : F) → Gives a left
+    → RowStep (λ (s : Bor (List ℕ)). Some s.now) a.rdr b.rdr b.left (Some row) → all ≡ seen ++ left
+    → GaveRecord row (λ fields. (rest : List Record) → parsed (seen ++ fields ∷ rest) ≡ Err f) → parsed all ≡ Err f
+next-bad a b left row parsed all seen f gives s is h =
+    let (fields, bad, more, first, on) =
+    gave-first a b left row (λ fields. (rest : List Record) → parsed (seen ++ fields ∷ rest) ≡ Err f) gives s h in
+    ap parsed (put-first all seen left more fields is first) ∙ bad more
+
+-- and one that is taken is seen, while the others are left
+pub next-taken : (a b : ByteRecordsIntoIter (Bor (List ℕ))) (left : List Record) (row : Result Row Error)
+    (longer seen : List Record) → Gives a left
+    → RowStep (λ (s : Bor (List ℕ)). Some s.now) a.rdr b.rdr b.left (Some row) → All HasShortFields left
+    → GaveRecord row (λ fields. longer ≡ seen ++ fields ∷ [])
+    → (more : List Record) × Gives b more × All HasShortFields more
+    × ((all : List Record) → all ≡ seen ++ left → all ≡ longer ++ more)
+next-taken a b left row longer seen gives s short h =
+    let (fields, taken, more, first, on) =
+    gave-first a b left row (λ fields. longer ≡ seen ++ fields ∷ []) gives s h in (
+      more,
+      on,
+      all_tail HasShortFields fields more (rw first at short),
+      λ all is. seen-more all seen left more fields is first ∙ ap (λ (t : List Record). t ++ more) (sym taken),
+    )

@@ -10,6 +10,7 @@ mod columns;
 mod fault;
 mod fault_texts;
 mod gaps;
+mod growing;
 mod header;
 mod layout;
 mod layout_laws;

@@ -1,15 +1,15 @@
 //! An instance file, read: as an instance, or as rows alone.
 
 ghost use Rattle.std.specs.Prelude.{◌≡◌, ◌++◌, ◌≤◌, [], List, Ok, Err, IfOk, length};
-ghost use Rattle.std.specs.List.{All};
 ghost use Rattle.dsa_terms.specs.Buffers.{Buffer};
 ghost use Rattle.dsa_model.specs.Fails.{UnlessNoMemory};
 ghost use Rattle.csv_instance.specs.Gives.{Gives};
 ghost use Rattle.csv_instance.specs.Parse.{parse};
-ghost use Rattle.csv_instance.specs.Records.{HasShortFields, Record, table_of};
+ghost use Rattle.csv_instance.specs.Records.{Record, table_of};
 ghost use Rattle.csv_instance.specs.Rows.{parse_rows, values_of};
 
 use crate::fault::InstanceFault;
+use crate::growing::fill;
 use crate::records::{first_record, records};
 use crate::row_list::Rows;
 use crate::table::Table;
@@ -34,28 +34,6 @@ fn start_rows(
     }
 }
 
-/// The table with the records that are left as further rows, or the first fault of them.
-fn fill_table(
-    alloc: Global,
-    start: Table,
-    records: ByteRecordsIntoIter<&[u8]>,
-) -> Result<Table, Fail<InstanceFault>>
-    requires { (left : List Record) × Gives records left × All HasShortFields left }
-    ensures read { (left : List Record) → Gives records.entry left → UnlessNoMemory result
-        (λ table. table ≡ start ++ left) (λ fault. parse (start ++ left) ≡ Err fault) }
-    ensures sound { IfOk result (λ table. (buffers : List Buffer) × (parse table ≡ Ok buffers)) }
-{
-    let mut table = start;
-    for row in records {
-        table = match table.with_next(alloc, row) {
-            Ok(longer) => longer,
-            Err(failure) => return Err(failure),
-        };
-    }
-    let _instance = table.instance();
-    Ok(table)
-}
-
 /// The table of an instance file, or the file's first fault: that of the header, or else that of
 /// the first row that has one. The caller owes at most 67108864 bytes. The form is MiniMalloc's,
 /// with the columns `alignment`, `gaps` and `lowest` beside, and with columns that are carried.
@@ -66,32 +44,16 @@ pub fn read_instance(alloc: Global, bytes: &[u8]) -> Result<Table, Fail<Instance
     ensures sound { IfOk result (λ table. (buffers : List Buffer) × (parse table ≡ Ok buffers)) }
 {
     let mut records = records(alloc, bytes);
-    match start_rows(alloc, &mut records) {
-        Ok(rows) => fill_table(alloc, Table::start(alloc, rows), records),
-        Err(failure) => Err(failure),
-    }
-}
-
-/// The rows with the records that are left as further rows, or the first fault of them.
-fn fill_rows(
-    alloc: Global,
-    start: Rows,
-    records: ByteRecordsIntoIter<&[u8]>,
-) -> Result<Rows, Fail<InstanceFault>>
-    requires { (left : List Record) × Gives records left × All HasShortFields left }
-    ensures read { (left : List Record) → Gives records.entry left → UnlessNoMemory result
-        (λ rows. rows ≡ start ++ left) (λ fault. parse_rows (start ++ left) ≡ Err fault) }
-    ensures sound { IfOk result (λ rows. parse_rows rows ≡ Ok (values_of rows)) }
-{
-    let mut rows = start;
-    for row in records {
-        rows = match rows.with_next(alloc, row) {
-            Ok(longer) => longer,
-            Err(failure) => return Err(failure),
-        };
-    }
-    let _count = rows.count();
-    Ok(rows)
+    let rows = match start_rows(alloc, &mut records) {
+        Ok(rows) => rows,
+        Err(failure) => return Err(failure),
+    };
+    let table = match fill(alloc, Table::start(alloc, rows), records) {
+        Ok(table) => table,
+        Err(failure) => return Err(failure),
+    };
+    let _instance = table.instance();
+    Ok(table)
 }
 
 /// The rows of an instance file as they are read, or the first fault of the header and of all rows
@@ -104,8 +66,14 @@ pub fn read_rows(alloc: Global, bytes: &[u8]) -> Result<Rows, Fail<InstanceFault
     ensures sound { IfOk result (λ rows. parse_rows rows ≡ Ok (values_of rows)) }
 {
     let mut records = records(alloc, bytes);
-    match start_rows(alloc, &mut records) {
-        Ok(rows) => fill_rows(alloc, rows, records),
-        Err(failure) => Err(failure),
-    }
+    let start = match start_rows(alloc, &mut records) {
+        Ok(start) => start,
+        Err(failure) => return Err(failure),
+    };
+    let rows = match fill(alloc, start, records) {
+        Ok(rows) => rows,
+        Err(failure) => return Err(failure),
+    };
+    let _count = rows.count();
+    Ok(rows)
 }

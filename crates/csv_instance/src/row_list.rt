@@ -16,6 +16,7 @@ ghost use Rattle.csv_instance.specs.Rows.{AreKeptValues, parse_rows, value_of, v
 
 use crate::columns::{ColumnPlaces, find_columns};
 use crate::fault::InstanceFault;
+use crate::growing::Grows;
 use crate::header::check_header;
 use crate::row::{RowValues, keep, read_id, read_values};
 use csv::ByteRecord;
@@ -65,49 +66,6 @@ impl Rows {
             ids: IndexSet::new(alloc),
             values: Vec::new(alloc),
         })
-    }
-
-    /// The rows with a record as one more, or the row's fault, which is the file's whatever comes
-    /// after, and want of memory where the record could not be read.
-    pub(crate) fn with_next(
-        self,
-        alloc: Global,
-        row: Result<ByteRecord, csv::Error>,
-    ) -> Result<Rows, Fail<InstanceFault>>
-        requires { IfOk row (λ r. HasShortFields (fields_of r)) }
-        ensures { UnlessNoMemory result
-            (λ t. GaveRecord row (λ fields. t ≡ self ++ fields ∷ []))
-            (λ f. GaveRecord row
-            (λ fields. (rest : List Record) → parse_rows (self ++ fields ∷ rest) ≡ Err f)) }
-    {
-        let Ok(row) = row else {
-            return Err(Fail::NoMemory);
-        };
-        let Rows {
-            header,
-            places,
-            mut rows,
-            mut ids,
-            mut values,
-        } = self;
-        match add_row(
-            alloc,
-            &header,
-            &places,
-            &mut rows,
-            &mut ids,
-            &mut values,
-            row,
-        ) {
-            Ok(()) => Ok(Rows {
-                header,
-                places,
-                rows,
-                ids,
-                values,
-            }),
-            Err(failure) => Err(failure),
-        }
     }
 
     /// The header, where its columns stand, and the rows.
@@ -218,6 +176,48 @@ impl Rows {
         ensures few { length result.now < 2 ^ 31 }
     {
         self.row(r).gaps.as_slice()
+    }
+}
+
+impl Grows for Rows {
+    ghost records = { λ t. t };
+
+    ghost parsed = { parse_rows };
+
+    /// As the trait says.
+    fn with_next(
+        self,
+        alloc: Global,
+        row: Result<ByteRecord, csv::Error>,
+    ) -> Result<Rows, Fail<InstanceFault>> {
+        let Ok(row) = row else {
+            return Err(Fail::NoMemory);
+        };
+        let Rows {
+            header,
+            places,
+            mut rows,
+            mut ids,
+            mut values,
+        } = self;
+        match add_row(
+            alloc,
+            &header,
+            &places,
+            &mut rows,
+            &mut ids,
+            &mut values,
+            row,
+        ) {
+            Ok(()) => Ok(Rows {
+                header,
+                places,
+                rows,
+                ids,
+                values,
+            }),
+            Err(failure) => Err(failure),
+        }
     }
 }
 

@@ -11,6 +11,7 @@ ghost use Rattle.csv_instance.specs.Parse.{parse};
 
 use crate::columns::{field_at, field_under};
 use crate::fault::InstanceFault;
+use crate::growing::Grows;
 use crate::row_list::Rows;
 use csv::ByteRecord;
 use dsa_model::{Fail, Instance, NoMemory};
@@ -46,38 +47,6 @@ impl Table {
         Table {
             rows,
             instance: Instance::new(alloc),
-        }
-    }
-
-    /// The table with a record as one more row, or the row's fault, which is the file's whatever
-    /// comes after, and want of memory where the record could not be read.
-    pub(crate) fn with_next(
-        self,
-        alloc: Global,
-        row: Result<ByteRecord, csv::Error>,
-    ) -> Result<Table, Fail<InstanceFault>>
-        requires { IfOk row (λ r. HasShortFields (fields_of r)) }
-        ensures { UnlessNoMemory result
-            (λ t. GaveRecord row (λ fields. t ≡ self ++ fields ∷ []))
-            (λ f. GaveRecord row
-            (λ fields. (rest : List Record) → parse (self ++ fields ∷ rest) ≡ Err f)) }
-    {
-        let Table { rows, mut instance } = self;
-        let rows = match rows.with_next(alloc, row) {
-            Ok(rows) => rows,
-            Err(failure) => return Err(failure),
-        };
-        let last = rows.count() - 1;
-        let buffer = match rows.buffer(alloc, last) {
-            Ok(buffer) => buffer,
-            Err(Fail::Fault(fault)) => {
-                return Err(Fail::Fault(InstanceFault::BadBuffer { row: last, fault }));
-            }
-            Err(Fail::NoMemory) => return Err(Fail::NoMemory),
-        };
-        match instance.push(buffer) {
-            Ok(()) => Ok(Table { rows, instance }),
-            Err(NoMemory) => Err(Fail::NoMemory),
         }
     }
 
@@ -122,5 +91,36 @@ impl Table {
     {
         let (_, places, rows) = self.rows.records();
         field_under(&rows[b as usize], places.id)
+    }
+}
+
+impl Grows for Table {
+    ghost records = { λ t. t };
+
+    ghost parsed = { parse };
+
+    /// As the trait says.
+    fn with_next(
+        self,
+        alloc: Global,
+        row: Result<ByteRecord, csv::Error>,
+    ) -> Result<Table, Fail<InstanceFault>> {
+        let Table { rows, mut instance } = self;
+        let rows = match rows.with_next(alloc, row) {
+            Ok(rows) => rows,
+            Err(failure) => return Err(failure),
+        };
+        let last = rows.count() - 1;
+        let buffer = match rows.buffer(alloc, last) {
+            Ok(buffer) => buffer,
+            Err(Fail::Fault(fault)) => {
+                return Err(Fail::Fault(InstanceFault::BadBuffer { row: last, fault }));
+            }
+            Err(Fail::NoMemory) => return Err(Fail::NoMemory),
+        };
+        match instance.push(buffer) {
+            Ok(()) => Ok(Table { rows, instance }),
+            Err(NoMemory) => Err(Fail::NoMemory),
+        }
     }
 }

@@ -2,7 +2,7 @@ use Rattle.std.proofs.Common.{List, ◌∷◌, [], ap}
 use Rattle.std.proofs.lemmas.List.{map-append}
 use Rattle.csv.specs.Records.{fields_of}
 use Rattle.csv_instance.specs.Records.{Record}
-use Rattle.csv_instance.proofs.row_list.Rows.with_next.Goals as goal
+use Rattle.csv_instance.proofs.row_list.RowsGrows.with_next.Goals as goal
 
 pub returns-in-Ok-add_row : goal.returns-in-Ok-add_row
 returns-in-Ok-add_row c =

@@ -14,7 +14,7 @@ use Rattle.csv_instance.proofs.FailLemmas.{IfFault-map}
 use Rattle.csv_instance.proofs.GivesLemmas.{gave-map, gave-some}
 use Rattle.csv_instance.proofs.OffsetFacts.{buffers-count}
 use Rattle.csv_instance.proofs.TableGrowth.{no_buffer_more, one_more, unread_more}
-use Rattle.csv_instance.proofs.table.Table.with_next.Goals as goal
+use Rattle.csv_instance.proofs.table.TableGrows.with_next.Goals as goal
 
 -- there is a row more than buffers so far
 grown : (row : Result Row Error) (table t : List Record) (I : List Buffer) → parse table ≡ Ok I →
