@@ -26,6 +26,8 @@ pub mod TableGrowth
 pub mod KeptLemmas
 pub mod ChangedLemmas
 pub mod ChangedFields
+pub mod ChangedHeader
+pub mod ChangedRows
 pub mod ChangedBack
 mod KeptFacts
 mod RowFacts

@@ -16,7 +16,7 @@ ghost use Rattle.csv_instance.specs.declared.columns.Column.TheVariants.{Lower, 
 use crate::columns::{Column, ColumnPlaces, column_name, field_under};
 use crate::layout::{all_fields, write_with};
 use crate::row_list::Rows;
-use crate::writing::{text_writer, write_record, written_text};
+use crate::writing::{text_writer, write_fields, write_record, written_text};
 use csv::{ByteRecord, Writer};
 use dsa_model::NoMemory;
 use std::alloc::Global;
@@ -104,10 +104,7 @@ fn write_change(
         upper.as_bytes(),
         gaps.as_slice(),
     )?;
-    match writer.write_fields(fields.as_slice()) {
-        Ok(()) => Ok(()),
-        Err(_) => Err(NoMemory),
-    }
+    write_fields(writer, fields.as_slice())
 }
 
 /// Writes a record with one more field put last where it has no field of gaps.
