@@ -6,8 +6,8 @@ ghost use Rattle.csv_instance.specs.Records.{header_of};
 ghost use Rattle.csv_instance.specs.Wrote.{Wrote};
 ghost use Rattle.column_report.specs.Columns.{columns_text, meaning_of};
 
-use csv::{Writer, WriterBuilder};
-use csv_instance::{Column, Table};
+use csv::Writer;
+use csv_instance::{Column, Table, text_writer, write_fields, written_text};
 use dsa_model::NoMemory;
 use std::alloc::Global;
 
@@ -26,24 +26,18 @@ fn write_row(writer: &mut Writer<Vec<u8>>, name: &[u8], meaning: &[u8]) -> Resul
     ensures { (text : List ℕ) → Wrote writer.old text → OnOk result
         (Wrote writer.new (text ++ row_text default_writer (name.now ∷ meaning.now ∷ []))) }
 {
-    match writer.write_fields(&[name, meaning]) {
-        Ok(()) => Ok(()),
-        Err(_) => Err(NoMemory),
-    }
+    write_fields(writer, &[name, meaning])
 }
 
 /// A row for each column of the table's header, in order, below the names of the two fields.
 pub(crate) fn columns_text(alloc: Global, table: &Table) -> Result<Vec<u8>, NoMemory>
     ensures { IfOk result (λ text. text.items ≡ columns_text (header_of table.now)) }
 {
-    let mut writer = WriterBuilder::new().from_writer(Vec::new(alloc));
+    let mut writer = text_writer(alloc);
     write_row(&mut writer, b"column", b"meaning")?;
     for place in 0..table.columns() {
         let name = table.column_name(place);
         write_row(&mut writer, name, meaning(name).as_bytes())?;
     }
-    match writer.into_inner() {
-        Ok(text) => Ok(text),
-        Err(_) => Err(NoMemory),
-    }
+    written_text(writer)
 }

@@ -1,4 +1,4 @@
-use Rattle.std.proofs.Common.{◌++◌, ◌<◌, ◌∙◌, [], arith, get_or, length, refl, rules}
+use Rattle.std.proofs.Common.{◌++◌, ◌<◌, ◌∙◌, [], arith, get_or, length, refl}
 use Rattle.csv.specs.Writing.{default_writer, row_text}
 use Rattle.csv_instance.specs.Records.{header_of}
 use Rattle.column_report.specs.Columns.{column_row, row_names}
@@ -6,7 +6,7 @@ use Rattle.column_report.proofs.Writing.{names_from, row_written}
 use Rattle.column_report.proofs.columns.columns_text.Goals as goal
 
 pub loop-place-init : goal.loop-place-init
-loop-place-init c = (row_text default_writer row_names, c.in_ok-write_row.ensures [] (search rules), refl)
+loop-place-init c = (row_text default_writer row_names, c.in_ok-write_row.ensures [] c.text_writer-writer.ensures, refl)
 
 pub loop-place-preserved : goal.loop-place-preserved
 loop-place-preserved c =
