@@ -1,7 +1,7 @@
 //! The facts of an instance.
 
 ghost use Rattle.std.specs.Prelude.{◌≡◌, IfOk, string_bytes};
-ghost use Rattle.layout_report.specs.Facts.{bound_lines, bounds_text, two_numbers_text, peak_lines, peak_text};
+ghost use Rattle.layout_report.specs.Facts.{bounds_text, peak_text, two_numbers_text};
 
 use dsa_model::NoMemory;
 use std::alloc::Global;
@@ -40,28 +40,21 @@ fn peak_line(alloc: Global, peak: Option<(u64, u64)>) -> Result<String, NoMemory
     }
 }
 
-/// The first two lines: how many buffers there are, and the peak.
-fn peak_lines(alloc: Global, buffers: u32, peak: &str) -> Result<String, NoMemory>
-    ensures { IfOk result (λ text. string_bytes text ≡ peak_lines buffers peak.now) }
-{
-    Ok(format!(in alloc; "buffers {buffers}\npeak {peak}\n")?)
-}
-
-/// The other three lines: how many parts there are, the bound and the best height.
-fn bound_lines(alloc: Global, parts: u32, bound: &str, best: u64) -> Result<String, NoMemory>
-    ensures { IfOk result (λ text. string_bytes text ≡ bound_lines parts bound.now best) }
-{
-    Ok(format!(in alloc; "parts {parts}\nbound {bound}\nbest {best}\n")?)
-}
-
 /// The report of the facts: five lines, each a word and its numbers.
 pub fn bounds_report(alloc: Global, facts: &Facts) -> Result<Vec<u8>, NoMemory>
     ensures text { IfOk result (λ text. text.items ≡ bounds_text facts.now) }
 {
     let peak = peak_line(alloc, facts.peak)?;
-    let bound = pair_line(alloc, facts.bound, facts.modulus)?;
-    let first = peak_lines(alloc, facts.buffers, peak.as_str())?;
-    let rest = bound_lines(alloc, facts.parts, bound.as_str(), facts.best)?;
-    let text = format!(in alloc; "{first}{rest}")?;
+    let Facts {
+        buffers,
+        parts,
+        bound,
+        modulus,
+        best,
+        ..
+    } = *facts;
+    let text = format!(in alloc;
+        "buffers {buffers}\npeak {peak}\nparts {parts}\nbound {bound} {modulus}\nbest {best}\n"
+    )?;
     Ok(text.into_bytes())
 }

@@ -1,16 +1,14 @@
 //! The text of a report.
 
-ghost use Rattle.std.specs.Prelude.{◌≡◌, ◌+◌, ◌<◌, ◌++◌, ◌∷◌, [], ℕ, List, IfOk, OnOk, length, string_bytes};
+ghost use Rattle.std.specs.Prelude.{◌≡◌, ◌+◌, ◌<◌, ◌++◌, IfOk, length, string_bytes};
 ghost use Rattle.std.specs.List.{All};
 ghost use Rattle.std.specs.Option.{ForSome};
-ghost use Rattle.csv.specs.Writing.{default_writer, row_text};
 ghost use Rattle.csv_instance.specs.Offsets.{ids_of};
-ghost use Rattle.csv_instance.specs.Wrote.{Wrote};
 ghost use Rattle.layout_report.specs.Report.{id_of, moment_line, peak_line, rows_text};
 
 use crate::row::Row;
-use csv::{Writer, WriterBuilder};
-use csv_instance::Table;
+use csv::WriterBuilder;
+use csv_instance::{Table, write_fields, written_text};
 use dsa_model::NoMemory;
 use std::alloc::Global;
 
@@ -52,22 +50,6 @@ fn id_of(table: &Table, buffer: Option<u32>) -> &[u8]
     }
 }
 
-/// Writes a row of three fields.
-fn write_row(
-    writer: &mut Writer<Vec<u8>>,
-    place: &[u8],
-    size: &[u8],
-    id: &[u8],
-) -> Result<(), NoMemory>
-    ensures { (text : List ℕ) → Wrote writer.old text → OnOk result
-        (Wrote writer.new (text ++ row_text default_writer (place.now ∷ size.now ∷ id.now ∷ []))) }
-{
-    match writer.write_fields(&[place, size, id]) {
-        Ok(()) => Ok(()),
-        Err(_) => Err(NoMemory),
-    }
-}
-
 /// The line, and below it the rows with the names of their fields.
 pub(crate) fn report_text(
     alloc: Global,
@@ -80,21 +62,15 @@ pub(crate) fn report_text(
         text.items ≡ string_bytes line ++ rows_text (ids_of table.now) rows.now) }
 {
     let mut writer = WriterBuilder::new().from_writer(line.into_bytes());
-    write_row(&mut writer, b"place", b"size", b"id")?;
+    let names: [&[u8]; 3] = [b"place", b"size", b"id"];
+    write_fields(&mut writer, &names)?;
     for row in rows {
         let mut place = itoa::Buffer::new();
         let mut size = itoa::Buffer::new();
         let place = place.format(row.place);
         let size = size.format(row.size);
-        write_row(
-            &mut writer,
-            place.as_bytes(),
-            size.as_bytes(),
-            id_of(table, row.buffer),
-        )?;
+        let fields = [place.as_bytes(), size.as_bytes(), id_of(table, row.buffer)];
+        write_fields(&mut writer, &fields)?;
     }
-    match writer.into_inner() {
-        Ok(text) => Ok(text),
-        Err(_) => Err(NoMemory),
-    }
+    written_text(writer)
 }
