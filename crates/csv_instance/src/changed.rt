@@ -65,7 +65,8 @@ fn changed_fields<'a>(
 ) -> Result<Vec<&'a [u8]>, NoMemory>
     ensures { (header : Record) → places.now ≡ column_places header → IfOk result
         (λ v. map (λ f. f.now) v.items ≡ with_gaps header gaps.now
-        (with_field header Upper upper.now (with_field header Lower lower.now (fields_of row.now)))) }
+        (with_field header Upper upper.now
+        (with_field header Lower lower.now (fields_of row.now)))) }
 {
     let mut fields = all_fields(alloc, row)?;
     put_at(&mut fields, places.lower, lower);
@@ -88,7 +89,8 @@ fn write_change(
 ) -> Result<(), NoMemory>
     ensures { (header : Record) → places.now ≡ column_places header → (text : List ℕ) →
         Wrote writer.old text → OnOk result (Wrote writer.new
-        (text ++ row_text default_writer (changed_row header (Some change.now) (fields_of row.now)))) }
+        (text ++ row_text default_writer
+        (changed_row header (Some change.now) (fields_of row.now)))) }
 {
     let (_, lower, upper, from, to) = *change;
     let mut lower_digits = itoa::Buffer::new();

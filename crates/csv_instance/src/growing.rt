@@ -49,10 +49,7 @@ pub(crate) fn fill<G: Grows>(
 {
     let mut grown = start;
     for row in records {
-        grown = match grown.with_next(alloc, row) {
-            Ok(longer) => longer,
-            Err(failure) => return Err(failure),
-        };
+        grown = grown.with_next(alloc, row)?;
     }
     Ok(grown)
 }

@@ -44,14 +44,8 @@ pub fn read_instance(alloc: Global, bytes: &[u8]) -> Result<Table, Fail<Instance
     ensures sound { IfOk result (λ table. (buffers : List Buffer) × (parse table ≡ Ok buffers)) }
 {
     let mut records = records(alloc, bytes);
-    let rows = match start_rows(alloc, &mut records) {
-        Ok(rows) => rows,
-        Err(failure) => return Err(failure),
-    };
-    let table = match fill(alloc, Table::start(alloc, rows), records) {
-        Ok(table) => table,
-        Err(failure) => return Err(failure),
-    };
+    let rows = start_rows(alloc, &mut records)?;
+    let table = fill(alloc, Table::start(alloc, rows), records)?;
     let _instance = table.instance();
     Ok(table)
 }
@@ -66,14 +60,8 @@ pub fn read_rows(alloc: Global, bytes: &[u8]) -> Result<Rows, Fail<InstanceFault
     ensures sound { IfOk result (λ rows. parse_rows rows ≡ Ok (values_of rows)) }
 {
     let mut records = records(alloc, bytes);
-    let start = match start_rows(alloc, &mut records) {
-        Ok(start) => start,
-        Err(failure) => return Err(failure),
-    };
-    let rows = match fill(alloc, start, records) {
-        Ok(rows) => rows,
-        Err(failure) => return Err(failure),
-    };
+    let start = start_rows(alloc, &mut records)?;
+    let rows = fill(alloc, start, records)?;
     let _count = rows.count();
     Ok(rows)
 }

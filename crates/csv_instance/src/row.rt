@@ -103,8 +103,8 @@ pub(crate) fn keep(
 
 /// The number of a row under a column that need not be there: the default where it gives none.
 fn read_number_or(default: u64, row: &ByteRecord, place: Option<usize>) -> Option<u64>
-    ensures { result
-        ≡ number_or default (option_map_or (λ i. slice_index_or (fields_of row.now) i []) place []) }
+    ensures { result ≡ number_or default
+        (option_map_or (λ i. slice_index_or (fields_of row.now) i []) place []) }
 {
     let field = field_under(row, place);
     if field.is_empty() {

@@ -234,7 +234,8 @@ fn add_row(
 ) -> Result<(), Fail<InstanceFault>>
     requires kept { AreKept header.now places.now rows.old.items ids.old.keys values.old.items }
     requires short { HasShortFields (fields_of row) }
-    ensures { let before = fields_of header.now ∷ map fields_of rows.old.items in UnlessNoMemory result
+    ensures { let before = fields_of header.now ∷ map fields_of rows.old.items in
+        UnlessNoMemory result
         (λ _. AreKept header.now places.now rows.new.items ids.new.keys values.new.items
         × (rows.new.items ≡ rows.old.items ++ row ∷ []))
         (λ f. (rest : List Record) → parse_rows (before ++ fields_of row ∷ rest) ≡ Err f) }

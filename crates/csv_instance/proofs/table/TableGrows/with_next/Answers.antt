@@ -69,12 +69,14 @@ returns-in-Err c =
 
 pub overflow_sub-last : goal.overflow_sub-last
 overflow_sub-last c =
-    let all = grown c.args.row c.self.inside.rows c.in-Ok.rows c.self.inside.instance c.self.invariant c.in-Ok.ensures in
+    let all = grown c.args.row c.self.inside.rows c.in-Ok.rows c.self.inside.instance c.self.invariant
+    c.in-Ok.ensures in
     omega (arith, all, c.count-last.ensures.value)
 
 pub buffer-requires : goal.buffer-requires
 buffer-requires c =
-    let all = grown c.args.row c.self.inside.rows c.in-Ok.rows c.self.inside.instance c.self.invariant c.in-Ok.ensures in
+    let all = grown c.args.row c.self.inside.rows c.in-Ok.rows c.self.inside.instance c.self.invariant
+    c.in-Ok.ensures in
     omega (arith, all, c.count-last.ensures.value)
 
 pub returns-in-Err-Fault : goal.returns-in-Err-Fault
@@ -88,7 +90,8 @@ returns-in-Err-Fault c =
 
 pub push-requires : goal.push-requires
 push-requires c =
-    let all = grown c.args.row c.self.inside.rows c.in-Ok.rows c.self.inside.instance c.self.invariant c.in-Ok.ensures in
+    let all = grown c.args.row c.self.inside.rows c.in-Ok.rows c.self.inside.instance c.self.invariant
+    c.in-Ok.ensures in
     omega (arith, all, c.count-last.ensures.value, c.count-last.ensures.limit)
 
 pub invariant_of-result : goal.invariant_of-result
