@@ -2,9 +2,9 @@
 use Rattle.std.proofs.Common.{◌≡◌, ◌+◌, ◌++◌, ◌∷◌, ◌∙◌, ℕ, List, [], Option, Some, None, Ok, length, refl, ap, arith}
 use Rattle.dsa_model.proofs.Faults.{neither}
 use Rattle.csv_instance.specs.Changed.{AreMoments, Change, change_of, changed_header, changed_records, changed_row, changed_rows, changed_text, changed_values}
-use Rattle.csv_instance.specs.Parse.{header_fault, row_form_fault}
+use Rattle.csv_instance.specs.Parse.{header_fault}
 use Rattle.csv_instance.specs.Records.{Record, table_of}
-use Rattle.csv_instance.specs.Rows.{parse_rows, rows_form_fault, values_of}
+use Rattle.csv_instance.specs.Rows.{parse_rows, row_form_fault, rows_form_fault, values_of}
 use Rattle.csv_instance.proofs.ChangedFields.{row_carried, row_changed}
 use Rattle.csv_instance.proofs.ReadBack.{AllReadBack}
 use Rattle.csv_instance.proofs.RowLemmas.{readable, rows-good}

@@ -12,10 +12,10 @@ use Rattle.csv_instance.specs.Changed.{AreMoments, Change, change_of, changed_fr
 use Rattle.csv_instance.specs.Columns.{field_of}
 use Rattle.csv_instance.specs.Gaps.{gaps_of}
 use Rattle.csv_instance.specs.Numbers.{time_limit}
-use Rattle.csv_instance.specs.Parse.{header_fault, id_limit, number_under, row_buffer, row_form_fault}
+use Rattle.csv_instance.specs.Parse.{header_fault, id_limit, number_under, row_buffer}
 use Rattle.csv_instance.specs.Records.{Record}
 use Rattle.csv_instance.specs.RowSteps.{form_fault, form_faults, id_fault, id_faults}
-use Rattle.csv_instance.specs.Rows.{rows_form_fault}
+use Rattle.csv_instance.specs.Rows.{row_form_fault, rows_form_fault}
 use Rattle.csv_instance.specs.declared.columns.Column.{Column}
 use Rattle.csv_instance.specs.declared.columns.Column.TheVariants.{Id, Lower, Upper, Size, Alignment, Gaps, Lowest}
 use Rattle.csv_instance.specs.declared.fault.InstanceFault.TheVariants as fault

@@ -3,8 +3,8 @@ use Rattle.std.proofs.Common.{◌≡◌, ◌++◌, ◌∷◌, ◌∙◌, List, [
 use Rattle.std.proofs.lemmas.List.{append-nil}
 use Rattle.std.specs.Option.{option_or}
 use Rattle.csv_instance.specs.Records.{Record}
-use Rattle.csv_instance.specs.Parse.{header_fault, parse, row_buffer, row_form_fault, rows_fault}
-use Rattle.csv_instance.specs.Rows.{parse_rows, rows_form_fault, values_of}
+use Rattle.csv_instance.specs.Parse.{header_fault, parse, row_buffer, rows_fault}
+use Rattle.csv_instance.specs.Rows.{parse_rows, row_form_fault, rows_form_fault, values_of}
 use Rattle.csv_instance.specs.declared.fault.InstanceFault.{InstanceFault}
 use Rattle.dsa_model.specs.Buffer.{buffer_fault}
 use Rattle.csv_instance.proofs.Basics.{option_or-assoc}

@@ -4,7 +4,8 @@ use Rattle.std.specs.Option.{option_or}
 use Rattle.dsa_model.specs.Buffer.{buffer_fault, first_fault}
 use Rattle.dsa_model.specs.declared.buffer_fault.BufferFault.{BufferFault}
 use Rattle.dsa_model.proofs.Faults.{neither}
-use Rattle.csv_instance.specs.Parse.{row_buffer, row_fault, row_form_fault}
+use Rattle.csv_instance.specs.Parse.{row_buffer, row_fault}
+use Rattle.csv_instance.specs.Rows.{row_form_fault}
 use Rattle.csv_instance.specs.Records.{Record}
 use Rattle.csv_instance.specs.RowSteps.{content_fault, form_fault, form_faults, id_fault, id_faults}
 use Rattle.csv_instance.specs.declared.fault.InstanceFault.{InstanceFault}

@@ -6,10 +6,10 @@ use Rattle.dsa_terms.specs.Buffers.{Buffer, buffer, no_buffer}
 use Rattle.dsa_model.specs.Buffer.{buffer_fault}
 use Rattle.dsa_model.specs.declared.buffer_fault.BufferFault.{BufferFault}
 use Rattle.dsa_model.proofs.Faults.{neither}
-use Rattle.csv_instance.specs.Parse.{header_fault, parse, row_buffer, row_fault, row_form_fault, rows_fault}
+use Rattle.csv_instance.specs.Parse.{header_fault, parse, row_buffer, row_fault, rows_fault}
 use Rattle.csv_instance.specs.Records.{Record}
 use Rattle.csv_instance.specs.RowSteps.{form_fault, id_fault}
-use Rattle.csv_instance.specs.Rows.{parse_rows, rows_form_fault, values_of}
+use Rattle.csv_instance.specs.Rows.{parse_rows, row_form_fault, rows_form_fault, values_of}
 use Rattle.csv_instance.specs.declared.fault.InstanceFault.{InstanceFault}
 use Rattle.csv_instance.specs.declared.fault.InstanceFault.TheVariants as fault
 use Rattle.csv_instance.proofs.OffsetLemmas.{get-last}

@@ -44,8 +44,7 @@ number_under header row c = written_number time_limit (field_of header row c)
 
 -- the first column of numbers that has no number
 abbrev pub bad_column : Record → Record → Option Column
-bad_column header row =
-    find (λ c. not (is_some (number_under header row c))) (Lower ∷ Upper ∷ Size ∷ Alignment ∷ Lowest ∷ [])
+bad_column h row = find (λ c. not (is_some (number_under h row c))) (Lower ∷ Upper ∷ Size ∷ Alignment ∷ Lowest ∷ [])
 
 -- the buffer of a row whose fields are right
 abbrev pub row_buffer : Record → Record → Buffer
@@ -76,13 +75,9 @@ row_form_faults header before row =
     ∷ when (not (is_some (gaps_of (field_of header row Gaps)))) (fault.BadGap number)
     ∷ []
 
--- the first of these
-abbrev pub row_form_fault : Record → List Record → Record → Option InstanceFault
-row_form_fault header before row = first_fault (row_form_faults header before row)
-
 -- the first fault of a row: of how it is written, or else of its buffer
 abbrev pub row_fault : Record → List Record → Record → Option InstanceFault
-row_fault header before row = option_or (row_form_fault header before row)
+row_fault header before row = option_or (first_fault (row_form_faults header before row))
     (option_map (fault.BadBuffer (length before)) (buffer_fault (row_buffer header row)))
 
 -- the first fault of rows, after those before them

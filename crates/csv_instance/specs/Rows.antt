@@ -5,11 +5,15 @@ use Rattle.std.specs.Option.{option_or, option_map_or}
 use Rattle.dsa_terms.specs.Buffers.{Buffer}
 use Rattle.dsa_model.specs.Buffer.{buffer_of, first_fault}
 use Rattle.csv_instance.specs.Numbers.{time_limit}
-use Rattle.csv_instance.specs.Parse.{header_fault, row_buffer, row_form_fault}
+use Rattle.csv_instance.specs.Parse.{header_fault, row_buffer, row_form_faults}
 use Rattle.csv_instance.specs.Records.{Record}
 use Rattle.csv_instance.specs.declared.fault.InstanceFault.{InstanceFault}
 use Rattle.csv_instance.specs.declared.fault.InstanceFault.TheVariants as fault
 use Rattle.csv_instance.specs.declared.row.RowValues.{RowValues}
+
+-- the first fault of how a row is written, given the rows before it
+abbrev pub row_form_fault : Record → List Record → Record → Option InstanceFault
+row_form_fault header before row = first_fault (row_form_faults header before row)
 
 -- the first fault of how rows are written, after those before them, whatever their buffers would be
 abbrev pub rows_form_fault : Record → List Record → List Record → Option InstanceFault

@@ -7,7 +7,8 @@ use Rattle.dsa_terms.specs.Buffers.{Buffer, Instance, IsInstance, IsSound}
 use Rattle.dsa_model.specs.Buffer.{buffer_fault, gap_fault, lowest_fault, number_fault}
 use Rattle.dsa_model.proofs.Faults.{neither, not_so, map_none}
 use Rattle.csv_instance.specs.Records.{Record}
-use Rattle.csv_instance.specs.Parse.{header_fault, parse, row_buffer, row_fault, row_form_fault, rows_fault}
+use Rattle.csv_instance.specs.Parse.{header_fault, parse, row_buffer, row_fault, rows_fault}
+use Rattle.csv_instance.specs.Rows.{row_form_fault}
 use Rattle.csv_instance.specs.declared.fault.InstanceFault.{InstanceFault}
 
 above : (m n : ℕ) → nat_le n m ≡ false → m < n
