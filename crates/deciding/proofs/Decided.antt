@@ -11,8 +11,8 @@ use Rattle.run_status.specs.Spoken.{IsSpoken}
 use Rattle.run_status.specs.declared.status.Status.TheVariants.{Least, Open}
 use Rattle.run_course.specs.Course.{Outcome}
 use Rattle.writings.specs.Writings.{Names}
+use Rattle.writings.proofs.Answering.{gives_spoken}
 use Rattle.deciding.specs.Deciding.{Finds, IsSolved, IsSought, Solves}
-use Rattle.deciding.proofs.Concluding.{gives_spoken}
 
 -- a capacity is left open
 pub undecided : (C : ℕ) (steps : Option ℕ) (I : Instance) (b : Bracket) → IsSpentAt I C steps b →
@@ -42,7 +42,7 @@ found_exactly steps I b exact within = record {
   zero_for_none = exact.zero_for_none;
   planned = exact.chosen;
   layout = exact.layout;
-  height = exact.its_height;
+  its_height = exact.its_height;
   refuted = exact.refuted_below;
   within_steps = subst (λ (low : ℕ). AreWithinSteps I steps low b.layout.items b.log) exact.ends_met within;
 }

@@ -1,6 +1,4 @@
-pub mod Concluding
 pub mod Decided
-pub mod BelowFacts
 mod FiveFacts
 mod SolveFacts
-mod LeastFacts
+pub mod LeastFacts

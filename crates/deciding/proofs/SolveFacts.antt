@@ -1,38 +1,21 @@
 -- What `solve` concludes of two buffers whose best start ends at 5, and whose lower bound and least capacity are 4.
-use Rattle.std.proofs.Common.{◌≡◌, ℕ, List, length, map, [], ◌∷◌, Option, Some, None, refl, sym, ap, ap₂, subst, codes, lit≤, arith}
-use Rattle.dsa_terms.specs.Bounds.{counted, highest_stack, lower_bound, moduli, moments, rounded_size, stack, pile, heights, highest_at}
+use Rattle.std.proofs.Common.{◌≡◌, ℕ, List, length, map, [], ◌∷◌, Option, Some, None, refl, sym, ap, subst, lit≤, arith}
+use Rattle.dsa_terms.specs.Bounds.{counted, highest_stack, lower_bound, moduli, moments, rounded_size, stack, stack_log, pile, heights, highest_at}
 use Rattle.dsa_terms.specs.Buffers.{buffer, is_live, floor}
 use Rattle.dsa_terms.specs.Logs.{Log}
 use Rattle.dsa_terms.proofs.ExamplePlanFacts.{small_below_plan_at_4}
 use Rattle.dsa_terms.proofs.Examples.{evens, sample, small_below}
 use Rattle.planner.specs.Openings.{AreGiven}
-use Rattle.planner.proofs.ExampleLeastFacts.{below_best, below_bound}
+use Rattle.planner.proofs.ExampleLeastFacts.{below_best, below_bound, below_log, four_is_open}
 use Rattle.planner.proofs.ShortageFacts.{four_of_four, short_of_four_steps}
-use Rattle.planner.proofs.StepFacts.{laid_at_4, none_within_4}
+use Rattle.planner.proofs.StepFacts.{laid_at_4, none_within_4, refuted_at_3}
 use Rattle.run_status.specs.declared.status.Role.TheVariants as role
 use Rattle.run_status.specs.declared.status.Status.{Status}
 use Rattle.run_status.specs.declared.status.Status.TheVariants.{Feasible, Infeasible, Least, Open}
 use Rattle.run_course.specs.Course.{Outcome, Write, writes}
-use Rattle.writings.specs.Writings.{Names, layout_file, log_file}
-use Rattle.deciding.specs.Deciding.{IsPlanWithin, IsProofWithin, IsSolved, IsUndecided, Solves, answer_files}
-use Rattle.deciding.proofs.BelowFacts.{below_rows, four_to_five, low_file, low_text, start_file, start_text, three_by_bound, three_file, three_log, three_reads, three_refutes, three_text}
-
--- the input is in the file i, the output goes to o, the log to l
-abbrev names : Names
-names = record { input = codes "i"; output = codes "o"; log = codes "l" }
-
--- ---- the files
-abbrev to_output : List ℕ → Write
-to_output bytes = record { role = role.Output; name = codes "o"; bytes = bytes }
-
-abbrev to_log : List ℕ → Write
-to_log bytes = record { role = role.Log; name = codes "l"; bytes = bytes }
-
-the_layout : layout_file (codes "o") below_rows (1 ∷ 0 ∷ []) ≡ to_output low_file
-the_layout = ap to_output low_text
-
-the_log : log_file (codes "l") three_log ≡ to_log three_file
-the_log = ap to_log three_text
+use Rattle.writings.specs.Answers.{answer_files}
+use Rattle.writings.proofs.ExampleFacts.{below_rows, log_alone, low_alone, low_file, names, start_and_log, start_file, three_file, three_log, three_reads, to_log, to_output}
+use Rattle.deciding.specs.Deciding.{IsPlanWithin, IsProofWithin, IsSolved, IsUndecided, Solves}
 
 -- ---- a layout that no start gives takes a step
 within_4 : IsPlanWithin small_below 4 (Some 1) (1 ∷ 0 ∷ [])
@@ -45,7 +28,7 @@ laid_out = record {
   log = None;
   answer = (refl, within_4);
   readable = tt;
-  written = ap (λ (w : Write). writes (w ∷ []) (Feasible 4)) (sym the_layout);
+  written = ap (λ (ws : List Write). writes ws (Feasible 4)) (sym low_alone);
 }
 
 not_laid_out_without_steps : (offsets : List ℕ) → IsPlanWithin small_below 4 (Some 0) offsets → ⊥
@@ -55,8 +38,8 @@ not_laid_out_without_steps offsets h =
 -- ---- the bound's log takes none
 proof_at_3 : IsProofWithin small_below 3 (Some 0) three_log
 proof_at_3 = record {
-  refuted = three_refutes;
-  by_bound = λ below. three_by_bound;
+  refuted = refuted_at_3;
+  by_bound = λ below. below_log;
   searched = λ le. (let e = below_bound in absurd (omega (arith, le, e)));
 }
 
@@ -67,11 +50,12 @@ refuted = record {
   log = Some three_log;
   answer = (refl, proof_at_3);
   readable = three_reads;
-  written = ap (λ (w : Write). writes (w ∷ []) (Infeasible 3)) (sym the_log);
+  written = ap (λ (ws : List Write). writes ws (Infeasible 3)) (sym log_alone);
 }
 
 -- it is a log at 3
 not_refuted_at_2 : IsProofWithin small_below 2 None three_log → ⊥
+unfolding stack_log
 not_refuted_at_2 h = let e = h.refuted.its_capacity in omega (arith, e)
 
 roles_differ : role.Output ∷ [] ≡ role.Log ∷ [] → ⊥
@@ -114,8 +98,8 @@ undecided = record {
   given = refl;
   short = short_of_four_steps 3 (lit≤ tt);
   best = sym below_best;
-  stays_open = four_to_five;
-  by_bound = three_by_bound;
+  stays_open = four_is_open;
+  by_bound = below_log;
 }
 
 left_open : Solves 4 (Some 3) names below_rows small_below opened
@@ -125,8 +109,7 @@ left_open = record {
   log = Some three_log;
   answer = undecided;
   readable = three_reads;
-  written = ap₂ (λ (layout log : Write). writes (layout ∷ log ∷ []) (Open 4 5))
-      (sym (ap to_output start_text)) (sym the_log);
+  written = ap (λ (ws : List Write). writes ws (Open 4 5)) (sym start_and_log);
 }
 
 not_open_with_four_steps : (low high : ℕ) (offsets : List ℕ) (log : Log) →

@@ -1,5 +1,5 @@
 -- How the commands go that decide: a layout, a log by which there is none, or both.
-use Rattle.std.specs.Prelude.{◌≡◌, ◌<◌, ◌≤◌, ◌-◌, ◌↔◌, ℕ, List, [], ◌∷◌, ◌++◌, length, Option, Some, None}
+use Rattle.std.specs.Prelude.{◌≡◌, ◌<◌, ◌≤◌, ◌-◌, ◌↔◌, ℕ, List, [], length, Option, Some, None}
 use Rattle.dsa_terms.specs.Buffers.{Instance}
 use Rattle.dsa_terms.specs.Bounds.{lower_bound}
 use Rattle.dsa_terms.specs.Layouts.{IsLayout, IsLeast}
@@ -12,42 +12,12 @@ use Rattle.planner.specs.FirstStart.{start_within}
 use Rattle.planner.specs.LeastCapacity.{AreWithinSteps, RefutesBelow}
 use Rattle.planner.specs.Openings.{AreGiven, StaysOpen}
 use Rattle.planner.specs.Shortage.{IsShortOfHunt, IsShortOfWork}
-use Rattle.command_words.specs.Options.{Word}
 use Rattle.run_status.specs.declared.status.Status.{Status}
 use Rattle.run_status.specs.declared.status.Status.TheVariants.{Feasible, Infeasible, Least, Open}
-use Rattle.run_course.specs.Course.{Course, Outcome, Concludes, Write, writes}
+use Rattle.run_course.specs.Course.{Course, Outcome, Concludes}
 use Rattle.readings.specs.Input.{opened}
-use Rattle.writings.specs.Writings.{Names, ReadsBack, layout_file, log_file}
-
--- ---- what comes of an answer: a status, with a layout and a log where it has them
--- a layout, where there is one, for the output
-abbrev pub layout_files : Word → List Record → Option (List ℕ) → List Write
-layout_files output table None = []
-layout_files output table (Some offsets) = layout_file output table offsets ∷ []
-
--- a log, where there is one, for its file
-abbrev pub log_files : Word → Option Log → List Write
-log_files name None = []
-log_files name (Some log) = log_file name log ∷ []
-
--- the layout and then the log, where there are
-abbrev pub answer_files : Names → List Record → Option (List ℕ) → Option Log → List Write
-answer_files names table layout log = layout_files names.output table layout ++ log_files names.log log
-
--- the text of the log, where there is one, reads back
-abbrev pub AllReadBack : Option Log → Type 0
-AllReadBack None = Unit {0}
-AllReadBack (Some log) = ReadsBack log
-
--- an answer is written, and its status is told
-pub record Gives (IsAnswer : Status → Option (List ℕ) → Option Log → Type 0) (names : Names) (table : List Record)
-    (o : Outcome) : Type 0 where
-  pub status : Status
-  pub layout : Option (List ℕ)
-  pub log : Option Log
-  pub answer : IsAnswer status layout log
-  pub readable : AllReadBack log
-  pub written : o ≡ writes (answer_files names table layout log) status
+use Rattle.writings.specs.Answers.{Gives}
+use Rattle.writings.specs.Writings.{Names}
 
 -- ---- a capacity is decided
 -- the layout is the plan at the capacity; where no start is within it, a step at least is given, if a number is
@@ -96,7 +66,7 @@ pub record IsFound (I : Instance) (steps : Option ℕ) (C : ℕ) (offsets : List
   pub zero_for_none : (I ≡ []) ↔ (C ≡ 0)
   pub planned : planned I C ≡ Some offsets
   pub layout : IsLayout I C offsets
-  pub height : layout_height I offsets ≡ C
+  pub its_height : layout_height I offsets ≡ C
   pub refuted : RefutesBelow I C log
   pub within_steps : AreWithinSteps I steps C offsets log
 

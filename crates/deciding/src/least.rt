@@ -6,7 +6,6 @@ ghost use Rattle.run_course.specs.Prepares.{outcome_of};
 ghost use Rattle.writings.specs.Named.{names_of};
 ghost use Rattle.deciding.specs.Deciding.{Finds, least};
 
-use crate::written::both_files;
 use csv_instance::Table;
 use dsa_model::{Instance, NoMemory};
 use dsa_outside::Files;
@@ -16,7 +15,7 @@ use readings::{TableCommand, conclude_input};
 use run_course::{Command, Prepared};
 use run_status::Status;
 use std::alloc::Global;
-use writings::Names;
+use writings::{Names, both_files};
 
 /// Finds the least capacity for the instance of the input, within the steps where a number is
 /// given, and writes its layout and the log by which one byte less is too little, unless it is 0.
@@ -43,14 +42,14 @@ fn found<'a>(
             let status = Status::Least {
                 capacity: bracket.high,
             };
-            both_files(alloc, table, &bracket, names.output, names.log, status)
+            both_files(alloc, table, &bracket, names, status)
         }
         Found::Open(bracket) => {
             let status = Status::Open {
                 low: bracket.low,
                 high: bracket.high,
             };
-            both_files(alloc, table, &bracket, names.output, names.log, status)
+            both_files(alloc, table, &bracket, names, status)
         }
     }
 }

@@ -3,8 +3,6 @@
 
 mod least;
 mod solve;
-mod written;
 
 pub use least::Least;
 pub use solve::Solve;
-pub use written::both_files;

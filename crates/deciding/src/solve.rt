@@ -7,7 +7,6 @@ ghost use Rattle.run_course.specs.Prepares.{outcome_of};
 ghost use Rattle.writings.specs.Named.{names_of};
 ghost use Rattle.deciding.specs.Deciding.{Solves, solve};
 
-use crate::written::both_files;
 use csv_instance::Table;
 use dsa_model::{Instance, NoMemory};
 use dsa_outside::Files;
@@ -16,7 +15,7 @@ use readings::{TableCommand, conclude_input};
 use run_course::{Command, Prepared, one_write};
 use run_status::Status;
 use std::alloc::Global;
-use writings::{Names, layout_file, log_file};
+use writings::{Names, both_files, layout_file, log_file};
 
 /// Decides the capacity (in bytes, at most 2^60) for the instance of the input, within the steps
 /// where a number is given, and writes the layout or the log, or both where the steps run out.
@@ -57,7 +56,7 @@ fn solved<'a>(
                 low: bracket.low,
                 high: bracket.high,
             };
-            both_files(alloc, table, &bracket, names.output, names.log, status)
+            both_files(alloc, table, &bracket, names, status)
         }
     }
 }

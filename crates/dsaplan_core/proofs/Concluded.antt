@@ -31,7 +31,7 @@ use Rattle.importing.specs.Unrolling.{unrolls}
 use Rattle.cyclic_plan.specs.Unrolled.{unrolled_of}
 use Rattle.cyclic_plan.specs.declared.fault.CycleFault.{CycleFault}
 use Rattle.planning.specs.Planning.{Plans}
-use Rattle.deciding.specs.Deciding.{Gives}
+use Rattle.writings.specs.Answers.{Gives}
 use Rattle.dsaplan_core.specs.Courses.{ConcludesWith, IsAnswer, course, course_with, names_in}
 use Rattle.dsaplan_core.specs.Complete.{IsReady, IsUndisturbed}
 use Rattle.dsaplan_core.specs.Conclusions.{IsConclusion, MayStayOpen}

@@ -17,8 +17,8 @@ use Rattle.run_status.specs.declared.status.Status.{Status}
 use Rattle.run_status.specs.declared.status.Status.TheVariants as status
 use Rattle.run_course.specs.Course.{Comes, Concludes, Outcome, writes}
 use Rattle.readings.specs.Opens.{IsInput}
+use Rattle.writings.specs.Answers.{AllReadBack, answer_files}
 use Rattle.writings.specs.Writings.{ReadsBack}
-use Rattle.deciding.specs.Deciding.{AllReadBack, answer_files}
 use Rattle.dsaplan_core.specs.Courses.{ConcludesWith, IsAnswer, course_with, names_in}
 use Rattle.dsaplan_core.specs.Theorem.{Asked, HoldsRefutation}
 use Rattle.dsaplan_core.proofs.Promises.{Promises, asked}

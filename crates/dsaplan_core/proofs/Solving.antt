@@ -15,7 +15,7 @@ use Rattle.run_status.specs.declared.status.Status.{Status}
 use Rattle.run_status.specs.declared.status.Status.TheVariants as status
 use Rattle.run_course.specs.Course.{Comes, Concludes, Outcome, writes}
 use Rattle.readings.specs.Opens.{IsInput}
-use Rattle.deciding.specs.Deciding.{AllReadBack, answer_files}
+use Rattle.writings.specs.Answers.{AllReadBack, answer_files}
 use Rattle.dsaplan_core.specs.Courses.{ConcludesWith, IsAnswer, course_with, names_in}
 use Rattle.dsaplan_core.specs.Theorem.{Asked}
 use Rattle.dsaplan_core.proofs.Promises.{Promises, asked}

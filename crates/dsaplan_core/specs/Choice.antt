@@ -10,7 +10,7 @@ use Rattle.command_words.specs.Options.{Word}
 use Rattle.run_status.specs.declared.status.Status.{Status}
 use Rattle.run_status.specs.declared.status.Status.TheVariants as status
 use Rattle.run_course.specs.Answers.{with_writes}
-use Rattle.deciding.specs.Deciding.{answer_files}
+use Rattle.writings.specs.Answers.{answer_files}
 use Rattle.dsaplan_core.specs.Courses.{IsAnswer, names_in}
 use Rattle.dsaplan_core.specs.Theorem.{Asked}
 

@@ -21,9 +21,10 @@ use Rattle.fact_reports.specs.Reporting.{ShowsColumns, ShowsFacts, trial}
 use Rattle.importing.specs.Importing.{import_course}
 use Rattle.importing.specs.Unrolling.{unroll_course}
 use Rattle.planning.specs.Planning.{Plans}
+use Rattle.writings.specs.Answers.{Gives}
 use Rattle.writings.specs.Writings.{Names}
 use Rattle.explaining.specs.Explaining.{ExplainsOrFits}
-use Rattle.deciding.specs.Deciding.{Gives, IsSolved, IsSought}
+use Rattle.deciding.specs.Deciding.{IsSolved, IsSought}
 use Rattle.packing.specs.Packing.{IsPacked}
 
 -- the names that the pairs give the files of a command that decides

@@ -1,5 +1,5 @@
 -- What `core` concludes of two buffers that are both live at 4: they fit at 8, and not at 7.
-use Rattle.std.proofs.Common.{◌≤◌, ◌⊎◌, ◌+◌, ℕ, [], ◌∷◌, codes, refl, inl, inr, lit<, arith}
+use Rattle.std.proofs.Common.{◌≤◌, ◌⊎◌, ◌+◌, ℕ, [], ◌∷◌, refl, inl, inr, lit<, arith}
 use Rattle.dsa_terms.specs.Buffers.{buffer, is_live, some_before}
 use Rattle.dsa_terms.specs.Layouts.{IsInfeasible, IsLayout}
 use Rattle.dsa_model.specs.LayoutFaults as faults
@@ -8,12 +8,8 @@ use Rattle.dsa_model.proofs.LayoutFaults.{layout_exactly}
 use Rattle.csv_instance.proofs.FileFacts.{two, two_rows}
 use Rattle.run_status.specs.declared.status.Status.TheVariants as status
 use Rattle.run_course.specs.Course.{Outcome, says}
-use Rattle.writings.specs.Writings.{Names}
+use Rattle.writings.proofs.ExampleFacts.{names}
 use Rattle.explaining.specs.Explaining.{Explains, ExplainsOrFits, FitsAll}
-
--- the input is in the file i, the output goes to o, and the log to l
-abbrev names : Names
-names = record { input = codes "i"; output = codes "o"; log = codes "l" }
 
 -- ---- at 8 they fit, and nothing is written
 pub laid_at_8 : IsLayout two 8 (0 ∷ 4 ∷ [])

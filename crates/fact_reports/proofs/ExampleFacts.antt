@@ -1,16 +1,10 @@
 -- The reports of two buffers whose best start ends at 5, and whose lower bound and least capacity are 4; and trials.
-use Rattle.std.proofs.Common.{◌≡◌, ◌+◌, ◌≤◌, ℕ, zero, suc, inl, inr, List, [], ◌∷◌, ◌++◌, Option, Some, None, codes, refl, sym, ap, lit≤, arith}
+use Rattle.std.proofs.Common.{◌≡◌, ◌≤◌, ℕ, zero, suc, [], ◌∷◌, ◌++◌, Some, None, codes, refl, sym, ap, lit≤, arith}
 use Rattle.std.specs.Fmt.{digits}
 use Rattle.dsa_terms.specs.Bounds.{stack_log}
 use Rattle.dsa_terms.specs.Buffers.{buffer, do_share, is_live, some_before}
-use Rattle.dsa_terms.specs.Fits.{best_fit, first_fit}
-use Rattle.dsa_terms.specs.Layouts.{IsLayout}
-use Rattle.dsa_terms.specs.Logs.{Log}
-use Rattle.dsa_terms.specs.Orders.{orders}
-use Rattle.dsa_terms.specs.Parts.{is_cut, last_cut, part_of, parts, searched}
-use Rattle.dsa_terms.specs.Plans.{layout_height, load, plan}
-use Rattle.dsa_terms.specs.Starts.{best_start, lowest_place, planned, starts}
-use Rattle.dsa_terms.proofs.ExamplePlanFacts.{small_below_plan_at_4}
+use Rattle.dsa_terms.specs.Parts.{is_cut, last_cut, part_of, parts}
+use Rattle.dsa_terms.specs.Plans.{load}
 use Rattle.dsa_terms.proofs.Examples.{plain, small_below}
 use Rattle.dsa_model.proofs.Live.{not_live_after}
 use Rattle.dsa_outside.specs.Seen.{FilesSeen}
@@ -22,14 +16,12 @@ use Rattle.layout_report.specs.declared.facts.Facts.{Facts}
 use Rattle.load_profile.specs.LoadProfile.{IsPeakOf}
 use Rattle.make_instance.proofs.TextLemmas.{table-read}
 use Rattle.planner.specs.InstanceFacts.{AreFactsOf}
-use Rattle.planner.specs.LeastCapacity.{IsLayoutWithin}
 use Rattle.planner.proofs.ExampleFacts.{facts_of_none, no_facts}
-use Rattle.planner.proofs.ExampleLeastFacts.{below_best, below_bound, below_log, below_modulus, four_is_open}
-use Rattle.planner.proofs.ShortageFacts.{not_above_the_best, short_of_the_hunt}
-use Rattle.planner.proofs.StepFacts.{best_at_5, four_high, four_is_least, laid_at_4, refuted_at_3}
+use Rattle.planner.proofs.ExampleLeastFacts.{below_bound, below_modulus}
+use Rattle.planner.proofs.StepFacts.{best_at_5}
 use Rattle.run_status.specs.declared.status.Status.TheVariants as status
 use Rattle.run_course.specs.Course.{Comes, Outcome, says, shows}
-use Rattle.deciding.specs.Deciding.{IsFound, IsLeftOpen}
+use Rattle.deciding.proofs.LeastFacts.{found_0, found_4, left_open}
 use Rattle.fact_reports.specs.Reporting.{IsVerdict, ShowsColumns, ShowsFacts, ShowsTrial, trial}
 
 -- ---- the peak
@@ -99,101 +91,17 @@ not_silently : ShowsColumns two_rows two (says status.Right) → ⊥
 not_silently h = let e = ap (λ (o : Outcome). o.status) h in absurd cc
 
 -- ---- the verdict of a trial
-found_with_four_steps : IsFound small_below (Some 4) 4 (1 ∷ 0 ∷ []) (Some (stack_log small_below 0 0 1 3))
-found_with_four_steps = record {
-  is_least = four_is_least;
-  zero_for_none = (λ e. absurd cc, λ e. absurd (omega arith));
-  planned = small_below_plan_at_4;
-  layout = laid_at_4;
-  height = four_high;
-  refuted = (lit≤ tt, refuted_at_3);
-  within_steps = record {
-    layout_steps = 1;
-    log_steps = 0;
-    layout = inr (lit≤ tt);
-    log = inl (rw below_bound (lit≤ tt, record { refutation = refuted_at_3; by_bound = below_log }));
-    given = lit≤ tt;
-  };
-}
-
--- no start is as low as the least capacity
-not_found_without_steps : (offsets : List ℕ) (log : Option Log) → IsFound small_below (Some 0) 4 offsets log → ⊥
-not_found_without_steps offsets log h = go h.within_steps.layout h.within_steps.given
-  where
-    go : {k : ℕ} → IsLayoutWithin small_below k offsets → k + h.within_steps.log_steps ≤ 0 → ⊥
-    go (inl e) le =
-        let a = ap (layout_height small_below) e in let b = best_at_5 in let k = h.height in omega (arith, a, b, k)
-    go (inr some) le = omega (arith, some, le)
-
--- without steps the bound's log and the best start come, and what lies between them stays open
-open_between_4_and_5 : IsLeftOpen small_below (Some 0) 4 5 (0 ∷ 4 ∷ []) (stack_log small_below 0 0 1 3)
-open_between_4_and_5 = record {
-  number = 0;
-  given = refl;
-  short = short_of_the_hunt 0 (lit≤ tt);
-  stays_open = four_is_open;
-  within_steps = record {
-    layout_steps = 0;
-    log_steps = 0;
-    layout = inl (sym below_best);
-    log = inl (rw below_bound (lit≤ tt, record { refutation = refuted_at_3; by_bound = below_log }));
-    given = lit≤ tt;
-  };
-}
-
--- the best start ends at 5
-open_between_5_and_6 : (offsets : List ℕ) (log : Log) → IsLeftOpen small_below (Some 0) 5 6 offsets log → ⊥
-open_between_5_and_6 offsets log h = not_above_the_best h.number 5 h.short
-
 four_is_a_verdict : IsVerdict small_below 4 (status.Least 4)
-four_is_a_verdict = (Some (1 ∷ 0 ∷ []), Some (stack_log small_below 0 0 1 3), found_with_four_steps)
+four_is_a_verdict = (Some (1 ∷ 0 ∷ []), Some (stack_log small_below 0 0 1 3), found_4 4 (lit≤ tt))
 
 open_is_a_verdict : IsVerdict small_below 0 (status.Open 4 5)
-open_is_a_verdict = (Some (0 ∷ 4 ∷ []), Some (stack_log small_below 0 0 1 3), open_between_4_and_5)
+open_is_a_verdict = (Some (0 ∷ 4 ∷ []), Some (stack_log small_below 0 0 1 3), left_open 0 (lit≤ tt))
 
 -- a verdict is of the least capacity
 no_verdict : IsVerdict small_below 4 (status.Feasible 4) → ⊥
 no_verdict h = h.2
 
 -- ---- a trial without buffers
-none_laid : IsLayout [] 0 []
-none_laid = record {
-  count = refl;
-  aligned = λ b lt. absurd (omega arith);
-  above = λ b lt. absurd (omega arith);
-  within = λ b lt. absurd (omega arith);
-  apart = λ b c t lt. absurd (omega arith);
-}
-
-none_planned : planned [] 0 ≡ Some []
-unfolding planned plan layout_height starts orders first_fit best_fit searched parts part_of is_cut last_cut
-none_planned = refl
-
-none_best : best_start [] ≡ []
-unfolding best_start lowest_place layout_height starts orders first_fit best_fit
-none_best = refl
-
-none_high : layout_height [] [] ≡ 0
-unfolding layout_height
-none_high = refl
-
-found_of_none : IsFound [] (Some 5) 0 [] None
-found_of_none = record {
-  is_least = (([], none_laid), inl refl);
-  zero_for_none = (λ e. refl, λ e. refl);
-  planned = none_planned;
-  layout = none_laid;
-  height = none_high;
-  refuted = refl;
-  within_steps = record {
-    layout_steps = 0;
-    log_steps = 0;
-    layout = inl (sym none_best);
-    log = inl (sym facts_of_none.bound);
-    given = lit≤ tt;
-  };
-}
-
 abbrev none_shown : Outcome
 none_shown = shows (codes "buffers 0\npeak none\nparts 0\nbound 0 1\nbest 0\nleast 0\n")
 
@@ -210,7 +118,7 @@ shows_trial = record {
   verdict = status.Least 0;
   made = ap parse (table-read 7 0 (lit≤ tt));
   true_facts = facts_of_none;
-  true_verdict = (Some [], None, found_of_none);
+  true_verdict = (Some [], None, found_0 5);
   shown = ap shows trial_text;
 }
 

@@ -1,38 +1,29 @@
 -- What `pack` concludes of two buffers whose best start ends at 5, and whose lower bound and least capacity are 4.
-use Rattle.std.proofs.Common.{◌≡◌, ◌<◌, ◌≤◌, ℕ, List, inl, [], ◌∷◌, Option, Some, None, codes, refl, sym, ap, ap₂, subst, lit<, lit≤, arith}
+use Rattle.std.proofs.Common.{◌≡◌, ◌<◌, ◌≤◌, ℕ, List, inl, [], ◌∷◌, Option, Some, None, refl, sym, ap, subst, lit<, lit≤, arith}
 use Rattle.std.specs.Prelude.{IfSome}
+use Rattle.dsa_terms.specs.Bounds.{stack_log}
 use Rattle.dsa_terms.specs.Logs.{Log}
 use Rattle.dsa_terms.proofs.Examples.{small_below}
-use Rattle.planner.proofs.ExampleLeastFacts.{below_bound}
-use Rattle.planner.proofs.StepFacts.{best_at_5, four_high, four_is_least, laid_at_4}
+use Rattle.planner.proofs.ExampleLeastFacts.{below_bound, below_log, four_is_open}
+use Rattle.planner.proofs.StepFacts.{best_at_5, four_high, four_is_least, laid_at_4, refuted_at_3}
 use Rattle.packer.specs.Packs.{RefutesWithin}
 use Rattle.packer.proofs.Brief.{one_line}
-use Rattle.run_status.specs.declared.status.Role.TheVariants as role
 use Rattle.run_status.specs.declared.status.Status.{Status}
 use Rattle.run_status.specs.declared.status.Status.TheVariants.{Feasible, Infeasible, Least, Open, Right}
 use Rattle.run_course.specs.Course.{Outcome, Write, says, writes}
-use Rattle.deciding.proofs.BelowFacts.{below_rows, four_to_five, low_file, low_text, start_file, start_text, three_by_bound, three_file, three_log, three_reads, three_refutes, three_text}
-use Rattle.deciding.specs.Deciding.{answer_files}
-use Rattle.writings.specs.Writings.{Names}
+use Rattle.writings.specs.Answers.{answer_files}
+use Rattle.writings.proofs.ExampleFacts.{below_rows, log_alone, low_and_log, low_file, names, start_alone, start_and_log, start_file, three_file, three_log, three_reads, to_log, to_output}
 use Rattle.packing.specs.Packing.{IsPacked, IsPackedBetween, Packs}
 
--- ---- the input is in the file i, the output goes to o, the log to l
-abbrev names : Names
-names = record { input = codes "i"; output = codes "o"; log = codes "l" }
-
-abbrev to_output : List ℕ → Write
-to_output bytes = record { role = role.Output; name = codes "o"; bytes = bytes }
-
-abbrev to_log : List ℕ → Write
-to_log bytes = record { role = role.Log; name = codes "l"; bytes = bytes }
-
+-- ---- 3 is refuted by one line
 within_3 : (steps : ℕ) → RefutesWithin small_below 3 steps three_log
+unfolding stack_log
 within_3 steps = record {
-  accepted = three_refutes.accepted;
-  its_capacity = three_refutes.its_capacity;
-  infeasible = three_refutes.infeasible;
-  trimmed = one_line small_below three_log three_refutes.accepted (lit≤ tt);
-  few = inl three_by_bound;
+  accepted = refuted_at_3.accepted;
+  its_capacity = refuted_at_3.its_capacity;
+  infeasible = refuted_at_3.infeasible;
+  trimmed = one_line small_below three_log refuted_at_3.accepted (lit≤ tt);
+  few = inl below_log;
 }
 
 -- ---- the least capacity, with a layout of that height and the bound's log
@@ -55,8 +46,7 @@ packs_4 = record {
     },
   );
   readable = three_reads;
-  written = ap₂ (λ (layout log : List ℕ). writes (to_output layout ∷ to_log log ∷ []) (Least 4)) (sym low_text)
-      (sym three_text);
+  written = ap (λ (ws : List Write). writes ws (Least 4)) (sym low_and_log);
 }
 
 -- where a capacity is given, it is that one which is decided
@@ -71,15 +61,15 @@ opened = writes (to_output start_file ∷ to_log three_file ∷ []) (Open 4 5)
 between_4_and_5 : (capacity : Option ℕ) → IfSome capacity (λ C. (4 ≤ C) × (C < 5)) →
     IsPackedBetween small_below capacity 0 4 5 (0 ∷ 4 ∷ []) three_log
 between_4_and_5 capacity between = record {
-  ends_apart = four_to_five.ends_apart;
-  positive = four_to_five.positive;
+  ends_apart = four_is_open.ends_apart;
+  positive = four_is_open.positive;
   ends = record {
     from_bound = (let e = below_bound in omega arith);
     to_best = (let e = best_at_5 in omega arith);
     between = between;
   };
-  layout = four_to_five.layout;
-  its_height = four_to_five.its_height;
+  layout = four_is_open.layout;
+  its_height = four_is_open.its_height;
   refuted = within_3 0;
 }
 
@@ -91,8 +81,7 @@ leaves_open capacity between = record {
   log = Some three_log;
   answer = between_4_and_5 capacity between;
   readable = three_reads;
-  written = ap₂ (λ (layout log : List ℕ). writes (to_output layout ∷ to_log log ∷ []) (Open 4 5)) (sym start_text)
-      (sym three_text);
+  written = ap (λ (ws : List Write). writes ws (Open 4 5)) (sym start_and_log);
 }
 
 open_without_a_capacity : Packs None 0 names below_rows small_below opened
@@ -107,9 +96,9 @@ packs_at_5 = record {
   status = Feasible 5;
   layout = Some (0 ∷ 4 ∷ []);
   log = None;
-  answer = (refl, four_to_five.layout);
+  answer = (refl, four_is_open.layout);
   readable = tt;
-  written = ap (λ (layout : List ℕ). writes (to_output layout ∷ []) (Feasible 5)) (sym start_text);
+  written = ap (λ (ws : List Write). writes ws (Feasible 5)) (sym start_alone);
 }
 
 refutes_3 : Packs (Some 3) 0 names below_rows small_below (writes (to_log three_file ∷ []) (Infeasible 3))
@@ -119,7 +108,7 @@ refutes_3 = record {
   log = Some three_log;
   answer = (refl, within_3 0);
   readable = three_reads;
-  written = ap (λ (log : List ℕ). writes (to_log log ∷ []) (Infeasible 3)) (sym three_text);
+  written = ap (λ (ws : List Write). writes ws (Infeasible 3)) (sym log_alone);
 }
 
 -- 4 is not refuted, nor is another capacity than the one that is given

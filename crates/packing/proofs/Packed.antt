@@ -1,5 +1,5 @@
 -- What packing comes to, as it is written.
-use Rattle.std.proofs.Common.{◌≡◌, ℕ, ◌<◌, ◌≤◌, List, Option, None, Some, Result, Ok, Err, IfOk, subst, arith}
+use Rattle.std.proofs.Common.{◌≡◌, ℕ, ◌<◌, ◌≤◌, List, Option, None, Some, Result, Ok, Err, IfOk, sym, ap, ◌∙◌, subst, arith}
 use Rattle.std.specs.Prelude.{IfSome}
 use Rattle.dsa_terms.specs.Buffers.{Instance}
 use Rattle.dsa_terms.specs.Logs.{Log}
@@ -13,10 +13,10 @@ use Rattle.dsa_model.specs.declared.fail.NoMemory.{NoMemory}
 use Rattle.run_course.specs.Course.{Outcome, Write, writes}
 use Rattle.run_course.specs.Prepares.{outcome_of}
 use Rattle.run_course.specs.declared.prepared.Prepared.{Prepared}
-use Rattle.deciding.proofs.Concluding.{gives_spoken, told}
-use Rattle.packing.specs.Used.{IfLeavesOpen}
 use Rattle.writings.specs.Writings.{Names}
+use Rattle.writings.proofs.Answering.{gives_spoken}
 use Rattle.packing.specs.Packing.{IsPacked, Packs}
+use Rattle.packing.specs.Used.{IfLeavesOpen}
 
 -- the least capacity is found
 pub packs_least : (within : Option ℕ) (steps : ℕ) (I : Instance) (b : Bracket) → within ≡ None →
@@ -66,4 +66,5 @@ of_each P (Err e) holds = tt
 pub closed_exhausts : (P : Type 0) (ws : List Write) (s : Status) (r : Result Prepared NoMemory) →
     IfOk r (λ p. outcome_of p ≡ writes ws s) → ((low high : ℕ) → s ≡ Open low high → P) →
     IfOk r (λ p. IfLeavesOpen (outcome_of p) P)
-closed_exhausts P ws s r is closed = told (λ (o : Outcome). IfLeavesOpen o P) (writes ws s) r is closed
+closed_exhausts P ws s (Ok p) is closed = λ low high e. closed low high (sym (ap (λ (o : Outcome). o.status) is) ∙ e)
+closed_exhausts P ws s (Err e) is closed = tt

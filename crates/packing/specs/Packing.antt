@@ -12,8 +12,8 @@ use Rattle.run_status.specs.declared.status.Status.{Status}
 use Rattle.run_status.specs.declared.status.Status.TheVariants.{Feasible, Infeasible, Least, Open}
 use Rattle.run_course.specs.Course.{Course, Outcome, Concludes}
 use Rattle.readings.specs.Input.{opened}
+use Rattle.writings.specs.Answers.{Gives}
 use Rattle.writings.specs.Writings.{Names}
-use Rattle.deciding.specs.Deciding.{Gives}
 
 -- C is the least capacity that has a layout: one of that height, and a log that refutes one byte less, unless C is 0
 pub record IsPackedLeast (I : Instance) (steps C : ℕ) (offsets : List ℕ) (log : Option Log) : Type 0 where

@@ -11,7 +11,6 @@ ghost use Rattle.packing.specs.Packing.{Packs, pack};
 ghost use Rattle.packing.specs.Used.{IfLeavesOpen};
 
 use csv_instance::Table;
-use deciding::both_files;
 use dsa_model::{Instance, NoMemory};
 use dsa_outside::Files;
 use min_capacity::Least;
@@ -22,7 +21,7 @@ use readings::{TableCommand, conclude_input};
 use run_course::{Command, Prepared, one_write};
 use run_status::Status;
 use std::alloc::Global;
-use writings::{Names, layout_file, log_file};
+use writings::{Names, both_files, layout_file, log_file};
 
 /// Packs the instance of the input as low as so many steps can, and writes the layout with a log by
 /// which less is too little; where a capacity (in bytes) is given, a layout within it, or a log by
@@ -60,14 +59,14 @@ fn packed_least<'a>(
             let status = Status::Least {
                 capacity: bracket.high,
             };
-            both_files(alloc, table, &bracket, names.output, names.log, status)
+            both_files(alloc, table, &bracket, names, status)
         }
         Least::Open(bracket) => {
             let status = Status::Open {
                 low: bracket.low,
                 high: bracket.high,
             };
-            both_files(alloc, table, &bracket, names.output, names.log, status)
+            both_files(alloc, table, &bracket, names, status)
         }
     }
 }
@@ -108,7 +107,7 @@ fn packed_within<'a>(
                 low: bracket.low,
                 high: bracket.high,
             };
-            both_files(alloc, table, &bracket, names.output, names.log, status)
+            both_files(alloc, table, &bracket, names, status)
         }
     }
 }

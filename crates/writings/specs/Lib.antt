@@ -1,2 +1,3 @@
 pub mod Writings
 pub mod Named
+pub mod Answers

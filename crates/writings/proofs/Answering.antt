@@ -1,5 +1,5 @@
--- From the files and the status that are prepared, to what is concluded.
-use Rattle.std.proofs.Common.{◌≡◌, ℕ, List, ◌∷◌, Option, Result, Ok, Err, IfOk, refl, sym, ap₂, ◌∙◌, subst}
+-- From the files and the status that are prepared, to an answer that is given.
+use Rattle.std.proofs.Common.{◌≡◌, ℕ, List, Option, Result, Ok, Err, IfOk, sym, ap, ◌∙◌, subst}
 use Rattle.dsa_terms.specs.Logs.{Log}
 use Rattle.dsa_model.specs.declared.fail.NoMemory.{NoMemory}
 use Rattle.csv_instance.specs.Records.{Record}
@@ -9,45 +9,28 @@ use Rattle.run_status.specs.declared.status.Status.TheVariants.{PrintFault, NoMe
 use Rattle.run_course.specs.Course.{Outcome, Write, writes}
 use Rattle.run_course.specs.Prepares.{outcome_of}
 use Rattle.run_course.specs.declared.prepared.Prepared.{Prepared}
+use Rattle.writings.specs.Answers.{AllReadBack, Gives, answer_files}
 use Rattle.writings.specs.Writings.{Names}
-use Rattle.deciding.specs.Deciding.{AllReadBack, Gives, answer_files}
 
 -- what holds, holds of any result
 pub of_any : (R : Type 0) (r : Result Prepared NoMemory) → R → IfOk r (λ p. R)
 of_any R (Ok p) holds = holds
 of_any R (Err e) holds = tt
 
--- the files under other names
-pub with_files : (v w : Write) (vs ws : List Write) (s : Status) (r : Result Prepared NoMemory) → v ≡ w → vs ≡ ws →
-    IfOk r (λ p. outcome_of p ≡ writes (v ∷ vs) s) → IfOk r (λ p. outcome_of p ≡ writes (w ∷ ws) s)
-with_files v w vs ws s (Ok p) first rest is = is ∙ ap₂ (λ (f : Write) (fs : List Write). writes (f ∷ fs) s) first rest
-with_files v w vs ws s (Err e) first rest is = tt
-
--- this outcome is prepared, of which the property holds
-pub told : (P : Outcome → Type 0) (o : Outcome) (r : Result Prepared NoMemory) → IfOk r (λ p. outcome_of p ≡ o) →
-    P o → IfOk r (λ p. P (outcome_of p))
-told P o (Ok p) is holds = subst P (sym is) holds
-told P o (Err e) is holds = tt
-
--- the same where the property follows from a fact that comes with it
-pub told_by : (P : Outcome → Type 0) (o : Outcome) (R : Type 0) (r : Result Prepared NoMemory) →
-    IfOk r (λ p. outcome_of p ≡ o) → IfOk r (λ p. R) → (R → P o) → IfOk r (λ p. P (outcome_of p))
-told_by P o R (Ok p) is fact holds = subst P (sym is) (holds fact)
-told_by P o R (Err e) is fact holds = tt
-
--- ---- answers
 module _ (IsAnswer : Status → Option (List ℕ) → Option Log → Type 0) (names : Names) (table : List Record) where
-  -- an answer that is written is given
-  pub gives : (s : Status) (layout : Option (List ℕ)) (log : Option Log) → IsAnswer s layout log → AllReadBack log →
-      Gives IsAnswer names table (writes (answer_files names table layout log) s)
-  gives s layout log answer readable = record {
+  -- an answer is given whose files are prepared
+  pub gives : (s : Status) (layout : Option (List ℕ)) (log : Option Log) → IsAnswer s layout log → (ws : List Write) →
+      ws ≡ answer_files names table layout log → (r : Result Prepared NoMemory) → IfOk r (λ p. AllReadBack log) →
+      IfOk r (λ p. outcome_of p ≡ writes ws s) → IfOk r (λ p. Gives IsAnswer names table (outcome_of p))
+  gives s layout log answer ws same (Ok p) readable is = record {
     status = s;
     layout = layout;
     log = log;
     answer = answer;
     readable = readable;
-    written = refl;
+    written = is ∙ ap (λ (files : List Write). writes files s) same;
   }
+  gives s layout log answer ws same (Err e) readable is = tt
 
   -- where neither want of memory nor a text that is not printed is an answer, each is spoken
   module _ (not_unsaid : (layout : Option (List ℕ)) (log : Option Log) → IsAnswer PrintFault layout log → ⊥)
