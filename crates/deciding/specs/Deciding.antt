@@ -26,8 +26,8 @@ pub record IsPlanWithin (I : Instance) (C : ℕ) (steps : Option ℕ) (offsets :
   pub layout : IsLayout I C offsets
   pub searched : start_within I C ≡ None → AreGiven steps 1
 
--- no layout fits within the capacity, by this log without waste that is accepted at it: the bound's where the capacity is
--- below the lower bound, and else one with a step given for each line, if a number is
+-- no layout fits within the capacity, by this log without waste that is accepted at it: the bound's where the capacity
+-- is below the lower bound, and else one with a step given for each line, if a number is
 pub record IsProofWithin (I : Instance) (C : ℕ) (steps : Option ℕ) (log : Log) : Type 0 where
   pub refuted : LeavesNoLayout I C log
   pub by_bound : C < lower_bound I → IsBoundLog I C log
@@ -59,8 +59,8 @@ abbrev pub solve : (C : ℕ) → Option ℕ → Names → Course
 solve C steps names = opened names.input (λ table I. Concludes (Solves C steps names table I))
 
 -- ---- the least capacity is sought
--- C is the least capacity that has a layout: the plan at it, of that height, and a log that refutes one byte less, unless
--- C is 0; where a number of steps is given, they are enough for what the starts and the bound do not give
+-- C is the least capacity that has a layout: the plan at it, of that height, and a log that refutes one byte less,
+-- unless C is 0; where a number of steps is given, they are enough for what the starts and the bound do not give
 pub record IsFound (I : Instance) (steps : Option ℕ) (C : ℕ) (offsets : List ℕ) (log : Option Log) : Type 0 where
   pub is_least : IsLeast I C
   pub zero_for_none : (I ≡ []) ↔ (C ≡ 0)
@@ -70,8 +70,8 @@ pub record IsFound (I : Instance) (steps : Option ℕ) (C : ℕ) (offsets : List
   pub refuted : RefutesBelow I C log
   pub within_steps : AreWithinSteps I steps C offsets log
 
--- the steps ran out: the plan at the upper end, of that height, and a log that refutes one byte less than the lower end;
--- the steps are enough for what the starts and the bound do not give
+-- the steps ran out: the plan at the upper end, of that height, and a log that refutes one byte less than the lower
+-- end; the steps are enough for what the starts and the bound do not give
 pub record IsLeftOpen (I : Instance) (steps : Option ℕ) (low high : ℕ) (offsets : List ℕ) (log : Log) : Type 0 where
   pub number : ℕ
   pub given : steps ≡ Some number

@@ -1,5 +1,5 @@
--- The files of answers: of two buffers whose best start ends at 5, and whose lower bound and least capacity are 4, and of
--- five whose least capacity is 12.
+-- The files of answers: of two buffers whose best start ends at 5, and whose lower bound and least capacity are 4, and
+-- of five whose least capacity is 12.
 use Rattle.std.proofs.Common.{◌≡◌, ◌<◌, ℕ, inl, inr, List, [], ◌∷◌, None, Some, Ok, codes, refl, ap, ap₂, lit<, lit≤, arith}
 use Rattle.std.proofs.lemmas.List.Elements.{All-cons, All-nil}
 use Rattle.std.specs.Fmt.{digits}

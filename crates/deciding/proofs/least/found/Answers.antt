@@ -11,7 +11,8 @@ returns-in-Exact c =
     let steps = c.args.words.now.steps in
     let I = c.args.instance.now in
     let b = c.in-Exact.bracket in
-    gives (IsSought I steps) (names_of c.args.words.now.names) c.args.table.now (Least b.high) (Some b.layout.items) b.log
+    gives (IsSought I steps) (names_of c.args.words.now.names) c.args.table.now (Least b.high)
+    (Some b.layout.items) b.log
     (found_exactly steps I b (rw c.in-Exact.is at c.in_ok-bracket.ensures.value)
     (rw c.in-Exact.is at c.in_ok-bracket.ensures.steps))
     _ refl c.both_files.result c.both_files.ensures.readable c.both_files.ensures.files
