@@ -6,7 +6,7 @@ ghost use Rattle.std.specs.Prelude.{◌≡◌, ℕ, ◌<◌, ◌≤◌, length, 
 ghost use Rattle.std.specs.List.{All};
 
 /// The level of the buffer, and 0 for a number that is no buffer's.
-pub(crate) fn level_at(levels: &[u64], b: usize) -> u64
+pub fn level_at(levels: &[u64], b: usize) -> u64
     ensures value { result ≡ slice_index levels.now b }
     ensures some { 0 < result → b < length levels.now }
     ensures limit { (most : ℕ) → All (λ level. level ≤ most) levels.now → result ≤ most }

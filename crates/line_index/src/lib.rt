@@ -9,5 +9,6 @@ mod watch_row;
 mod watch_table;
 mod watches;
 
+pub use levels::level_at;
 pub use recent::Recent;
 pub use watches::Watches;
