@@ -1,6 +1,6 @@
 -- Steps of the search: a choice deeper, and back.
 use Rattle.std.proofs.Common.{◌≡◌, ◌≢◌, ℕ, ◌+◌, ◌-◌, ◌*◌, ◌<◌, cond, List, [], ◌∷◌, ◌++◌, length, map, reverse, Option, Some, None, IfSome, IfNone, slice_get, slice_index_or, suc, is_some, refl, sym, ap, ◌∙◌, subst, arith, length-append}
-use Rattle.std.proofs.lemmas.List.{get_or-reverse, length-reverse}
+use Rattle.std.proofs.lemmas.List.{get_or-reverse, length-reverse, nil_from_length}
 use Rattle.std.proofs.lemmas.List.Elements.{All-cons, All-nil, All-weaker}
 use Rattle.std.proofs.lemmas.Option.{slice_get-get_or}
 use Rattle.dsa_terms.specs.Buffers.{Instance, IsInstance}
@@ -30,10 +30,6 @@ carried : {X Y Z : Type 0} (P : X → Y → Z → Type 0) {a x : X} {b y : Y} {c
     P a b c
 carried P {a = a} {x = x} {b = b} {y = y} {c = c} {z = z} e f g h =
     subst (λ s. P s b c) (sym e) (subst (λ t. P x t c) (sym f) (subst (λ u. P x y u) (sym g) h))
-
-nothing_in : {X : Type 0} (xs : List X) → length xs ≡ 0 → xs ≡ []
-nothing_in [] e = refl
-nothing_in (x ∷ xs) e = absurd (omega (arith, e))
 
 -- the frame that was put last is the last one
 last_asked : (lines : List Line) (frames : List Tried) (f : Tried) → f.asked ≡ length lines →
@@ -115,7 +111,7 @@ module _ (I : Instance) (C : ℕ) where
       go : (fs : List Tried) → reverse frames ≡ fs → IsUnderLast I frames l
       go [] q =
           let n : length frames ≡ 0 = sym (length-reverse frames) ∙ ap length q in
-          subst (λ (xs : List Tried). IsUnderLast I xs l) (sym (nothing_in frames n)) tt
+          subst (λ (xs : List Tried). IsUnderLast I xs l) (sym (nil_from_length frames n)) tt
       go (f ∷ fs) q =
           let n : length frames ≡ suc (length fs) = sym (length-reverse frames) ∙ ap length q in
           let lt : 0 < length frames = omega arith in

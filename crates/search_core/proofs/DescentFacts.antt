@@ -9,6 +9,7 @@ use Rattle.dsa_terms.proofs.Examples.{small_below}
 use Rattle.skyline.specs.Skies.{Sky}
 use Rattle.search_core.specs.Descents.{Descends, IsPath, IsPlace, IsStanding, Place, claim_at, left_of, sky_root, through, turns_left}
 use Rattle.search_core.specs.Tries.{Tried}
+use Rattle.search_core.proofs.Computing.{computing_work}
 use Rattle.search_core.proofs.FoundFacts.{rest_known}
 use Rattle.search_core.proofs.LevelFacts.{differ, rest, root}
 use Rattle.search_core.proofs.OverFacts.{over}
@@ -62,14 +63,12 @@ not_by_another_choice d = first_does_not d.0
 -- ---- what is left to do
 -- the second choice, and the empty claim below it
 two_left : left_of small_below 4 rest (root ∷ []) (both_left 0 ∷ []) ≡ 2
-unfolding work through first is_tall comes_before ends_below is_twin have_same_moments child step do_share some_before
-    is_live up buffer
+unfolding computing_work
 two_left = refl
 
 -- nothing once the last claim has a layout
 none_left : left_of small_below 4 other (root ∷ []) (one_left ∷ []) ≡ 0
-unfolding work through first is_tall comes_before ends_below is_twin have_same_moments child step do_share some_before
-    is_live up buffer
+unfolding computing_work
 none_left = refl
 
 the_first_claim : sky_root (sky_of (root ∷ rest ∷ [])) ≡ root
@@ -84,14 +83,12 @@ the_last_claim = refl
 
 -- three claims, two turns each, and one frame
 pub seven_turns : (n : ℕ) → turns_left small_below 4 (below_root n None) ≡ 7
-unfolding work through first is_tall comes_before ends_below is_twin have_same_moments child step do_share some_before
-    is_live up buffer
+unfolding computing_work
 seven_turns n = refl
 
 -- with a line for the last claim one claim less is left, and one turn back
 pub six_turns : (n : ℕ) → turns_left small_below 4 (below_root n (Some 0)) ≡ 6
-unfolding work through first is_tall comes_before ends_below is_twin have_same_moments child step do_share some_before
-    is_live up buffer
+unfolding computing_work
 six_turns n = refl
 
 -- ---- the way down

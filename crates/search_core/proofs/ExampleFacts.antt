@@ -20,16 +20,12 @@ use Rattle.search_core.specs.Keys.{key_of}
 use Rattle.search_core.specs.Logs.{AreUncovered, Extends}
 use Rattle.search_core.specs.Meters.{AreCounted, AreMore, AreMoreBy, AreSpent, AreWithin, HasUnit, Units, units_counted}
 use Rattle.search_core.specs.Outcomes.{LinesAreCounted, spends_after}
-
-abbrev plain : ℕ → ℕ → ℕ → ℕ → Buffer
-plain lower upper size alignment = record
-    { lower = lower; upper = upper; size = size; alignment = alignment; gaps = []; lowest = 0 }
-
-abbrev two : Instance
-two = plain 0 1 3 1 ∷ plain 0 1 1 4 ∷ []
+use Rattle.dsa_terms.proofs.Examples.{small_below}
+use Rattle.search_core.proofs.TurnFacts.{at_root}
+use Rattle.search_core.proofs.Computing.{computing_searched, computing_work}
 
 -- ---- the order of choices
-key_of_aligned : key_of two (1, 2) ≡ (4, 1)
+key_of_aligned : key_of small_below (1, 2) ≡ (4, 1)
 unfolding up buffer
 key_of_aligned = refl
 
@@ -98,14 +94,14 @@ allowance_of_seven = refl
 allowance_of_none : allowance_of None ≡ 2 ^ 64
 allowance_of_none = refl
 
-starts_unused : at_start two (Some 7) ≡ record { subject = two; units = record { most = Some 7; used = 0 }; spends = 0 }
+starts_unused : at_start small_below (Some 7) ≡ record { subject = small_below; units = unused; spends = 0 }
 starts_unused = refl
 
 -- ---- lines
 abbrev tall : Line
 tall = Over ((1, 3) ∷ []) 0 3 1
 
-one_line_is_uncovered : AreUncovered two (tall ∷ [])
+one_line_is_uncovered : AreUncovered small_below (tall ∷ [])
 one_line_is_uncovered zero zero earlier line lt at_j at_k covers = absurd (omega arith)
 one_line_is_uncovered zero (suc k) earlier line lt at_j at_k covers = absurd cc
 one_line_is_uncovered (suc j) k earlier line lt at_j at_k covers = absurd cc
@@ -140,7 +136,7 @@ two_refuted : noted_by one_refuted 8 ≡ record {
 two_refuted = refl
 
 -- the bound 3 of a buffer that is aligned to four becomes 4
-lows_are_bounds : lifted two ((0, 0) ∷ (1, 3) ∷ []) ≡ (0, 0) ∷ (1, 4) ∷ []
+lows_are_bounds : lifted small_below ((0, 0) ∷ (1, 3) ∷ []) ≡ (0, 0) ∷ (1, 4) ∷ []
 unfolding up buffer
 lows_are_bounds = refl
 
@@ -152,66 +148,36 @@ last_one_first = refl
 the_first_one : root_of [] (((1, 3) ∷ []) ∷ ((0, 0) ∷ (1, 0) ∷ []) ∷ []) ≡ (0, 0) ∷ (1, 0) ∷ []
 the_first_one = refl
 
-abbrev sky_of : List Claim → Sky
-sky_of claims = record { instance = two; sections = record { sections = []; of_buffers = [] }; claims = claims }
-
--- the search is at what is left where buffer 0 stands at 0
-abbrev below_first : Option ℕ → Place
-below_first line = record {
-  sky = sky_of (((0, 0) ∷ (1, 0) ∷ []) ∷ ((1, 3) ∷ []) ∷ []);
-  frames = untried (0 ∷ 1 ∷ []) [] 0 ∷ [];
-  line = line;
-}
-
-the_last_claim : claim_at (below_first None) ≡ (1, 3) ∷ []
-the_last_claim = refl
-
--- four claims in all at 4, of which the first is looked at, and then buffer 0 stands at 0
-four_owed : owed two 4 (record { sky = sky_of (((0, 0) ∷ (1, 0) ∷ []) ∷ []); frames = []; line = None }) ≡ 4
-unfolding work first is_tall comes_before ends_below is_twin have_same_moments child step do_share some_before is_live
-    up
-    buffer
+-- four claims in all at 4
+four_owed : owed small_below 4 at_root ≡ 4
+unfolding computing_work
 four_owed = refl
 
-three_owed : owed two 4 (below_first None) ≡ 3
-unfolding work through first is_tall comes_before ends_below is_twin have_same_moments child step do_share some_before
-    is_live up buffer
-three_owed = refl
-
--- once a line covers what is left of it, the other choice is owed
-two_owed : owed two 4 (below_first (Some 0)) ≡ 2
-unfolding work through first is_tall comes_before ends_below is_twin have_same_moments child step do_share some_before
-    is_live up buffer
-two_owed = refl
-
 -- ---- answers
-small_stands_below : IsGiven two 4 (Offsets (1 ∷ 0 ∷ []))
-unfolding searched parts part_of last_cut is_cut first is_tall comes_before ends_below is_twin have_same_moments child
-    step do_share some_before is_live up buffer
+small_stands_below : IsGiven small_below 4 (Offsets (1 ∷ 0 ∷ []))
+unfolding computing_searched
 small_stands_below = refl
 
-height_of_four : turn_of two 4 ≡ Some 4
-unfolding layout_height searched parts part_of last_cut is_cut first is_tall comes_before ends_below is_twin
-    have_same_moments child step do_share some_before is_live up buffer
+height_of_four : turn_of small_below 4 ≡ Some 4
+unfolding computing_searched
 height_of_four = refl
 
-none_below_four : turn_of two 3 ≡ None
-unfolding searched parts part_of last_cut is_cut first is_tall comes_before ends_below is_twin have_same_moments child
-    step do_share some_before is_live up buffer
+none_below_four : turn_of small_below 3 ≡ None
+unfolding computing_searched
 none_below_four = refl
 
 -- ---- what an answer takes at least
 abbrev two_lines : Log
 two_lines = record { count = 2; capacity = 3; lines = Over [] 0 0 1 ∷ Over [] 0 0 1 ∷ []; final = 1 }
 
-one_for_a_layout : charge_of two 5 (Offsets (1 ∷ 0 ∷ [])) ≡ 1
+one_for_a_layout : charge_of small_below 5 (Offsets (1 ∷ 0 ∷ [])) ≡ 1
 one_for_a_layout = refl
 
 none_for_no_buffers : charge_of [] 5 (Offsets []) ≡ 0
 none_for_no_buffers = refl
 
-one_for_each_line : charge_of two 5 (Refutation two_lines) ≡ 2
+one_for_each_line : charge_of small_below 5 (Refutation two_lines) ≡ 2
 one_for_each_line = refl
 
-none_without_a_number : charge_of two (allowance_of None) (Refutation two_lines) ≡ 0
+none_without_a_number : charge_of small_below (allowance_of None) (Refutation two_lines) ≡ 0
 none_without_a_number = refl

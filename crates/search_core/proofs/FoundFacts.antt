@@ -11,17 +11,16 @@ use Rattle.line_index.specs.Covered.{IsCoveredBy}
 use Rattle.search_core.specs.declared.found.Found.TheVariants as found
 use Rattle.search_core.specs.Descents.{IsKnown}
 use Rattle.search_core.specs.Found.{IfFoundSpent, IsFound, UnlessFoundSpent}
+use Rattle.search_core.proofs.Computing.{computing_first}
 use Rattle.search_core.proofs.LevelFacts.{differ, rest, root}
 use Rattle.search_core.proofs.OverFacts.{over, over_covers}
 
 pub root_layout : first small_below 4 root ≡ Some ((0, 1) ∷ (1, 0) ∷ [])
-unfolding first is_tall comes_before ends_below is_twin child up step have_same_moments do_share some_before is_live
-    buffer
+unfolding computing_first
 root_layout = refl
 
 pub rest_has_none : first small_below 4 rest ≡ None
-unfolding first is_tall comes_before ends_below is_twin child up step have_same_moments do_share some_before is_live
-    buffer
+unfolding computing_first
 rest_has_none = refl
 
 pub rest_covered : IsCoveredBy small_below (over ∷ []) rest 0

@@ -1,5 +1,6 @@
 -- Steps of the way, down and back, by what is kept.
 use Rattle.std.proofs.Common.{◌≡◌, ℕ, List, [], ◌∷◌, ◌++◌, IfSome, refl, sym, ap, ◌∙◌, subst}
+use Rattle.std.proofs.lemmas.List.{append-nil}
 use Rattle.dsa_terms.specs.Buffers.{Instance}
 use Rattle.dsa_terms.specs.Claims.{Claim, child}
 use Rattle.canonical_order.specs.Claims.{entry_of}
@@ -9,7 +10,7 @@ use Rattle.search_core.specs.declared.kept.Kept.{Kept}
 use Rattle.search_core.specs.Descents.{IsStanding}
 use Rattle.search_core.specs.Tries.{IsLeft, Tried, chosen_of}
 use Rattle.search_core.specs.Ways.{AreKeptAlong, IsBackBy, IsBackFrom, IsOrderOf, Way, notes_of, tried_of, tries_of}
-use Rattle.search_core.proofs.Keeping.{last_kept, pop_kept, push_kept, pushed_tries}
+use Rattle.search_core.proofs.Keeping.{last_kept, no_tries, pop_kept, push_kept, pushed_tries}
 
 -- the way with so much kept
 abbrev pub way_of : Sky → List Kept → Way
@@ -19,6 +20,16 @@ way_of sky kept = record { sky = sky; frames = tries_of sky.instance sky.claims 
 pub record IsWayTo (sky : Sky) (kept : List Kept) (frames : List Tried) : Type 0 where
   pub along : AreKeptAlong sky.instance sky.claims kept
   pub tries : tries_of sky.instance sky.claims (notes_of kept) ≡ frames
+
+-- where nothing was kept, nothing is popped
+pub nothing_popped : (before : Way) (sky : Sky) (kept rest : List Kept) → way_of sky kept ≡ before → kept ≡ [] →
+    kept ≡ rest ++ [] → (before.frames ≡ []) × (way_of sky rest ≡ before)
+nothing_popped before sky kept rest w none q = (
+  sym (ap (λ (w : Way). w.frames) w)
+      ∙ ap (λ (ks : List Kept). tries_of sky.instance sky.claims (notes_of ks)) none
+      ∙ no_tries sky.instance sky.claims,
+  ap (way_of sky) (sym (q ∙ append-nil rest)) ∙ w,
+)
 
 -- a frame of the last claim is kept, and the child by its choice is the last claim
 pub down_from : (I : Instance) (claims : List Claim) (kept : List Kept) (f : Tried) (k : Kept) →

@@ -16,6 +16,7 @@ use Rattle.canonical_order.proofs.Entries.{entry_in, is_entry}
 use Rattle.canonical_order.proofs.LevelLemmas.{has_level, level_inside}
 use Rattle.search_core.specs.Levels.{AreKept, AreLeft}
 use Rattle.search_core.specs.Lifted.{lift, lifted}
+use Rattle.search_core.proofs.Lifting.{buffers_of-lifted}
 
 -- an entry by its level
 pub by_level : List ℕ → ℕ → Entry
@@ -35,7 +36,7 @@ pub ground_is_lifted : (I : Instance) (l : Claim) (levels : List ℕ) (ground : 
     AreLevels I l levels → ground ≡ lifted I l
 ground_is_lifted I l levels ground k h =
     is_by_level levels ground (λ e i. let q = k.each e i in omega arith)
-    ∙ ap (map (by_level levels)) (same ∙ sym names)
+    ∙ ap (map (by_level levels)) (same ∙ sym (buffers_of-lifted I l))
     ∙ sym (is_by_level levels (lifted I l) lows)
   where
     same : buffers_of ground ≡ buffers_of l
@@ -43,13 +44,6 @@ ground_is_lifted I l levels ground k h =
       (λ i. has_level I l levels h b (let q = k.each (entry_of ground b) (entry_in ground b i) in omega arith)),
       (λ i. k.all b (let q = level_inside I l levels h b i in omega arith)),
     ))
-
-    names : buffers_of (lifted I l) ≡ buffers_of l
-    names = go l
-      where
-        go : (l : Claim) → buffers_of (lifted I l) ≡ buffers_of l
-        go [] = refl
-        go (e ∷ l) = ap (λ bs. e.0 ∷ bs) (go l)
 
     lows : (e : Entry) → IsIn e (lifted I l) → e.1 ≡ slice_index levels e.0 - 1
     lows e i =

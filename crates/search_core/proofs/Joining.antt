@@ -10,7 +10,8 @@ use Rattle.dsa_terms.specs.Parts.{first_of_all, join, offsets_of, parts, searche
 use Rattle.dsa_terms.specs.Search.{first, work}
 use Rattle.dsa_terms.proofs.Places.{in_at}
 use Rattle.search_core.specs.Meters.{AreMore, Units}
-use Rattle.search_core.proofs.Taking.{more_after, some_part}
+use Rattle.search_core.proofs.Counting.{more_by_after}
+use Rattle.search_core.proofs.Taking.{some_part}
 
 -- the work of these parts
 abbrev pub work_of_parts : Instance → ℕ → List (List ℕ) → ℕ
@@ -70,7 +71,7 @@ module _ (I : Instance) (C : ℕ) (ps : List (List ℕ)) where
     left = j.left ∙ (rw (next_part ps i lt, some, q) (join_along seats found (first_of_all I C (drop (i + 1) ps))));
     most = most ∙ j.most;
     units = let k = j.units in omega arith;
-    taken = λ _. more_after before between after j.most j.units more;
+    taken = λ _. more_by_after before between after 1 j.most j.units more;
     work = let k = left_work i seats before between lt j in omega arith;
   }
 

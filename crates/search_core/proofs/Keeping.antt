@@ -145,6 +145,12 @@ module _ (I : Instance) (claims : List Claim) (kept : List Kept) (c : Claim) (k 
   last_no : (n : ℕ) → n + 1 ≡ length claims → claim_no claims n ≡ last_claim claims
   last_no n e = ap (claim_no claims) (let m : n ≡ length claims - 1 = omega (arith, e) in m)
 
+  old_no : (i : ℕ) → i < length claims → claim_no (claims ++ c ∷ []) i ≡ claim_no claims i
+  old_no i lt = get_or_append_left claims (c ∷ []) [] i lt
+
+  new_no : (i : ℕ) → i ≡ length claims → claim_no (claims ++ c ∷ []) i ≡ c
+  new_no i e = get_or_push claims c [] i (sym e)
+
   pub push_kept : AreKeptAlong I claims kept → IsKeptOf I (last_claim claims) c k →
       AreKeptAlong I (claims ++ c ∷ []) (kept ++ k ∷ [])
   push_kept h last = record {
@@ -160,20 +166,16 @@ module _ (I : Instance) (claims : List Claim) (kept : List Kept) (c : Claim) (k 
           let m = length-append kept (k ∷ []) in
           let e = h.count in
           elim (below_or_last i (length kept) (omega arith)) [
-            | inl below ↦
-                let p : claim_no (claims ++ c ∷ []) i ≡ claim_no claims i =
-                get_or_append_left claims (c ∷ []) [] i (omega arith) in
-                let q : claim_no (claims ++ c ∷ []) (i + 1) ≡ claim_no claims (i + 1) =
-                get_or_append_left claims (c ∷ []) [] (i + 1) (omega arith) in
-                let r : slice_index_or (kept ++ k ∷ []) i d ≡ slice_index_or kept i d =
-                get_or_append_left kept (k ∷ []) d i below in
-                rw (p, q, r) (h.each i d below)
-            | inr is ↦
-                let p : claim_no (claims ++ c ∷ []) i ≡ last_claim claims =
-                get_or_append_left claims (c ∷ []) [] i (omega arith) ∙ last_no i (omega arith) in
-                let q : claim_no (claims ++ c ∷ []) (i + 1) ≡ c = get_or_push claims c [] (i + 1) (omega arith) in
-                let r : slice_index_or (kept ++ k ∷ []) i d ≡ k = get_or_push kept k d i (omega arith) in
-                rw (p, q, r) last
+            | inl below ↦ rw (
+              old_no i (omega arith),
+              old_no (i + 1) (omega arith),
+              get_or_append_left kept (k ∷ []) d i below,
+            ) (h.each i d below)
+            | inr is ↦ rw (
+              old_no i (omega arith) ∙ last_no i (omega arith),
+              new_no (i + 1) (omega arith),
+              get_or_push kept k d i (omega arith),
+            ) last
           ]
 
   pub pop_kept : AreKeptAlong I (claims ++ c ∷ []) (kept ++ k ∷ []) → AreKeptAlong I claims kept
@@ -183,14 +185,11 @@ module _ (I : Instance) (claims : List Claim) (kept : List Kept) (c : Claim) (k 
       let e = h.count in
       record {
         count = omega arith;
-        each = λ i d lt.
-            let p : claim_no (claims ++ c ∷ []) i ≡ claim_no claims i =
-            get_or_append_left claims (c ∷ []) [] i (omega arith) in
-            let q : claim_no (claims ++ c ∷ []) (i + 1) ≡ claim_no claims (i + 1) =
-            get_or_append_left claims (c ∷ []) [] (i + 1) (omega arith) in
-            let r : slice_index_or (kept ++ k ∷ []) i d ≡ slice_index_or kept i d =
-            get_or_append_left kept (k ∷ []) d i lt in
-            rw (p, q, r) at (h.each i d (omega arith));
+        each = λ i d lt. rw (
+          old_no i (omega arith),
+          old_no (i + 1) (omega arith),
+          get_or_append_left kept (k ∷ []) d i lt,
+        ) at (h.each i d (omega arith));
       }
 
   pub last_kept : AreKeptAlong I (claims ++ c ∷ []) (kept ++ k ∷ []) → IsKeptOf I (last_claim claims) c k
@@ -199,11 +198,8 @@ module _ (I : Instance) (claims : List Claim) (kept : List Kept) (c : Claim) (k 
       let n = length-append claims (c ∷ []) in
       let e = h.count in
       let i = length kept in
-      let p : claim_no (claims ++ c ∷ []) i ≡ last_claim claims =
-      get_or_append_left claims (c ∷ []) [] i (omega arith) ∙ last_no i (omega arith) in
-      let q : claim_no (claims ++ c ∷ []) (i + 1) ≡ c = get_or_push claims c [] (i + 1) (omega arith) in
-      let r : slice_index_or (kept ++ k ∷ []) i k ≡ k = get_or_push kept k k i refl in
-      rw (p, q, r) at (h.each i k (omega arith))
+      rw (old_no i (omega arith) ∙ last_no i (omega arith), new_no (i + 1) (omega arith), get_or_push kept k k i refl)
+      at (h.each i k (omega arith))
 
   pub pushed_tries : AreKeptAlong I claims kept →
       tries_of I (claims ++ c ∷ []) (notes_of (kept ++ k ∷ [])) ≡

@@ -28,6 +28,7 @@ pub mod Parting
 pub mod Joining
 pub mod Deciding
 pub mod Charging
+mod Computing
 pub mod ExampleFacts
 pub mod RaisingSteps
 pub mod TallLevels
@@ -52,7 +53,7 @@ mod PieceFacts
 mod TryFacts
 mod DescentFacts
 mod OpenedFacts
-mod TurnFacts
+pub mod TurnFacts
 mod WalkFacts
 mod WayFacts
 mod NoTwinFacts

@@ -9,7 +9,7 @@ use Rattle.canonical_order.specs.Claims.{entry_of}
 use Rattle.canonical_order.proofs.Entries.{is_entry}
 use Rattle.search_core.specs.Lifted.{lift, lifted}
 use Rattle.search_core.specs.Ways.{order_of}
-use Rattle.search_core.proofs.Lifting.{lifted_excluded, up_of_lift}
+use Rattle.search_core.proofs.Lifting.{buffers_of-lifted, lifted_excluded, up_of_lift}
 
 -- ---- the order of entries
 before_lifted : (I : Instance) (e f : Entry) → IsInstance I → comes_before I (lift I e) (lift I f) ≡ comes_before I e f
@@ -63,10 +63,6 @@ pub buffers_of_entries : (l : Claim) (bs : List ℕ) → buffers_of (map (entry_
 buffers_of_entries l [] = refl
 buffers_of_entries l (b ∷ bs) = ap (λ bs. b ∷ bs) (buffers_of_entries l bs)
 
-buffers_of_lifts : (I : Instance) (es : List Entry) → buffers_of (lifted I es) ≡ buffers_of es
-buffers_of_lifts I [] = refl
-buffers_of_lifts I (e ∷ es) = ap (λ bs. e.0 ∷ bs) (buffers_of_lifts I es)
-
 entries_again : (l : Claim) (es : List Entry) → Rises (buffers_of l) → ((e : Entry) → IsIn e es → IsIn e l) →
     map (entry_of l) (buffers_of es) ≡ es
 entries_again l [] r h = refl
@@ -85,7 +81,7 @@ pub lifted_order : (I : Instance) (l : Claim) (order : List ℕ) → IsInstance 
 lifted_order I l order s r q =
     let e : order ≡ buffers_of (choices I (not_excluded I) l) =
     sym (buffers_of_entries (lifted I l) order) ∙ ap buffers_of (q ∙ choices_lifted I l s)
-    ∙ buffers_of_lifts I (choices I (not_excluded I) l) in
+    ∙ buffers_of-lifted I (choices I (not_excluded I) l) in
     ap (map (entry_of l)) e ∙ order_entries I l r
 
 -- ---- whether there is a buffer

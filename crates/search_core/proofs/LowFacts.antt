@@ -11,27 +11,24 @@ use Rattle.dsa_terms.proofs.Examples.{lifted, low, raised}
 use Rattle.dsa_search_laws.proofs.LineTests.{do_rise, has_reason, is_claim, is_legal, is_over, legal}
 use Rattle.refute_log.specs.Answers.{Offsets}
 use Rattle.search_core.specs.Decisions.{IsGiven, IsRefutation, turn_of}
+use Rattle.search_core.proofs.Computing.{computing_searched}
 
 -- ---- size 3 from 1 on stands on size 2, so both fit into 5 and not into 4
 three_on_two : IsGiven lifted 5 (Offsets (2 ∷ 0 ∷ []))
-unfolding searched parts part_of last_cut is_cut first is_tall comes_before ends_below is_twin have_same_moments child
-    step do_share some_before is_live up buffer
+unfolding computing_searched
 three_on_two = refl
 
 none_below_five : turn_of lifted 4 ≡ None
-unfolding layout_height searched parts part_of last_cut is_cut first is_tall comes_before ends_below is_twin
-    have_same_moments child step do_share some_before is_live up buffer
+unfolding computing_searched
 none_below_five = refl
 
 -- ---- size 4 from 6 on ends at 10, and leaves room below it
 at_six_and_zero : IsGiven low 10 (Offsets (6 ∷ 0 ∷ []))
-unfolding searched parts part_of last_cut is_cut first is_tall comes_before ends_below is_twin have_same_moments child
-    step do_share some_before is_live up buffer
+unfolding computing_searched
 at_six_and_zero = refl
 
 none_below_ten : turn_of low 9 ≡ None
-unfolding layout_height searched parts part_of last_cut is_cut first is_tall comes_before ends_below is_twin
-    have_same_moments child step do_share some_before is_live up buffer
+unfolding computing_searched
 none_below_ten = refl
 
 -- ---- size 3 aligned to four from 5 on starts at 8, and so ends above 10
@@ -116,6 +113,5 @@ refuted_at_10 = record {
 
 -- within 11 it stands at the floor
 at_the_floor : searched aligned 11 ≡ Some (8 ∷ [])
-unfolding searched parts part_of last_cut is_cut first is_tall comes_before ends_below is_twin have_same_moments child
-    step do_share some_before is_live up buffer
+unfolding computing_searched
 at_the_floor = refl

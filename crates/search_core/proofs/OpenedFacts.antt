@@ -13,6 +13,7 @@ use Rattle.search_core.specs.Descents.{through}
 use Rattle.search_core.specs.Meters.{Units}
 use Rattle.search_core.specs.Opened.{AreAllAsked, AreChoices, IfChoices, IsOpened, UnlessUnopened, left_open}
 use Rattle.search_core.specs.Tries.{Tried}
+use Rattle.search_core.proofs.Computing.{computing_work}
 use Rattle.search_core.proofs.FoundFacts.{rest_known, root_layout}
 use Rattle.search_core.proofs.LevelFacts.{differ, rest, root}
 use Rattle.search_core.proofs.OverFacts.{over, over_covers}
@@ -21,8 +22,7 @@ use Rattle.search_core.proofs.TryFacts.{both_left, one_left, trying_both}
 -- ---- choices
 -- of four claims that the search looks at three are left
 choices_of_root : AreChoices small_below 4 [] root (both_left 0)
-unfolding work through first is_tall comes_before ends_below is_twin have_same_moments child step do_share some_before
-    is_live up buffer
+unfolding computing_work
 choices_of_root = record {
   not_empty = λ q. cc;
   fresh = λ k line at covers. cc;
@@ -32,8 +32,7 @@ choices_of_root = record {
 
 -- two are left where the first choice is refuted
 not_once_one_is_refuted : (lines : List Line) → AreChoices small_below 4 lines root one_left → ⊥
-unfolding work through first is_tall comes_before ends_below is_twin have_same_moments child step do_share some_before
-    is_live up buffer
+unfolding computing_work
 not_once_one_is_refuted lines h = differ 3 4 (omega arith) (sym h.work)
 
 -- a claim that a line covers is not opened

@@ -11,12 +11,11 @@ use Rattle.dsa_terms.specs.Sorts.{ordered_by, put_by}
 use Rattle.dsa_terms.specs.Search.{comes_before, choices, not_excluded}
 use Rattle.dsa_terms.proofs.Lists.{from_ordered_by, from_filter}
 use Rattle.dsa_terms.proofs.NumberTests.{same}
-use Rattle.dsa_search_laws.proofs.Complete.{from_choices}
 use Rattle.dsa_search_laws.proofs.Placing.{in_buffers}
 use Rattle.canonical_order.specs.Claims.{entry_of}
 use Rattle.search_core.specs.Keys.{key_of}
 use Rattle.search_core.proofs.Along.{next_left, rises_left}
-use Rattle.canonical_order.proofs.Entries.{is_entry}
+use Rattle.search_core.proofs.LiftedChoices.{order_entries}
 
 -- by the first numbers, then by the second ones
 abbrev pub key_cmp : ℕ × ℕ → ℕ × ℕ → Ordering
@@ -87,11 +86,6 @@ module _ (I : Instance) (l items : Claim) (i j : ℕ) (m : i ≡ j + 1) (lt : j 
   keys_take_at r t = keys_take I l (drop j items) (drop i items) f s (rises_left items j r) t
 
 -- ---- the entries of the choices, from their numbers
-entries_again : (l : Claim) (es : List Entry) → Rises (buffers_of l) →
-    ((e : Entry) → IsIn e es → IsIn e l) → map (entry_of l) (map (λ (e : Entry). e.0) es) ≡ es
-entries_again l [] r h = refl
-entries_again l (x ∷ xs) r h = rw (← is_entry l x r (h x (inl refl)), entries_again l xs r (λ e i. h e (inr i))) refl
-
 second_of_keys : (I : Instance) (es : List Entry) →
     map (λ (k : ℕ × ℕ). k.1) (map (key_of I) es) ≡ map (λ (e : Entry). e.0) es
 second_of_keys I [] = refl
@@ -99,5 +93,4 @@ second_of_keys I (x ∷ xs) = ap (λ bs. x.0 ∷ bs) (second_of_keys I xs)
 
 pub all_keys : (I : Instance) (l : Claim) → Rises (buffers_of l) →
     map (entry_of l) (map (λ (k : ℕ × ℕ). k.1) (keys_of I l l)) ≡ choices I (not_excluded I) l
-all_keys I l r = rw (second_of_keys I (choices I (not_excluded I) l))
-    (entries_again l (choices I (not_excluded I) l) r (from_choices I (not_excluded I) l))
+all_keys I l r = rw (second_of_keys I (choices I (not_excluded I) l)) (order_entries I l r)

@@ -11,21 +11,19 @@ use Rattle.search_core.specs.declared.part.Piece.TheVariants as piece
 use Rattle.search_core.specs.Meters.{Units}
 use Rattle.search_core.specs.Outcomes.{IsDecided}
 use Rattle.search_core.specs.Pieces.{IfPieceSpent, IsPiece, PieceIsCounted, UnlessPieceSpent}
+use Rattle.search_core.proofs.Computing.{computing_first, computing_searched}
 use Rattle.search_core.proofs.RefutationFacts.{from_zero, found_at_3, log_of, lone, none_at_3, refuted_at_2}
 
 seated_at_3 : first lone 3 (whole lone (0 ∷ [])) ≡ Some ((0, 0) ∷ [])
-unfolding first is_tall comes_before ends_below is_twin child up step have_same_moments do_share some_before is_live
-    buffer
+unfolding computing_first
 seated_at_3 = refl
 
 not_seated_at_2 : first lone 2 (whole lone (0 ∷ [])) ≡ None
-unfolding first is_tall comes_before ends_below is_twin child up step have_same_moments do_share some_before is_live
-    buffer
+unfolding computing_first
 not_seated_at_2 = refl
 
 not_found_at_2 : searched lone 2 ≡ None
-unfolding searched parts part_of last_cut is_cut first is_tall comes_before ends_below is_twin have_same_moments child
-    step do_share some_before is_live up buffer
+unfolding computing_searched
 not_found_at_2 = refl
 
 abbrev refutation : Log

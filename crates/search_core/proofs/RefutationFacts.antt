@@ -11,6 +11,7 @@ use Rattle.dsa_terms.proofs.Examples.{plain}
 use Rattle.dsa_search_laws.proofs.Logs.{accepted_is_infeasible}
 use Rattle.dsa_search_laws.proofs.Parts.{searched_is_layout}
 use Rattle.search_core.specs.Decisions.{IsRefutation, where_numbered}
+use Rattle.search_core.proofs.Computing.{computing_searched}
 
 abbrev pub lone : Instance
 lone = plain 0 1 3 1 ∷ []
@@ -23,8 +24,7 @@ abbrev pub log_of : List Line → ℕ → Log
 log_of lines capacity = record { count = 1; capacity = capacity; lines = lines; final = 0 }
 
 pub found_at_3 : searched lone 3 ≡ Some (0 ∷ [])
-unfolding searched parts part_of last_cut is_cut first is_tall comes_before ends_below is_twin have_same_moments child
-    step do_share some_before is_live up buffer
+unfolding computing_searched
 found_at_3 = refl
 
 lone_sound : IsInstance lone

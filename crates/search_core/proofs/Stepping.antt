@@ -16,10 +16,6 @@ use Rattle.search_core.proofs.Descending.{IsBack, back_debt, is_back, no_above, 
 use Rattle.search_core.proofs.Growing.{extends_along, extends_none}
 use Rattle.search_core.proofs.Working.{some_work}
 
-pub nothing_in : {X : Type 0} (xs : List X) → length xs ≡ 0 → xs ≡ []
-nothing_in [] e = refl
-nothing_in (x ∷ xs) e = absurd (omega arith)
-
 -- lines that have only buffers of the last claim have only buffers of the first one
 pub grown_below : (I : Instance) (C : ℕ) (lines after : List Line) (here : Place) → IsPath I C lines here →
     Extends (claim_at here) lines after → Extends (sky_root here.sky) lines after

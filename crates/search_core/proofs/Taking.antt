@@ -1,5 +1,5 @@
 -- A search takes a unit for its first claim.
-use Rattle.std.proofs.Common.{◌≡◌, ℕ, ◌<◌, ◌≤◌, List, [], ◌∷◌, length, slice_get, Some, arith, ap}
+use Rattle.std.proofs.Common.{◌≡◌, ℕ, ◌<◌, ◌≤◌, List, [], ◌∷◌, length, slice_get, Some, arith}
 use Rattle.dsa_terms.specs.Buffers.{Instance}
 use Rattle.dsa_terms.specs.Claims.{Claim, IsIn}
 use Rattle.dsa_terms.specs.Logs.{Line}
@@ -9,7 +9,7 @@ use Rattle.line_index.specs.Covered.{IsCoveredBy}
 use Rattle.search_core.specs.declared.found.Found.{Found}
 use Rattle.search_core.specs.declared.found.Found.TheVariants as found
 use Rattle.search_core.specs.Found.{UnlessFoundSpent}
-use Rattle.search_core.specs.Meters.{AreMore, Units, units_counted}
+use Rattle.search_core.specs.Meters.{AreMore, Units}
 
 -- no line of no lines covers a claim
 pub none_covers : (I : Instance) (l : Claim) (lines : List Line) (k : ℕ) → lines ≡ [] → IsCoveredBy I lines l k → ⊥
@@ -17,13 +17,6 @@ none_covers I l lines k e h = none k h.line (rw e at h.stands)
   where
     none : (k : ℕ) (line : Line) → slice_get [] k ≡ Some line → ⊥
     none k line q = cc
-
--- a unit more than later is a unit more than before
-pub more_after : (before between after : Units) → between.most ≡ before.most → before.used ≤ between.used →
-    AreMore between after → AreMore before after
-more_after before between after e le h =
-    let n = ap (λ m. units_counted m 1) e in
-    omega (arith, n, le, h)
 
 pub more_still : (before between after : Units) → AreMore before between → between.used ≤ after.used →
     AreMore before after

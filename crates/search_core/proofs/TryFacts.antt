@@ -10,6 +10,7 @@ use Rattle.search_core.specs.declared.found.Refuted.{Refuted}
 use Rattle.search_core.specs.Cites.{IsChildCovered}
 use Rattle.search_core.specs.Descents.{HasAskedAll, IsTrying, refuted_buffer, try_of}
 use Rattle.search_core.specs.Tries.{IsLeft, Tried, asked_to, untried}
+use Rattle.search_core.proofs.Computing.{computing_first}
 use Rattle.search_core.proofs.CiteFacts.{by_line, first_covered}
 use Rattle.search_core.proofs.LevelFacts.{root, root_levels}
 use Rattle.search_core.proofs.OverFacts.{over}
@@ -42,19 +43,16 @@ choice_by_line = refl
 
 -- ---- what a choice comes to
 in_vain : try_of small_below 4 root (0, 0) ≡ None
-unfolding first is_tall comes_before ends_below is_twin child up step have_same_moments do_share some_before is_live
-    buffer
+unfolding computing_first
 in_vain = refl
 
 not_in_vain : try_of small_below 4 root (1, 0) ≡ Some ((0, 1) ∷ (1, 0) ∷ [])
-unfolding first is_tall comes_before ends_below is_twin child up step have_same_moments do_share some_before is_live
-    buffer
+unfolding computing_first
 not_in_vain = refl
 
 -- ---- what is known of a claim whose choices are tried
 pub trying_both : (lines : List Line) (n : ℕ) → IsTrying small_below 4 lines root (both_left n)
-unfolding first is_tall comes_before ends_below is_twin child up step have_same_moments do_share some_before is_live
-    buffer
+unfolding computing_first
 trying_both lines n = record {
   order = refl;
   noted = refl;
@@ -64,8 +62,7 @@ trying_both lines n = record {
 }
 
 pub trying_one : IsTrying small_below 4 (over ∷ []) root one_left
-unfolding first is_tall comes_before ends_below is_twin child up step have_same_moments do_share some_before is_live
-    buffer
+unfolding computing_first
 trying_one = record { order = refl; noted = refl; covered = covered; left = refl; levels = root_levels }
   where
     covered : (r : Refuted) → IsIn r (by_line 0 0 ∷ []) → IsChildCovered small_below (over ∷ []) root r
@@ -82,8 +79,7 @@ not_the_second_first lines t = let e = t.noted in absurd cc
 
 -- the claim has a layout
 not_all_refuted : (lines : List Line) → IsTrying small_below 4 lines root none_left → ⊥
-unfolding first is_tall comes_before ends_below is_twin child up step have_same_moments do_share some_before is_live
-    buffer
+unfolding computing_first
 not_all_refuted lines t = let e = t.left in absurd cc
 
 another_order : (lines : List Line) → IsTrying small_below 4 lines root (untried (1 ∷ 0 ∷ []) (1 ∷ 1 ∷ []) 0) → ⊥

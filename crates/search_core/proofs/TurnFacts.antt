@@ -12,6 +12,7 @@ use Rattle.search_core.specs.declared.turns.Turn.TheVariants as turn
 use Rattle.search_core.specs.Descents.{Place, owed, through}
 use Rattle.search_core.specs.Tries.{Tried}
 use Rattle.search_core.specs.Turns.{IfOn, IsAhead, IsOn, IsAtChoices, IsUncovered, IsTurned, Stage, UnlessTurnSpent, debt_of}
+use Rattle.search_core.proofs.Computing.{computing_work}
 use Rattle.search_core.proofs.DescentFacts.{after_line, before_line, below_root, seven_turns, six_turns, sky_of}
 use Rattle.search_core.proofs.FoundFacts.{root_layout}
 use Rattle.search_core.proofs.LevelFacts.{rest, root}
@@ -26,32 +27,30 @@ abbrev stage : Option ℕ → ℕ → Stage
 stage line n = record { place = below line; units = record { most = Some 7; used = n } }
 
 -- the search is at the root, or at what is left as at a root
-abbrev at_root : Place
+abbrev pub at_root : Place
 at_root = record { sky = sky_of (root ∷ []); frames = []; line = None }
 
 abbrev at_rest : Place
 at_rest = record { sky = sky_of (rest ∷ []); frames = []; line = None }
 
 -- ---- what is left to do
+-- what is left of the first choice, and the second one
 three_owed : owed small_below 4 (below None) ≡ 3
-unfolding work through first is_tall comes_before ends_below is_twin have_same_moments child step do_share some_before
-    is_live up buffer
+unfolding computing_work
 three_owed = refl
 
+-- once a line covers what is left of it, the other choice is owed
 two_owed : owed small_below 4 (below (Some 0)) ≡ 2
-unfolding work through first is_tall comes_before ends_below is_twin have_same_moments child step do_share some_before
-    is_live up buffer
+unfolding computing_work
 two_owed = refl
 
 -- the root is open: one claim below the first choice, and two below the second
 three_below : debt_of small_below 4 at_root (both_left 0) ≡ 3
-unfolding work through first is_tall comes_before ends_below is_twin have_same_moments child step do_share some_before
-    is_live up buffer
+unfolding computing_work
 three_below = refl
 
 two_below : debt_of small_below 4 at_root one_left ≡ 2
-unfolding work through first is_tall comes_before ends_below is_twin have_same_moments child step do_share some_before
-    is_live up buffer
+unfolding computing_work
 two_below = refl
 
 -- ---- an open claim

@@ -16,6 +16,7 @@ use crate::grounds::ground_of;
 use crate::left::left_of;
 use canonical_order::{Claim, Lows, step};
 use dsa_model::{Instance, NoMemory};
+use line_index::level_at;
 use skyline::Skyline;
 use std::alloc::Global;
 use std::marker::Model;
@@ -162,11 +163,7 @@ impl Levels {
         ensures some { 0 < result → b < buffer_limit }
         ensures limit { result ≤ 2 ^ 55 }
     {
-        if b < self.numbers.len() {
-            self.numbers[b]
-        } else {
-            0
-        }
+        level_at(&self.numbers, b)
     }
 
     /// The levels in order.

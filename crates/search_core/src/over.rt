@@ -1,6 +1,7 @@
 //! Claims that one Over line refutes.
 
-ghost use Rattle.std.specs.Prelude.{◌≡◌, ◌+◌, ◌-◌, ◌^◌, ◌<◌, ◌≤◌, None, true, false, IfNone, IfOk, IfSome, length};
+ghost use Rattle.std.specs.Prelude.{◌≡◌, ◌+◌, ◌-◌, ◌^◌, ◌<◌, ◌≤◌, true, false, length};
+ghost use Rattle.std.specs.Prelude.{None, IfNone, IfOk, IfSome};
 ghost use Rattle.dsa_terms.specs.Buffers.{buffer as buffer_at};
 ghost use Rattle.dsa_terms.specs.Claims.{Claim as ClaimTerm};
 ghost use Rattle.dsa_terms.specs.Search.{is_tall as is_tall_entry};
@@ -19,8 +20,8 @@ use refute_log::Line;
 use skyline::Skyline;
 use std::alloc::Global;
 
-/// Whether the buffer, which has this level, ends above the capacity. Where one of the greatest size
-/// does not, its own size is not looked up.
+/// Whether the buffer, which has this level, ends above the capacity. Where one of the greatest
+/// size does not, its own size is not looked up.
 fn is_tall(task: &Task, b: u32, level: u64) -> bool
     requires b_in { b < length task.now.instance.now }
     requires some { 0 < level }

@@ -1,6 +1,6 @@
 //! The levels of a child in the making.
 
-ghost use Rattle.std.specs.Prelude.{◌≡◌, ℕ, ◌<◌, ◌≤◌, ◌^◌, IfOk, OnOk, length, slice_index, slice_set};
+ghost use Rattle.std.specs.Prelude.{◌≡◌, ℕ, ◌<◌, ◌≤◌, ◌^◌, IfOk, OnOk, length, slice_set};
 ghost use Rattle.std.specs.List.{All};
 ghost use Rattle.dsa_terms.specs.Claims.{IsIn};
 
@@ -30,17 +30,6 @@ impl Raising {
             top: levels.top(),
             raised: Vec::new(alloc),
         })
-    }
-
-    /// The number of the buffer by now, and 0 for what is no buffer's number.
-    pub(crate) fn at(&self, b: usize) -> u64
-        ensures { result ≡ slice_index self.now.numbers.items b }
-    {
-        if b < self.numbers.len() {
-            self.numbers[b]
-        } else {
-            0
-        }
     }
 
     /// Writes the level of the buffer in the child, beside that in the claim.

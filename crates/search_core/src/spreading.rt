@@ -11,10 +11,11 @@ use crate::levels::{Levels, child_level};
 use crate::raising::Raising;
 use dsa_model::{Instance, NoMemory};
 use lifetime::Sections;
+use line_index::level_at;
 
-/// Writes the level of c in the child by b, if c is in the claim. The reach of b is its level and its
-/// size: a buffer whose level is as high as that is above the end of b, and does not rise. So most
-/// are passed by with one look.
+/// Writes the level of c in the child by b, if c is in the claim. The reach of b is the sum of its
+/// level and its size: a buffer whose level is as high as that stands at or above the end of b, and
+/// does not rise. So most are passed by with one look.
 fn raise(
     raising: &mut Raising,
     instance: &Instance,
@@ -32,7 +33,7 @@ fn raise(
         OnOk result (IsRaised instance.now levels.now b raising.new.numbers.items d) }
 {
     let _count = instance.len();
-    let now = raising.at(c as usize);
+    let now = level_at(&raising.numbers, c as usize);
     if now == 0 {
         return Ok(());
     }

@@ -1,6 +1,6 @@
-use Rattle.std.proofs.Common.{◌≡◌, ℕ, List, ◌+◌, ◌-◌, ◌∙◌, ap, arith, slice_index, subst, sym}
+use Rattle.std.proofs.Common.{◌≡◌, ◌+◌, ◌-◌, ◌<◌, ◌∙◌, ap, arith, slice_index, subst, sym}
 use Rattle.std.specs.Int.{next_multiple_of}
-use Rattle.dsa_terms.specs.Buffers.{Buffer, Instance}
+use Rattle.dsa_terms.specs.Buffers.{Buffer}
 use Rattle.dsa_terms.specs.Claims.{child, step}
 use Rattle.dsa_search_laws.proofs.Claims.{claim-child}
 use Rattle.canonical_order.specs.Claims.{entry_of}
@@ -9,6 +9,7 @@ use Rattle.canonical_order.proofs.CoverLemmas.{in_child_by}
 use Rattle.canonical_order.proofs.LevelLemmas.{has_level, level_in_range, level_inside}
 use Rattle.search_core.proofs.ChildLevels.{child_low, level_of_first, level_rises, level_stays, low_rises}
 use Rattle.search_core.proofs.levels.child_level.Goals as goal
+use Rattle.search_core.proofs.levels.child_level.Goals.{After-step}
 
 pub returns-then-c-b-clause-level : goal.returns-then-c-b-clause-level
 returns-then-c-b-clause-level c = λ l h.
@@ -17,46 +18,41 @@ returns-then-c-b-clause-level c = λ l h.
     (level_of_first I l c.args.levels.now c.args.b h)
 
 pub step-requires-clause-b_in : goal.step-requires-clause-b_in
-step-requires-clause-b_in c =
-    level_in_range c.args.instance.now c.requires.low.above c.args.levels.now c.requires.low.are c.args.b
-    c.requires.low.has
+step-requires-clause-b_in c = level_in_range _ _ _ c.requires.low.are c.args.b c.requires.low.has
+
+-- both buffers have a level
+first : (c : After-step) → 0 < slice_index c.args.levels.now c.args.b
+first c = let q = level_inside _ _ _ c.requires.low.are c.args.b c.requires.low.has in omega (arith, q)
+
+some : (c : After-step) → 0 < slice_index c.args.levels.now c.args.c
+some c = let e = c.requires.level in let p = c.requires.c_in in omega (arith, e, p)
 
 -- how high the other buffer is raised
-raised : (instance : Instance) (levels : List ℕ) (b c first low up : ℕ) → first ≡ slice_index levels b →
-    low ≡ first - 1 →
-    up ≡ step instance b c → low + up ≡ slice_index levels b - 1 + step instance b c
-raised instance levels b c first low up p q r = omega arith
+raised : (c : After-step) → c.saturating_sub.result + c.step.result
+    ≡ slice_index c.args.levels.now c.args.b - 1 + step c.args.instance.now c.args.b c.args.c
+raised c =
+    let p = c.at.ensures.value in
+    let q = c.saturating_sub.ensures in
+    let r = c.step.ensures.value in
+    omega (arith, p, q, r)
 
 pub returns-then-least-level-clause-level : goal.returns-then-least-level-clause-level
 returns-then-least-level-clause-level c = λ l h.
     let I = c.args.instance.now in
-    let levels = c.args.levels.now in
-    let b = c.args.b in
-    let first = level_inside I c.requires.low.above levels c.requires.low.are b c.requires.low.has in
-    let q = raised I levels b c.args.c c.at.result c.saturating_sub.result c.step.result c.at.ensures.value
-    c.saturating_sub.ensures c.step.ensures.value in
-    let e : c.args.level ≡ slice_index levels c.args.c = c.requires.level in
-    subst (IsLevel I (child I l (entry_of l b)) c.args.c) (sym e)
-    (level_stays I l levels b h c.args.c (c.saturating_sub.result + c.step.result)
-    (λ k d i. (c.len-count.ensures.buffers k d i).sound)
-    (has_level I l levels h b (omega (arith, first)))
-    (let e = c.requires.level in let p = c.requires.c_in in omega arith) c.if-c-b.false q
-    (let t = c.if-least-level.true in omega (arith, t, e)))
+    let k = (goal.at.returns-then-least-level-clause-level c).After-step in
+    let e : c.args.level ≡ slice_index c.args.levels.now c.args.c = c.requires.level in
+    subst (IsLevel I (child I l (entry_of l c.args.b)) c.args.c) (sym e)
+    (level_stays I l c.args.levels.now c.args.b h c.args.c (c.saturating_sub.result + c.step.result)
+    (λ k d i. (c.len-count.ensures.buffers k d i).sound) (has_level _ _ _ h c.args.b (first k)) (some k)
+    c.if-c-b.false (raised k) (let t = c.if-least-level.true in omega (arith, t, e)))
 
 pub returns-else-least-level-clause-level : goal.returns-else-least-level-clause-level
 returns-else-least-level-clause-level c = λ l h.
-    let I = c.args.instance.now in
-    let levels = c.args.levels.now in
-    let b = c.args.b in
-    let first = level_inside I c.requires.low.above levels c.requires.low.are b c.requires.low.has in
-    let q = raised I levels b c.args.c c.at.result c.saturating_sub.result c.step.result c.at.ensures.value
-    c.saturating_sub.ensures c.step.ensures.value in
-    let e : c.args.level ≡ slice_index levels c.args.c = c.requires.level in
+    let k = (goal.at.returns-else-least-level-clause-level c).After-step in
     let least = c.saturating_sub.result + c.step.result in
-    level_rises I l levels b h c.args.c least c.least_offset.result
-    (has_level I l levels h b (omega (arith, first)))
-    (let e = c.requires.level in let p = c.requires.c_in in omega arith) c.if-c-b.false q
-    (let t = c.if-least-level.false in omega (arith, t, e))
+    level_rises c.args.instance.now l c.args.levels.now c.args.b h c.args.c least c.least_offset.result
+    (has_level _ _ _ h c.args.b (first k)) (some k) c.if-c-b.false (raised k)
+    (let t = c.if-least-level.false in let e = c.requires.level in omega (arith, t, e))
     (c.least_offset.ensures ∙ ap (λ (b : Buffer). next_multiple_of least b.alignment) c.buffer.ensures.value)
 
 pub returns-else-least-level-clause-limit : goal.returns-else-least-level-clause-limit
@@ -64,17 +60,12 @@ returns-else-least-level-clause-limit c =
     let I = c.args.instance.now in
     let l = c.requires.low.above in
     let h = c.requires.low.are in
-    let levels = c.args.levels.now in
     let b = c.args.b in
-    let q = raised I levels b c.args.c c.at.result c.saturating_sub.result c.step.result c.at.ensures.value
-    c.saturating_sub.ensures c.step.ensures.value in
-    let e : c.args.level ≡ slice_index levels c.args.c = c.requires.level in
+    let k = (goal.at.returns-else-least-level-clause-limit c).After-step in
     let least = c.saturating_sub.result + c.step.result in
-    let low = low_rises I l levels b h c.args.c least c.least_offset.result c.requires.low.has
-    (let e = c.requires.level in let p = c.requires.c_in in omega arith)
-    c.if-c-b.false q (let t = c.if-least-level.false in omega (arith, t, e))
+    let low = low_rises I l c.args.levels.now b h c.args.c least c.least_offset.result c.requires.low.has (some k)
+    c.if-c-b.false (raised k) (let t = c.if-least-level.false in let e = c.requires.level in omega (arith, t, e))
     (c.least_offset.ensures ∙ ap (λ (b : Buffer). next_multiple_of least b.alignment) c.buffer.ensures.value) in
     child_low I (child I l (entry_of l b)) c.args.c c.least_offset.result c.len-count.ensures.buffers
     c.len-count.ensures.limit (claim-child I l (entry_of l b) h.claim) c.requires.low.low
-    (in_child_by I l b c.args.c (has_level I l levels h c.args.c
-    (let e = c.requires.level in let p = c.requires.c_in in omega arith)) c.if-c-b.false) low
+    (in_child_by I l b c.args.c (has_level _ _ _ h c.args.c (some k)) c.if-c-b.false) low

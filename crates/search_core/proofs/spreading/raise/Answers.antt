@@ -7,17 +7,19 @@ use Rattle.search_core.proofs.spreading.raise.Goals.{In_ok-put}
 pub returns-then-now-eq0-clause-done : goal.returns-then-now-eq0-clause-done
 returns-then-now-eq0-clause-done c = raised_without c.args.instance.now c.args.levels.now c.args.b c.args.c
     c.args.raising.now c.requires.raising
-    (let e = c.at-now.ensures in let t = c.if-now-eq0.true in omega (arith, e, t))
+    (let e = rw c.deref.ensures.value at c.level_at-now.ensures.value in let t = c.if-now-eq0.true in
+    omega (arith, e, t))
 
 pub returns-then-reach-now-clause-done : goal.returns-then-reach-now-clause-done
 returns-then-reach-now-clause-done c = raised_high c.args.instance.now c.args.levels.now c.args.b c.args.c
     c.args.raising.now c.requires.raising c.args.reach (λ k d i. (c.len-count.ensures.buffers k d i).sound)
-    c.requires.low c.requires.reach (let e = c.at-now.ensures in let t = c.if-reach-now.true in omega (arith, e, t))
+    c.requires.low c.requires.reach (let e = rw c.deref.ensures.value at c.level_at-now.ensures.value in
+    let t = c.if-reach-now.true in omega (arith, e, t))
 
 more : (c : In_ok-put) → 0 < slice_index c.args.levels.now c.args.c
 more c = some_before c.args.instance.now c.args.levels.now c.args.b c.args.c c.args.raising.now c.requires.raising
-    (some_level c.at-now.result (slice_index c.args.raising.now.numbers.items c.args.c) c.at-now.ensures
-    c.if-now-eq0.false)
+    (some_level c.level_at-now.result (slice_index c.args.raising.now.numbers.items c.args.c)
+    (rw c.deref.ensures.value at c.level_at-now.ensures.value) c.if-now-eq0.false)
 
 within : (c : In_ok-put) → c.args.c < length c.args.raising.now.numbers.items
 within c =

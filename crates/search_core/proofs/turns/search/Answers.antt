@@ -1,9 +1,9 @@
 use Rattle.std.proofs.Common.{◌∙◌, length, arith, inl, inr, rules}
 use Rattle.dsa_terms.specs.Parts.{whole}
 use Rattle.search_core.specs.Walks.{due_lines}
-use Rattle.search_core.proofs.Counting.{counted_along, counted_less}
+use Rattle.search_core.proofs.Counting.{counted_along, counted_less, more_by_after}
 use Rattle.search_core.proofs.Growing.{extends_along}
-use Rattle.search_core.proofs.Taking.{more_after, more_still, unless_along, unless_always}
+use Rattle.search_core.proofs.Taking.{more_still, unless_along, unless_always}
 use Rattle.search_core.proofs.turns.search.Goals as goal
 
 pub turns-init : goal.turns-init
@@ -23,7 +23,7 @@ turns-preserved c =
       watched = rw c.in-On.is at c.in_ok-step.ensures.watched;
       most = c.step.ensures.most ∙ i.most;
       taken = λ e. elim (i.taken e) [
-        | inl n ↦ inr (more_after c.args.meter.now c.turns.meter c.step.new.meter i.most i.units
+        | inl n ↦ inr (more_by_after c.args.meter.now c.turns.meter c.step.new.meter 1 i.most i.units
             (rw c.in-On.is at c.in_ok-step.ensures.taken n.0 n.1))
         | inr m ↦ inr (more_still c.args.meter.now c.turns.meter c.step.new.meter m c.step.ensures.units)
       ];
@@ -46,7 +46,7 @@ returns-in-Done-clause-taken c e =
     let i = c.turns.invariant in
     elim (i.taken e) [
       | inl n ↦ unless_along c.in-Done.found
-          (more_after c.args.meter.now c.turns.meter c.step.new.meter i.most i.units)
+          (more_by_after c.args.meter.now c.turns.meter c.step.new.meter 1 i.most i.units)
           (rw c.in-Done.is at c.in_ok-step.ensures.taken n.0 n.1)
       | inr m ↦ unless_always c.in-Done.found
           (more_still c.args.meter.now c.turns.meter c.step.new.meter m c.step.ensures.units)

@@ -2,7 +2,6 @@ use Rattle.std.proofs.Common.{◌+◌, ◌∙◌, ◌≤◌, length, refl, arith
 use Rattle.dsa_terms.specs.Parts.{whole_work}
 use Rattle.search_core.proofs.Counting.{more_by_after}
 use Rattle.search_core.proofs.Joining.{all_joined, all_taken, all_work, is_part, joining_next, part_refuted, part_work}
-use Rattle.search_core.proofs.Taking.{more_after}
 use Rattle.search_core.proofs.whole.search_parts.Goals as goal
 use Rattle.search_core.proofs.whole.search_parts.Goals.{After-search_part}
 
@@ -15,8 +14,7 @@ search_part-requires-clause-part c =
 used : (c : After-search_part) → c.search_part.new.meter.used ≤ c.args.meter.now.used
     + whole_work c.args.task.now.instance.now c.args.task.now.capacity
 used c =
-    let n = part_work c.args.task.now.instance.now c.args.task.now.capacity c.args.parts.now c.loop-p.p
-    c.loop-p.seats.items c.args.meter.now c.loop-p.meter c.requires.parts (omega arith) c.loop-p.invariant in
+    let n = part_work _ _ _ c.loop-p.p _ _ _ c.requires.parts (omega arith) c.loop-p.invariant in
     let u = rw c.members.ensures.value at c.search_part.ensures.used in
     omega (arith, n, u)
 
@@ -24,7 +22,8 @@ pub returns-in_err-found-clause-used : goal.returns-in_err-found-clause-used
 returns-in_err-found-clause-used c = used (goal.at.returns-in_err-found-clause-used c).After-search_part
 
 pub returns-in_err-extend_from_slice-in-Seats-clause-used : goal.returns-in_err-extend_from_slice-in-Seats-clause-used
-returns-in_err-extend_from_slice-in-Seats-clause-used c = used (goal.at.returns-in_err-extend_from_slice-in-Seats-clause-used c).After-search_part
+returns-in_err-extend_from_slice-in-Seats-clause-used c =
+    used (goal.at.returns-in_err-extend_from_slice-in-Seats-clause-used c).After-search_part
 
 pub returns-in-Refuted-clause-used : goal.returns-in-Refuted-clause-used
 returns-in-Refuted-clause-used c = used (goal.at.returns-in-Refuted-clause-used c).After-search_part
@@ -34,8 +33,7 @@ returns-in-Spent-clause-used c = used (goal.at.returns-in-Spent-clause-used c).A
 
 pub returns-in-Spent-clause-spent : goal.returns-in-Spent-clause-spent
 returns-in-Spent-clause-spent c =
-    let n = part_work c.args.task.now.instance.now c.args.task.now.capacity c.args.parts.now c.loop-p.p
-    c.loop-p.seats.items c.args.meter.now c.loop-p.meter c.requires.parts (omega arith) c.loop-p.invariant in
+    let n = part_work _ _ _ c.loop-p.p _ _ _ c.requires.parts (omega arith) c.loop-p.invariant in
     let s = rw (c.in-Spent.is, c.members.ensures.value) at c.in_ok-found.ensures.spent in
     (s.0, omega (arith, n, s.1))
 
@@ -51,7 +49,7 @@ returns-in-Refuted-clause-decided c =
 pub returns-in-Refuted-clause-taken : goal.returns-in-Refuted-clause-taken
 returns-in-Refuted-clause-taken c _ =
     let j = c.loop-p.invariant in
-    more_after c.args.meter.now c.loop-p.meter c.search_part.new.meter j.most j.units
+    more_by_after c.args.meter.now c.loop-p.meter c.search_part.new.meter 1 j.most j.units
     (rw c.in-Refuted.is at c.in_ok-found.ensures.taken)
 
 pub returns-in-Refuted-clause-counted : goal.returns-in-Refuted-clause-counted

@@ -1,10 +1,6 @@
-use Rattle.std.proofs.Common.{◌≡◌, ◌∙◌, List, [], ap, arith, sym}
-use Rattle.std.proofs.lemmas.List.{append-nil}
-use Rattle.search_core.specs.declared.kept.Kept.{Kept}
-use Rattle.search_core.specs.Ways.{Way, notes_of, tries_of}
-use Rattle.search_core.proofs.Going.{back, way_of}
-use Rattle.search_core.proofs.Keeping.{no_tries}
-use Rattle.search_core.proofs.Stepping.{nothing_in}
+use Rattle.std.proofs.Common.{arith}
+use Rattle.std.proofs.lemmas.List.{nil_from_length}
+use Rattle.search_core.proofs.Going.{back, nothing_popped}
 use Rattle.search_core.proofs.path.Path.go_back.Goals as goal
 
 pub returns-in_ok-frame_of-in-Some-clause-some : goal.returns-in_ok-frame_of-in-Some-clause-some
@@ -16,14 +12,7 @@ returns-in_ok-frame_of-in-Some-clause-some c =
 
 pub returns-in-None-clause-none : goal.returns-in-None-clause-none
 returns-in-None-clause-none c =
-    let sky = c.self.inside.sky in
-    let none : c.self.inside.kept.items ≡ [] =
-    nothing_in c.self.inside.kept.items (let k = c.in-None.ensures.cases in
-    omega (arith, k.0, c.self.inside.kept.ok.0)) in
-    let same : c.pop.new.self.items ≡ c.self.inside.kept.items =
-    sym (c.in-None.ensures.items ∙ append-nil c.pop.new.self.items) in (
-      sym (ap (λ (w : Way). w.frames) c.self.view_is)
-          ∙ ap (λ (ks : List Kept). tries_of sky.instance sky.claims (notes_of ks)) none
-          ∙ no_tries sky.instance sky.claims,
-      ap (way_of sky) same ∙ c.self.view_is,
-    )
+    let kept = c.self.inside.kept.items in
+    nothing_popped c.args.self.now c.self.inside.sky kept c.pop.new.self.items c.self.view_is
+    (nil_from_length kept (let k = c.in-None.ensures.cases in omega (arith, k.0, c.self.inside.kept.ok.0)))
+    c.in-None.ensures.items
