@@ -2,11 +2,7 @@
 use Rattle.std.proofs.Common.{◌≡◌, ℕ, zero, suc, ◌+◌, ◌<◌, ◌≤◌, [], ◌∷◌, drop, length, slice_index_or, ap, ◌∙◌, subst, arith}
 use Rattle.std.proofs.lemmas.Grind.{common_steps}
 use Rattle.std.proofs.Math.Seq.{drop-cons}
-use Rattle.dsa_terms.specs.Claims.{Claim, IsIn, Rises, buffers_of}
-use Rattle.dsa_terms.proofs.Places.{in_at}
-use Rattle.dsa_search_laws.proofs.Placing.{in_buffers}
-use Rattle.canonical_order.specs.Claims.{HasBuffer, entry_of}
-use Rattle.canonical_order.proofs.Entries.{is_entry}
+use Rattle.search_core.proofs.Words.{Claim, IsIn, Rises, buffers_of, in_at, in_buffers, HasBuffer, entry_of, is_entry}
 
 pub next_left : (l : Claim) (i : ℕ) → i < length l → drop i l ≡ slice_index_or l i (0, 0) ∷ drop (i + 1) l
 next_left l i lt = drop-cons l i (0, 0) lt ∙ ap (λ (n : ℕ). slice_index_or l i (0, 0) ∷ drop n l) (one i)

@@ -1,13 +1,7 @@
 -- The Cases line of a claim each of whose choices is refuted.
-use Rattle.std.proofs.Common.{◌≡◌, ◌≢◌, ℕ, List, [], ◌∷◌, zero, suc, sym, refl, ap, ◌∙◌, subst, inl, inr, arith}
-use Rattle.std.specs.List.{All, AllZip}
-use Rattle.dsa_terms.specs.Buffers.{Instance}
-use Rattle.dsa_terms.specs.Claims.{Claim, Entry, IsIn, child, Covers}
-use Rattle.dsa_terms.specs.Logs.{Cite, ByLine, Below, Twin, Line, Cases, claim_of, IsLegal, IsLegalCite}
-use Rattle.canonical_order.specs.Claims.{entry_of}
-use Rattle.canonical_order.specs.Stands.{Stands}
-use Rattle.canonical_order.proofs.Entries.{is_entry}
-use Rattle.refute_log.specs.Lines.{IsCiteWithin}
+use Rattle.std.proofs.Common.{◌≡◌, ◌≢◌, ℕ, List, [], ◌∷◌, zero, suc, sym, refl, ap, ◌∙◌, subst, inl, inr, arith, All}
+use Rattle.std.specs.List.{AllZip}
+use Rattle.search_core.proofs.Words.{Instance, Claim, Entry, IsIn, child, Covers, Cite, ByLine, Below, Twin, Line, Cases, claim_of, IsLegal, IsLegalCite, entry_of, Stands, is_entry, IsCiteWithin}
 use Rattle.search_core.specs.declared.found.Refuted.{Refuted}
 use Rattle.search_core.specs.Cites.{IsChildCovered, IsCiteFor}
 

@@ -1,8 +1,6 @@
 -- What an answer of the search takes at least.
-use Rattle.std.proofs.Common.{◌≡◌, ℕ, zero, suc, ◌+◌, ◌^◌, ◌<◌, ◌≤◌, Bool, true, false, cond, nat_le, length, Option, Some, None, refl, ap, arith}
-use Rattle.std.specs.Prelude.{min}
-use Rattle.dsa_terms.specs.Buffers.{Instance}
-use Rattle.dsa_terms.proofs.NumberTests.{is_at_most}
+use Rattle.std.proofs.Common.{◌≡◌, ℕ, zero, suc, ◌+◌, ◌^◌, ◌<◌, ◌≤◌, Bool, true, false, cond, nat_le, length, Option, Some, None, refl, ap, arith, min}
+use Rattle.search_core.proofs.Words.{Instance, is_at_most}
 use Rattle.refute_log.specs.Answers.{Offsets}
 use Rattle.refute_log.specs.Decided.{answer_of}
 use Rattle.refute_log.specs.declared.decided.Decided.{Decided}

@@ -1,18 +1,7 @@
 -- The levels of a child, from those of the claim above it.
-use Rattle.std.proofs.Common.{◌≡◌, ◌≢◌, ℕ, ◌+◌, ◌-◌, ◌<◌, ◌≤◌, ◌^◌, ◌⊎◌, inl, inr, List, slice_set, subst, All, max, length, slice_index, ap, sym, ◌∙◌, refl, arith}
+use Rattle.std.proofs.Common.{◌≡◌, ◌≢◌, ℕ, ◌+◌, ◌-◌, ◌<◌, ◌≤◌, ◌^◌, ◌⊎◌, inl, inr, List, slice_set, subst, All, max, length, slice_index, ap, sym, ◌∙◌, refl, arith, get_or-set_other, get_or-set_same}
 use Rattle.std.specs.Int.{next_multiple_of}
-use Rattle.std.proofs.lemmas.List.{get_or-set_other, get_or-set_same}
-use Rattle.dsa_terms.specs.Buffers.{Instance, IsInstance, buffer}
-use Rattle.dsa_model.specs.Buffer.{IsBuffer, buffer_limit}
-use Rattle.dsa_terms.specs.Claims.{Claim, Entry, IsClaim, child, step, up}
-use Rattle.dsa_terms.proofs.NumberTests.{below_or_from}
-use Rattle.dsa_search_laws.proofs.Claims.{claim-child}
-use Rattle.canonical_order.specs.Claims.{HasBuffer, IsBoundedBy, entry_of}
-use Rattle.canonical_order.specs.Stands.{Stands}
-use Rattle.canonical_order.proofs.Entries.{up_limit}
-use Rattle.canonical_order.specs.Levels.{AreLevels, IsLevel}
-use Rattle.canonical_order.proofs.CoverLemmas.{entry_of_child, from_child, in_child_by}
-use Rattle.canonical_order.proofs.LevelLemmas.{has_level, level_inside}
+use Rattle.search_core.proofs.Words.{Instance, IsInstance, buffer, IsBuffer, buffer_limit, Claim, Entry, IsClaim, child, step, up, below_or_from, claim-child, HasBuffer, IsBoundedBy, entry_of, Stands, up_limit, AreLevels, IsLevel, entry_of_child, from_child, in_child_by, has_level, level_inside}
 use Rattle.line_index.proofs.Rising.{low_of_child}
 use Rattle.search_core.specs.Descents.{IsUnder}
 use Rattle.search_core.specs.Levels.{HasLowChild}

@@ -1,9 +1,6 @@
 -- Why a buffer is not taken first: a line that covers what is left, a buffer that ends below, and a twin.
 use Rattle.std.proofs.Common.{◌≡◌, ℕ, true, [], ◌∷◌, Some, inl, inr, refl, subst, ap, arith}
-use Rattle.dsa_terms.specs.Buffers.{buffer, do_share, have_same_moments, is_live, some_before}
-use Rattle.dsa_terms.specs.Claims.{Claim, Covers, Entry, IsIn, child, step, up}
-use Rattle.dsa_terms.specs.Logs.{Below, ByLine, Line, Twin, claim_of, ends_below, is_twin}
-use Rattle.dsa_terms.proofs.Examples.{small_below, two_of_four}
+use Rattle.search_core.proofs.Words.{buffer, do_share, have_same_moments, is_live, some_before, Claim, Covers, Entry, IsIn, child, step, up, Below, ByLine, Line, Twin, claim_of, ends_below, is_twin, small_below, two_of_four}
 use Rattle.search_core.specs.declared.found.Refuted.{Refuted}
 use Rattle.search_core.specs.Cites.{IsChildCovered, IsCiteFor}
 use Rattle.search_core.proofs.FoundFacts.{rest_covered}

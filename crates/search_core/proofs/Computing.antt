@@ -1,11 +1,7 @@
 -- What is opened where a fact computes a search: `unfolding computing_first` opens all that its own line names.
 use Rattle.std.proofs.Common.{ℕ}
-use Rattle.dsa_terms.specs.Buffers.{buffer, do_share, have_same_moments, is_live, some_before}
-use Rattle.dsa_terms.specs.Claims.{child, step, up}
-use Rattle.dsa_terms.specs.Logs.{ends_below, is_twin}
-use Rattle.dsa_terms.specs.Parts.{is_cut, last_cut, part_of, parts, searched}
+use Rattle.search_core.proofs.Words.{buffer, do_share, have_same_moments, is_live, some_before, child, step, up, ends_below, is_twin, is_cut, last_cut, part_of, parts, searched, comes_before, first, is_tall, work}
 use Rattle.dsa_terms.specs.Plans.{layout_height}
-use Rattle.dsa_terms.specs.Search.{comes_before, first, is_tall, work}
 use Rattle.search_core.specs.Descents.{through}
 
 -- the first layout of a claim

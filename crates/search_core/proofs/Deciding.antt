@@ -1,9 +1,6 @@
 -- What is found of all parts is right.
-use Rattle.std.proofs.Common.{ℕ}
-use Rattle.std.specs.List.{All}
-use Rattle.dsa_terms.specs.Buffers.{Instance}
-use Rattle.dsa_model.specs.Buffer.{IsBuffer}
-use Rattle.dsa_search_laws.proofs.Parts.{searched_is_layout}
+use Rattle.std.proofs.Common.{ℕ, All}
+use Rattle.search_core.proofs.Words.{Instance, IsBuffer, searched_is_layout}
 use Rattle.refute_log.specs.Decided.{IsRight}
 use Rattle.refute_log.specs.declared.decided.Decided.{Decided}
 use Rattle.refute_log.specs.declared.decided.Decided.TheVariants.{Layout, Refuted, Spent}

@@ -3,16 +3,8 @@ use Rattle.std.proofs.Common.{◌≡◌, ◌≢◌, ℕ, ◌+◌, ◌-◌, ◌*�
 use Rattle.std.proofs.lemmas.List.{get_or-reverse, length-reverse, nil_from_length}
 use Rattle.std.proofs.lemmas.List.Elements.{All-cons, All-nil, All-weaker}
 use Rattle.std.proofs.lemmas.Option.{slice_get-get_or}
-use Rattle.dsa_terms.specs.Buffers.{Instance, IsInstance}
-use Rattle.dsa_terms.specs.Claims.{Claim, Entry, child}
-use Rattle.dsa_terms.specs.Logs.{Line}
-use Rattle.dsa_terms.specs.Search.{first, work}
-use Rattle.canonical_order.specs.Claims.{HasBuffer, entry_of}
-use Rattle.canonical_order.specs.Levels.{AreLevels}
-use Rattle.skyline.specs.Skies.{last_claim}
-use Rattle.line_index.specs.Watches.{AreRaised}
+use Rattle.search_core.proofs.Words.{Instance, IsInstance, Claim, Entry, child, Line, first, work, HasBuffer, entry_of, AreLevels, last_claim, AreRaised, raised_trans}
 use Rattle.line_index.proofs.Rising.{child_raised}
-use Rattle.line_index.proofs.WatchLemmas.{raised_trans}
 use Rattle.search_core.specs.Descents.{Descends, HasAskedAll, IsKnown, IsPath, IsPlace, IsStanding, IsTrying, IsUnder, IsUnderLast, Place, above_of, claim_at, left_of, owed, root_of, sky_root, through, turns_left}
 use Rattle.search_core.specs.Logs.{Extends}
 use Rattle.search_core.specs.Tries.{IsLeft, Tried, chosen_of, later_of, noted_by, rest_of}

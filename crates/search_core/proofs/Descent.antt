@@ -1,11 +1,6 @@
 -- From a claim to what is left of it.
 use Rattle.std.proofs.Common.{ℕ, refl}
-use Rattle.dsa_terms.specs.Buffers.{Instance, IsInstance}
-use Rattle.dsa_terms.specs.Claims.{Claim, Covers, child}
-use Rattle.dsa_search_laws.proofs.Placing.{up_at_or_above}
-use Rattle.canonical_order.specs.Claims.{HasBuffer, entry_of}
-use Rattle.canonical_order.specs.Stands.{Stands}
-use Rattle.canonical_order.proofs.CoverLemmas.{from_child}
+use Rattle.search_core.proofs.Words.{Instance, IsInstance, Claim, Covers, child, up_at_or_above, HasBuffer, entry_of, Stands, from_child}
 
 pub is_instance : (I : Instance) (l : Claim) → Stands I l → IsInstance I
 is_instance I l s = λ k d h. (s.buffers k d h).sound

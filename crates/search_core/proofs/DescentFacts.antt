@@ -1,13 +1,8 @@
 -- Where a search is that puts a buffer of size 3 at 0, and looks at what is left of one of size 1 that stands at
 -- multiples of 4 alone.
 use Rattle.std.proofs.Common.{◌≡◌, ℕ, List, [], ◌∷◌, length, Option, Some, None, refl, sym, ap, arith}
-use Rattle.dsa_terms.specs.Buffers.{buffer, do_share, have_same_moments, is_live, some_before}
-use Rattle.dsa_terms.specs.Claims.{Claim, child, step, up}
-use Rattle.dsa_terms.specs.Logs.{Line, ends_below, is_twin}
-use Rattle.dsa_terms.specs.Search.{comes_before, first, is_tall, work}
-use Rattle.dsa_terms.proofs.Examples.{small_below}
-use Rattle.skyline.specs.Skies.{Sky}
-use Rattle.search_core.specs.Descents.{Descends, IsPath, IsPlace, IsStanding, Place, claim_at, left_of, sky_root, through, turns_left}
+use Rattle.search_core.proofs.Words.{buffer, do_share, is_live, some_before, Claim, child, step, up, Line, small_below, Sky}
+use Rattle.search_core.specs.Descents.{Descends, IsPath, IsPlace, IsStanding, Place, claim_at, left_of, sky_root, turns_left}
 use Rattle.search_core.specs.Tries.{Tried}
 use Rattle.search_core.proofs.Computing.{computing_work}
 use Rattle.search_core.proofs.FoundFacts.{rest_known}

@@ -1,8 +1,6 @@
 -- Where a buffer of size 3 ends, and one of size 1 that stands at multiples of 4 alone.
 use Rattle.std.proofs.Common.{◌≡◌, ◌^◌, ◌<◌, ◌≤◌, [], ◌∷◌, inl, inr, refl, arith}
-use Rattle.dsa_terms.specs.Buffers.{buffer}
-use Rattle.dsa_terms.specs.Claims.{Claim, Entry, IsIn, up}
-use Rattle.dsa_terms.proofs.Examples.{small_below}
+use Rattle.search_core.proofs.Words.{buffer, Claim, Entry, IsIn, up, small_below}
 use Rattle.conflicts.specs.Ends.{end_of}
 use Rattle.search_core.specs.Endings.{IsLeastEnding}
 use Rattle.search_core.proofs.LevelFacts.{differ}

@@ -1,16 +1,7 @@
 -- Which buffers another one ends below, by the least end of the claim.
 use Rattle.std.proofs.Common.{◌≡◌, ◌≢◌, ◌⊎◌, [], ◌∷◌, inl, inr, ℕ, ◌+◌, ◌<◌, ◌≤◌, ◌^◌, ◌==◌, ◌&&◌, Bool, true, false, not, nat_le, List, length, refl, sym, ap, subst, arith}
 use Rattle.std.specs.List.{list_any}
-use Rattle.dsa_terms.specs.Buffers.{Instance, buffer}
-use Rattle.dsa_terms.specs.Claims.{Claim, Entry, IsIn, Rises, buffers_of, up}
-use Rattle.dsa_terms.specs.Logs.{ends_below}
-use Rattle.dsa_terms.proofs.Lists.{any_gives, true_or_false}
-use Rattle.dsa_terms.proofs.Moments.{sound}
-use Rattle.dsa_search_laws.proofs.Placing.{in_buffers}
-use Rattle.canonical_order.specs.Claims.{HasBuffer, entry_of}
-use Rattle.canonical_order.specs.Stands.{Stands}
-use Rattle.canonical_order.proofs.Entries.{entry_in, is_entry}
-use Rattle.dsa_terms.proofs.NumberTests.{apart, is_at_most, not_at_most}
+use Rattle.search_core.proofs.Words.{Instance, buffer, Claim, Entry, IsIn, Rises, buffers_of, up, ends_below, any_gives, true_or_false, sound, in_buffers, HasBuffer, entry_of, Stands, entry_in, is_entry, apart, is_at_most, not_at_most}
 use Rattle.conflicts.specs.Ends.{end_of}
 use Rattle.search_core.specs.declared.ending.Ending.{Ending}
 use Rattle.search_core.specs.Endings.{IsLeastEnding}

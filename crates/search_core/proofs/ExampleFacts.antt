@@ -1,26 +1,18 @@
 -- Worked facts: a buffer of size 3 beside one of size 1 that stands at multiples of 4 alone, which fit into 4 and
 -- not into 3.
-use Rattle.std.proofs.Common.{◌≡◌, ◌-◌, ◌^◌, ℕ, zero, suc, List, [], ◌∷◌, Option, Some, None, inl, inr, refl, ap, subst, arith}
-use Rattle.dsa_terms.specs.Buffers.{Buffer, Instance, buffer, do_share, have_same_moments, is_live, some_before}
-use Rattle.dsa_terms.specs.Claims.{Claim, Entry, IsIn, child, step, up}
-use Rattle.dsa_terms.specs.Plans.{layout_height}
-use Rattle.dsa_terms.specs.Logs.{Line, Log, Over, claim_of, ends_below, is_twin}
-use Rattle.dsa_terms.specs.Parts.{is_cut, last_cut, part_of, parts, searched}
-use Rattle.dsa_terms.specs.Search.{comes_before, first, is_tall, work}
-use Rattle.canonical_order.specs.Claims.{HasBuffer}
+use Rattle.std.proofs.Common.{◌≡◌, ◌-◌, ◌^◌, zero, suc, [], ◌∷◌, Some, None, inl, inr, refl, ap, subst, arith}
+use Rattle.search_core.proofs.Words.{buffer, Entry, IsIn, up, Line, Log, Over, claim_of, HasBuffer, small_below}
 use Rattle.refute_log.specs.Answers.{Offsets, Refutation}
 use Rattle.refute_log.specs.declared.decided.Decided.TheVariants.{Spent}
 use Rattle.search_core.specs.Courses.{at_start}
 use Rattle.search_core.specs.Decisions.{IsGiven, allowance_of, charge_of, turn_of}
-use Rattle.skyline.specs.Skies.{Sky}
-use Rattle.search_core.specs.Descents.{Place, above_of, claim_at, owed, root_of, through}
+use Rattle.search_core.specs.Descents.{above_of, owed, root_of}
 use Rattle.search_core.specs.Lifted.{lifted}
-use Rattle.search_core.specs.Tries.{Tried, chosen_of, later_of, noted_by, rest_of, untried}
+use Rattle.search_core.specs.Tries.{Tried, chosen_of, later_of, noted_by, rest_of}
 use Rattle.search_core.specs.Keys.{key_of}
 use Rattle.search_core.specs.Logs.{AreUncovered, Extends}
 use Rattle.search_core.specs.Meters.{AreCounted, AreMore, AreMoreBy, AreSpent, AreWithin, HasUnit, Units, units_counted}
 use Rattle.search_core.specs.Outcomes.{LinesAreCounted, spends_after}
-use Rattle.dsa_terms.proofs.Examples.{small_below}
 use Rattle.search_core.proofs.TurnFacts.{at_root}
 use Rattle.search_core.proofs.Computing.{computing_searched, computing_work}
 

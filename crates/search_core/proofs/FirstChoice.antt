@@ -1,20 +1,9 @@
 -- The entry of a claim that is before all others: the first choice.
 use Rattle.std.proofs.Common.{◌≡◌, ◌≢◌, ◌⊎◌, ℕ, ◌<◌, ◌≤◌, ◌==◌, ◌||◌, ◌&&◌, inl, inr, Bool, true, false, cond, nat_lt, List, [], ◌∷◌, filter, length, slice_index, refl, sym, ap, ◌∙◌, subst, arith}
 use Rattle.std.proofs.lemmas.Bool.Decides.{nat_tests}
-use Rattle.dsa_terms.specs.Buffers.{Instance, IsInstance}
-use Rattle.dsa_terms.specs.Claims.{Claim, Entry, IsIn, buffers_of, up}
-use Rattle.dsa_terms.specs.Logs.{ends_below, is_twin}
+use Rattle.search_core.proofs.Words.{Instance, IsInstance, Claim, Entry, IsIn, buffers_of, up, ends_below, is_twin, comes_before, not_excluded, from_filter, from_ordered_by, into_filter, true_or_false, sound, in_buffers, same_or_not, HasBuffer, entry_of, AreLevels, entry_in, is_entry, has_level, level_inside}
 use Rattle.dsa_terms.specs.Sorts.{ordered_by, put_by}
-use Rattle.dsa_terms.specs.Search.{comes_before, not_excluded}
-use Rattle.dsa_terms.proofs.Lists.{from_filter, from_ordered_by, into_filter, true_or_false}
-use Rattle.dsa_terms.proofs.Moments.{sound}
 use Rattle.dsa_search_laws.proofs.Moves.{below_is, twin_is}
-use Rattle.dsa_search_laws.proofs.Placing.{in_buffers}
-use Rattle.dsa_terms.proofs.NumberTests.{same_or_not}
-use Rattle.canonical_order.specs.Claims.{HasBuffer, entry_of}
-use Rattle.canonical_order.specs.Levels.{AreLevels}
-use Rattle.canonical_order.proofs.Entries.{entry_in, is_entry}
-use Rattle.canonical_order.proofs.LevelLemmas.{has_level, level_inside}
 use Rattle.search_core.specs.Keys.{IsBefore, IsFirst}
 use Rattle.search_core.specs.Levels.{IsLeastLevel}
 use Rattle.search_core.specs.Ways.{order_of}

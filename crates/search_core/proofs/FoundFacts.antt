@@ -2,12 +2,7 @@
 -- both, and none of the second one at 3 or above.
 use Rattle.std.proofs.Common.{◌≡◌, ℕ, List, [], ◌∷◌, Option, Some, None, refl, sym, ap, ◌∙◌, arith}
 use Rattle.std.specs.Global.{Vec}
-use Rattle.dsa_terms.specs.Buffers.{buffer, do_share, have_same_moments, is_live, some_before}
-use Rattle.dsa_terms.specs.Claims.{Entry, child, step, up}
-use Rattle.dsa_terms.specs.Logs.{Line, ends_below, is_twin}
-use Rattle.dsa_terms.specs.Search.{comes_before, first, is_tall}
-use Rattle.dsa_terms.proofs.Examples.{small_below}
-use Rattle.line_index.specs.Covered.{IsCoveredBy}
+use Rattle.search_core.proofs.Words.{Entry, Line, first, small_below, IsCoveredBy}
 use Rattle.search_core.specs.declared.found.Found.TheVariants as found
 use Rattle.search_core.specs.Descents.{IsKnown}
 use Rattle.search_core.specs.Found.{IfFoundSpent, IsFound, UnlessFoundSpent}

@@ -1,22 +1,9 @@
 -- The Over line of the buffers of a claim at the start of a section that is too full.
-use Rattle.std.proofs.Common.{◌≡◌, ◌≢◌, inl, inr, ℕ, ◌+◌, ◌%◌, ◌<◌, ◌≤◌, ◌==◌, ◌&&◌, Bool, true, false, cond, nat_le, nat_lt, List, [], ◌∷◌, map, filter, length, Option, Some, None, refl, sym, ap, ◌∙◌, subst, arith}
+use Rattle.std.proofs.Common.{◌≡◌, ◌≢◌, inl, inr, ℕ, ◌+◌, ◌%◌, ◌<◌, ◌≤◌, ◌==◌, ◌&&◌, Bool, true, false, cond, nat_le, nat_lt, List, [], ◌∷◌, map, filter, length, Option, Some, None, refl, sym, ap, ◌∙◌, subst, arith, sum_by}
 use Rattle.std.proofs.lemmas.Bool.Decides.{nat_tests}
-use Rattle.std.specs.List.{sum_by}
 use Rattle.std.proofs.lemmas.List.Sums.{sum_by-cons}
-use Rattle.dsa_terms.specs.Buffers.{Instance, IsLive, buffer, is_live}
-use Rattle.dsa_terms.specs.Claims.{Claim, Entry, IsClaim, IsIn, Rises, buffers_of, up}
-use Rattle.dsa_terms.specs.Logs.{Line, Over, IsLegal, is_stacked, rounded, rounding, greatest}
-use Rattle.dsa_terms.specs.Parts.{numbers}
-use Rattle.dsa_terms.proofs.Lists.{from_filter, from_map, into_filter, into_map, some_answer}
-use Rattle.dsa_terms.proofs.Moments.{and_true}
-use Rattle.dsa_search_laws.proofs.Claims.{rises-filter}
-use Rattle.dsa_search_laws.proofs.Placing.{in_buffers}
-use Rattle.lifetime.specs.SectionList.{AreSectionsOf, SectionList, count_of, members_of, start_of}
+use Rattle.search_core.proofs.Words.{Instance, IsLive, buffer, is_live, Claim, Entry, IsClaim, IsIn, Rises, buffers_of, up, Line, Over, IsLegal, is_stacked, rounded, rounding, greatest, numbers, from_filter, from_map, into_filter, into_map, some_answer, and_true, rises-filter, in_buffers, AreSectionsOf, SectionList, count_of, members_of, start_of, HasBuffer, entry_of, Stands, entry_in, is_at_most, less}
 use Rattle.lifetime.proofs.Live.{from_live, into_live, rises_live}
-use Rattle.canonical_order.specs.Claims.{HasBuffer, entry_of}
-use Rattle.canonical_order.specs.Stands.{Stands}
-use Rattle.canonical_order.proofs.Entries.{entry_in}
-use Rattle.dsa_terms.proofs.NumberTests.{is_at_most, less}
 use Rattle.dsa_terms.proofs.Ranges.{rises-filter_numbers, below}
 use Rattle.skyline.specs.Overloads.{free_load, is_left, least_of, least_up, over, over_at, overloaded}
 use Rattle.skyline.proofs.Loads.{gives_left, left_gives}

@@ -1,15 +1,7 @@
 -- A layout of the first claim, from offsets that are written on the way back from an empty one.
-use Rattle.std.proofs.Common.{◌≡◌, ℕ, ◌<◌, List, [], length, reverse, Some, None, slice_set, refl, sym, ap, ◌∙◌, subst, arith}
-use Rattle.std.proofs.lemmas.List.{length-set}
-use Rattle.dsa_terms.specs.Buffers.{Instance}
-use Rattle.dsa_terms.specs.Claims.{Claim, child, up}
-use Rattle.dsa_terms.specs.Logs.{Line}
-use Rattle.dsa_terms.specs.Search.{first, seated}
+use Rattle.std.proofs.Common.{◌≡◌, ℕ, ◌<◌, List, [], length, reverse, Some, None, slice_set, refl, sym, ap, ◌∙◌, subst, arith, length-set}
+use Rattle.search_core.proofs.Words.{Instance, Claim, child, up, Line, first, seated, HasBuffer, entry_of, Stands, in_range, last_claim}
 use Rattle.dsa_search_laws.proofs.Search.{first_empty}
-use Rattle.canonical_order.specs.Claims.{HasBuffer, entry_of}
-use Rattle.canonical_order.specs.Stands.{Stands}
-use Rattle.canonical_order.proofs.Entries.{in_range}
-use Rattle.skyline.specs.Skies.{last_claim}
 use Rattle.search_core.specs.Descents.{Descends, IsPath, above_of, sky_root}
 use Rattle.search_core.specs.Seats.{seats_by}
 use Rattle.search_core.specs.Tries.{Tried, chosen_of}

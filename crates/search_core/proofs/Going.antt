@@ -1,11 +1,6 @@
 -- Steps of the way, down and back, by what is kept.
-use Rattle.std.proofs.Common.{◌≡◌, ℕ, List, [], ◌∷◌, ◌++◌, IfSome, refl, sym, ap, ◌∙◌, subst}
-use Rattle.std.proofs.lemmas.List.{append-nil}
-use Rattle.dsa_terms.specs.Buffers.{Instance}
-use Rattle.dsa_terms.specs.Claims.{Claim, child}
-use Rattle.canonical_order.specs.Claims.{entry_of}
-use Rattle.canonical_order.specs.Levels.{AreLevels}
-use Rattle.skyline.specs.Skies.{Sky, last_claim}
+use Rattle.std.proofs.Common.{◌≡◌, ℕ, List, [], ◌∷◌, ◌++◌, IfSome, refl, sym, ap, ◌∙◌, subst, append-nil}
+use Rattle.search_core.proofs.Words.{Instance, Claim, child, entry_of, AreLevels, Sky, last_claim}
 use Rattle.search_core.specs.declared.kept.Kept.{Kept}
 use Rattle.search_core.specs.Descents.{IsStanding}
 use Rattle.search_core.specs.Tries.{IsLeft, Tried, chosen_of}

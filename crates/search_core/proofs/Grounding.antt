@@ -1,19 +1,8 @@
 -- The claim beside levels is the claim of the levels, with its lows as bounds.
-use Rattle.std.proofs.Common.{◌≡◌, ℕ, ◌+◌, ◌-◌, ◌<◌, ◌≤◌, ◌^◌, inl, inr, List, [], ◌∷◌, ◌++◌, length, map, slice_index, ap, sym, ◌∙◌, subst, arith, refl}
-use Rattle.std.proofs.lemmas.List.{append-nil, append_assoc, get_or_past}
-use Rattle.std.specs.List.{All}
-use Rattle.dsa_terms.specs.Buffers.{Instance}
-use Rattle.dsa_terms.specs.Claims.{Claim, Entry, IsIn, Rises, buffers_of, up}
-use Rattle.dsa_terms.proofs.Lists.{from_map}
-use Rattle.dsa_terms.proofs.NumberTests.{below_or_from}
-use Rattle.dsa_model.specs.Buffer.{buffer_limit}
-use Rattle.dsa_search_laws.proofs.Placing.{in_buffers}
+use Rattle.std.proofs.Common.{◌≡◌, ℕ, ◌+◌, ◌-◌, ◌<◌, ◌≤◌, ◌^◌, inl, inr, List, [], ◌∷◌, ◌++◌, length, map, slice_index, ap, sym, ◌∙◌, subst, arith, refl, append-nil, append_assoc, All}
+use Rattle.std.proofs.lemmas.List.{get_or_past}
+use Rattle.search_core.proofs.Words.{Instance, Claim, Entry, IsIn, Rises, buffers_of, up, from_map, below_or_from, buffer_limit, in_buffers, IsBoundedBy, entry_of, AreLevels, length_within, entry_in, is_entry, has_level, level_inside}
 use Rattle.split_sections.proofs.Lists.{rises_same}
-use Rattle.canonical_order.specs.Claims.{IsBoundedBy, entry_of}
-use Rattle.canonical_order.specs.Levels.{AreLevels}
-use Rattle.canonical_order.proofs.CoverLemmas.{length_within}
-use Rattle.canonical_order.proofs.Entries.{entry_in, is_entry}
-use Rattle.canonical_order.proofs.LevelLemmas.{has_level, level_inside}
 use Rattle.search_core.specs.Levels.{AreKept, AreLeft}
 use Rattle.search_core.specs.Lifted.{lift, lifted}
 use Rattle.search_core.proofs.Lifting.{buffers_of-lifted}

@@ -1,17 +1,9 @@
 -- Logs that grow.
-use Rattle.std.proofs.Common.{◌≡◌, ℕ, ◌^◌, ◌≤◌, inl, inr, List, [], ◌∷◌, ◌++◌, length, slice_get, take, Some, sym, refl, ◌∙◌, subst, arith, append_assoc}
-use Rattle.std.proofs.lemmas.List.{append-nil, take-append-le}
+use Rattle.std.proofs.Common.{◌≡◌, ℕ, ◌^◌, ◌≤◌, inl, inr, List, [], ◌∷◌, ◌++◌, length, slice_get, take, Some, sym, refl, ◌∙◌, subst, arith, append_assoc, append-nil}
+use Rattle.std.proofs.lemmas.List.{take-append-le}
 use Rattle.std.proofs.lemmas.Option.{slice_get_within}
-use Rattle.dsa_terms.specs.Buffers.{Instance}
-use Rattle.dsa_terms.specs.Claims.{Claim, IsIn, Covers}
-use Rattle.dsa_terms.specs.Lean.{IsLeanLine}
-use Rattle.dsa_terms.specs.Logs.{Line, claim_of}
-use Rattle.dsa_terms.proofs.Lists.{from_append}
-use Rattle.canonical_order.specs.Claims.{HasBuffer}
-use Rattle.canonical_order.proofs.CoverLemmas.{covered_has}
-use Rattle.dsa_terms.proofs.NumberTests.{below_or_from}
+use Rattle.search_core.proofs.Words.{Instance, Claim, IsIn, Covers, IsLeanLine, Line, claim_of, from_append, HasBuffer, covered_has, below_or_from, IsCoveredBy}
 use Rattle.refute_log.proofs.Legal.{get_before, get_last, take_length}
-use Rattle.line_index.specs.Covered.{IsCoveredBy}
 use Rattle.search_core.specs.Logs.{Extends}
 
 -- what holds of each line beside those before it holds with one line more

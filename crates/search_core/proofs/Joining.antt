@@ -1,14 +1,9 @@
 -- The answers of parts, put together one after another.
-use Rattle.std.proofs.Common.{◌≡◌, ℕ, ◌+◌, ◌<◌, ◌≤◌, List, [], ◌∷◌, ◌++◌, length, drop, slice_index_or, Option, Some, None, sum_by, sym, subst, refl, ap, ◌∙◌, arith, append_assoc, add-one}
-use Rattle.std.proofs.lemmas.List.{append-nil}
+use Rattle.std.proofs.Common.{◌≡◌, ℕ, ◌+◌, ◌<◌, ◌≤◌, List, [], ◌∷◌, ◌++◌, length, drop, slice_index_or, Option, Some, None, sum_by, sym, subst, refl, ap, ◌∙◌, arith, append_assoc, add-one, append-nil}
 use Rattle.std.proofs.lemmas.List.Sums.{sum_by-cons}
 use Rattle.std.proofs.Math.ListN.{drop_of_length-le}
 use Rattle.std.proofs.Math.Seq.{drop-cons}
-use Rattle.dsa_terms.specs.Buffers.{Instance}
-use Rattle.dsa_terms.specs.Claims.{Entry, IsIn}
-use Rattle.dsa_terms.specs.Parts.{first_of_all, join, offsets_of, parts, searched, whole, whole_work}
-use Rattle.dsa_terms.specs.Search.{first, work}
-use Rattle.dsa_terms.proofs.Places.{in_at}
+use Rattle.search_core.proofs.Words.{Instance, Entry, IsIn, first_of_all, join, offsets_of, parts, searched, whole, whole_work, first, work, in_at}
 use Rattle.search_core.specs.Meters.{AreMore, Units}
 use Rattle.search_core.proofs.Counting.{more_by_after}
 use Rattle.search_core.proofs.Taking.{some_part}

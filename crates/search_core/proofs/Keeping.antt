@@ -1,17 +1,10 @@
 -- What is kept of the choices of claims, and what is made again.
-use Rattle.std.proofs.Common.{◌≡◌, ℕ, zero, suc, ◌+◌, ◌-◌, ◌<◌, ◌==◌, Bool, true, false, cond, List, [], ◌∷◌, ◌++◌, length, map, slice_get, slice_index_or, slice_set, IfSome, Some, inl, inr, refl, sym, ap, ◌∙◌, subst, arith, length-append}
-use Rattle.std.proofs.lemmas.List.{ext_get_or, get_or_append_left, get_or_push, get_or-set_other, length-set}
+use Rattle.std.proofs.Common.{◌≡◌, ℕ, zero, suc, ◌+◌, ◌-◌, ◌<◌, ◌==◌, Bool, true, false, cond, List, [], ◌∷◌, ◌++◌, length, map, slice_get, slice_index_or, slice_set, IfSome, Some, inl, inr, refl, sym, ap, ◌∙◌, subst, arith, length-append, ext_get_or, get_or-set_other, length-set}
+use Rattle.std.proofs.lemmas.List.{get_or_append_left, get_or_push}
 use Rattle.std.proofs.lemmas.List.FromFn.{get_or-map-range_with_len, length-map-range_with_len}
 use Rattle.std.proofs.lemmas.Grind.{get_or-set_at}
 use Rattle.std.proofs.Math.Seq.{map-set_same}
-use Rattle.dsa_terms.specs.Buffers.{Instance}
-use Rattle.dsa_terms.specs.Claims.{Claim, buffers_of, number_of, up}
-use Rattle.dsa_terms.specs.Search.{choices, not_excluded}
-use Rattle.dsa_terms.proofs.NumberTests.{below_or_last, equal, same, same_or_not}
-use Rattle.canonical_order.specs.Claims.{HasBuffer, entry_of}
-use Rattle.canonical_order.specs.Levels.{AreLevels}
-use Rattle.canonical_order.proofs.LevelLemmas.{has_or_not}
-use Rattle.skyline.specs.Skies.{last_claim}
+use Rattle.search_core.proofs.Words.{Instance, Claim, buffers_of, number_of, up, choices, not_excluded, below_or_last, equal, same, same_or_not, HasBuffer, entry_of, AreLevels, has_or_not, last_claim}
 use Rattle.search_core.specs.declared.branches.Branches.{Branches}
 use Rattle.search_core.specs.declared.fresh.Fresh.{Fresh}
 use Rattle.search_core.specs.declared.kept.Kept.{Kept}

@@ -1,7 +1,6 @@
 -- The least level and the first buffer that has it, among buffers that are gone over one after another.
 use Rattle.std.proofs.Common.{◌≡◌, ◌⊎◌, ℕ, ◌-◌, ◌<◌, ◌≤◌, ◌^◌, inl, inr, List, [], ◌∷◌, All, slice_index, refl, sym, ap, ◌∙◌, subst, arith}
-use Rattle.dsa_terms.specs.Claims.{IsIn, Rises}
-use Rattle.dsa_terms.proofs.NumberTests.{below_or_from}
+use Rattle.search_core.proofs.Words.{IsIn, Rises, below_or_from}
 use Rattle.search_core.specs.Levels.{AreLeft, IsLeastLevel}
 use Rattle.search_core.proofs.RaisingSteps.{under_each}
 

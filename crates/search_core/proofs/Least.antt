@@ -1,12 +1,7 @@
 -- The least buffer that passes a test, and what it excludes.
 use Rattle.std.proofs.Common.{◌≡◌, ℕ, Bool, true, false, cond, ◌||◌, [], ◌∷◌, Some, None, find, option_map, inl, inr, sym, refl}
 use Rattle.std.specs.List.{list_any}
-use Rattle.dsa_terms.specs.Buffers.{Instance}
-use Rattle.dsa_terms.specs.Claims.{Claim, Entry, IsIn}
-use Rattle.dsa_terms.specs.Logs.{ends_below, is_twin}
-use Rattle.dsa_terms.specs.Search.{not_excluded}
-use Rattle.dsa_terms.proofs.Lists.{any_from}
-use Rattle.canonical_order.specs.Claims.{least_buffer}
+use Rattle.search_core.proofs.Words.{Instance, Claim, Entry, IsIn, ends_below, is_twin, not_excluded, any_from, least_buffer}
 
 pub least_passes : (test : Entry → Bool) (l : Claim) (c : ℕ) → Some c ≡ least_buffer test l →
     (f : Entry) × IsIn f l × (f.0 ≡ c) × (test f ≡ true)

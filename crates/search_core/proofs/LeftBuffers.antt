@@ -1,16 +1,8 @@
 -- The buffers that have a level: found one after another, and those that are left in a child.
 use Rattle.std.proofs.Common.{◌≡◌, ◌≢◌, ℕ, ◌+◌, ◌<◌, ◌≤◌, inl, inr, true, false, List, [], ◌∷◌, ◌++◌, length, slice_index, sym, ap, ◌∙◌, subst, arith}
-use Rattle.dsa_terms.specs.Buffers.{Instance}
-use Rattle.dsa_terms.specs.Claims.{Claim, IsIn, Rises, child}
-use Rattle.dsa_terms.specs.Parts.{has}
-use Rattle.dsa_terms.proofs.Lists.{from_append, has_in, in_has, left_append, right_append}
-use Rattle.dsa_terms.proofs.NumberTests.{below_or_last}
+use Rattle.search_core.proofs.Words.{Instance, Claim, IsIn, Rises, child, has, from_append, has_in, in_has, left_append, right_append, below_or_last, entry_of, AreLevels, from_child, in_child_by, has_level, level_inside}
 use Rattle.dsa_terms.proofs.Ranges.{rises-push}
 use Rattle.lifetime.specs.Switching.{IsSwitched}
-use Rattle.canonical_order.specs.Claims.{entry_of}
-use Rattle.canonical_order.specs.Levels.{AreLevels}
-use Rattle.canonical_order.proofs.CoverLemmas.{from_child, in_child_by}
-use Rattle.canonical_order.proofs.LevelLemmas.{has_level, level_inside}
 use Rattle.search_core.specs.Levels.{AreLeft, HasLowChild}
 use Rattle.search_core.specs.Raisings.{IsRaised}
 use Rattle.search_core.proofs.ChildLevels.{child_levels}

@@ -1,12 +1,7 @@
 -- Levels of a buffer of size 3 beside one of size 1 that stands at multiples of 4 alone: in the claim of both without
 -- bounds, and in what is left of it where the first one stands at 0.
 use Rattle.std.proofs.Common.{◌≡◌, ◌+◌, ◌^◌, ◌<◌, ℕ, zero, suc, List, [], ◌∷◌, length, slice_index, slice_index_or, ◌≤◌, inl, inr, refl, sym, arith}
-use Rattle.dsa_terms.specs.Buffers.{buffer, do_share, is_live, some_before}
-use Rattle.dsa_terms.specs.Claims.{Claim, Entry, IsClaim, IsIn, child, step, up}
-use Rattle.dsa_terms.proofs.Examples.{small_below}
-use Rattle.canonical_order.specs.Claims.{HasBuffer, entry_of}
-use Rattle.canonical_order.specs.Levels.{AreLevels, IsLevel}
-use Rattle.canonical_order.proofs.Entries.{entry_in}
+use Rattle.search_core.proofs.Words.{buffer, do_share, is_live, some_before, Claim, Entry, IsClaim, IsIn, child, step, up, small_below, HasBuffer, entry_of, AreLevels, IsLevel, entry_in}
 use Rattle.search_core.specs.Levels.{AreKept, HasLowChild}
 
 abbrev pub root : Claim

@@ -1,10 +1,6 @@
 -- The levels of a claim are those of the claim with its lows as bounds.
 use Rattle.std.proofs.Common.{◌≡◌, ℕ, ◌+◌, ◌<◌, List, length, sym, ap, ◌∙◌, subst}
-use Rattle.dsa_terms.specs.Buffers.{Instance, IsInstance}
-use Rattle.dsa_terms.specs.Claims.{Claim, Entry, IsIn, up}
-use Rattle.dsa_terms.proofs.Lists.{from_map}
-use Rattle.canonical_order.specs.Claims.{HasBuffer, entry_of}
-use Rattle.canonical_order.specs.Levels.{AreLevels}
+use Rattle.search_core.proofs.Words.{Instance, IsInstance, Claim, Entry, IsIn, up, from_map, HasBuffer, entry_of, AreLevels}
 use Rattle.search_core.specs.Lifted.{lift, lifted}
 use Rattle.search_core.proofs.Lifting.{buffers_of-lifted, lifted_entry, lifted_has, lifted_rises, up_of_lift}
 

@@ -1,3 +1,4 @@
+pub mod Words
 pub mod Least
 pub mod Ends
 pub mod FirstChoice

@@ -1,12 +1,8 @@
 -- The choices of a claim are those of the claim with its lows as bounds.
 use Rattle.std.proofs.Common.{◌≡◌, ℕ, Bool, true, false, cond, List, [], ◌∷◌, filter, length, map, inl, inr, refl, sym, ap, ◌∙◌}
-use Rattle.dsa_terms.specs.Buffers.{Instance, IsInstance}
-use Rattle.dsa_terms.specs.Claims.{Claim, Entry, IsIn, Rises, buffers_of}
+use Rattle.search_core.proofs.Words.{Instance, IsInstance, Claim, Entry, IsIn, Rises, buffers_of, choices, comes_before, not_excluded, entry_of, is_entry}
 use Rattle.dsa_terms.specs.Sorts.{ordered_by, put_by}
-use Rattle.dsa_terms.specs.Search.{choices, comes_before, not_excluded}
 use Rattle.dsa_search_laws.proofs.Complete.{from_choices}
-use Rattle.canonical_order.specs.Claims.{entry_of}
-use Rattle.canonical_order.proofs.Entries.{is_entry}
 use Rattle.search_core.specs.Lifted.{lift, lifted}
 use Rattle.search_core.specs.Ways.{order_of}
 use Rattle.search_core.proofs.Lifting.{buffers_of-lifted, lifted_excluded, up_of_lift}

@@ -2,18 +2,8 @@
 use Rattle.std.proofs.Common.{◌≡◌, ℕ, ◌<◌, ◌≤◌, ◌+◌, ◌%◌, ◌^◌, ◌==◌, Bool, true, false, not, cond, List, [], ◌∷◌, filter, length, map, max, inl, inr, refl, sym, ap, ◌∙◌, subst, arith}
 use Rattle.std.specs.Int.{next_multiple_of}
 use Rattle.std.specs.List.{list_any}
-use Rattle.dsa_terms.specs.Buffers.{Instance, IsInstance, buffer}
-use Rattle.dsa_terms.specs.Claims.{Claim, Covers, Entry, IsIn, Rises, buffers_of, child, step, up}
-use Rattle.dsa_terms.specs.Logs.{Line, claim_of, ends_below, is_twin}
-use Rattle.dsa_terms.specs.Search.{not_excluded}
-use Rattle.dsa_terms.proofs.Lists.{from_map, into_map}
-use Rattle.dsa_terms.proofs.Moments.{sound}
+use Rattle.search_core.proofs.Words.{Instance, IsInstance, buffer, Claim, Covers, Entry, IsIn, Rises, buffers_of, child, step, up, Line, claim_of, ends_below, is_twin, not_excluded, from_map, into_map, sound, buffers_of-map, HasBuffer, IsBoundedBy, entry_of, Stands, entry_in, is_entry, IsCoveredBy, NoneCovers}
 use Rattle.dsa_terms.proofs.Numbers.{next_cases, next_is_multiple}
-use Rattle.dsa_search_laws.proofs.Claims.{buffers_of-map}
-use Rattle.canonical_order.specs.Claims.{HasBuffer, IsBoundedBy, entry_of}
-use Rattle.canonical_order.specs.Stands.{Stands}
-use Rattle.canonical_order.proofs.Entries.{entry_in, is_entry}
-use Rattle.line_index.specs.Covered.{IsCoveredBy, NoneCovers}
 use Rattle.search_core.specs.declared.found.Refuted.{Refuted}
 use Rattle.search_core.specs.Cites.{IsChildCovered}
 use Rattle.search_core.specs.Lifted.{IsAtLows, lift, lifted}

@@ -1,12 +1,6 @@
 -- Logs of one line while a search grows them.
 use Rattle.std.proofs.Common.{◌≡◌, ℕ, zero, suc, ◌<◌, List, [], ◌∷◌, slice_get, take, Some, inl, inr, refl, sym, subst, arith}
-use Rattle.dsa_terms.specs.Buffers.{IsLive, buffer, is_live}
-use Rattle.dsa_terms.specs.Claims.{Covers, Entry, IsIn, up}
-use Rattle.dsa_terms.specs.Lean.{IsLeanLine}
-use Rattle.dsa_terms.specs.Logs.{IsLegal, Line, Over, claim_of, is_stacked, rounded, rounding}
-use Rattle.dsa_terms.proofs.Examples.{small_below}
-use Rattle.dsa_terms.proofs.Lists.{same_some}
-use Rattle.refute_log.specs.Logs.{OpenLog}
+use Rattle.search_core.proofs.Words.{IsLive, buffer, is_live, Covers, Entry, IsIn, up, IsLeanLine, IsLegal, Line, Over, claim_of, is_stacked, rounded, rounding, small_below, same_some, OpenLog}
 use Rattle.search_core.specs.Logs.{IsSearchLog}
 use Rattle.search_core.proofs.LevelFacts.{differ}
 use Rattle.search_core.proofs.OverFacts.{over, over_is_legal}

@@ -1,13 +1,6 @@
 -- What the search answers where buffers have a lowest: layouts, and a log whose end has a bound above it.
 use Rattle.std.proofs.Common.{◌≡◌, ℕ, zero, suc, true, [], ◌∷◌, slice_get, take, Some, None, inl, inr, refl, sym, subst, arith}
-use Rattle.dsa_terms.specs.Buffers.{Instance, IsLive, buffer, do_share, floor, have_same_moments, is_live, some_before}
-use Rattle.dsa_terms.specs.Claims.{Entry, IsIn, IsWhole, child, step, up}
-use Rattle.dsa_terms.specs.Lean.{IsLeanLine}
-use Rattle.dsa_terms.specs.Logs.{IsLegal, Line, Log, Over, claim_of, ends_below, is_stacked, is_twin, rounded, rounding}
-use Rattle.dsa_terms.specs.Parts.{is_cut, IsUncut, last_cut, part_of, parts, searched, whole}
-use Rattle.dsa_terms.specs.Plans.{layout_height}
-use Rattle.dsa_terms.specs.Search.{comes_before, first, is_tall}
-use Rattle.dsa_terms.proofs.Examples.{lifted, low, raised}
+use Rattle.search_core.proofs.Words.{Instance, IsLive, buffer, floor, is_live, Entry, IsIn, IsWhole, up, IsLeanLine, IsLegal, Line, Log, Over, claim_of, is_stacked, rounded, rounding, IsUncut, searched, whole, lifted, low, raised}
 use Rattle.dsa_search_laws.proofs.LineTests.{do_rise, has_reason, is_claim, is_legal, is_over, legal}
 use Rattle.refute_log.specs.Answers.{Offsets}
 use Rattle.search_core.specs.Decisions.{IsGiven, IsRefutation, turn_of}

@@ -1,11 +1,6 @@
 -- Levels that are made from those of the claim above.
 use Rattle.std.proofs.Common.{◌≡◌, ℕ, ◌+◌, ◌-◌, ◌<◌, ◌^◌, List, [], length, slice_get, slice_index_or, slice_set, Option, Some, IfSome, sym, ap, ◌∙◌, subst, arith}
-use Rattle.dsa_terms.specs.Buffers.{Instance}
-use Rattle.dsa_terms.specs.Claims.{Claim, child}
-use Rattle.dsa_terms.proofs.Places.{in_at}
-use Rattle.canonical_order.specs.Claims.{HasBuffer, IsBoundedBy, entry_of}
-use Rattle.canonical_order.specs.Levels.{AreLevels}
-use Rattle.skyline.specs.Skies.{AreLow, last_claim}
+use Rattle.search_core.proofs.Words.{Instance, Claim, child, in_at, HasBuffer, IsBoundedBy, entry_of, AreLevels, AreLow, last_claim}
 use Rattle.search_core.specs.declared.kept.Kept.{Kept}
 use Rattle.search_core.specs.declared.path.Above.{Above}
 use Rattle.search_core.specs.Levels.{HasLowChild}

@@ -1,10 +1,7 @@
 -- Of two buffers that are alike the first one has no twin before it, and the second one has.
 use Rattle.std.proofs.Common.{◌≡◌, ℕ, true, false, nat_lt, refl, arith}
 use Rattle.std.proofs.lemmas.Bool.Decides.{nat_tests}
-use Rattle.dsa_terms.specs.Buffers.{buffer, have_same_moments, is_live, some_before}
-use Rattle.dsa_terms.specs.Claims.{up}
-use Rattle.dsa_terms.specs.Logs.{is_twin}
-use Rattle.dsa_terms.proofs.Examples.{two_of_four}
+use Rattle.search_core.proofs.Words.{buffer, have_same_moments, is_live, some_before, up, is_twin, two_of_four}
 use Rattle.search_core.specs.TwinMarks.{HasNoTwin}
 
 none_below_zero : (n : ℕ) → nat_lt n 0 ≡ false

@@ -1,9 +1,7 @@
 -- The cites of a claim, one after another.
 use Rattle.std.proofs.Common.{◌≡◌, ℕ, ◌+◌, ◌<◌, List, [], ◌∷◌, ◌++◌, map, refl, take}
 use Rattle.std.specs.List.{AllZip}
-use Rattle.dsa_terms.specs.Claims.{Claim, Entry, IsIn, Rises, buffers_of}
-use Rattle.canonical_order.specs.Claims.{HasBuffer, entries_below, entry_of}
-use Rattle.canonical_order.proofs.CoverLemmas.{below_zero, below_skip, below_take, below_all}
+use Rattle.search_core.proofs.Words.{Claim, Entry, IsIn, Rises, buffers_of, HasBuffer, entries_below, entry_of, below_zero, below_skip, below_take, below_all}
 
 map_next : {A B : Type 0} (f : A → B) (xs : List A) (x : A) → map f (xs ++ x ∷ []) ≡ map f xs ++ f x ∷ []
 map_next f [] x = refl

@@ -1,15 +1,8 @@
 -- What is found where claims are opened of a buffer of size 3 and one of size 1 that stands at multiples of 4 alone.
 use Rattle.std.proofs.Common.{◌≡◌, ◌<◌, ℕ, zero, suc, List, [], ◌∷◌, slice_get, Some, inl, refl, sym, ◌∙◌, subst, arith}
-use Rattle.dsa_terms.specs.Buffers.{buffer, do_share, have_same_moments, is_live, some_before}
-use Rattle.dsa_terms.specs.Claims.{Entry, child, step, up}
-use Rattle.dsa_terms.specs.Logs.{Line, claim_of, ends_below, is_twin}
-use Rattle.dsa_terms.specs.Search.{comes_before, first, is_tall, work}
-use Rattle.dsa_terms.proofs.Examples.{small_below}
-use Rattle.dsa_terms.proofs.Lists.{same_some}
-use Rattle.line_index.specs.Watches.{RulesOut}
+use Rattle.search_core.proofs.Words.{buffer, have_same_moments, is_live, some_before, Entry, up, Line, claim_of, ends_below, is_twin, comes_before, first, work, small_below, same_some, RulesOut}
 use Rattle.search_core.specs.declared.fresh.Fresh.{Fresh}
 use Rattle.search_core.specs.declared.opening.Opened.TheVariants as opened
-use Rattle.search_core.specs.Descents.{through}
 use Rattle.search_core.specs.Meters.{Units}
 use Rattle.search_core.specs.Opened.{AreAllAsked, AreChoices, IfChoices, IsOpened, UnlessUnopened, left_open}
 use Rattle.search_core.specs.Tries.{Tried}

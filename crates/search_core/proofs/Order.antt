@@ -5,14 +5,8 @@ use Rattle.std.specs.Ordering.{match_ordering, nat_cmp, ordering_then}
 use Rattle.std.specs.declared.cmp.Ordering.{Ordering}
 use Rattle.std.specs.declared.cmp.Ordering.TheVariants.{Less, Equal, Greater}
 use Rattle.std.specs.BTreeSet.{insert_key}
-use Rattle.dsa_terms.specs.Buffers.{Instance}
-use Rattle.dsa_terms.specs.Claims.{Claim, Entry, IsIn, Rises, buffers_of, up}
+use Rattle.search_core.proofs.Words.{Instance, Claim, Entry, IsIn, Rises, buffers_of, up, comes_before, choices, not_excluded, from_ordered_by, from_filter, same, in_buffers, entry_of}
 use Rattle.dsa_terms.specs.Sorts.{ordered_by, put_by}
-use Rattle.dsa_terms.specs.Search.{comes_before, choices, not_excluded}
-use Rattle.dsa_terms.proofs.Lists.{from_ordered_by, from_filter}
-use Rattle.dsa_terms.proofs.NumberTests.{same}
-use Rattle.dsa_search_laws.proofs.Placing.{in_buffers}
-use Rattle.canonical_order.specs.Claims.{entry_of}
 use Rattle.search_core.specs.Keys.{key_of}
 use Rattle.search_core.proofs.Along.{next_left, rises_left}
 use Rattle.search_core.proofs.LiftedChoices.{order_entries}

@@ -1,7 +1,7 @@
 -- Facts that hold unless the budget is spent.
 use Rattle.std.proofs.Common.{ℕ}
 use Rattle.std.specs.Global.{Vec}
-use Rattle.dsa_terms.specs.Logs.{Log}
+use Rattle.search_core.proofs.Words.{Log}
 use Rattle.refute_log.specs.declared.decided.Decided.TheVariants.{Layout, Refuted, Spent}
 use Rattle.search_core.specs.Outcomes.{UnlessSpent}
 

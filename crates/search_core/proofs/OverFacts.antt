@@ -1,9 +1,6 @@
 -- A line that refutes a buffer of size 1 that stands at multiples of 4 alone, with the bound 3, at the capacity 4.
 use Rattle.std.proofs.Common.{◌≡◌, ◌^◌, ◌<◌, ◌≤◌, List, [], ◌∷◌, inl, inr, refl, arith}
-use Rattle.dsa_terms.specs.Buffers.{buffer, is_live}
-use Rattle.dsa_terms.specs.Claims.{Covers, Entry, IsClaim, IsIn, up}
-use Rattle.dsa_terms.specs.Logs.{IsLegal, Line, Over, is_stacked, rounded, rounding}
-use Rattle.dsa_terms.proofs.Examples.{small_below}
+use Rattle.search_core.proofs.Words.{buffer, is_live, Covers, Entry, IsClaim, IsIn, up, IsLegal, Line, Over, is_stacked, rounded, rounding, small_below}
 use Rattle.search_core.specs.Overs.{RefutesAtOnce}
 use Rattle.search_core.proofs.LevelFacts.{rest, root}
 

@@ -1,18 +1,9 @@
 -- The whole claim of a part, and the log that refutes it.
-use Rattle.std.proofs.Common.{◌≡◌, ℕ, zero, suc, ◌≤◌, ◌<◌, ◌==◌, List, [], ◌∷◌, length, slice_get, Some, sym, refl, ap, ◌∙◌, subst, inl, inr, arith}
-use Rattle.std.specs.List.{All}
+use Rattle.std.proofs.Common.{◌≡◌, ℕ, zero, suc, ◌≤◌, ◌<◌, ◌==◌, List, [], ◌∷◌, length, slice_get, Some, sym, refl, ap, ◌∙◌, subst, inl, inr, arith, All}
 use Rattle.std.specs.Int.{next_multiple_of}
-use Rattle.dsa_terms.specs.Buffers.{Instance, IsInstance, buffer, floor}
-use Rattle.dsa_terms.specs.Claims.{Claim, Entry, IsIn, Covers, IsWhole, up}
-use Rattle.dsa_terms.specs.Logs.{Line, Log, claim_of, IsAccepted}
-use Rattle.dsa_terms.specs.Parts.{numbers, part_of, parts, whole}
-use Rattle.dsa_terms.proofs.Lists.{from_filter, into_map}
-use Rattle.dsa_terms.proofs.NumberTests.{equal}
+use Rattle.search_core.proofs.Words.{Instance, IsInstance, buffer, floor, Claim, Entry, IsIn, Covers, IsWhole, up, Line, Log, claim_of, IsAccepted, numbers, part_of, parts, whole, from_filter, into_map, equal, buffers_of-whole, claim_of_part, in_whole, part_is_members, same_part_uncut, OpenLog, ended, IsCoveredBy}
 use Rattle.dsa_terms.proofs.Ranges.{from_range}
 use Rattle.dsa_search_laws.proofs.PartLists.{got_in}
-use Rattle.dsa_search_laws.proofs.Parts.{buffers_of-whole, claim_of_part, in_whole, part_is_members, same_part_uncut}
-use Rattle.refute_log.specs.Logs.{OpenLog, ended}
-use Rattle.line_index.specs.Covered.{IsCoveredBy}
 use Rattle.search_core.specs.Decisions.{IsRefutation}
 use Rattle.search_core.specs.Logs.{Extends, IsSearchLog}
 

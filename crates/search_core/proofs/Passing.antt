@@ -1,15 +1,6 @@
 -- Choices whose children lines are known to cover.
 use Rattle.std.proofs.Common.{◌≡◌, ℕ, ◌+◌, ◌-◌, ◌<◌, ◌≤◌, cond, List, ◌∷◌, [], length, map, slice_index, Option, Some, None, is_some, ap, ◌∙◌, arith, length-append}
-use Rattle.dsa_terms.specs.Buffers.{Instance}
-use Rattle.dsa_terms.specs.Claims.{Claim, Entry, child}
-use Rattle.dsa_terms.specs.Logs.{Line}
-use Rattle.dsa_terms.specs.Search.{first, work}
-use Rattle.dsa_search_laws.proofs.Claims.{claim-child}
-use Rattle.canonical_order.specs.Claims.{HasBuffer, entry_of}
-use Rattle.canonical_order.specs.Levels.{AreLevels}
-use Rattle.canonical_order.specs.Stands.{Stands}
-use Rattle.refute_log.specs.Logs.{OpenLog}
-use Rattle.line_index.specs.Covered.{IsCoveredBy}
+use Rattle.search_core.proofs.Words.{Instance, Claim, Entry, child, Line, first, work, claim-child, HasBuffer, entry_of, AreLevels, Stands, OpenLog, IsCoveredBy}
 use Rattle.search_core.specs.Descents.{IsTrying, Place, claim_at, through}
 use Rattle.search_core.specs.Logs.{IsSearchLog}
 use Rattle.search_core.specs.Tries.{IsLeft, Tried, chosen_of, later_of, noted_by, rest_of}

@@ -1,11 +1,7 @@
 -- What is found of the one part of a buffer of size 3, and of the whole instance: a layout within 3, and a log at 2.
 use Rattle.std.proofs.Common.{◌≡◌, ℕ, [], ◌∷◌, Some, None, refl, sym, ap, ◌∙◌, arith}
 use Rattle.std.specs.Global.{Vec}
-use Rattle.dsa_terms.specs.Buffers.{buffer, do_share, have_same_moments, is_live, some_before}
-use Rattle.dsa_terms.specs.Claims.{child, step, up}
-use Rattle.dsa_terms.specs.Logs.{Log, ends_below, is_twin}
-use Rattle.dsa_terms.specs.Parts.{is_cut, last_cut, part_of, parts, searched, whole}
-use Rattle.dsa_terms.specs.Search.{comes_before, first, is_tall}
+use Rattle.search_core.proofs.Words.{Log, searched, whole, first}
 use Rattle.refute_log.specs.declared.decided.Decided.TheVariants as decided
 use Rattle.search_core.specs.declared.part.Piece.TheVariants as piece
 use Rattle.search_core.specs.Meters.{Units}

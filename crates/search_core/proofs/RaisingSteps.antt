@@ -1,19 +1,10 @@
 -- The levels of a child in the making, one buffer after another.
-use Rattle.std.proofs.Common.{◌≡◌, ◌≢◌, ℕ, ◌+◌, ◌-◌, ◌<◌, ◌≤◌, ◌^◌, ◌⊎◌, inl, inr, List, All, Bool, true, false, cond, nat_lt, length, slice_index, slice_set, ap, sym, ◌∙◌, subst, refl, arith}
-use Rattle.std.proofs.lemmas.List.{get_or_past, length-set}
+use Rattle.std.proofs.Common.{◌≡◌, ◌≢◌, ℕ, ◌+◌, ◌-◌, ◌<◌, ◌≤◌, ◌^◌, ◌⊎◌, inl, inr, List, All, Bool, true, false, cond, nat_lt, length, slice_index, slice_set, ap, sym, ◌∙◌, subst, refl, arith, length-set}
+use Rattle.std.proofs.lemmas.List.{get_or_past}
 use Rattle.std.specs.List.Sorted.{IsPermutation}
 use Rattle.std.proofs.lemmas.List.Sorted.{Contains-permutation}
-use Rattle.dsa_terms.specs.Buffers.{Instance, IsInstance, buffer, do_share}
-use Rattle.dsa_terms.specs.Claims.{Claim, IsIn, child, step}
-use Rattle.dsa_terms.proofs.Lists.{true_or_false}
-use Rattle.dsa_terms.proofs.Moments.{sound}
-use Rattle.dsa_terms.proofs.NumberTests.{below_or_from, less, same_or_not}
-use Rattle.dsa_terms.proofs.Places.{from_contains, to_contains}
-use Rattle.lifetime.specs.SectionList.{AreSectionsOf, SectionList, members_of, sections_of}
+use Rattle.search_core.proofs.Words.{Instance, IsInstance, buffer, do_share, Claim, IsIn, child, step, true_or_false, sound, below_or_from, less, same_or_not, from_contains, to_contains, AreSectionsOf, SectionList, members_of, sections_of, entry_of, AreLevels, IsLevel, has_level, level_in_range, level_inside}
 use Rattle.skyline.proofs.SectionFacts.{listed_in, section_in_range, shared_sections}
-use Rattle.canonical_order.specs.Claims.{entry_of}
-use Rattle.canonical_order.specs.Levels.{AreLevels, IsLevel}
-use Rattle.canonical_order.proofs.LevelLemmas.{has_level, level_in_range, level_inside}
 use Rattle.search_core.specs.declared.raising.Raising.{Raising}
 use Rattle.search_core.specs.Levels.{HasLowChild, IsLeastLevel}
 use Rattle.search_core.specs.Raisings.{IsRaised, IsRaising, IsReach}

@@ -1,15 +1,8 @@
 -- A log of one line by which a buffer of size 3 does not fit within 2.
 use Rattle.std.proofs.Common.{◌≡◌, ◌<◌, ◌^◌, ℕ, zero, suc, List, [], ◌∷◌, slice_get, take, Some, inl, inr, refl, sym, subst, lit<, lit≤, arith}
-use Rattle.dsa_terms.specs.Buffers.{Instance, IsInstance, IsLive, buffer, do_share, have_same_moments, is_live, some_before}
-use Rattle.dsa_terms.specs.Claims.{Covers, Entry, IsClaim, IsIn, IsWhole, child, step, up}
+use Rattle.search_core.proofs.Words.{Instance, IsInstance, IsLive, buffer, is_live, Covers, Entry, IsClaim, IsIn, IsWhole, up, IsLeanLine, IsLegal, Line, Log, Over, claim_of, is_stacked, rounded, rounding, IsUncut, searched, plain, searched_is_layout}
 use Rattle.dsa_terms.specs.Layouts.{IsLayout}
-use Rattle.dsa_terms.specs.Lean.{IsLeanLine}
-use Rattle.dsa_terms.specs.Logs.{IsLegal, Line, Log, Over, claim_of, ends_below, is_stacked, is_twin, rounded, rounding}
-use Rattle.dsa_terms.specs.Parts.{is_cut, IsUncut, last_cut, part_of, parts, searched}
-use Rattle.dsa_terms.specs.Search.{comes_before, first, is_tall}
-use Rattle.dsa_terms.proofs.Examples.{plain}
 use Rattle.dsa_search_laws.proofs.Logs.{accepted_is_infeasible}
-use Rattle.dsa_search_laws.proofs.Parts.{searched_is_layout}
 use Rattle.search_core.specs.Decisions.{IsRefutation, where_numbered}
 use Rattle.search_core.proofs.Computing.{computing_searched}
 

@@ -1,21 +1,12 @@
 -- What the search through a claim knows after some of its choices.
-use Rattle.std.proofs.Common.{◌≡◌, ◌≢◌, length-append, ℕ, ◌+◌, ◌-◌, ◌<◌, ◌≤◌, ◌==◌, true, false, List, [], ◌∷◌, map, drop, length, slice_index_or, Some, None, sym, refl, ap, ◌∙◌, subst, inl, inr, arith, append_assoc, add-one}
+use Rattle.std.proofs.Common.{◌≡◌, ◌≢◌, length-append, ℕ, ◌+◌, ◌-◌, ◌<◌, ◌≤◌, ◌==◌, true, false, List, [], ◌∷◌, map, drop, length, slice_index_or, Some, None, sym, refl, ap, ◌∙◌, subst, inl, inr, arith, append_assoc, add-one, append-nil}
 use Rattle.std.proofs.lemmas.Bool.Decides.{nat_tests}
-use Rattle.std.proofs.lemmas.List.{append-nil, length-map, map-append}
+use Rattle.std.proofs.lemmas.List.{length-map, map-append}
 use Rattle.std.proofs.Math.ListN.{drop_of_length-le}
 use Rattle.std.proofs.Math.Seq.{drop-cons}
-use Rattle.dsa_terms.specs.Buffers.{Instance, buffer}
-use Rattle.dsa_terms.specs.Claims.{Claim, Entry, IsIn, IsClaim, Covers, child, up}
-use Rattle.dsa_terms.specs.Search.{choices, first, is_tall, not_excluded, seated}
-use Rattle.dsa_terms.proofs.Lists.{into_map, from_append, from_map, left_append}
-use Rattle.dsa_terms.proofs.Places.{in_at}
+use Rattle.search_core.proofs.Words.{Instance, buffer, Claim, Entry, IsIn, IsClaim, Covers, child, up, choices, first, is_tall, not_excluded, seated, into_map, from_append, from_map, left_append, in_at, in_buffers, HasBuffer, entry_of, least_buffer, AreLevels, Line, NoneCovers}
 use Rattle.dsa_search_laws.proofs.Complete.{from_choices, into_choices, tall_is}
-use Rattle.dsa_search_laws.proofs.Placing.{in_buffers}
 use Rattle.dsa_search_laws.proofs.Search.{first_equation, first_empty}
-use Rattle.canonical_order.specs.Claims.{HasBuffer, entry_of, least_buffer}
-use Rattle.canonical_order.specs.Levels.{AreLevels}
-use Rattle.dsa_terms.specs.Logs.{Line}
-use Rattle.line_index.specs.Covered.{NoneCovers}
 use Rattle.search_core.specs.declared.found.Refuted.{Refuted}
 use Rattle.search_core.specs.declared.fresh.Fresh.{Fresh}
 use Rattle.search_core.specs.Cites.{IsChildCovered}

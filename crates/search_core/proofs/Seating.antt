@@ -1,19 +1,10 @@
 -- Seats by the offsets of buffers.
-use Rattle.std.proofs.Common.{◌≡◌, ℕ, ◌+◌, ◌<◌, ◌==◌, Bool, true, false, cond, List, [], ◌∷◌, drop, length, map, max, Option, Some, None, slice_index, slice_set, inl, inr, refl, sym, ap, ◌∙◌, arith}
+use Rattle.std.proofs.Common.{◌≡◌, ℕ, ◌+◌, ◌<◌, ◌==◌, Bool, true, false, cond, List, [], ◌∷◌, drop, length, map, max, Option, Some, None, slice_index, slice_set, inl, inr, refl, sym, ap, ◌∙◌, arith, ext_get_or, get_or-set_other}
 use Rattle.std.specs.List.{list_any}
 use Rattle.std.proofs.lemmas.Grind.{get_or-set_at}
-use Rattle.std.proofs.lemmas.List.{ext_get_or, get_or-set_other}
 use Rattle.std.proofs.lemmas.List.FromFn.{get_or-map-range_with_len, length-map-range_with_len}
-use Rattle.dsa_terms.specs.Buffers.{Instance}
-use Rattle.dsa_terms.specs.Claims.{Claim, Entry, IsIn, child, number_of, step, up}
-use Rattle.dsa_terms.specs.Parts.{offsets_of}
-use Rattle.dsa_terms.specs.Search.{choices, first, first_of, first_some, is_tall, not_excluded, seated}
-use Rattle.dsa_terms.proofs.Lists.{some_answer}
-use Rattle.dsa_terms.proofs.NumberTests.{apart, same, same_or_not}
-use Rattle.dsa_search_laws.proofs.Claims.{number_of-map}
+use Rattle.search_core.proofs.Words.{Instance, Claim, Entry, IsIn, child, number_of, step, up, offsets_of, choices, first, first_of, first_some, is_tall, not_excluded, seated, some_answer, apart, same, same_or_not, number_of-map, in_child, entry_of}
 use Rattle.dsa_search_laws.proofs.Complete.{seated_some}
-use Rattle.dsa_search_laws.proofs.Placing.{in_child}
-use Rattle.canonical_order.specs.Claims.{entry_of}
 use Rattle.search_core.specs.Seats.{seats_by}
 
 -- the seat of one entry

@@ -1,10 +1,8 @@
 -- Lists that are read from their end.
-use Rattle.std.proofs.Common.{◌≡◌, suc, ◌+◌, ◌<◌, List, [], ◌∷◌, ◌++◌, length, drop, reverse, Some, refl, sym, ap, ◌∙◌, arith}
+use Rattle.std.proofs.Common.{◌≡◌, suc, ◌+◌, ◌<◌, List, [], ◌∷◌, ◌++◌, length, drop, reverse, Some, refl, sym, ap, ◌∙◌, arith, All}
 use Rattle.std.proofs.lemmas.List.{reverse-append, length-reverse}
 use Rattle.std.proofs.lemmas.List.Elements.{All-cons, All-nil, All-pop}
-use Rattle.std.specs.List.{All}
-use Rattle.dsa_terms.specs.Claims.{Claim}
-use Rattle.skyline.specs.Skies.{last_claim}
+use Rattle.search_core.proofs.Words.{Claim, last_claim}
 use Rattle.skyline.proofs.Carrying.{last_of_append}
 use Rattle.search_core.specs.Descents.{above_of}
 

@@ -1,10 +1,6 @@
 -- One step of the search, as a whole.
 use Rattle.std.proofs.Common.{◌≡◌, ℕ, ◌+◌, ◌*◌, ◌≤◌, cond, List, [], ◌∷◌, ◌++◌, length, reverse, Option, Some, None, IfNone, IfSome, is_some, refl, sym, ap, ◌∙◌, subst, arith, length-append}
-use Rattle.dsa_terms.specs.Buffers.{Instance}
-use Rattle.dsa_terms.specs.Claims.{Claim, IsClaim}
-use Rattle.dsa_terms.specs.Logs.{Line}
-use Rattle.dsa_terms.specs.Search.{first, work}
-use Rattle.line_index.specs.Covered.{IsCoveredBy}
+use Rattle.search_core.proofs.Words.{Instance, Claim, IsClaim, Line, first, work, IsCoveredBy}
 use Rattle.search_core.specs.Descents.{Descends, HasAskedAll, IsKnown, IsPath, IsPlace, Place, above_of, claim_at, left_of, owed, sky_root, turns_left}
 use Rattle.search_core.specs.Logs.{Extends}
 use Rattle.search_core.specs.Meters.{Units}

@@ -1,11 +1,6 @@
 -- A search takes a unit for its first claim.
 use Rattle.std.proofs.Common.{◌≡◌, ℕ, ◌<◌, ◌≤◌, List, [], ◌∷◌, length, slice_get, Some, arith}
-use Rattle.dsa_terms.specs.Buffers.{Instance}
-use Rattle.dsa_terms.specs.Claims.{Claim, IsIn}
-use Rattle.dsa_terms.specs.Logs.{Line}
-use Rattle.dsa_terms.specs.Parts.{members, part_of, parts}
-use Rattle.dsa_search_laws.proofs.Parts.{part_is_in}
-use Rattle.line_index.specs.Covered.{IsCoveredBy}
+use Rattle.search_core.proofs.Words.{Instance, Claim, IsIn, Line, members, part_of, parts, part_is_in, IsCoveredBy}
 use Rattle.search_core.specs.declared.found.Found.{Found}
 use Rattle.search_core.specs.declared.found.Found.TheVariants as found
 use Rattle.search_core.specs.Found.{UnlessFoundSpent}

@@ -1,15 +1,6 @@
 -- Tall buffers by the levels of a claim.
 use Rattle.std.proofs.Common.{◌≡◌, ◌⊎◌, ℕ, ◌+◌, ◌-◌, ◌<◌, ◌≤◌, inl, inr, List, [], ◌∷◌, All, true, false, length, slice_index, Some, None, ap, subst, arith}
-use Rattle.dsa_terms.specs.Buffers.{Instance, buffer}
-use Rattle.dsa_terms.specs.Claims.{Claim, Entry, IsIn, Rises, up}
-use Rattle.dsa_terms.specs.Search.{is_tall}
-use Rattle.dsa_terms.proofs.NumberTests.{is_below, not_below}
-use Rattle.dsa_search_laws.proofs.Placing.{in_buffers}
-use Rattle.canonical_order.specs.Claims.{entry_of, least_buffer}
-use Rattle.canonical_order.specs.Levels.{AreLevels}
-use Rattle.canonical_order.proofs.CoverLemmas.{first_passes, none_passes_all}
-use Rattle.canonical_order.proofs.Entries.{is_entry}
-use Rattle.canonical_order.proofs.LevelLemmas.{has_level, level_inside}
+use Rattle.search_core.proofs.Words.{Instance, buffer, Claim, Entry, IsIn, Rises, up, is_tall, is_below, not_below, in_buffers, entry_of, least_buffer, AreLevels, first_passes, none_passes_all, is_entry, has_level, level_inside}
 use Rattle.search_core.specs.Levels.{AreLeft}
 use Rattle.search_core.specs.Overs.{AreSizesWithin}
 use Rattle.search_core.proofs.RaisingSteps.{under_each}

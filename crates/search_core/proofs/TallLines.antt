@@ -1,14 +1,9 @@
 -- The Over line of one buffer at the least height at which it ends above the capacity.
-use Rattle.std.proofs.Common.{◌≡◌, ℕ, ◌+◌, ◌-◌, ◌%◌, ◌<◌, ◌≤◌, inl, inr, true, ◌==◌, nat_le, List, [], ◌∷◌, map, filter, length, sym, refl, ◌∙◌, arith}
+use Rattle.std.proofs.Common.{◌≡◌, ℕ, ◌+◌, ◌-◌, ◌%◌, ◌<◌, ◌≤◌, inl, inr, true, ◌==◌, nat_le, List, [], ◌∷◌, map, filter, length, sym, refl, ◌∙◌, arith, sum_by}
 use Rattle.std.proofs.lemmas.Bool.Decides.{nat_tests}
-use Rattle.std.specs.List.{sum_by}
 use Rattle.std.specs.Int.{next_multiple_of}
-use Rattle.dsa_terms.specs.Buffers.{Instance, buffer, is_live}
-use Rattle.dsa_terms.specs.Claims.{Claim, Entry, IsClaim, up}
-use Rattle.dsa_terms.specs.Logs.{Line, Over, IsLegal, is_stacked, rounded, rounding, greatest}
+use Rattle.search_core.proofs.Words.{Instance, buffer, is_live, Claim, Entry, IsClaim, up, Line, Over, IsLegal, is_stacked, rounded, rounding, greatest, is_at_most, IsBuffer}
 use Rattle.dsa_terms.proofs.Numbers.{next_at_or_above, next_is_below}
-use Rattle.dsa_terms.proofs.NumberTests.{is_at_most}
-use Rattle.dsa_model.specs.Buffer.{IsBuffer}
 
 next_of_one : (x : ℕ) → next_multiple_of x 1 ≡ x
 next_of_one x = let a : x ≤ next_multiple_of x 1 = next_at_or_above x 1 (omega arith) in

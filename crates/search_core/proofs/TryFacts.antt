@@ -1,11 +1,7 @@
 -- The choices of a buffer of size 3 beside one of size 1 that stands at multiples of 4 alone, within 4: the first one
 -- is taken in vain, and the second one is not.
 use Rattle.std.proofs.Common.{◌≡◌, ℕ, List, [], ◌∷◌, Some, None, inl, inr, refl, sym, subst, arith}
-use Rattle.dsa_terms.specs.Buffers.{buffer, do_share, have_same_moments, is_live, some_before}
-use Rattle.dsa_terms.specs.Claims.{IsIn, child, step, up}
-use Rattle.dsa_terms.specs.Logs.{Line, ends_below, is_twin}
-use Rattle.dsa_terms.specs.Search.{comes_before, first, is_tall}
-use Rattle.dsa_terms.proofs.Examples.{small_below}
+use Rattle.search_core.proofs.Words.{buffer, have_same_moments, is_live, some_before, IsIn, up, Line, ends_below, is_twin, comes_before, small_below}
 use Rattle.search_core.specs.declared.found.Refuted.{Refuted}
 use Rattle.search_core.specs.Cites.{IsChildCovered}
 use Rattle.search_core.specs.Descents.{HasAskedAll, IsTrying, refuted_buffer, try_of}

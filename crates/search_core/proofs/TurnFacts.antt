@@ -2,14 +2,10 @@
 -- of 4 alone, does not fit beside it within 4.
 use Rattle.std.proofs.Common.{◌≡◌, ℕ, [], ◌∷◌, Option, Some, None, refl, sym, ap, ◌∙◌, arith}
 use Rattle.std.specs.Global.{Vec}
-use Rattle.dsa_terms.specs.Buffers.{buffer, do_share, have_same_moments, is_live, some_before}
-use Rattle.dsa_terms.specs.Claims.{child, step, up}
-use Rattle.dsa_terms.specs.Logs.{ends_below, is_twin}
-use Rattle.dsa_terms.specs.Search.{comes_before, first, is_tall, work}
-use Rattle.dsa_terms.proofs.Examples.{small_below}
+use Rattle.search_core.proofs.Words.{small_below}
 use Rattle.search_core.specs.declared.found.Found.TheVariants as found
 use Rattle.search_core.specs.declared.turns.Turn.TheVariants as turn
-use Rattle.search_core.specs.Descents.{Place, owed, through}
+use Rattle.search_core.specs.Descents.{Place, owed}
 use Rattle.search_core.specs.Tries.{Tried}
 use Rattle.search_core.specs.Turns.{IfOn, IsAhead, IsOn, IsAtChoices, IsUncovered, IsTurned, Stage, UnlessTurnSpent, debt_of}
 use Rattle.search_core.proofs.Computing.{computing_work}

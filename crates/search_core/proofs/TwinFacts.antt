@@ -1,8 +1,6 @@
 -- Worked facts: three buffers, of which the first two are alike and the third has another alignment.
 use Rattle.std.proofs.Common.{◌≡◌, ℕ, true, false, [], ◌∷◌, refl}
-use Rattle.dsa_terms.specs.Buffers.{Buffer, Instance, buffer, have_same_moments, is_live, some_before}
-use Rattle.dsa_terms.specs.Claims.{up}
-use Rattle.dsa_terms.specs.Logs.{is_twin}
+use Rattle.search_core.proofs.Words.{Buffer, Instance, buffer, have_same_moments, is_live, some_before, up, is_twin}
 use Rattle.prune_rules.specs.Twins.{are_alike}
 use Rattle.search_core.specs.TwinMarks.{AreTwinMarks}
 

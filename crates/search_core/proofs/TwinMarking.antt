@@ -2,9 +2,7 @@
 use Rattle.std.proofs.Common.{◌≡◌, ℕ, Bool, true, false, zero, suc, ◌<◌, ◌+◌, ◌&&◌, ◌==◌, ◌++◌, ◌⊎◌, nat_lt, nat_le, List, [], ◌∷◌, inl, inr, length, slice_index_or, refl, sym, subst, arith, length-append}
 use Rattle.std.proofs.lemmas.Bool.Decides.{nat_tests}
 use Rattle.std.specs.List.{list_any}
-use Rattle.dsa_terms.specs.Buffers.{Instance, buffer, have_same_moments}
-use Rattle.dsa_terms.specs.Claims.{Claim, Entry, up}
-use Rattle.dsa_terms.specs.Logs.{is_twin}
+use Rattle.search_core.proofs.Words.{Instance, buffer, have_same_moments, Claim, Entry, up, is_twin}
 use Rattle.prune_rules.specs.Twins.{are_alike}
 use Rattle.search_core.specs.TwinMarks.{AreTwinMarks, HasNoTwin}
 

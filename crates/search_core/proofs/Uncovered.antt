@@ -1,15 +1,8 @@
 -- What a line that covers a claim says of it, and lines that none covers.
 use Rattle.std.proofs.Common.{◌≡◌, ℕ, zero, suc, ◌<◌, inl, inr, List, [], ◌∷◌, ◌++◌, length, slice_get, take, Some, None, sym, ◌∙◌, subst, arith}
-use Rattle.dsa_terms.specs.Buffers.{Instance, IsInstance}
-use Rattle.dsa_terms.specs.Claims.{Claim, Covers, IsClaim, IsRefuted}
-use Rattle.dsa_terms.specs.Logs.{Line, claim_of}
-use Rattle.dsa_terms.specs.Search.{first}
+use Rattle.search_core.proofs.Words.{Instance, IsInstance, Claim, Covers, IsClaim, IsRefuted, Line, claim_of, first, Stands, below_or_from, Belongs, OpenLog, IsCoveredBy, NoneCovers}
 use Rattle.dsa_search_laws.proofs.First.{first_exactly}
 use Rattle.dsa_search_laws.proofs.Logs.{covered_is_refuted, covers_along, from_take, legal_is_refuted}
-use Rattle.canonical_order.specs.Stands.{Stands}
-use Rattle.dsa_terms.proofs.NumberTests.{below_or_from}
-use Rattle.refute_log.specs.Logs.{Belongs, OpenLog}
-use Rattle.line_index.specs.Covered.{IsCoveredBy, NoneCovers}
 use Rattle.search_core.specs.Logs.{AreUncovered, IsSearchLog}
 use Rattle.search_core.proofs.Descent.{is_instance}
 use Rattle.refute_log.proofs.Legal.{get_before, get_last}

@@ -1,7 +1,6 @@
 -- A search that is at what is left of one buffer, below a root of two.
 use Rattle.std.proofs.Common.{◌≡◌, ℕ, [], ◌∷◌, Some, None, length, refl, ap, arith}
-use Rattle.dsa_terms.specs.Buffers.{Instance}
-use Rattle.refute_log.specs.Logs.{OpenLog}
+use Rattle.search_core.proofs.Words.{Instance, OpenLog}
 use Rattle.search_core.specs.declared.walk.Walk.{Walk}
 use Rattle.search_core.specs.Meters.{Units}
 use Rattle.search_core.specs.Tries.{Tried}

@@ -2,10 +2,7 @@
 use Rattle.std.proofs.Common.{◌≡◌, ℕ, ◌-◌, List, [], ◌∷◌, ◌++◌, length, slice_index_or, Option, Some, IfSome, subst, sym}
 use Rattle.std.proofs.lemmas.List.Elements.{All-pop, All-push, All-weaker}
 use Rattle.std.proofs.lemmas.Option.{get_or_from_slice_get, slice_get_within}
-use Rattle.dsa_terms.specs.Claims.{Claim, Entry}
-use Rattle.dsa_terms.specs.Logs.{Line}
-use Rattle.line_index.specs.Watches.{AreRaised, AreWatched}
-use Rattle.line_index.proofs.WatchLemmas.{watched_more}
+use Rattle.search_core.proofs.Words.{Claim, Entry, Line, AreRaised, AreWatched, watched_more}
 use Rattle.search_core.specs.declared.path.Above.{Above}
 use Rattle.search_core.specs.Descents.{HasAskedAll}
 use Rattle.search_core.specs.Logs.{Extends}

@@ -1,11 +1,7 @@
 -- What the claim of a buffer of size 3 and of one of size 1 that stands at multiples of 4 alone decides of its choices,
 -- and what is left of it by the first of them.
 use Rattle.std.proofs.Common.{◌≡◌, [], ◌∷◌, refl, arith}
-use Rattle.dsa_terms.specs.Buffers.{buffer, do_share, have_same_moments, is_live, some_before}
-use Rattle.dsa_terms.specs.Claims.{child, step, up}
-use Rattle.dsa_terms.specs.Logs.{ends_below, is_twin}
-use Rattle.dsa_terms.specs.Search.{comes_before}
-use Rattle.dsa_terms.proofs.Examples.{small_below}
+use Rattle.search_core.proofs.Words.{buffer, do_share, have_same_moments, is_live, some_before, child, step, up, ends_below, is_twin, comes_before, small_below}
 use Rattle.search_core.specs.declared.notes.Notes.{Notes}
 use Rattle.search_core.specs.Descents.{IsStanding}
 use Rattle.search_core.specs.Ways.{level_of, levels_of, order_of, tried_of, tries_of}

@@ -1,10 +1,7 @@
 -- The work of a claim, and what is left of it.
 use Rattle.std.proofs.Common.{◌≡◌, ◌≢◌, ℕ, ◌+◌, ◌≤◌, cond, List, [], ◌∷◌, None, is_some, refl, ◌∙◌}
-use Rattle.dsa_terms.specs.Buffers.{Instance}
-use Rattle.dsa_terms.specs.Claims.{Claim, Entry, IsClaim, child}
-use Rattle.dsa_terms.specs.Search.{choices, first, is_tall, not_excluded, work}
+use Rattle.search_core.proofs.Words.{Instance, Claim, Entry, IsClaim, child, choices, first, is_tall, not_excluded, work, least_buffer}
 use Rattle.dsa_search_laws.proofs.Search.{work_bounds, work_equation}
-use Rattle.canonical_order.specs.Claims.{least_buffer}
 use Rattle.search_core.specs.Descents.{through}
 use Rattle.search_core.proofs.Least.{none_least}
 

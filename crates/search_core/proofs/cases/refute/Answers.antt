@@ -1,5 +1,5 @@
 use Rattle.std.proofs.Common.{map}
-use Rattle.refute_log.specs.Lines.{cite_value}
+use Rattle.search_core.proofs.Words.{cite_value}
 use Rattle.search_core.proofs.CasesLines.{cases_legal, cites_within}
 use Rattle.search_core.proofs.Descent.{covers_itself, is_instance}
 use Rattle.search_core.proofs.cases.refute.Goals as goal

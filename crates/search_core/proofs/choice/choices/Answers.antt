@@ -1,5 +1,5 @@
 use Rattle.std.proofs.Common.{◌≡◌, ◌∙◌, ◌+◌, ◌-◌, ◌<◌, ℕ, [], ap, arith, drop, length, map, refl, rules, subst, sym}
-use Rattle.dsa_terms.specs.Claims.{Claim, Rises, buffers_of}
+use Rattle.search_core.proofs.Words.{Claim, Rises, buffers_of}
 use Rattle.search_core.proofs.Along.{nothing_left, place_in}
 use Rattle.search_core.proofs.Order.{all_keys, keys_exclude_at, keys_of, keys_take_at}
 use Rattle.search_core.proofs.choice.choices.Goals as goal

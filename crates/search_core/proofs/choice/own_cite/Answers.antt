@@ -1,6 +1,5 @@
 use Rattle.std.proofs.Common.{◌∙◌, arith, refl, sym}
-use Rattle.dsa_terms.specs.Logs.{is_twin}
-use Rattle.canonical_order.specs.Claims.{entry_of}
+use Rattle.search_core.proofs.Words.{is_twin, entry_of}
 use Rattle.search_core.proofs.Ends.{least_is_below, none_is_below}
 use Rattle.search_core.proofs.Least.{least_passes, none_least, below_excludes, twin_excludes, no_rule_excludes}
 use Rattle.search_core.proofs.TwinMarking.{no_twin}

@@ -1,10 +1,5 @@
 use Rattle.std.proofs.Common.{◌≡◌, ◌∙◌, ap, arith, subst, sym, true}
-use Rattle.dsa_terms.specs.Claims.{Entry, up}
-use Rattle.dsa_terms.specs.Logs.{ends_below}
-use Rattle.dsa_terms.specs.Search.{not_excluded}
-use Rattle.dsa_search_laws.proofs.Placing.{in_buffers}
-use Rattle.canonical_order.specs.Claims.{entry_of}
-use Rattle.canonical_order.proofs.Entries.{is_entry}
+use Rattle.search_core.proofs.Words.{Entry, up, ends_below, not_excluded, in_buffers, entry_of, is_entry}
 use Rattle.search_core.proofs.Ends.{least_is_below}
 use Rattle.search_core.proofs.Least.{below_excludes}
 use Rattle.search_core.proofs.choice.takes.Goals as goal

@@ -1,7 +1,6 @@
-use Rattle.std.proofs.Common.{◌≡◌, ◌∙◌, ◌+◌, slice_index_or, subst, sym, take}
-use Rattle.std.proofs.lemmas.List.{take_all, take_more}
-use Rattle.dsa_terms.specs.Claims.{Entry, IsIn}
-use Rattle.refute_log.specs.Lines.{cite_value}
+use Rattle.std.proofs.Common.{◌≡◌, ◌∙◌, ◌+◌, slice_index_or, subst, sym, take, take_all}
+use Rattle.std.proofs.lemmas.List.{take_more}
+use Rattle.search_core.proofs.Words.{Entry, IsIn, cite_value}
 use Rattle.search_core.specs.Cites.{IsCiteFor}
 use Rattle.search_core.proofs.Along.{place_has, place_in, place_is}
 use Rattle.search_core.proofs.Noted.{zip_more, zip_none}

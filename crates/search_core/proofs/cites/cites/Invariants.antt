@@ -1,6 +1,6 @@
 use Rattle.std.proofs.Common.{map, take}
 use Rattle.std.specs.List.{AllZip}
-use Rattle.refute_log.specs.Lines.{cite_value}
+use Rattle.search_core.proofs.Words.{cite_value}
 use Rattle.search_core.specs.Cites.{IsCiteFor}
 use Rattle.search_core.proofs.cites.cites.Given as goal
 

@@ -1,5 +1,5 @@
 use Rattle.std.proofs.Common.{slice_index_or, refl}
-use Rattle.dsa_terms.proofs.Places.{in_at}
+use Rattle.search_core.proofs.Words.{in_at}
 use Rattle.search_core.specs.declared.found.Refuted.{Refuted}
 use Rattle.search_core.proofs.cites.line_of.Goals as goal
 

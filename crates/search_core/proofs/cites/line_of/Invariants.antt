@@ -1,5 +1,5 @@
 use Rattle.std.proofs.Common.{map, drop}
-use Rattle.dsa_terms.specs.Claims.{IsIn}
+use Rattle.search_core.proofs.Words.{IsIn}
 use Rattle.search_core.specs.declared.found.Refuted.{Refuted}
 use Rattle.search_core.proofs.cites.line_of.Given as goal
 

@@ -1,5 +1,5 @@
 use Rattle.std.proofs.Common.{◌≡◌}
-use Rattle.canonical_order.specs.Claims.{entries_below}
+use Rattle.search_core.proofs.Words.{entries_below}
 use Rattle.search_core.specs.Seats.{seats_by}
 use Rattle.search_core.proofs.gather.gathered.Given as goal
 

@@ -1,8 +1,6 @@
 use Rattle.std.proofs.Common.{◌≡◌, ◌∙◌, Some, List, ap, sym, arith}
 use Rattle.std.proofs.lemmas.Result.{IfOk-weaker}
-use Rattle.dsa_terms.specs.Claims.{Entry}
-use Rattle.dsa_terms.specs.Search.{first}
-use Rattle.skyline.specs.Skies.{last_claim}
+use Rattle.search_core.proofs.Words.{Entry, first, last_claim}
 use Rattle.search_core.specs.Descents.{sky_root}
 use Rattle.search_core.specs.Seats.{seats_by}
 use Rattle.search_core.proofs.Gathering.{all_gathered, gathering_has, gathering_next, gathering_start, gathering_within}

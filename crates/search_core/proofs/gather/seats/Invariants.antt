@@ -1,5 +1,5 @@
 use Rattle.std.proofs.Common.{List, length}
-use Rattle.dsa_terms.specs.Logs.{Line}
+use Rattle.search_core.proofs.Words.{Line}
 use Rattle.search_core.specs.Descents.{sky_root}
 use Rattle.search_core.proofs.Gathering.{IsGathering}
 use Rattle.search_core.proofs.gather.seats.Given as goal

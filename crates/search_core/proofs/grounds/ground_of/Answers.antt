@@ -1,7 +1,6 @@
 use Rattle.std.proofs.Common.{◌+◌, arith, drop, slice_index, subst, sym}
-use Rattle.dsa_terms.proofs.Places.{in_at}
+use Rattle.search_core.proofs.Words.{in_at, next_of, none_of}
 use Rattle.search_core.specs.Levels.{AreKept}
-use Rattle.line_index.proofs.Finding.{next_of, none_of}
 use Rattle.search_core.proofs.Grounding.{bounds_low, entries_all, entries_few, entry_next, left_kept}
 use Rattle.search_core.proofs.LeftBuffers.{left_within}
 use Rattle.search_core.proofs.grounds.ground_of.Goals as goal

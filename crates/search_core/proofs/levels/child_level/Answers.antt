@@ -1,12 +1,6 @@
 use Rattle.std.proofs.Common.{◌≡◌, ◌+◌, ◌-◌, ◌<◌, ◌∙◌, ap, arith, slice_index, subst, sym}
 use Rattle.std.specs.Int.{next_multiple_of}
-use Rattle.dsa_terms.specs.Buffers.{Buffer}
-use Rattle.dsa_terms.specs.Claims.{child, step}
-use Rattle.dsa_search_laws.proofs.Claims.{claim-child}
-use Rattle.canonical_order.specs.Claims.{entry_of}
-use Rattle.canonical_order.specs.Levels.{IsLevel}
-use Rattle.canonical_order.proofs.CoverLemmas.{in_child_by}
-use Rattle.canonical_order.proofs.LevelLemmas.{has_level, level_in_range, level_inside}
+use Rattle.search_core.proofs.Words.{Buffer, child, step, claim-child, entry_of, IsLevel, in_child_by, has_level, level_in_range, level_inside}
 use Rattle.search_core.proofs.ChildLevels.{child_low, level_of_first, level_rises, level_stays, low_rises}
 use Rattle.search_core.proofs.levels.child_level.Goals as goal
 use Rattle.search_core.proofs.levels.child_level.Goals.{After-step}

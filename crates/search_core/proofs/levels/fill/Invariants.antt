@@ -1,7 +1,6 @@
 use Rattle.std.proofs.Common.{◌^◌, ℕ, ◌<◌, ◌≤◌, slice_index}
 use Rattle.std.specs.List.{AllWithin}
-use Rattle.canonical_order.specs.Levels.{IsLevel}
-use Rattle.skyline.specs.Skies.{last_claim}
+use Rattle.search_core.proofs.Words.{IsLevel, last_claim}
 use Rattle.search_core.proofs.levels.fill.Given as goal
 
 abbrev pub invariant-loop-b : goal.invariant-loop-b

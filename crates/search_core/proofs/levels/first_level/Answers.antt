@@ -1,6 +1,5 @@
 use Rattle.std.proofs.Common.{◌+◌, drop, refl, slice_index}
-use Rattle.dsa_terms.proofs.Places.{in_at}
-use Rattle.line_index.proofs.Finding.{next_of, none_of}
+use Rattle.search_core.proofs.Words.{in_at, next_of, none_of}
 use Rattle.search_core.proofs.Leading.{leads_all, leads_at_first, leads_lower, leads_still}
 use Rattle.search_core.proofs.LeftBuffers.{left_within}
 use Rattle.search_core.proofs.levels.first_level.Goals as goal

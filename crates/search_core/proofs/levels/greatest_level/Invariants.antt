@@ -1,5 +1,5 @@
-use Rattle.std.proofs.Common.{◌≤◌, ◌^◌}
-use Rattle.std.specs.List.{All, AllWithin}
+use Rattle.std.proofs.Common.{◌≤◌, ◌^◌, All}
+use Rattle.std.specs.List.{AllWithin}
 use Rattle.search_core.proofs.levels.greatest_level.Given as goal
 
 abbrev pub invariant-loop-level : goal.invariant-loop-level

@@ -1,9 +1,6 @@
 use Rattle.std.proofs.Common.{◌≡◌, ◌∙◌, ◌++◌, ◌∷◌, [], ap, arith}
-use Rattle.dsa_terms.specs.Buffers.{IsInstance}
-use Rattle.dsa_terms.specs.Logs.{claim_of}
+use Rattle.search_core.proofs.Words.{IsInstance, claim_of, line_value, OpenLog}
 use Rattle.dsa_search_laws.proofs.Logs.{covers_along}
-use Rattle.refute_log.specs.Lines.{line_value}
-use Rattle.refute_log.specs.Logs.{OpenLog}
 use Rattle.search_core.proofs.Growing.{lean_next, extends_by, covered_last}
 use Rattle.search_core.proofs.Uncovered.{covers_less, uncovered_next}
 use Rattle.search_core.proofs.lines.append.Goals as goal

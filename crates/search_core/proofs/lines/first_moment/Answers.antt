@@ -1,6 +1,5 @@
 use Rattle.std.proofs.Common.{arith, rules}
-use Rattle.dsa_terms.specs.Buffers.{IsLive}
-use Rattle.dsa_terms.proofs.Moments.{live_before, and_true}
+use Rattle.search_core.proofs.Words.{IsLive, live_before, and_true}
 use Rattle.dsa_model.proofs.Sharing.{shares_with_itself}
 use Rattle.search_core.proofs.lines.first_moment.Goals as goal
 

@@ -1,5 +1,5 @@
 use Rattle.std.proofs.Common.{◌≡◌, ◌+◌, ◌-◌, ◌≤◌, ◌^◌, ◌∙◌, inl, inr, refl, arith}
-use Rattle.dsa_terms.specs.Buffers.{buffer}
+use Rattle.search_core.proofs.Words.{buffer}
 use Rattle.search_core.proofs.TallLines.{tall_is_legal}
 use Rattle.search_core.proofs.lines.tall_line.Goals as goal
 

@@ -1,7 +1,5 @@
 use Rattle.std.proofs.Common.{Option, [], ◌-◌, IfSome, arith, length, subst}
-use Rattle.dsa_terms.proofs.Places.{in_at}
-use Rattle.canonical_order.specs.Levels.{AreLevels}
-use Rattle.skyline.specs.Skies.{last_claim}
+use Rattle.search_core.proofs.Words.{in_at, AreLevels, last_claim}
 use Rattle.search_core.specs.Descents.{IsUnder}
 use Rattle.search_core.specs.Tries.{Tried}
 use Rattle.search_core.proofs.ChildLevels.{child_under, low_child}

@@ -1,9 +1,6 @@
 use Rattle.std.proofs.Common.{◌≡◌, ◌≢◌, ◌+◌, ◌≤◌, ◌∙◌, ℕ, [], arith, length, refl}
-use Rattle.dsa_terms.specs.Logs.{claim_of}
-use Rattle.line_index.proofs.WatchLemmas.{watched_none}
+use Rattle.search_core.proofs.Words.{claim_of, watched_none, line_value, last_claim}
 use Rattle.search_core.specs.Ways.{order_of}
-use Rattle.refute_log.specs.Lines.{line_value}
-use Rattle.skyline.specs.Skies.{last_claim}
 use Rattle.search_core.proofs.Counting.{counted_one_more}
 use Rattle.search_core.proofs.Descent.{is_instance}
 use Rattle.search_core.proofs.LiftedChoices.{order_entries}

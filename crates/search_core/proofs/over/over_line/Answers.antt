@@ -1,10 +1,6 @@
 use Rattle.std.proofs.Common.{◌∙◌, sym, arith}
 use Rattle.dsa_model.proofs.Instances.{sound_buffer}
-use Rattle.dsa_terms.specs.Buffers.{buffer}
-use Rattle.dsa_terms.specs.Logs.{claim_of}
-use Rattle.dsa_terms.proofs.Moments.{live_before}
-use Rattle.refute_log.specs.Lines.{line_value}
-use Rattle.skyline.specs.Skies.{last_claim}
+use Rattle.search_core.proofs.Words.{buffer, claim_of, live_before, line_value, last_claim}
 use Rattle.search_core.proofs.FullSections.{full_is_legal, full_section, some_live}
 use Rattle.search_core.proofs.Lifting.{covers_lifted, lifted_stands}
 use Rattle.search_core.proofs.Searching.{tall_covers, tall_in_range}

@@ -1,6 +1,5 @@
 use Rattle.std.proofs.Common.{◌<◌, arith, slice_index}
-use Rattle.dsa_terms.proofs.Places.{in_at}
-use Rattle.line_index.proofs.Finding.{next_of, none_of}
+use Rattle.search_core.proofs.Words.{in_at, next_of, none_of}
 use Rattle.search_core.proofs.LeftBuffers.{left_within}
 use Rattle.search_core.proofs.TallLevels.{all_fit, first_ends, next_fits, none_at_first, none_ends}
 use Rattle.search_core.proofs.over.tall.Goals as goal

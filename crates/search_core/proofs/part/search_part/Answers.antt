@@ -1,9 +1,8 @@
 use Rattle.std.proofs.Common.{length, ap}
 use Rattle.std.proofs.lemmas.Option.{slice_get_within}
-use Rattle.dsa_terms.specs.Logs.{Log}
+use Rattle.search_core.proofs.Words.{Log, OpenLog}
 use Rattle.dsa_search_laws.proofs.PartLists.{part_rises}
 use Rattle.dsa_model.proofs.Instances.{sound_instance}
-use Rattle.refute_log.specs.Logs.{OpenLog}
 use Rattle.search_core.proofs.Counting.{counted_from_nothing}
 use Rattle.search_core.proofs.Parting.{part_in_range, refutes_part, whole_end}
 use Rattle.search_core.proofs.part.search_part.Goals as goal

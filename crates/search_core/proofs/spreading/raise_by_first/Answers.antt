@@ -1,5 +1,5 @@
 use Rattle.std.proofs.Common.{refl, subst, sym}
-use Rattle.dsa_terms.specs.Claims.{IsIn}
+use Rattle.search_core.proofs.Words.{IsIn}
 use Rattle.search_core.proofs.RaisingSteps.{raised_near, raising_sorted}
 use Rattle.search_core.proofs.spreading.raise_by_first.Goals as goal
 

@@ -1,5 +1,5 @@
 use Rattle.std.proofs.Common.{arith}
-use Rattle.canonical_order.proofs.LevelLemmas.{level_in_range}
+use Rattle.search_core.proofs.Words.{level_in_range}
 use Rattle.search_core.proofs.spreading.raise_child.Goals as goal
 
 pub sections_of-own-requires : goal.sections_of-own-requires

@@ -1,6 +1,5 @@
 use Rattle.std.proofs.Common.{inl, inr, subst, sym}
-use Rattle.dsa_terms.specs.Claims.{IsIn}
-use Rattle.line_index.proofs.Finding.{next_of}
+use Rattle.search_core.proofs.Words.{IsIn, next_of}
 use Rattle.search_core.specs.Raisings.{IsRaised}
 use Rattle.search_core.proofs.spreading.raise_each.Goals as goal
 

@@ -1,5 +1,5 @@
 use Rattle.std.proofs.Common.{ℕ, ◌⊎◌, drop}
-use Rattle.dsa_terms.specs.Claims.{IsIn}
+use Rattle.search_core.proofs.Words.{IsIn}
 use Rattle.search_core.specs.Raisings.{IsRaised, IsRaising}
 use Rattle.search_core.proofs.spreading.raise_each.Given as goal
 

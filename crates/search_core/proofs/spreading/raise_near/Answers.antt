@@ -1,7 +1,5 @@
 use Rattle.std.proofs.Common.{◌∙◌, ap, inl, inr, subst, sym}
-use Rattle.dsa_terms.specs.Claims.{IsIn}
-use Rattle.lifetime.specs.SectionList.{members_of}
-use Rattle.line_index.proofs.Finding.{next_of, none_of}
+use Rattle.search_core.proofs.Words.{IsIn, members_of, next_of, none_of}
 use Rattle.search_core.proofs.spreading.raise_near.Goals as goal
 
 pub loop-i-preserved : goal.loop-i-preserved

@@ -1,6 +1,5 @@
 use Rattle.std.proofs.Common.{ℕ, ◌⊎◌, drop}
-use Rattle.dsa_terms.specs.Claims.{IsIn}
-use Rattle.lifetime.specs.SectionList.{members_of}
+use Rattle.search_core.proofs.Words.{IsIn, members_of}
 use Rattle.search_core.specs.Raisings.{IsRaised, IsRaising}
 use Rattle.search_core.proofs.spreading.raise_near.Given as goal
 

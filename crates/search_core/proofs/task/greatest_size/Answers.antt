@@ -1,7 +1,6 @@
 use Rattle.std.proofs.Common.{rules, ◌≡◌, ◌∙◌, ◌≤◌, ◌^◌, ℕ, inl, inr, ap, arith, max, nat_cmp}
 use Rattle.std.specs.Ordering.{ord_max}
-use Rattle.dsa_terms.specs.Buffers.{Buffer, buffer}
-use Rattle.dsa_terms.proofs.NumberTests.{below_or_from}
+use Rattle.search_core.proofs.Words.{Buffer, buffer, below_or_from}
 use Rattle.search_core.proofs.task.greatest_size.Goals as goal
 
 greater : (a b : ℕ) → ord_max nat_cmp a b ≡ max a b

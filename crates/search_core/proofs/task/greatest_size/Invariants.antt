@@ -1,5 +1,5 @@
 use Rattle.std.proofs.Common.{◌^◌, ◌<◌, ◌≤◌, ℕ}
-use Rattle.dsa_terms.specs.Buffers.{buffer}
+use Rattle.search_core.proofs.Words.{buffer}
 use Rattle.search_core.proofs.task.greatest_size.Given as goal
 
 abbrev pub invariant-loop-b : goal.invariant-loop-b

@@ -1,5 +1,5 @@
 use Rattle.std.proofs.Common.{◌∙◌, length, arith, inl, inr, rules}
-use Rattle.dsa_terms.specs.Parts.{whole}
+use Rattle.search_core.proofs.Words.{whole}
 use Rattle.search_core.specs.Walks.{due_lines}
 use Rattle.search_core.proofs.Counting.{counted_along, counted_less, more_by_after}
 use Rattle.search_core.proofs.Growing.{extends_along}

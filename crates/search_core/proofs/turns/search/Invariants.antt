@@ -1,6 +1,5 @@
 use Rattle.std.proofs.Common.{◌≡◌, ◌+◌, ◌≤◌, ◌⊎◌, None, [], length}
-use Rattle.dsa_terms.specs.Parts.{whole}
-use Rattle.dsa_terms.specs.Search.{work}
+use Rattle.search_core.proofs.Words.{whole, work}
 use Rattle.search_core.specs.Descents.{IsPlace, owed, sky_root, turns_left}
 use Rattle.search_core.specs.Logs.{Extends, IsSearchLog}
 use Rattle.search_core.specs.Meters.{AreCounted, AreMore}

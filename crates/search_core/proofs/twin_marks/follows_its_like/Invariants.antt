@@ -1,5 +1,5 @@
 use Rattle.std.proofs.Common.{◌≡◌, ℕ, ◌<◌, false}
-use Rattle.dsa_terms.specs.Buffers.{buffer}
+use Rattle.search_core.proofs.Words.{buffer}
 use Rattle.prune_rules.specs.Twins.{are_alike}
 use Rattle.search_core.proofs.twin_marks.follows_its_like.Given as goal
 

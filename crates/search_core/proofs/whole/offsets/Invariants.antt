@@ -1,5 +1,5 @@
 use Rattle.std.proofs.Common.{◌≡◌, ℕ, ◌<◌, drop, length, slice_index}
-use Rattle.dsa_terms.specs.Claims.{number_of}
+use Rattle.search_core.proofs.Words.{number_of}
 use Rattle.search_core.proofs.whole.offsets.Given as goal
 
 abbrev pub invariant-loop-i : goal.invariant-loop-i

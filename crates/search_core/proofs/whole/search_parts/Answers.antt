@@ -1,5 +1,5 @@
 use Rattle.std.proofs.Common.{◌+◌, ◌∙◌, ◌≤◌, length, refl, arith}
-use Rattle.dsa_terms.specs.Parts.{whole_work}
+use Rattle.search_core.proofs.Words.{whole_work}
 use Rattle.search_core.proofs.Counting.{more_by_after}
 use Rattle.search_core.proofs.Joining.{all_joined, all_taken, all_work, is_part, joining_next, part_refuted, part_work}
 use Rattle.search_core.proofs.whole.search_parts.Goals as goal

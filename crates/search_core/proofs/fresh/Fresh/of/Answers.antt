@@ -1,4 +1,4 @@
-use Rattle.dsa_terms.specs.Buffers.{IsInstance}
+use Rattle.search_core.proofs.Words.{IsInstance}
 use Rattle.search_core.proofs.FirstChoice.{first_is, some_choice}
 use Rattle.search_core.proofs.fresh.Fresh.of.Goals as goal
 

@@ -1,5 +1,4 @@
-use Rattle.canonical_order.proofs.Entries.{stands}
-use Rattle.canonical_order.proofs.LevelLemmas.{level_in_range}
+use Rattle.search_core.proofs.Words.{stands, level_in_range}
 use Rattle.search_core.proofs.leveled.LeveledLows.instance.Goals as goal
 
 pub returns-clause-stands : goal.returns-clause-stands

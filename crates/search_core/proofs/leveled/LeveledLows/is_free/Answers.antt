@@ -1,6 +1,5 @@
 use Rattle.std.proofs.Common.{◌∙◌, arith}
-use Rattle.canonical_order.proofs.Entries.{stands}
-use Rattle.canonical_order.proofs.LevelLemmas.{has_level, level_in_range, level_inside, one_more, some_number}
+use Rattle.search_core.proofs.Words.{stands, has_level, level_in_range, level_inside, one_more, some_number}
 use Rattle.search_core.proofs.leveled.LeveledLows.is_free.Goals as goal
 
 pub returns-clause-value : goal.returns-clause-value

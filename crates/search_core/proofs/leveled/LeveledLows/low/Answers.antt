@@ -1,6 +1,5 @@
 use Rattle.std.proofs.Common.{◌^◌, arith}
-use Rattle.canonical_order.proofs.Entries.{stands, up_limit}
-use Rattle.canonical_order.proofs.LevelLemmas.{level_in_range, level_inside}
+use Rattle.search_core.proofs.Words.{stands, up_limit, level_in_range, level_inside}
 use Rattle.search_core.proofs.leveled.LeveledLows.low.Goals as goal
 
 pub returns-clause-value : goal.returns-clause-value

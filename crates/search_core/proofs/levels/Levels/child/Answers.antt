@@ -1,7 +1,5 @@
 use Rattle.std.proofs.Common.{subst, sym}
-use Rattle.dsa_terms.specs.Claims.{child}
-use Rattle.canonical_order.specs.Claims.{entry_of}
-use Rattle.canonical_order.specs.Levels.{AreLevels}
+use Rattle.search_core.proofs.Words.{child, entry_of, AreLevels}
 use Rattle.search_core.proofs.ChildLevels.{child_levels}
 use Rattle.search_core.proofs.LeftBuffers.{child_left}
 use Rattle.search_core.proofs.levels.Levels.child.Goals as goal

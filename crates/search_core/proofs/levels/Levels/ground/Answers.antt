@@ -1,5 +1,5 @@
 use Rattle.std.proofs.Common.{subst, sym}
-use Rattle.canonical_order.specs.Levels.{AreLevels}
+use Rattle.search_core.proofs.Words.{AreLevels}
 use Rattle.search_core.proofs.Grounding.{bounds_low, ground_is_lifted}
 use Rattle.search_core.proofs.levels.Levels.ground.Goals as goal
 

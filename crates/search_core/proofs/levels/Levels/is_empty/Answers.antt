@@ -1,5 +1,5 @@
 use Rattle.std.proofs.Common.{◌∙◌, sym}
-use Rattle.dsa_terms.proofs.NumberTests.{equal}
+use Rattle.search_core.proofs.Words.{equal}
 use Rattle.search_core.proofs.FirstChoice.{nothing_by_level}
 use Rattle.search_core.proofs.levels.Levels.is_empty.Goals as goal
 

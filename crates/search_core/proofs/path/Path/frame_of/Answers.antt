@@ -1,7 +1,5 @@
 use Rattle.std.proofs.Common.{◌∙◌, sym, subst}
-use Rattle.dsa_terms.specs.Buffers.{Instance}
-use Rattle.canonical_order.specs.Levels.{AreLevels}
-use Rattle.skyline.specs.Skies.{last_claim}
+use Rattle.search_core.proofs.Words.{Instance, AreLevels, last_claim}
 use Rattle.search_core.specs.declared.branches.Branches.{Branches}
 use Rattle.search_core.specs.Ways.{AreBranches}
 use Rattle.search_core.proofs.Keeping.{tries_are}

@@ -1,5 +1,5 @@
 use Rattle.std.proofs.Common.{◌∙◌, ◌++◌, ◌∷◌, [], Some}
-use Rattle.skyline.specs.Skies.{last_claim}
+use Rattle.search_core.proofs.Words.{last_claim}
 use Rattle.search_core.specs.declared.kept.Kept.{Kept}
 use Rattle.search_core.specs.Ways.{AreBranches}
 use Rattle.search_core.proofs.Going.{IsWayTo, down}

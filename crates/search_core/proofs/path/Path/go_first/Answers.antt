@@ -1,7 +1,5 @@
 use Rattle.std.proofs.Common.{◌≡◌, ◌∙◌, ◌++◌, ◌∷◌, [], None, Some, refl, subst}
-use Rattle.dsa_terms.specs.Claims.{child}
-use Rattle.canonical_order.specs.Claims.{entry_of}
-use Rattle.skyline.specs.Skies.{last_claim}
+use Rattle.search_core.proofs.Words.{child, entry_of, last_claim}
 use Rattle.search_core.specs.declared.kept.Kept.{Kept}
 use Rattle.search_core.specs.declared.notes.Notes.{Notes}
 use Rattle.search_core.specs.Fresh.{tries_at}

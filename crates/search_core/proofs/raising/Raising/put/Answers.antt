@@ -1,6 +1,5 @@
 use Rattle.std.proofs.Common.{◌≡◌, [], ◌∷◌, ap, inl, refl, subst, sym}
-use Rattle.dsa_terms.specs.Claims.{IsIn}
-use Rattle.dsa_terms.proofs.Lists.{left_append, right_append}
+use Rattle.search_core.proofs.Words.{IsIn, left_append, right_append}
 use Rattle.search_core.proofs.raising.Raising.put.Goals as goal
 use Rattle.search_core.proofs.raising.Raising.put.Goals.{else-self-level, then-self-level}
 

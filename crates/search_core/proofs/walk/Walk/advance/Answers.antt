@@ -1,6 +1,5 @@
 use Rattle.std.proofs.Common.{◌≡◌, ◌∙◌, None, arith, map, length, refl, sym, ap}
-use Rattle.dsa_terms.proofs.NumberTests.{equal}
-use Rattle.skyline.specs.Skies.{last_claim}
+use Rattle.search_core.proofs.Words.{equal, last_claim}
 use Rattle.search_core.specs.Descents.{refuted_buffer}
 use Rattle.search_core.specs.Walks.{place_of, place_on}
 use Rattle.search_core.proofs.Descent.{is_instance}

@@ -1,8 +1,5 @@
 use Rattle.std.proofs.Common.{◌≡◌, ◌∷◌, ◌++◌, [], ℕ, None, arith, refl, subst, sym}
-use Rattle.dsa_terms.specs.Claims.{child}
-use Rattle.canonical_order.specs.Claims.{entry_of}
-use Rattle.canonical_order.proofs.Entries.{in_range}
-use Rattle.skyline.specs.Skies.{last_claim}
+use Rattle.search_core.proofs.Words.{child, entry_of, in_range, last_claim}
 use Rattle.search_core.specs.Fresh.{tries_at}
 use Rattle.search_core.specs.Tries.{Tried}
 use Rattle.search_core.specs.Turns.{IsUncovered}

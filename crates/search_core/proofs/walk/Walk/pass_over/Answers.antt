@@ -1,9 +1,5 @@
 use Rattle.std.proofs.Common.{◌-◌, ◌<◌, length, sym, subst, arith}
-use Rattle.dsa_terms.specs.Claims.{child}
-use Rattle.canonical_order.specs.Claims.{entry_of}
-use Rattle.canonical_order.proofs.Entries.{in_range}
-use Rattle.skyline.specs.Skies.{last_claim}
-use Rattle.line_index.specs.Covered.{IsCoveredBy}
+use Rattle.search_core.proofs.Words.{child, entry_of, in_range, last_claim, IsCoveredBy}
 use Rattle.search_core.specs.Tries.{Tried, chosen_of}
 use Rattle.search_core.proofs.Passing.{IsPassing, passed_less, passed_one, passed_trying, some_level}
 use Rattle.search_core.proofs.Searching.{chosen_in, one_is_left}

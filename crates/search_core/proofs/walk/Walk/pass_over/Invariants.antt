@@ -1,5 +1,5 @@
 use Rattle.std.proofs.Common.{◌-◌, length}
-use Rattle.skyline.specs.Skies.{last_claim}
+use Rattle.search_core.proofs.Words.{last_claim}
 use Rattle.search_core.proofs.Passing.{IsPassing}
 use Rattle.search_core.proofs.walk.Walk.pass_over.Given as goal
 

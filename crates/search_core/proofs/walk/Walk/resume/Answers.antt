@@ -1,6 +1,5 @@
 use Rattle.std.proofs.Common.{arith}
-use Rattle.skyline.specs.Skies.{last_claim}
-use Rattle.line_index.proofs.WatchLemmas.{watched_none}
+use Rattle.search_core.proofs.Words.{last_claim, watched_none}
 use Rattle.search_core.specs.Descents.{above_of}
 use Rattle.search_core.specs.Walks.{place_of}
 use Rattle.search_core.proofs.Descending.{ahead_covered, are_raised}

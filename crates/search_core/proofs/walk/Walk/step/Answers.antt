@@ -1,7 +1,5 @@
 use Rattle.std.proofs.Common.{◌+◌, ◌≤◌, ap, arith, length}
-use Rattle.skyline.specs.Skies.{last_claim}
-use Rattle.canonical_order.specs.Stands.{Stands}
-use Rattle.line_index.specs.Watches.{AreWatched}
+use Rattle.search_core.proofs.Words.{last_claim, Stands, AreWatched}
 use Rattle.search_core.specs.Descents.{above_of, claim_at, owed, sky_root}
 use Rattle.search_core.specs.Logs.{Extends}
 use Rattle.search_core.specs.Walks.{place_of, place_on}
