@@ -33,7 +33,7 @@ module _ (lines : List Line) (before now buffers : List ℕ) where
       | inl p ↦ inr (subst (λ (b : ℕ). FailAt lines new now b (slice_index before b)) (sym p) here)
       | inr k ↦ inl k
     ]
-    | inr f ↦ inr (fail_still lines now old new b (slice_index before b) moved f)
+    | inr f ↦ inr (fail_still _ _ _ _ b _ moved f)
   ]
 
   -- where none is left and these are the buffers that rose, the watches of all fail: none of another buffer is below

@@ -12,11 +12,11 @@ module _ (I : Instance) (l : Claim) (levels : List ℕ) (h : AreLevels I l level
   meets e lt =
       let i : HasBuffer l e.0 = has_level I l levels h e.0 (omega arith) in
       covers_entry I l e i
-      (let k : slice_index levels e.0 ≡ up I (entry_of l e.0) + 1 = level_inside I l levels h e.0 i in omega arith)
+      (let k : slice_index levels e.0 ≡ up I (entry_of l e.0) + 1 = level_inside I l _ h e.0 i in omega arith)
 
   pub is_met : (e : Entry) → CoversEntry I l e → e.1 < slice_index levels e.0
   is_met e c =
       let r = from_covered I l e h.claim.rises c in
-      let k : slice_index levels e.0 ≡ up I (entry_of l e.0) + 1 = level_inside I l levels h e.0 r.0 in
+      let k : slice_index levels e.0 ≡ up I (entry_of l e.0) + 1 = level_inside I l _ h e.0 r.0 in
       let q : e.1 ≤ up I (entry_of l e.0) = r.1 in
       omega arith

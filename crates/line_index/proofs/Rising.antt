@@ -49,7 +49,7 @@ pub meets_above : (I : Instance) (l : Claim) (levels : List ℕ) (b c bound leve
 meets_above I l levels b c bound level s h ne q pos lt =
     let within : 0 < slice_index levels c = omega arith in
     let k : slice_index levels c ≡ up I (entry_of l c) + 1 =
-    level_inside I l levels h c (has_level I l levels h c within) in
+    level_inside I l _ h c (has_level I l levels h c within) in
     meets_raised I l levels b c bound s h within ne (omega arith)
 
 -- no low falls in the child
@@ -58,9 +58,9 @@ pub child_raised : (I : Instance) (l : Claim) (b : ℕ) (before now : List ℕ) 
 child_raised I l b before now s h k c lt =
     let i : HasBuffer (child I l (entry_of l b)) c = has_level I (child I l (entry_of l b)) now k c lt in
     let r = from_child I l b c i in
-    let p : slice_index before c ≡ up I (entry_of l c) + 1 = level_inside I l before h c r.0 in
+    let p : slice_index before c ≡ up I (entry_of l c) + 1 = level_inside I l _ h c r.0 in
     let q : slice_index now c ≡ up I (entry_of (child I l (entry_of l b)) c) + 1 =
-    level_inside I (child I l (entry_of l b)) now k c i in
+    level_inside I _ _ k c i in
     let m : (entry_of (child I l (entry_of l b)) c).1 ≡ max (up I (entry_of l c)) (up I (entry_of l b) + step I b c) =
     ap (λ (e : Entry). e.1) (entry_of_child I l b c h.claim.rises r.0 r.1) in
     let n : (entry_of (child I l (entry_of l b)) c).1 ≤ up I (entry_of (child I l (entry_of l b)) c) =

@@ -19,9 +19,9 @@ pub watched_none : (I : Instance) (lines : List Line) (watches : List Entry) (l 
     AreLevels I l levels → AreWatched lines watches levels (length lines) → NoneCovers I lines l
 watched_none I lines watches l levels h w k line at covers =
     let r = w.each k line (slice_get_within lines k line at) at in
-    let met : r.0.1 < slice_index levels r.0.0 = is_met I l levels h r.0 (covers r.0 r.2.among) in
+    let met : r.0.1 < slice_index levels r.0.0 = is_met I l _ h _ (covers r.0 r.2.among) in
     let le : slice_index levels r.0.0 ≤ r.0.1 = r.2.unmet (λ f i.
-    (let z : f.1 < slice_index levels f.0 = is_met I l levels h f (covers f i) in omega arith)) in
+    (let z : f.1 < slice_index levels f.0 = is_met I l _ h f (covers f i) in omega arith)) in
     absurd (omega arith)
 
 pub watched_more : (lines more : List Line) (watches : List Entry) (levels : List ℕ) (n : ℕ) →
@@ -50,7 +50,7 @@ pub covered_by_levels : (I : Instance) (l : Claim) (levels : List ℕ) (lines : 
     ((e : Entry) → IsIn e (claim_of line) → e.1 < slice_index levels e.0) → AreLevels I l levels →
     IsCoveredBy I lines l k
 covered_by_levels I l levels lines k line le at met h =
-    record { limit = le; line = line; stands = at; covers = λ e i. meets I l levels h e (met e i) }
+    record { limit = le; line = line; stands = at; covers = λ e i. meets I l _ h e (met e i) }
 
 -- ---- what a bound rules out
 pub unmet_rules_out : (above levels : List ℕ) (k : Claim) (e : Entry) → AreRaised above levels → IsUnmet k levels e →

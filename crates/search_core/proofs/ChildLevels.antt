@@ -25,9 +25,9 @@ module _ (I : Instance) (l : Claim) (levels : List ℕ) (b : ℕ) (h : AreLevels
       least ≡ slice_index levels b - 1 + step I b c → least < slice_index levels c →
       IsLevel I (child I l (entry_of l b)) c (slice_index levels c)
   level_stays c least s has lt ne q le =
-      let p : slice_index levels b ≡ up I (entry_of l b) + 1 = level_inside I l levels h b has in
+      let p : slice_index levels b ≡ up I (entry_of l b) + 1 = level_inside I l _ h b has in
       let i : HasBuffer l c = has_level I l levels h c lt in
-      let r : slice_index levels c ≡ up I (entry_of l c) + 1 = level_inside I l levels h c i in
+      let r : slice_index levels c ≡ up I (entry_of l c) + 1 = level_inside I l _ h c i in
       let m : max (up I (entry_of l c)) (up I (entry_of l b) + step I b c) ≡ up I (entry_of l c) = omega arith in
       let e = entry_of_child I l b c h.claim.rises i ne in
       let u : up I (entry_of (child I l (entry_of l b)) c) ≡ up I (entry_of l c) =
@@ -39,11 +39,11 @@ module _ (I : Instance) (l : Claim) (levels : List ℕ) (b : ℕ) (h : AreLevels
       least ≡ slice_index levels b - 1 + step I b c → slice_index levels c ≤ least →
       low ≡ next_multiple_of least (buffer I c).alignment → low ≡ up I (entry_of (child I l (entry_of l b)) c)
   low_rises c least low has lt ne q le n =
-      let p : slice_index levels b ≡ up I (entry_of l b) + 1 = level_inside I l levels h b has in
+      let p : slice_index levels b ≡ up I (entry_of l b) + 1 = level_inside I l _ h b has in
       let r : slice_index levels c ≡ up I (entry_of l c) + 1 =
-      level_inside I l levels h c (has_level I l levels h c lt) in
+      level_inside I l _ h c (has_level I l levels h c lt) in
       let m : least ≡ max (up I (entry_of l c)) (up I (entry_of l b) + step I b c) = omega arith in
-      low_of_child I l levels b c least low h lt ne m n
+      low_of_child I l _ b c least low h lt ne m n
 
   pub level_rises : (c least low : ℕ) → HasBuffer l b → 0 < slice_index levels c → c ≢ b →
       least ≡ slice_index levels b - 1 + step I b c → slice_index levels c ≤ least →
@@ -64,7 +64,7 @@ module _ (I : Instance) (l : Claim) (levels : List ℕ) (b : ℕ) (h : AreLevels
       | inl more ↦ inside c more
       | inr none ↦ (let z : slice_index levels c ≡ 0 = omega arith in record {
         inside = λ i. absurd (let q : slice_index levels c ≡ up I (entry_of l c) + 1 =
-            level_inside I l levels h c (from_child I l b c i).0 in omega arith);
+            level_inside I l _ h c (from_child I l b c i).0 in omega arith);
         outside = λ out. outside c z;
       })
     ];

@@ -43,7 +43,7 @@ module _ (I : Instance) (C : ℕ) where
   descends_still k lines after l [] (f ∷ fs) grown d = d
   descends_still k lines after l (p ∷ ps) [] grown d = d
   descends_still k lines after l (p ∷ ps) (f ∷ fs) grown d =
-      (d.0, trying_still I C p k lines after f grown d.1, descends_still k lines after p ps fs grown d.2)
+      (d.0, trying_still I C p k _ _ f grown d.1, descends_still k lines after p ps fs grown d.2)
 
   -- each claim has only buffers of the first one
   pub root_has : (lines : List Line) (l : Claim) (ps : List Claim) (fs : List Tried) (b : ℕ) →
@@ -73,11 +73,11 @@ module _ (I : Instance) (C : ℕ) where
   raised_down lines l levels (p ∷ ps) [] s d a = absurd d
   raised_down lines l levels (p ∷ ps) (f ∷ fs) s d a =
       let r : AreRaised f.levels levels =
-      child_raised I p (chosen_of f) f.levels levels s d.1.levels
+      child_raised I p (chosen_of f) _ levels s d.1.levels
       (subst (λ (k : Claim). AreLevels I k levels) d.0.is_child a) in
       All-cons (λ (f : Tried). AreRaised f.levels levels) f fs r
       (All-weaker (λ (g : Tried). AreRaised g.levels f.levels) (λ (g : Tried). AreRaised g.levels levels)
-      (λ g q. raised_trans g.levels f.levels levels q r) fs (raised_down lines p f.levels ps fs s d.2 d.1.levels))
+      (λ g q. raised_trans _ _ _ q r) fs (raised_down lines p f.levels ps fs s d.2 d.1.levels))
 
   pub are_raised : (lines : List Line) (l : Claim) (levels : List ℕ) (ps : List Claim) (frames : List Tried) →
       IsInstance I → Descends I C lines l ps (reverse frames) → AreLevels I l levels → AreRaisedFrom frames levels
@@ -92,7 +92,7 @@ module _ (I : Instance) (C : ℕ) where
   under_first lines l (p ∷ ps) f fs d = record {
     above = p;
     levels = d.1.levels;
-    has = chosen_in I C p lines f d.1 d.0.is_left;
+    has = chosen_in I C p _ f d.1 d.0.is_left;
     standing = d.0;
   }
 
@@ -233,7 +233,7 @@ module _ (I : Instance) (C : ℕ) where
     above = above;
     root = ap (root_of (claim_at here)) above;
     not_empty = λ q. has_none (chosen_of f) (subst (λ (l : Claim). HasBuffer l (chosen_of f)) q
-        (chosen_in I C (claim_at there) lines f all.1 all.0.is_left));
+        (chosen_in I C _ _ f all.1 all.0.is_left));
   }
     where
       has_none : (b : ℕ) → HasBuffer [] b → ⊥
@@ -260,7 +260,7 @@ module _ (I : Instance) (C : ℕ) where
   pub back_noted : (lines : List Line) (here there : Place) (f : Tried) (k : ℕ) → IsBack lines here there f →
       IsKnown I C lines (claim_at here) k → IsTrying I C lines (claim_at there) (noted_by f k)
   back_noted lines here there f k b known =
-      choice_refuted I C (claim_at there) lines f k b.trying b.standing.is_left
+      choice_refuted I C _ _ f k b.trying b.standing.is_left
       (subst (λ (l : Claim). IsKnown I C lines l k) b.standing.is_child known)
 
   -- and what was left to do is left to do

@@ -27,15 +27,15 @@ first_by_level I l levels b h least some = record {
     has : HasBuffer l b
     has =
         let r = some_entry l some in
-        let q = level_inside I l levels h r.0.0 (in_buffers l r.0 r.1) in
+        let q = level_inside I l _ h r.0.0 (in_buffers l r.0 r.1) in
         has_level I l levels h b (least.some r.0.0 (omega (arith, q)))
 
     before : (e : Entry) → IsIn e l → (e ≡ entry_of l b) ⊎ IsBefore I (entry_of l b) e
     before e i =
         let q : e ≡ entry_of l e.0 = is_entry l e h.claim.rises i in
         let u : up I e ≡ up I (entry_of l e.0) = ap (up I) q in
-        let p = level_inside I l levels h e.0 (in_buffers l e i) in
-        let m = level_inside I l levels h b has in
+        let p = level_inside I l _ h e.0 (in_buffers l e i) in
+        let m = level_inside I l _ h b has in
         elim (least.before e.0 (omega (arith, p))) [
           | inl lt ↦ inr (inl (omega (arith, u, p, m, lt)))
           | inr r ↦ elim (same_or_not e.0 b) [
@@ -52,7 +52,7 @@ pub nothing_by_level : (I : Instance) (l : Claim) (levels : List ℕ) (b : ℕ) 
     IsLeastLevel levels b → slice_index levels b ≡ 0 → l ≡ []
 nothing_by_level I [] levels b h least none = refl
 nothing_by_level I (x ∷ xs) levels b h least none = absurd (
-    let q = level_inside I (x ∷ xs) levels h x.0 (inl refl) in
+    let q = level_inside I _ _ h x.0 (inl refl) in
     let more = least.some x.0 (omega (arith, q)) in
     omega (arith, none, more))
 

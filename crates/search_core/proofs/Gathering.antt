@@ -40,11 +40,11 @@ module _ (I : Instance) (C : ℕ) (lines : List Line) where
   module _ (top : Claim) (before after : Way) (offsets : List ℕ) (b : ℕ) (g : IsGathering top before offsets)
       (h : IsBackBy before after b) where
     back : IsBack I C lines (place_on before None) (place_on after None) h.f
-    back = is_back_from I C lines before after None h.f g.path h.back
+    back = is_back_from I C _ _ _ None _ g.path h.back
 
     pub gathering_has : HasBuffer (last_claim after.sky.claims) b
     gathering_has = subst (HasBuffer (last_on after)) (sym h.chosen)
-        (chosen_in I C (last_on after) lines h.f back.trying back.standing.is_left)
+        (chosen_in I C _ _ _ back.trying back.standing.is_left)
 
     pub gathering_within : Stands after.sky.instance (last_claim after.sky.claims) → b < length offsets
     gathering_within s =
@@ -60,7 +60,7 @@ module _ (I : Instance) (C : ℕ) (lines : List Line) where
       path = back.path;
       root = sym back.root ∙ g.root;
       count = length-set offsets b low ∙ g.count;
-      found = layout_found I C l lines h.f (seats_by offsets (child I l (entry_of l (chosen_of h.f))))
+      found = layout_found I C l _ _ (seats_by offsets (child I l (entry_of l (chosen_of h.f))))
           (seats_by (slice_set offsets b low) l) back.trying back.standing.is_left
           (subst (λ (m : Claim). first I C m ≡ Some (seats_by offsets m)) back.standing.is_child g.found)
           (subst (λ (c : ℕ). seated I l (entry_of l c) (Some (seats_by offsets (child I l (entry_of l c))))

@@ -34,9 +34,9 @@ pub down_from : (I : Instance) (claims : List Claim) (kept : List Kept) (f : Tri
     after.claims ≡ claims ++ child I (last_claim claims) (entry_of (last_claim claims) (chosen_of f)) ∷ [] →
     IsWayTo after (kept ++ k ∷ []) (tries_of I claims (notes_of kept) ++ f ∷ [])
 down_from I claims kept f k h is taken left levels order after i q = record {
-  along = rw (i, q) (push_kept I claims kept c k h
+  along = rw (i, q) (push_kept I _ _ c k h
       (record { levels = levels; order = order; standing = standing; chosen = taken ∙ ap chosen_of is }));
-  tries = rw (i, q) (pushed_tries I claims kept c k h
+  tries = rw (i, q) (pushed_tries I _ _ c k h
       ∙ ap (λ (f : Tried). tries_of I claims (notes_of kept) ++ f ∷ []) (sym is));
 }
   where
@@ -80,12 +80,12 @@ pub popped : (sky after : Sky) (kept rest : List Kept) (k : Kept) → AreKeptAlo
     IsPopped sky after kept rest k
 popped sky after kept rest k h i q p = record {
   along = rw i along;
-  levels = rw i (last_kept sky.instance after.claims rest c k both).levels;
-  order = rw i (last_kept sky.instance after.claims rest c k both).order;
-  chosen = rw i (last_kept sky.instance after.claims rest c k both).chosen;
+  levels = rw i (last_kept _ after.claims rest c k both).levels;
+  order = rw i (last_kept _ after.claims rest c k both).order;
+  chosen = rw i (last_kept _ after.claims rest c k both).chosen;
   tries = rw i (ap (λ (cs : List Claim). tries_of sky.instance cs (notes_of kept)) q
       ∙ ap (λ (ks : List Kept). tries_of sky.instance (after.claims ++ c ∷ []) (notes_of ks)) p
-      ∙ pushed_tries sky.instance after.claims rest c k along);
+      ∙ pushed_tries _ _ _ c k along);
 }
   where
     c : Claim
@@ -96,7 +96,7 @@ popped sky after kept rest k h i q p = record {
         (subst (λ (cs : List Claim). AreKeptAlong sky.instance cs kept) q h)
 
     along : AreKeptAlong sky.instance after.claims rest
-    along = pop_kept sky.instance after.claims rest c k both
+    along = pop_kept _ after.claims rest c k both
 
 pub back : (before after : Way) (sky next : Sky) (kept rest : List Kept) (k : Kept) (f : Tried) →
     way_of sky kept ≡ before → after ≡ way_of next rest → AreKeptAlong sky.instance sky.claims kept →

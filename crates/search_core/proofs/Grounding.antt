@@ -31,7 +31,7 @@ ground_is_lifted I l levels ground k h =
     same : buffers_of ground ≡ buffers_of l
     same = rises_same (buffers_of ground) (buffers_of l) k.rises h.claim.rises (λ b. (
       (λ i. has_level I l levels h b (let q = k.each (entry_of ground b) (entry_in ground b i) in omega arith)),
-      (λ i. k.all b (let q = level_inside I l levels h b i in omega arith)),
+      (λ i. k.all b (let q = level_inside I l _ h b i in omega arith)),
     ))
 
     lows : (e : Entry) → IsIn e (lifted I l) → e.1 ≡ slice_index levels e.0 - 1
@@ -42,7 +42,7 @@ ground_is_lifted I l levels ground k h =
         let u : e.1 ≡ up I f = ap (λ (e : Entry). e.1) r.2 in
         let v : up I f ≡ up I (entry_of l f.0) = ap (up I) (is_entry l f h.claim.rises r.1) in
         let q : slice_index levels f.0 ≡ up I (entry_of l f.0) + 1 =
-        level_inside I l levels h f.0 (in_buffers l f r.1) in
+        level_inside I l _ h f.0 (in_buffers l f r.1) in
         let m : slice_index levels e.0 ≡ slice_index levels f.0 = ap (slice_index levels) n in
         omega arith
 

@@ -66,11 +66,11 @@ child_left I levels numbers left others b low a sw count outside done = record {
   some = λ c i.
       let ne = other c i in
       let m = a.some c (has_in c left (sym (sw.others c ne) ∙ in_has c others i)) in
-      let k = level_inside I M numbers are c (in_child_by I l b c (has_level I l levels low.are c m) ne) in
+      let k = level_inside I M _ are c (in_child_by I l b c (has_level I l levels low.are c m) ne) in
       omega (arith, k);
   all = λ c more.
       let r = from_child I l b c (has_level I M numbers are c more) in
-      let k = level_inside I l levels low.are c r.0 in
+      let k = level_inside I l _ low.are c r.0 in
       has_in c others (sw.others c r.1 ∙ in_has c left (a.all c (omega (arith, k))));
 }
   where
@@ -81,7 +81,7 @@ child_left I levels numbers left others b low a sw count outside done = record {
     M = child I l (entry_of l b)
 
     are : AreLevels I M numbers
-    are = child_levels I l levels b low.are numbers count outside (λ c more. done c more l low.are)
+    are = child_levels I l _ b low.are numbers count outside (λ c more. done c more l low.are)
 
     other : (c : ℕ) → IsIn c others → c ≢ b
     other c i q =

@@ -153,5 +153,5 @@ lifted_stands I l s low = record {
 pub lifted_extends : (I : Instance) (l : Claim) (before after : List Line) → Extends (lifted I l) before after →
     Extends l before after
 lifted_extends I l before after grown =
-    extends_along (lifted I l) l before before after (λ b h. subst (IsIn b) (buffers_of-lifted I l) h)
+    extends_along _ l _ _ _ (λ b h. subst (IsIn b) (buffers_of-lifted I l) h)
     (extends_none l before) grown

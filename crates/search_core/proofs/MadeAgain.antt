@@ -35,7 +35,7 @@ is_above I claims kept frames k levels above h same some last is same_levels cho
       f = tried_of I l k.notes;
       last = ap (slice_get tries) at ∙ tries_get I claims kept i k (omega arith) (let n = h.count in omega arith)
           ∙ ap (λ (k : Kept). Some (tried_of I l k.notes)) (sym last);
-      levels = same_levels ∙ levels_are I l levels are;
+      levels = same_levels ∙ levels_are I l _ are;
       chosen = chosen ∙ own.chosen;
     })
   where
@@ -104,7 +104,7 @@ pub next_made : (I : Instance) (claims : List Claim) (before kept : List Kept) (
     AreLevels I (claim_no claims (i + 1)) next →
     IsMakingAgain I claims before (slice_set kept i k) (i + 1) next
 next_made I claims before kept i levels next k old m n lt is e are = record {
-  along = set_kept I claims kept i k old lt is (ap (λ (k : Kept). k.notes) e) (ap (λ (k : Kept). k.chosen) e)
+  along = set_kept I _ _ i k old lt is (ap (λ (k : Kept). k.notes) e) (ap (λ (k : Kept). k.chosen) e)
       (subst (λ (k : Kept). IfSome k.levels (AreLevels I (claim_no claims i))) (sym e) m.are)
       (ap (λ (k : Kept). k.order) e) m.along;
   notes = set_notes kept i k old lt is (ap (λ (k : Kept). k.notes) e) ∙ m.notes;

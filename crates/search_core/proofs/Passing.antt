@@ -30,11 +30,11 @@ module _ (I : Instance) (C : ℕ) (l : Claim) (log : OpenLog) (f : Tried) (k : �
     (h : IsSearchLog I C log) (t : IsTrying I C log.lines l f) (lt : IsLeft f)
     (c : IsCoveredBy I log.lines (child I l (entry_of l (chosen_of f))) k) where
   none_there : first I C (child I l (entry_of l (chosen_of f))) ≡ None
-  none_there = none_where_covered I C (child I l (entry_of l (chosen_of f))) log k (is_instance I l s)
+  none_there = none_where_covered I C _ _ k (is_instance I l s)
       (claim-child I l (entry_of l (chosen_of f)) s.claim) h c
 
   pub passed_trying : IsTrying I C log.lines l (noted_by f k)
-  passed_trying = choice_refuted I C l log.lines f k t lt (record { none = none_there; covered = c })
+  passed_trying = choice_refuted I C l _ f k t lt (record { none = none_there; covered = c })
 
   pub passed_less : left_below I C l (noted_by f k) ≤ left_below I C l f
   passed_less =

@@ -43,7 +43,7 @@ log_at_2 : IsPiece lone 2 (0 ∷ []) (piece.Refuted refutation)
 log_at_2 = (not_seated_at_2, refuted_at_2)
 
 no_log_at_3 : (log : Log) → IsPiece lone 3 (0 ∷ []) (piece.Refuted log) → ⊥
-no_log_at_3 log h = none_at_3 log h.1
+no_log_at_3 log h = none_at_3 _ h.1
 
 -- the log is one at 2
 another_log_at_1 : IsPiece lone 1 (0 ∷ []) (piece.Refuted refutation) → ⊥
@@ -88,7 +88,7 @@ decided_at_2 : IsDecided lone 2 (decided.Refuted refutation)
 decided_at_2 = (not_found_at_2, refuted_at_2)
 
 not_refuted_at_3 : (log : Log) → IsDecided lone 3 (decided.Refuted log) → ⊥
-not_refuted_at_3 log h = none_at_3 log h.1
+not_refuted_at_3 log h = none_at_3 _ h.1
 
 not_decided_once_spent : IsDecided lone 3 decided.Spent
 not_decided_once_spent = tt

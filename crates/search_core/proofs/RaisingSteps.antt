@@ -123,7 +123,7 @@ raised_near I S levels b r s low p first h near own c = elim (h.each c) [
           | inl t ↦ (let w = (shared_sections I S p b c bn cn).0 t in
               near w.0 c w.1 ((listed_in I S p w.0 c cn (section_in_range I S p w.0 b bn w.1)).0 w.2) more l a)
           | inr f ↦ subst (IsLevel I (child I l (entry_of l b)) c) (sym same)
-              (level_stays I l levels b a c (slice_index levels b - 1 + step I b c) s (has_level I l levels a b some)
+              (level_stays I l _ b a c (slice_index levels b - 1 + step I b c) s (has_level I l levels a b some)
               more ne refl
               (unshared_above I b c (slice_index levels b) (slice_index levels c) f (first.before c more) some))
         ]
@@ -164,13 +164,13 @@ module _ (I : Instance) (levels : List ℕ) (b c : ℕ) (r : Raising) (h : IsRai
       reach ≤ slice_index r.numbers.items c → IsRaised I levels b r.numbers.items c
   raised_high reach s low q le = elim (h.each c) [
     | inl same ↦ λ more l a. subst (IsLevel I (child I l (entry_of l b)) c) (sym same)
-        (level_stays I l levels b a c (slice_index levels b - 1 + step I b c) s (has_level I l levels a b some) more
+        (level_stays I l _ b a c (slice_index levels b - 1 + step I b c) s (has_level I l levels a b some) more
         (other same) refl (let k = step_within I b c s in omega (arith, k, q, le, same, some)))
     | inr done ↦ done
   ]
     where
       some : 0 < slice_index levels b
-      some = let p = level_inside I low.above levels low.are b low.has in omega (arith, p)
+      some = let p = level_inside I _ _ low.are b low.has in omega (arith, p)
 
       other : slice_index r.numbers.items c ≡ slice_index levels c → c ≢ b
       other same e = let p = ap (slice_index levels) e in let n = (sound I b s).0 in omega (arith, p, n, q, le, same)

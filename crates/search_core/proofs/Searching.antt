@@ -146,7 +146,7 @@ module _ (I : Instance) (C : ℕ) (l : Claim) where
   trying_still k lines after f grown t = record {
     order = t.order;
     noted = t.noted;
-    covered = λ r i. covered_still I k (child I l (entry_of l r.buffer)) r.line lines after grown (t.covered r i);
+    covered = λ r i. covered_still I k _ _ _ _ grown (t.covered r i);
     left = t.left;
     levels = t.levels;
   }

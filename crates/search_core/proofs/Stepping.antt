@@ -16,8 +16,8 @@ use Rattle.search_core.proofs.Working.{some_work}
 pub grown_below : (I : Instance) (C : ℕ) (lines after : List Line) (here : Place) → IsPath I C lines here →
     Extends (claim_at here) lines after → Extends (sky_root here.sky) lines after
 grown_below I C lines after here p grown =
-    extends_along (claim_at here) (sky_root here.sky) lines lines after
-    (λ b h. root_has I C lines (claim_at here) (above_of here.sky.claims) (reverse here.frames) b p.descends h)
+    extends_along _ _ _ _ _
+    (λ b h. root_has I C _ _ _ _ b p.descends h)
     (extends_none (sky_root here.sky) lines) grown
 
 module _ (I : Instance) (C : ℕ) (lines : List Line) (here : Place) (p : IsPlace I C lines here) where
@@ -37,7 +37,7 @@ module _ (I : Instance) (C : ℕ) (lines : List Line) (here : Place) (p : IsPlac
       + left_of I C (claim_at here) (above_of here.sky.claims) (reverse here.frames)) e
 
   pub some_owed : here.line ≡ None → IsClaim I (claim_at here) → 1 ≤ owed I C here
-  some_owed e c = let w = some_work I C (claim_at here) c in let o = none_known e in omega arith
+  some_owed e c = let w = some_work I C _ c in let o = none_known e in omega arith
 
   turns_of : (o : Option ℕ) → here.line ≡ o →
       turns_left I C here ≡ 2 * owed I C here + length here.frames + cond (is_some o) 1 0
@@ -61,14 +61,14 @@ module _ (I : Instance) (C : ℕ) (lines : List Line) (here : Place) (p : IsPlac
   }
     where
       old : owed I C here ≡ debt_of I C popped (noted_by f k)
-      old = back_debt I C lines here popped f k b (known_line k e) e parted
+      old = back_debt I C _ _ _ f k b (known_line k e) e parted
 
   -- the last claim was opened, and a line covers it
   pub on_line : (after : List Line) (k : ℕ) (before used : Units) → here.line ≡ None → IsClaim I (claim_at here) →
       Extends (claim_at here) lines after → IsKnown I C after (claim_at here) k → used.used ≤ before.used + 1 →
       IsOn I C after (record { place = here; units = before }) (record { place = with_line here k; units = used })
   on_line after k before used e c grown known one = record {
-    place = place_with_line I C (claim_at here) lines after here k grown p.path known;
+    place = place_with_line I C _ _ _ _ k grown p.path known;
     root = refl;
     units = omega (arith, old, one, w);
     fewer =
@@ -77,7 +77,7 @@ module _ (I : Instance) (C : ℕ) (lines : List Line) (here : Place) (p : IsPlac
   }
     where
       w : 1 ≤ work I C (claim_at here)
-      w = some_work I C (claim_at here) c
+      w = some_work I C _ c
 
       old : owed I C here ≡ work I C (claim_at here)
           + left_of I C (claim_at here) (above_of here.sky.claims) (reverse here.frames)
@@ -101,4 +101,4 @@ pub is_back_from : (I : Instance) (C : ℕ) (lines : List Line) (before after : 
     IsPath I C lines (place_on before line) → IsBackFrom before after f →
     IsBack I C lines (place_on before line) (place_on after line) f
 is_back_from I C lines before after line f p b =
-    is_back I C lines (place_on before line) (place_on after line) f p b.frames b.instance b.claims
+    is_back I C _ _ (place_on after line) f p b.frames b.instance b.claims

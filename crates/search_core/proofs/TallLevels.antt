@@ -19,7 +19,7 @@ module _ (I : Instance) (C : ℕ) (l : Claim) (levels : List ℕ) (h : AreLevels
       None ≡ least_buffer (is_tall I C) l
   all_fit top most under sizes fits = none_passes_all (is_tall I C) l (length I) h.claim.in_range (λ e i lt.
       let q : up I e ≡ up I (entry_of l e.0) = ap (up I) (is_entry l e h.claim.rises i) in
-      let p = level_inside I l levels h e.0 (in_buffers l e i) in
+      let p = level_inside I l _ h e.0 (in_buffers l e i) in
       let u = under_each levels top under e.0 in
       let s = sizes e.0 lt in
       fits_is e (omega (arith, q, p, u, s, fits)))
@@ -33,7 +33,7 @@ module _ (I : Instance) (C : ℕ) (levels : List ℕ) where
   pub none_at_first : (left : List ℕ) → AreLeft levels left → NoneAmong I C levels left
   none_at_first left a = record {
     rises = a.rises;
-    none = λ l h e i. inl (a.all e.0 (let p = level_inside I l levels h e.0 (in_buffers l e i) in omega (arith, p)));
+    none = λ l h e i. inl (a.all e.0 (let p = level_inside I l _ h e.0 (in_buffers l e i) in omega (arith, p)));
   }
 
   module _ (rest more : List ℕ) (b level : ℕ) (q : rest ≡ b ∷ more) (is : level ≡ slice_index levels b)
@@ -51,7 +51,7 @@ module _ (I : Instance) (C : ℕ) (levels : List ℕ) where
         here : (l : Claim) → AreLevels I l levels → (e : Entry) → IsIn e l → e.0 ≡ b → is_tall I C e ≡ false
         here l a e i p =
             let u : up I e ≡ up I (entry_of l e.0) = ap (up I) (is_entry l e a.claim.rises i) in
-            let m = level_inside I l levels a e.0 (in_buffers l e i) in
+            let m = level_inside I l _ a e.0 (in_buffers l e i) in
             let z : slice_index levels e.0 ≡ slice_index levels b = ap (slice_index levels) p in
             let s : (buffer I e.0).size ≡ (buffer I b).size = ap (λ (n : ℕ). (buffer I n).size) p in
             fits_is I C l levels a e (omega (arith, u, m, z, s, is, fits))
@@ -64,7 +64,7 @@ module _ (I : Instance) (C : ℕ) (levels : List ℕ) where
         let rising = subst (λ (bs : List ℕ). Rises bs) q h.rises in
         first_passes (is_tall I C) l b a.claim.rises has
         (ends_is I C l levels a (entry_of l b)
-        (let p = level_inside I l levels a b has in omega (arith, p, is, ends)))
+        (let p = level_inside I l _ a b has in omega (arith, p, is, ends)))
         (λ e i lt. elim (h.none l a e i) [
           | inl j ↦ absurd (elim (subst (IsIn e.0) q j) [
             | inl p ↦ omega (arith, p, lt)

@@ -17,7 +17,7 @@ all_watched_more l lines after watches frames grown =
     All-weaker (λ (f : Tried). AreWatched lines watches f.levels f.asked)
     (λ (f : Tried). AreWatched after watches f.levels f.asked)
     (λ f w. subst (λ (xs : List Line). AreWatched xs watches f.levels f.asked) (sym grown.is)
-    (watched_more lines grown.more watches f.levels f.asked w)) frames
+    (watched_more _ grown.more _ _ _ w)) frames
 
 -- and so do watches that move, where each claim above keeps what is watched there
 pub all_watched_still : (lines : List Line) (before after : List Entry) (levels : List ℕ) (frames : List Tried) →

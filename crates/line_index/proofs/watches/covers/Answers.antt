@@ -19,8 +19,8 @@ lacked c = subst (λ (k : Claim). IsLacked k c.args.levels.now (c.in-Lacks.b, c.
     c.in-Lacks.ensures
 
 pub returns-in-Covers-clause-covered : goal.returns-in-Covers-clause-covered
-returns-in-Covers-clause-covered c = λ I l h is.
-    covered_by_levels I l c.args.levels.now c.args.log.now.lines c.args.k (line_value c.line.result.now)
+returns-in-Covers-clause-covered c = λ I l h is. covered_by_levels I l _ c.args.log.now.lines c.args.k
+    (line_value c.line.result.now)
     (let v = c.len-count.ensures.value in let n = c.len-count.ensures.limit in let t = c.requires.in_log in omega arith)
     c.line.ensures.value
     (subst (λ (k : Claim). (e : Entry) → IsIn e k → e.1 < slice_index c.args.levels.now e.0) c.claim-claim.ensures
@@ -34,9 +34,8 @@ returns-in_ok-file-in-Unmet-clause-watched c = λ is.
     let e : Entry = (c.in-Unmet.b, c.in-Unmet.bound) in
     let line = line_value c.line.result.now in
     subst (λ (ws : List Entry). IsWatched lines ws levels c.args.k) (sym c.in_ok-file-in-Unmet.ensures.watches)
-    (watched_by lines levels (slice_set old c.args.k e) c.args.k line e c.line.ensures.value
-    (get_set_same old c.args.k e c.requires.in_table)
-    (unmet_rules_out levels levels (claim_of line) e (raised_refl levels)
+    (watched_by lines _ (slice_set old c.args.k e) c.args.k line e c.line.ensures.value
+    (get_set_same old c.args.k e c.requires.in_table) (unmet_rules_out _ _ _ e (raised_refl levels)
     (unmet (goal.at.returns-in_ok-file-in-Unmet-clause-watched c).In-Unmet)))
 
 pub returns-in_ok-file-in-Unmet-clause-moved : goal.returns-in_ok-file-in-Unmet-clause-moved
@@ -46,9 +45,8 @@ returns-in_ok-file-in-Unmet-clause-moved c =
     let old = c.args.table.now.watches in
     let e : Entry = (c.in-Unmet.b, c.in-Unmet.bound) in
     subst (AreOwnMoved lines levels old) (sym c.in_ok-file-in-Unmet.ensures.watches)
-    (own_of_moved lines levels old (slice_set old c.args.k e) (moved_set lines levels old c.args.k
-    (line_value c.line.result.now) e c.line.ensures.value c.requires.in_table
-    (unmet (goal.at.returns-in_ok-file-in-Unmet-clause-moved c).In-Unmet)))
+    (own_of_moved _ _ _ _ (moved_set lines _ old c.args.k (line_value c.line.result.now) e c.line.ensures.value
+    c.requires.in_table (unmet (goal.at.returns-in_ok-file-in-Unmet-clause-moved c).In-Unmet)))
 
 pub returns-in_ok-file-in-Lacks-clause-watched : goal.returns-in_ok-file-in-Lacks-clause-watched
 returns-in_ok-file-in-Lacks-clause-watched c = λ is.
@@ -59,8 +57,8 @@ returns-in_ok-file-in-Lacks-clause-watched c = λ is.
     let line = line_value c.line.result.now in
     let f = lacked (goal.at.returns-in_ok-file-in-Lacks-clause-watched c).In-Lacks in
     subst (λ (ws : List Entry). IsWatched lines ws levels c.args.k) (sym c.in_ok-file-in-Lacks.ensures.watches)
-    (watched_by lines levels (slice_set old c.args.k e) c.args.k line e c.line.ensures.value
-    (get_set_same old c.args.k e c.requires.in_table) (lacked_rules_out levels (claim_of line) e e f f.among))
+    (watched_by lines _ (slice_set old c.args.k e) c.args.k line e c.line.ensures.value
+    (get_set_same old c.args.k e c.requires.in_table) (lacked_rules_out _ _ e e f f.among))
 
 pub returns-in_ok-file-in-Lacks-clause-moved : goal.returns-in_ok-file-in-Lacks-clause-moved
 returns-in_ok-file-in-Lacks-clause-moved c =
@@ -76,10 +74,8 @@ returns-in_ok-file-in-Lacks-clause-moved c =
 pub returns-else-not-has-clause-watched : goal.returns-else-not-has-clause-watched
 returns-else-not-has-clause-watched c = λ is.
     let lines = c.args.log.now.lines in
-    let levels = c.args.levels.now in
     let line = line_value c.line.result.now in
     let watch = c.watch-watch.result in
-    watched_by lines levels c.args.table.now.watches c.args.k line watch c.line.ensures.value c.watch-watch.ensures
-    (lacked_rules_out levels (claim_of line) watch (c.in-Lacks.b, c.in-Lacks.bound)
-    (lacked (goal.at.returns-else-not-has-clause-watched c).In-Lacks)
+    watched_by lines _ c.args.table.now.watches c.args.k line _ c.line.ensures.value c.watch-watch.ensures
+    (lacked_rules_out _ _ watch _ (lacked (goal.at.returns-else-not-has-clause-watched c).In-Lacks)
     (subst (IsIn watch) c.claim-claim.ensures (c.if-not-has.ensures.0 refl)))

@@ -13,13 +13,11 @@ loop-i-preserved-then-mark-high c =
     let after = c.try_mark.new.table in
     let found = c.in_ok-found.ensures in
     record {
-      moved = moved_trans lines c.args.now.now c.args.table.now.watches before.watches after.watches
-          c.loop-i.invariant.moved found.moved;
+      moved = moved_trans _ _ _ _ _ c.loop-i.invariant.moved found.moved;
       within = length_of_taken (row_at before.rows c.args.b) (row_at after.rows c.args.b) (c.loop-i.i - 1)
           (let w = c.loop-i.invariant.within in omega arith) found.before;
-      seen = fail_or_before lines before.watches after.watches before.rows after.rows c.args.now.now c.args.b c.args.low
-          c.loop-i.i (c.loop-i.i - 1) c.mark-mark.result (omega arith) c.mark-mark.ensures found.moved found.before
-          (λ from below. from_none c.in_ok-found.found (sym c.if-is_some.ensures)
+      seen = fail_or_before _ _ _ _ after.rows _ _ _ _ (c.loop-i.i - 1) c.mark-mark.result (omega arith)
+          c.mark-mark.ensures found.moved found.before (λ from below. from_none _ (sym c.if-is_some.ensures)
           (found.none c.mark-mark.result c.mark-mark.ensures)) c.loop-i.invariant.seen;
     }
 
@@ -30,9 +28,8 @@ loop-i-preserved c =
     record {
       moved = c.loop-i.invariant.moved;
       within = (let w = c.loop-i.invariant.within in omega arith);
-      seen = fail_or_before lines table.watches table.watches table.rows table.rows c.args.now.now c.args.b c.args.low
-          c.loop-i.i (c.loop-i.i - 1) c.mark-mark.result (omega arith) c.mark-mark.ensures
-          (moved_refl lines c.args.now.now table.watches) refl
+      seen = fail_or_before _ _ _ _ table.rows _ _ _ _ (c.loop-i.i - 1) c.mark-mark.result (omega arith)
+          c.mark-mark.ensures (moved_refl lines c.args.now.now table.watches) refl
           (λ from below. absurd (elim c.else-low-mark.branch [
             | else-low-mark-via-then-low-mark+else-mark-high w ↦
                 (let high = c.level_at-high.ensures.value in let t = w.if-mark-high.false in omega arith)

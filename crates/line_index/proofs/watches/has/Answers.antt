@@ -8,5 +8,5 @@ returns-in-Some c = has_bound c.args.claim.now c.args.pair c.in-Some.bound c.in-
 pub returns-in-None : goal.returns-in-None
 returns-in-None c = (
   λ t. absurd cc,
-  λ i. absurd (has_none c.args.claim.now c.args.pair c.in-None.ensures.value i),
+  λ i. absurd (has_none _ _ c.in-None.ensures.value i),
 )

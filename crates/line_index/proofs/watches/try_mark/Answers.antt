@@ -19,31 +19,29 @@ in_table : (c : In_ok-file-in-Unmet) → c.mark-mark.result.line < length c.args
 in_table c = (let v = c.len-else-k-len.ensures in let t = c.if-k-len-2.false in omega arith)
 
 unwatched : (c : In_ok-file-in-Unmet) → IsUnwatched c.file.new.self c.args.b c.args.i
-unwatched c = moved_away c.args.table.now.watches c.file.new.self.watches c.args.table.now.rows c.file.new.self.rows
-    c.args.now.now (claim_of (line_value c.line.result.now)) c.args.b c.args.i c.mark-mark.result
-    (c.in-Unmet.c, c.in-Unmet.bound) c.mark-mark.ensures c.requires.in_row c.in_ok-file-in-Unmet.ensures.rows
-    c.in_ok-file-in-Unmet.ensures.watches (in_table c) (unmet c) (c.requires.met c.mark-mark.result c.mark-mark.ensures)
+unwatched c = moved_away c.args.table.now.watches c.file.new.self.watches _ _ _ _ c.args.b c.args.i c.mark-mark.result _
+    c.mark-mark.ensures c.requires.in_row c.in_ok-file-in-Unmet.ensures.rows c.in_ok-file-in-Unmet.ensures.watches
+    (in_table c) (unmet c) (c.requires.met c.mark-mark.result c.mark-mark.ensures)
 
 pub take-requires-in-Unmet-clause-in_row : goal.take-requires-in-Unmet-clause-in_row
-take-requires-in-Unmet-clause-in_row c = longer_row c.args.table.now.rows c.file.new.self.rows c.args.b c.args.i
-    c.in_ok-file-in-Unmet.ensures.rows c.requires.in_row
+take-requires-in-Unmet-clause-in_row c = longer_row _ _ c.args.b c.args.i c.in_ok-file-in-Unmet.ensures.rows
+    c.requires.in_row
 
 pub take-requires-in-Unmet-clause-unwatched : goal.take-requires-in-Unmet-clause-unwatched
 take-requires-in-Unmet-clause-unwatched c =
     unwatched (goal.at.take-requires-in-Unmet-clause-unwatched c).In_ok-file-in-Unmet
 
 pub returns-in-Covers-clause-some : goal.returns-in-Covers-clause-some
-returns-in-Covers-clause-some c = λ I l h.
-    covered_by_levels I l c.args.now.now c.args.log.now.lines c.mark-mark.result.line (line_value c.line.result.now)
-    (let v = c.len.ensures.limit in let t = c.if-k-len.false in omega arith) c.line.ensures.value
+returns-in-Covers-clause-some c = λ I l h. covered_by_levels I l _ c.args.log.now.lines c.mark-mark.result.line
+    (line_value c.line.result.now) (let v = c.len.ensures.limit in let t = c.if-k-len.false in omega arith)
+    c.line.ensures.value
     (subst (λ (k : Claim). (e : Entry) → IsIn e k → e.1 < slice_index c.args.now.now e.0) c.claim.ensures
     c.in-Covers.ensures) h
 
 pub returns-in_ok-file-in-Unmet-clause-none : goal.returns-in_ok-file-in-Unmet-clause-none
 returns-in_ok-file-in-Unmet-clause-none c = λ m at line stands is.
     absurd (unwatched (goal.at.returns-in_ok-file-in-Unmet-clause-none c).In_ok-file-in-Unmet m
-    (appended_get c.args.table.now.rows c.file.new.self.rows c.args.b c.args.i c.in_ok-file-in-Unmet.ensures.rows
-    c.requires.in_row ∙ at)
+    (appended_get _ _ c.args.b c.args.i c.in_ok-file-in-Unmet.ensures.rows c.requires.in_row ∙ at)
     (ap (λ (xs : List Entry). slice_get xs m.line) (sym c.take-in-Unmet.ensures.watches) ∙ is))
 
 pub returns-in_ok-file-in-Unmet-clause-moved : goal.returns-in_ok-file-in-Unmet-clause-moved
@@ -51,13 +49,12 @@ returns-in_ok-file-in-Unmet-clause-moved c =
     let k = (goal.at.returns-in_ok-file-in-Unmet-clause-moved c).In_ok-file-in-Unmet in
     subst (AreMoved c.args.log.now.lines c.args.now.now c.args.table.now.watches)
     (sym (c.take-in-Unmet.ensures.watches ∙ c.in_ok-file-in-Unmet.ensures.watches))
-    (moved_set c.args.log.now.lines c.args.now.now c.args.table.now.watches c.mark-mark.result.line
-    (line_value c.line.result.now) (c.in-Unmet.c, c.in-Unmet.bound) c.line.ensures.value
-    (in_table k) (unmet k))
+    (moved_set c.args.log.now.lines _ c.args.table.now.watches c.mark-mark.result.line (line_value c.line.result.now) _
+    c.line.ensures.value (in_table k) (unmet k))
 
 pub returns-in_ok-file-in-Unmet-clause-before : goal.returns-in_ok-file-in-Unmet-clause-before
-returns-in_ok-file-in-Unmet-clause-before c = c.take-in-Unmet.ensures.before ∙ appended_take c.args.table.now.rows
-    c.file.new.self.rows c.args.b c.args.i c.in_ok-file-in-Unmet.ensures.rows c.requires.in_row
+returns-in_ok-file-in-Unmet-clause-before c = c.take-in-Unmet.ensures.before ∙ appended_take _ _ c.args.b c.args.i
+    c.in_ok-file-in-Unmet.ensures.rows c.requires.in_row
 
 pub returns-in-Lacks-clause-none : goal.returns-in-Lacks-clause-none
 returns-in-Lacks-clause-none c = λ m at line stands is.

@@ -43,8 +43,7 @@ loop-i-preserved c =
     let j = c.loop-i.i - 1 in
     let lt : j < length items = omega arith in
     let m : c.loop-i.i ≡ j + 1 = omega arith in
-    c.loop-i.invariant ∙ keys_exclude_at I l items c.loop-i.i j m lt _
-    refl (sym c.takes.ensures ∙ c.if-takes.false)
+    c.loop-i.invariant ∙ keys_exclude_at I l items c.loop-i.i j m lt _ refl (sym c.takes.ensures ∙ c.if-takes.false)
 
 pub returns : goal.returns
 returns c =

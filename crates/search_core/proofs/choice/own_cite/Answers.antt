@@ -12,14 +12,13 @@ returns-then-least-low-clause-legal g c =
     let v = c.low.ensures.value in
     let t = c.if-least-low.true in
     let k = c.low.ensures.limit in
-    least_is_below I l c.args.least c.args.b c.low.ensures.stands c.requires.b_in c.requires.least (omega arith)
-    (omega arith)
+    least_is_below I l _ _ c.low.ensures.stands c.requires.b_in c.requires.least (omega arith) (omega arith)
 
 pub returns-then-least-low-clause-none : goal.returns-then-least-low-clause-none
 returns-then-least-low-clause-none g c =
     let l = g.L.Lows.claim c.args.lows.now in
     let r = returns-then-least-low-clause-legal g c in
-    below_excludes (g.L.Lows.subject c.args.lows.now) l (entry_of l c.args.b) r.0 r.1 r.3
+    below_excludes (g.L.Lows.subject c.args.lows.now) l (entry_of l c.args.b) _ r.1 r.3
 
 pub returns-in-Some-clause-legal : goal.returns-in-Some-clause-legal
 returns-in-Some-clause-legal g c =
@@ -35,9 +34,8 @@ returns-in-Some-clause-none g c =
     let r = least_passes (λ f. is_twin I f e) l c.in-Some.c c.in-Some.ensures.value in
     let v = c.low.ensures.value in
     let t = c.if-least-low.false in
-    twin_excludes I l e r.0
-    (none_is_below I l c.args.least c.args.b c.low.ensures.stands c.requires.b_in c.requires.least (omega arith)) r.1
-    r.3
+    twin_excludes I l e _ (none_is_below I l _ _ c.low.ensures.stands c.requires.b_in c.requires.least (omega arith))
+    r.1 r.3
 
 pub returns-in-None-clause-none : goal.returns-in-None-clause-none
 returns-in-None-clause-none g c =
@@ -46,8 +44,7 @@ returns-in-None-clause-none g c =
     let e = entry_of l c.args.b in
     let v = c.low.ensures.value in
     let t = c.if-least-low.false in
-    no_rule_excludes I l e
-    (none_is_below I l c.args.least c.args.b c.low.ensures.stands c.requires.b_in c.requires.least (omega arith))
+    no_rule_excludes I l e (none_is_below I l _ _ c.low.ensures.stands c.requires.b_in c.requires.least (omega arith))
     (none_least (λ f. is_twin I f e) l c.in-None.ensures.value)
 
 pub returns-then-not-may_have-clause-none : goal.returns-then-not-may_have-clause-none
@@ -57,6 +54,5 @@ returns-then-not-may_have-clause-none g c =
     let e = entry_of l c.args.b in
     let v = c.low.ensures.value in
     let t = c.if-least-low.false in
-    no_rule_excludes I l e
-    (none_is_below I l c.args.least c.args.b c.low.ensures.stands c.requires.b_in c.requires.least (omega arith))
-    (no_twin I l c.args.b e refl (c.requires.twins c.args.b (sym c.may_have.ensures ∙ c.if-not-may_have.true)))
+    no_rule_excludes I l e (none_is_below I l _ _ c.low.ensures.stands c.requires.b_in c.requires.least (omega arith))
+    (no_twin I l _ e refl (c.requires.twins c.args.b (sym c.may_have.ensures ∙ c.if-not-may_have.true)))

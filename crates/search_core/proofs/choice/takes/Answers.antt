@@ -15,9 +15,9 @@ returns-then-least-low c =
     let v : up I (entry_of l x.0) ≡ x.1 = ap (up I) (sym is) ∙ u in
     let low = s.bounds x c.requires.pair_in in
     let t = c.if-least-low.true in
-    let r = least_is_below I l c.args.least x.0 s (in_buffers l x c.requires.pair_in) c.requires.least
+    let r = least_is_below I l _ _ s (in_buffers l x c.requires.pair_in) c.requires.least
     (omega (arith, t, v)) (omega (arith, low, v)) in
-    sym (below_excludes I l x r.0 r.1 (subst (λ (e : Entry). ends_below I r.0 e ≡ true) (sym is) r.3))
+    sym (below_excludes I l x _ r.1 (subst (λ (e : Entry). ends_below I r.0 e ≡ true) (sym is) r.3))
 
 pub is_taken-requires-clause-b_in : goal.is_taken-requires-clause-b_in
 is_taken-requires-clause-b_in c = in_buffers c.args.view.now.claim.now c.args.pair c.requires.pair_in

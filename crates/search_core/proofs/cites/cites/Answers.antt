@@ -35,13 +35,12 @@ loop-i-preserved c =
     let x : Entry = slice_index_or items i (0, 0) in
     let R = IsCiteFor I l c.args.refuted.now in
     let is = place_is l items i c.pairs-pairs.ensures.value c.loop-i-test.true c.pairs-pairs.ensures.kept.rises in
-    zip_more cite_value R (take i items) (take (i + 1) items) x c.loop-i.cites.items c.push.new.self.items
-    c.cite_for.result (take_more items i (0, 0) c.loop-i-test.true) c.in_ok-push.ensures.items
+    zip_more cite_value R _ (take (i + 1) items) x c.loop-i.cites.items c.push.new.self.items c.cite_for.result
+    (take_more items i (0, 0) c.loop-i-test.true) c.in_ok-push.ensures.items
     (subst (λ (e : Entry). R e (cite_value c.cite_for.result)) (sym is) c.cite_for.ensures) c.loop-i.invariant
 
 pub returns : goal.returns
 returns c =
-    let I = c.args.view.now.instance.now in
     let l = c.args.view.now.claim.now in
     let items = c.pairs-pairs.result.now in
     let whole : take c.loop-i.i items ≡ l =

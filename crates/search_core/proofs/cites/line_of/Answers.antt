@@ -7,8 +7,7 @@ pub returns-then-r-b : goal.returns-then-r-b
 returns-then-r-b c =
     let none : Refuted = record { buffer = 0; line = 0 } in (
       slice_index_or c.args.refuted.now c.loop-r.r-index none,
-      in_at c.args.refuted.now c.loop-r.r-index none
-          c.loop-r-test.true,
+      in_at c.args.refuted.now c.loop-r.r-index none c.loop-r-test.true,
       c.if-r-b.true,
       refl,
     )

@@ -1,15 +1,9 @@
-use Rattle.std.proofs.Common.{◌+◌, ◌∙◌, ap, arith, drop, inl, refl, slice_index_or, subst, sym}
+use Rattle.std.proofs.Common.{◌+◌, ◌∙◌, ap, arith, drop, refl, slice_index_or, subst, sym}
 use Rattle.conflicts.specs.Ends.{end_of}
 use Rattle.search_core.proofs.Along.{next_left, nothing_left, place_in, place_is}
 use Rattle.search_core.proofs.Ends.{IsLeastBut, least_keep, least_of_all, least_take}
 use Rattle.search_core.proofs.ending.least_end.Goals as goal
 use Rattle.search_core.proofs.ending.least_end.Goals.{else-end-least, then-end-least}
-
-pub loop-pair-init : goal.loop-pair-init
-loop-pair-init c = record {
-  least = λ e i. inl (rw c.pairs-pair-items.ensures.value i);
-  is_end = λ lt. absurd (omega (arith, lt));
-}
 
 pub end_of-end-requires : goal.end_of-end-requires
 end_of-end-requires c = place_in c.args.view.now.claim.now c.pairs-pair-items.result.now c.loop-pair.pair-index
@@ -29,14 +23,13 @@ loop-pair-preserved c =
     let end = c.end_of-end.ensures.value in
     elim c.if-end-least.branch [
       | then-end-least w ↦ subst (IsLeastBut I l (drop (i + 1) items)) (sym w.least-is)
-          (least_take I l (drop i items) (drop (i + 1) items) x c.loop-pair.least s c.loop-pair.invariant _ r
+          (least_take I l _ (drop (i + 1) items) x _ s c.loop-pair.invariant _ r
           (place_in l items i q c.loop-pair-test.true) refl (end ∙ is) w.if-end-least.true)
       | else-end-least w ↦ subst (IsLeastBut I l (drop (i + 1) items)) (sym w.least-is)
-          (least_keep I l (drop i items) (drop (i + 1) items) x c.loop-pair.least s c.loop-pair.invariant
+          (least_keep I l _ (drop (i + 1) items) x _ s c.loop-pair.invariant
           (let k = w.if-end-least.false in omega (arith, k, end)))
     ]
 
 pub returns : goal.returns
-returns c = least_of_all c.args.view.now.instance.now c.args.view.now.claim.now
-    (drop c.loop-pair.pair-index c.pairs-pair-items.result.now) c.loop-pair.least
+returns c = least_of_all _ _ _ _
     (nothing_left c.pairs-pair-items.result.now c.loop-pair.pair-index c.loop-pair-test.false) c.loop-pair.invariant

@@ -15,13 +15,12 @@ loop-b-preserved g c =
     let f = seat_at c.args.offsets.now in
     elim c.if-is_free.branch [
       | then-is_free+in_ok-push w ↦
-          map_take f l c.loop-b.b c.loop-b.seats.items c.if-is_free.seats.items (c.is_free.ensures.stands).claim.rises
-          (c.is_free.ensures.value.0 w.if-is_free.true)
-          (ap (λ v. v.items) w.seats-is ∙ w.in_ok-push.ensures.items) c.loop-b.invariant
+          map_take f l _ c.loop-b.seats.items c.if-is_free.seats.items (c.is_free.ensures.stands).claim.rises
+          (c.is_free.ensures.value.0 w.if-is_free.true) (ap (λ v. v.items) w.seats-is ∙ w.in_ok-push.ensures.items)
+          c.loop-b.invariant
       | else-is_free w ↦
           map_skip f l c.loop-b.b c.loop-b.seats.items c.if-is_free.seats.items
-          (λ h. let k = c.is_free.ensures.value.1 h in absurd cc)
-          (ap (λ v. v.items) w.seats-is) c.loop-b.invariant
+          (λ h. let k = c.is_free.ensures.value.1 h in absurd cc) (ap (λ v. v.items) w.seats-is) c.loop-b.invariant
     ]
 
 pub returns : goal.returns

@@ -9,8 +9,7 @@ use Rattle.search_core.proofs.gather.seats.Goals as goal
 pub loop-b-init : goal.loop-b-init
 loop-b-init c = (
   c.requires.path.0,
-  gathering_start c.args.task.now.instance.now c.args.task.now.capacity c.requires.path.0 c.args.path.now
-      c.in_ok-offsets.offsets.items c.requires.path.1 c.requires.found
+  gathering_start _ _ _ c.args.path.now c.in_ok-offsets.offsets.items c.requires.path.1 c.requires.found
       (let n = c.in_ok-offsets.ensures.len in let k = c.in_ok-offsets.offsets.ok.0 in let m = c.len.ensures.value in
       omega arith),
 )
@@ -18,15 +17,14 @@ loop-b-init c = (
 pub low-requires : goal.low-requires
 low-requires c =
     let i = c.loop-b.invariant in
-    rw c.sky.ensures (gathering_has c.args.task.now.instance.now c.args.task.now.capacity i.0
-    (sky_root c.args.path.now.sky) c.loop-b.path c.leave.new.self c.loop-b.offsets.items c.in-Some.b i.1
+    rw c.sky.ensures (gathering_has c.args.task.now.instance.now c.args.task.now.capacity i.0 _ _ _ _ _ i.1
     c.in-Some.ensures.some)
 
 pub index_mut-requires : goal.index_mut-requires
 index_mut-requires c =
     let i = c.loop-b.invariant in
-    let lt = gathering_within c.args.task.now.instance.now c.args.task.now.capacity i.0 (sky_root c.args.path.now.sky)
-    c.loop-b.path c.leave.new.self c.loop-b.offsets.items c.in-Some.b i.1 c.in-Some.ensures.some
+    let lt = gathering_within c.args.task.now.instance.now c.args.task.now.capacity i.0 _ _ _ _ _ i.1
+    c.in-Some.ensures.some
     (rw c.sky.ensures at c.low.ensures.stands) in
     let k = c.loop-b.offsets.ok.0 in
     omega arith
@@ -35,9 +33,8 @@ pub loop-b-preserved : goal.loop-b-preserved
 loop-b-preserved c =
     let i = c.loop-b.invariant in (
       i.0,
-      gathering_next c.args.task.now.instance.now c.args.task.now.capacity i.0 (sky_root c.args.path.now.sky)
-          c.loop-b.path c.leave.new.self c.loop-b.offsets.items c.in-Some.b i.1 c.in-Some.ensures.some c.low.result
-          (rw c.sky.ensures at c.low.ensures.stands) (rw c.sky.ensures at c.low.ensures.value),
+      gathering_next c.args.task.now.instance.now c.args.task.now.capacity i.0 _ _ _ _ _ i.1 c.in-Some.ensures.some
+          c.low.result (rw c.sky.ensures at c.low.ensures.stands) (rw c.sky.ensures at c.low.ensures.value),
     )
 
 pub returns-clause-value : goal.returns-clause-value
@@ -47,7 +44,7 @@ returns-clause-value c =
     let i = c.loop-b.invariant in
     let none = c.in_default.ensures.none in
     let l = last_claim c.loop-b.path.sky.claims in
-    let all = all_gathered I C i.0 (sky_root c.args.path.now.sky) c.loop-b.path c.loop-b.offsets.items i.1 none.0 in
+    let all = all_gathered I C i.0 _ _ _ i.1 none.0 in
     IfOk-weaker c.gathered.result (λ (v : _). v.items ≡ seats_by c.loop-b.offsets.items l)
     (λ (v : _). first I C (sky_root c.args.path.now.sky) ≡ Some v.items)
     (λ v q. all ∙ ap (λ (es : List Entry). Some es) (sym q))

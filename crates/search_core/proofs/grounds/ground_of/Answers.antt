@@ -7,8 +7,7 @@ use Rattle.search_core.proofs.grounds.ground_of.Goals as goal
 use Rattle.search_core.proofs.grounds.ground_of.Goals.{After-loop-i}
 
 pub bounds-levels-b : goal.bounds-levels-b
-bounds-levels-b c = left_within c.args.levels.now c.args.left.now (slice_index c.args.left.now c.loop-i.i)
-    c.requires.left (in_at c.args.left.now c.loop-i.i 0 c.loop-i-test.true)
+bounds-levels-b c = left_within _ _ _ c.requires.left (in_at c.args.left.now c.loop-i.i 0 c.loop-i-test.true)
 
 pub overflow_sub-levels : goal.overflow_sub-levels
 overflow_sub-levels c =
@@ -22,7 +21,7 @@ loop-i-preserved c = entry_next c.args.levels.now c.args.left.now c.loop-i.pairs
     (next_of c.args.left.now c.loop-i.i c.loop-i-test.true) c.in_ok-push.ensures.items c.loop-i.invariant
 
 kept : (c : After-loop-i) → AreKept c.args.levels.now c.loop-i.pairs.items
-kept c = left_kept c.args.levels.now c.args.left.now c.loop-i.pairs.items c.requires.few c.requires.low c.requires.left
+kept c = left_kept _ _ c.loop-i.pairs.items c.requires.few c.requires.low c.requires.left
     (entries_all c.args.levels.now c.args.left.now c.loop-i.pairs.items (drop c.loop-i.i c.args.left.now)
     (none_of c.args.left.now c.loop-i.i c.loop-i-test.false) c.loop-i.invariant)
 
@@ -38,6 +37,6 @@ from_vec-requires-clause-bounds c = bounds_low c.args.levels.now c.loop-i.pairs.
 
 pub returns : goal.returns
 returns c = subst (AreKept c.args.levels.now) (sym c.from_vec.ensures)
-    (left_kept c.args.levels.now c.args.left.now c.loop-i.pairs.items c.requires.few c.requires.low c.requires.left
+    (left_kept _ _ c.loop-i.pairs.items c.requires.few c.requires.low c.requires.left
     (entries_all c.args.levels.now c.args.left.now c.loop-i.pairs.items (drop c.loop-i.i c.args.left.now)
     (none_of c.args.left.now c.loop-i.i c.loop-i-test.false) c.loop-i.invariant))

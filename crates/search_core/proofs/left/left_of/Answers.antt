@@ -13,13 +13,13 @@ loop-b-preserved c =
       | then-levels-b-gt0+in_ok-push w ↦
           let q : after ≡ before ++ b ∷ [] = ap (λ v. v.items) w.left-is ∙ w.in_ok-push.ensures.items in
           let t = w.if-levels-b-gt0.true in
-          left_next levels b before after q (omega (arith, t)) c.loop-b.invariant
+          left_next _ b _ after q (omega (arith, t)) c.loop-b.invariant
       | else-levels-b-gt0 w ↦
           let q : after ≡ before = ap (λ v. v.items) w.left-is in
           let t = w.if-levels-b-gt0.false in
           subst (λ (xs : List ℕ). AreLeftBelow levels (b + 1) xs) (sym q)
-          (left_skip levels b before (omega (arith, t)) c.loop-b.invariant)
+          (left_skip _ b _ (omega (arith, t)) c.loop-b.invariant)
     ]
 
 pub returns : goal.returns
-returns c = left_all c.args.levels.now c.loop-b.b c.loop-b.left.items c.loop-b-test.false c.loop-b.invariant
+returns c = left_all _ _ _ c.loop-b-test.false c.loop-b.invariant

@@ -8,8 +8,7 @@ use Rattle.search_core.proofs.levels.child_level.Goals.{After-step}
 pub returns-then-c-b-clause-level : goal.returns-then-c-b-clause-level
 returns-then-c-b-clause-level c = λ l h.
     let I = c.args.instance.now in
-    subst (λ n. IsLevel I (child I l (entry_of l c.args.b)) n 0) (sym c.if-c-b.true)
-    (level_of_first I l c.args.levels.now c.args.b h)
+    subst (λ n. IsLevel I (child I l (entry_of l c.args.b)) n 0) (sym c.if-c-b.true) (level_of_first I l _ c.args.b h)
 
 pub step-requires-clause-b_in : goal.step-requires-clause-b_in
 step-requires-clause-b_in c = level_in_range _ _ _ c.requires.low.are c.args.b c.requires.low.has
@@ -36,7 +35,7 @@ returns-then-least-level-clause-level c = λ l h.
     let k = (goal.at.returns-then-least-level-clause-level c).After-step in
     let e : c.args.level ≡ slice_index c.args.levels.now c.args.c = c.requires.level in
     subst (IsLevel I (child I l (entry_of l c.args.b)) c.args.c) (sym e)
-    (level_stays I l c.args.levels.now c.args.b h c.args.c (c.saturating_sub.result + c.step.result)
+    (level_stays I l _ _ h c.args.c (c.saturating_sub.result + c.step.result)
     (λ k d i. (c.len-count.ensures.buffers k d i).sound) (has_level _ _ _ h c.args.b (first k)) (some k)
     c.if-c-b.false (raised k) (let t = c.if-least-level.true in omega (arith, t, e)))
 
@@ -44,9 +43,8 @@ pub returns-else-least-level-clause-level : goal.returns-else-least-level-clause
 returns-else-least-level-clause-level c = λ l h.
     let k = (goal.at.returns-else-least-level-clause-level c).After-step in
     let least = c.saturating_sub.result + c.step.result in
-    level_rises c.args.instance.now l c.args.levels.now c.args.b h c.args.c least c.least_offset.result
-    (has_level _ _ _ h c.args.b (first k)) (some k) c.if-c-b.false (raised k)
-    (let t = c.if-least-level.false in let e = c.requires.level in omega (arith, t, e))
+    level_rises _ l _ _ h c.args.c least c.least_offset.result (has_level _ _ _ h c.args.b (first k)) (some k)
+    c.if-c-b.false (raised k) (let t = c.if-least-level.false in let e = c.requires.level in omega (arith, t, e))
     (c.least_offset.ensures ∙ ap (λ (b : Buffer). next_multiple_of least b.alignment) c.buffer.ensures.value)
 
 pub returns-else-least-level-clause-limit : goal.returns-else-least-level-clause-limit
@@ -57,9 +55,9 @@ returns-else-least-level-clause-limit c =
     let b = c.args.b in
     let k = (goal.at.returns-else-least-level-clause-limit c).After-step in
     let least = c.saturating_sub.result + c.step.result in
-    let low = low_rises I l c.args.levels.now b h c.args.c least c.least_offset.result c.requires.low.has (some k)
-    c.if-c-b.false (raised k) (let t = c.if-least-level.false in let e = c.requires.level in omega (arith, t, e))
+    let low = low_rises I l _ b h c.args.c least c.least_offset.result c.requires.low.has (some k) c.if-c-b.false
+    (raised k) (let t = c.if-least-level.false in let e = c.requires.level in omega (arith, t, e))
     (c.least_offset.ensures ∙ ap (λ (b : Buffer). next_multiple_of least b.alignment) c.buffer.ensures.value) in
-    child_low I (child I l (entry_of l b)) c.args.c c.least_offset.result c.len-count.ensures.buffers
-    c.len-count.ensures.limit (claim-child I l (entry_of l b) h.claim) c.requires.low.low
+    child_low I _ _ c.least_offset.result c.len-count.ensures.buffers c.len-count.ensures.limit
+    (claim-child I l (entry_of l b) h.claim) c.requires.low.low
     (in_child_by I l b c.args.c (has_level _ _ _ h c.args.c (some k)) c.if-c-b.false) low

@@ -6,11 +6,10 @@ use Rattle.search_core.proofs.levels.first_level.Goals as goal
 use Rattle.search_core.proofs.levels.first_level.Goals.{else-level-least, then-level-least}
 
 pub loop-i-init : goal.loop-i-init
-loop-i-init c = leads_at_first c.args.levels.now c.args.left.now c.requires.left.rises
+loop-i-init c = leads_at_first c.args.levels.now _ c.requires.left.rises
 
 pub bounds-levels-b : goal.bounds-levels-b
-bounds-levels-b c = left_within c.args.levels.now c.args.left.now (slice_index c.args.left.now c.loop-i.i)
-    c.requires.left (in_at c.args.left.now c.loop-i.i 0 c.loop-i-test.true)
+bounds-levels-b c = left_within _ _ _ c.requires.left (in_at c.args.left.now c.loop-i.i 0 c.loop-i-test.true)
 
 pub loop-i-preserved : goal.loop-i-preserved
 loop-i-preserved c =
@@ -21,13 +20,13 @@ loop-i-preserved c =
     let q = next_of left i c.loop-i-test.true in
     elim c.if-level-least.branch [
       | then-level-least w ↦ rw (w.first-is, w.least-is)
-          (leads_lower levels left (drop i left) (drop (i + 1) left) b (slice_index levels b) c.loop-i.first
-          c.loop-i.least q refl c.loop-i.invariant (in_at left i 0 c.loop-i-test.true) w.if-level-least.true)
+          (leads_lower _ _ _ (drop (i + 1) left) b (slice_index levels b) _
+          _ q refl c.loop-i.invariant (in_at left i 0 c.loop-i-test.true) w.if-level-least.true)
       | else-level-least w ↦ rw (w.first-is, w.least-is)
-          (leads_still levels left (drop i left) (drop (i + 1) left) b (slice_index levels b) c.loop-i.first
-          c.loop-i.least q refl c.loop-i.invariant w.if-level-least.false)
+          (leads_still _ _ _ (drop (i + 1) left) b (slice_index levels b) _
+          _ q refl c.loop-i.invariant w.if-level-least.false)
     ]
 
 pub returns : goal.returns
-returns c = leads_all c.args.levels.now c.args.left.now (drop c.loop-i.i c.args.left.now) c.loop-i.first c.loop-i.least
-    (none_of c.args.left.now c.loop-i.i c.loop-i-test.false) c.requires.low c.requires.left c.loop-i.invariant
+returns c = leads_all _ _ _ _ _ (none_of c.args.left.now c.loop-i.i c.loop-i-test.false) c.requires.low c.requires.left
+    c.loop-i.invariant

@@ -17,7 +17,7 @@ child-requires-clause-low c =
     c.requires.under in
     let n = rw c.sky.ensures at c.depth-depth.ensures.value in
     let low = rw c.sky.ensures at c.depth-depth.ensures.low in
-    low_child I a.f _ _ l u a.levels a.chosen
+    low_child I _ _ _ l u a.levels a.chosen
     (λ e i. let k = low l e (in_at claims (length claims - 1) [] (omega (arith, n))) i in omega (arith, k))
 
 under : (c : In_ok-line-in-Some) →
@@ -28,7 +28,7 @@ under c =
     let a = rw c.in-Some.is at c.above.ensures in
     let u : IsUnder I a.f l = subst (λ (o : Option Tried). IfSome o (λ (f : Tried). IsUnder I f l)) a.last
     c.requires.under in
-    child_under I a.f _ _ _ l u a.levels a.chosen c.in_ok-child-in-Some.ensures.levels
+    child_under I _ _ _ _ l u a.levels a.chosen c.in_ok-child-in-Some.ensures.levels
 
 pub returns-in_ok-line-in-Some-clause-levels : goal.returns-in_ok-line-in-Some-clause-levels
 returns-in_ok-line-in-Some-clause-levels c =
@@ -38,8 +38,7 @@ pub returns-in_ok-line-in-Some-clause-none : goal.returns-in_ok-line-in-Some-cla
 returns-in_ok-line-in-Some-clause-none c =
     let raised = c.requires.raised c.in_ok-child-in-Some.child.levels
     (under (goal.at.returns-in_ok-line-in-Some-clause-none c).In_ok-line-in-Some) in
-    let w = watched_above c.args.log.now.lines c.args.watches.now c.in_ok-child-in-Some.child.levels
-    c.args.path.now.frames c.in-Some.above (rw c.in-Some.is at c.above.ensures) c.requires.watched raised
+    let w = watched_above _ _ _ _ _ (rw c.in-Some.is at c.above.ensures) c.requires.watched raised
     c.requires.latest in
     (rw (c.as_slice-before.ensures.value, c.as_slice-now.ensures.value) at c.in_ok-line-in-Some.ensures.none) w.0
     (rw c.deref.ensures.value c.in_ok-child-in-Some.ensures.raised) w.1
@@ -51,16 +50,12 @@ returns-in_ok-line-in-Some-clause-some c =
 
 pub returns-in_ok-line-in-Some-clause-watched : goal.returns-in_ok-line-in-Some-clause-watched
 returns-in_ok-line-in-Some-clause-watched c =
-    all_watched_still c.args.log.now.lines c.args.watches.now c.find.new.self c.in_ok-child-in-Some.child.levels
-    c.args.path.now.frames
-    (c.requires.raised c.in_ok-child-in-Some.child.levels
+    all_watched_still _ _ c.find.new.self _ _ (c.requires.raised c.in_ok-child-in-Some.child.levels
     (under (goal.at.returns-in_ok-line-in-Some-clause-watched c).In_ok-line-in-Some))
     (rw c.as_slice-now.ensures.value at c.in_ok-line-in-Some.ensures.kept) c.requires.watched
 
 pub returns-in_ok-line-in-None-clause-watched : goal.returns-in_ok-line-in-None-clause-watched
 returns-in_ok-line-in-None-clause-watched c =
-    all_watched_still c.args.log.now.lines c.args.watches.now c.ask.new.self c.in_ok-levels-in-None.levels
-    c.args.path.now.frames
-    (c.requires.raised c.in_ok-levels-in-None.levels
+    all_watched_still _ _ c.ask.new.self _ _ (c.requires.raised c.in_ok-levels-in-None.levels
     (rw (c.sky-in-None.ensures, c.requires.subject) at c.in_ok-levels-in-None.ensures))
     (rw c.as_slice.ensures.value at c.in_ok-line-in-None.ensures.kept) c.requires.watched

@@ -1,5 +1,5 @@
-use Rattle.std.proofs.Common.{◌≡◌, ◌≢◌, ◌+◌, ◌≤◌, ◌∙◌, ℕ, [], arith, length, refl}
-use Rattle.search_core.proofs.Words.{claim_of, watched_none, line_value, last_claim}
+use Rattle.std.proofs.Common.{◌≢◌, ◌+◌, ◌∙◌, [], arith, length, refl}
+use Rattle.search_core.proofs.Words.{watched_none, last_claim}
 use Rattle.search_core.specs.Ways.{order_of}
 use Rattle.search_core.proofs.Counting.{counted_one_more}
 use Rattle.search_core.proofs.Descent.{is_instance}
@@ -19,7 +19,7 @@ returns-in-Some-clause-opened c =
     let h = rw (c.in-Some.is, c.log.ensures)
     at c.in_ok-entered.ensures.some in
     record {
-      none = covered_has_none I c.args.task.now.capacity l c.args.log.now c.in-Some.line s c.requires.log h;
+      none = covered_has_none I _ l _ _ s c.requires.log h;
       covered = h;
     }
 
@@ -27,12 +27,7 @@ pub returns-in-Some-clause-taken : goal.returns-in-Some-clause-taken
 returns-in-Some-clause-taken c e =
     let I = c.args.task.now.instance.now in
     let l = last_claim c.args.path.now.sky.claims in
-    absurd (none_covers I l c.args.log.now.lines c.in-Some.line e
-    (rw (c.in-Some.is, c.log.ensures)
-    at c.in_ok-entered.ensures.some))
-
-pub over_line-requires-clause-levels : goal.over_line-requires-clause-levels
-over_line-requires-clause-levels c = rw c.sky.ensures c.in_ok-entered.ensures.levels
+    absurd (none_covers I l _ _ e (rw (c.in-Some.is, c.log.ensures) at c.in_ok-entered.ensures.some))
 
 -- ---- no buffer
 pub returns-then-is_empty-clause-opened : goal.returns-then-is_empty-clause-opened
@@ -47,18 +42,13 @@ pub append-requires-clause-legal : goal.append-requires-clause-legal
 append-requires-clause-legal c =
     let r = rw (c.in-Some-2.is, c.sky.ensures) at c.in_ok-line.ensures.some in r.legal c.args.log.now.lines
 
-pub append-requires-clause-within : goal.append-requires-clause-within
-append-requires-clause-within c = let r = rw (c.in-Some-2.is, c.sky.ensures) at c.in_ok-line.ensures.some in r.within
-
 pub append-requires-clause-fresh : goal.append-requires-clause-fresh
 append-requires-clause-fresh c =
     let I = c.args.task.now.instance.now in
     let l = last_claim c.args.path.now.sky.claims in
     let s = rw (c.instance.ensures.value, c.requires.subject) at c.instance.ensures.stands in
     let r = rw (c.in-Some-2.is, c.sky.ensures) at c.in_ok-line.ensures.some in
-    covers_less I c.args.log.now.lines (claim_of (line_value c.in-Some-2.line)) l (is_instance I l s) r.covers
-    (watched_none I c.args.log.now.lines c.enter.new.watches l c.in_ok-entered.entered.levels
-    (c.in_ok-entered.ensures.levels)
+    covers_less I _ _ l (is_instance I l s) r.covers (watched_none I _ _ l _ (c.in_ok-entered.ensures.levels)
     (rw (c.in_default.is, c.log.ensures) at c.in_ok-entered.ensures.none))
 
 pub returns-in-Some-2-clause-grown : goal.returns-in-Some-2-clause-grown
@@ -75,15 +65,9 @@ returns-in-Some-2-clause-opened c =
     let r = rw (c.in-Some-2.is, c.sky.ensures) at c.in_ok-line.ensures.some in
     let h = c.in_ok-append.ensures.covered l r.covers in
     record {
-      none = covered_has_none I C l c.append.new.log c.in_ok-append.field-0 s c.in_ok-append.ensures.log h;
+      none = covered_has_none I C l _ _ s c.in_ok-append.ensures.log h;
       covered = h;
     }
-
-pub returns-in-Some-2-clause-taken : goal.returns-in-Some-2-clause-taken
-returns-in-Some-2-clause-taken c e = just _ _ (rw c.if-not-taken.false at c.take-taken.ensures.taken)
-  where
-    just : (m n : ℕ) → n ≡ m → m ≤ n
-    just m n same = omega (arith, same)
 
 pub returns-in-Some-2-clause-counted : goal.returns-in-Some-2-clause-counted
 returns-in-Some-2-clause-counted c =
@@ -95,9 +79,7 @@ returns-in-Some-2-clause-counted c =
 pub returns-in-Some-2-clause-watched : goal.returns-in-Some-2-clause-watched
 returns-in-Some-2-clause-watched c =
     let l = last_claim c.args.path.now.sky.claims in
-    all_watched_more l c.args.log.now.lines c.append.new.log.lines c.enter.new.watches c.args.path.now.frames
-    (returns-in-Some-2-clause-grown c)
-    (rw c.log.ensures at c.in_ok-entered.ensures.watched)
+    all_watched_more l _ _ _ _ (returns-in-Some-2-clause-grown c) (rw c.log.ensures at c.in_ok-entered.ensures.watched)
 
 -- ---- the choices
 some_buffer : (c : goal.After-of) → last_claim c.args.path.now.sky.claims ≢ []
@@ -115,10 +97,8 @@ returns-clause-opened c =
     let none = rw (c.in_default-2.is, c.sky.ensures) at c.in_ok-line.ensures.none in (
       c.of.ensures.first l a some,
       rw (c.of.ensures.levels, c.of.ensures.asked)
-          (are_choices I C l c.args.log.now.lines (order_of I l) c.in_ok-entered.entered.levels c.len-asked.result
-          s.claim some none (order_entries I l s.claim.rises) a
-          (watched_none I c.args.log.now.lines c.enter.new.watches l c.in_ok-entered.entered.levels a
-          (rw (c.in_default.is, c.log.ensures) at c.in_ok-entered.ensures.none))),
+          (are_choices I C l _ (order_of I l) _ c.len-asked.result s.claim some none (order_entries I l s.claim.rises) a
+          (watched_none I _ _ l _ a (rw (c.in_default.is, c.log.ensures) at c.in_ok-entered.ensures.none))),
     )
 
 pub returns-clause-asked : goal.returns-clause-asked
@@ -126,7 +106,6 @@ returns-clause-asked c =
     let asked = rw c.log-2.ensures at c.len-asked.ensures.value in
     record {
       asked = c.of.ensures.asked ∙ asked;
-      watched = rw (c.of.ensures.levels, c.of.ensures.asked)
-          (watched_to c.args.log.now.lines c.enter.new.watches c.in_ok-entered.entered.levels c.len-asked.result asked
+      watched = rw (c.of.ensures.levels, c.of.ensures.asked) (watched_to _ _ _ c.len-asked.result asked
           (rw (c.in_default.is, c.log.ensures) at c.in_ok-entered.ensures.none));
     }

@@ -21,7 +21,6 @@ returns-in-Some-clause-some c =
     let I = c.args.task.now.instance.now in
     let C = c.args.task.now.capacity in
     let l = last_claim c.args.sky.now.claims in
-    let s = rw (c.instance.ensures.value, c.requires.subject) at c.instance.ensures.stands in
     let t = c.in-Some.ensures l c.requires.levels in
     record {
       legal = c.in_ok-tall_line.ensures.legal;
@@ -51,12 +50,12 @@ returns-in_ok-claim-in-Some-overloaded_at-clause-some c =
     let p = rw c.requires.subject at c.in-Some-overloaded_at.ensures.belongs in
     let f = full_section I S l C T H (sym v) in
     let st = lifted_stands I l s low in
-    let live = some_live I S l C T H f.0 p s f.1 in
+    let live = some_live I S l C T H _ p s f.1 in
     let before = live_before (buffer I live.0) T live.2 in
     let last = (sound_buffer I live.0 s.buffers live.1).upper_limit in
     let h = c.in-Some-overloaded_at.ensures.limit in
     rw q (record {
-      legal = λ earlier. full_is_legal I S l C T H f.0 p s f.1 earlier st.claim;
+      legal = λ earlier. full_is_legal I S l C T H _ p s f.1 earlier st.claim;
       within = (low, omega (arith, before, last), omega (arith, h), omega arith);
       covers = covers_lifted I l;
     })

@@ -6,12 +6,11 @@ use Rattle.search_core.proofs.over.tall.Goals as goal
 use Rattle.search_core.proofs.over.tall.Goals.{After-at}
 
 pub returns-then-top-task : goal.returns-then-top-task
-returns-then-top-task c = λ k h. all_fit c.args.task.now.instance.now c.args.task.now.capacity k c.args.levels.now h
-    c.top.result c.args.task.now.size c.top.ensures.value c.args.task.now.sized c.if-top-task.true
+returns-then-top-task c = λ k h. all_fit _ c.args.task.now.capacity k _ h c.top.result _ c.top.ensures.value
+    c.args.task.now.sized c.if-top-task.true
 
 pub loop-i-init : goal.loop-i-init
-loop-i-init c = none_at_first c.args.task.now.instance.now c.args.task.now.capacity c.args.levels.now
-    c.left-left.result.now c.left-left.ensures
+loop-i-init c = none_at_first c.args.task.now.instance.now c.args.task.now.capacity _ _ c.left-left.ensures
 
 some : (c : After-at) → 0 < c.at.result
 some c =
@@ -25,21 +24,21 @@ is_tall-requires-clause-some c = some (goal.at.is_tall-requires-clause-some c).A
 pub is_tall-requires-clause-b_in : goal.is_tall-requires-clause-b_in
 is_tall-requires-clause-b_in c =
     let left = c.left-left.result.now in
-    let lt = left_within c.args.levels.now left (slice_index left c.loop-i.i) c.left-left.ensures
+    let lt = left_within _ _ _ c.left-left.ensures
     (in_at left c.loop-i.i 0 c.loop-i-test.true) in
     let n = c.requires in
     omega (arith, lt, n)
 
 pub loop-i-preserved : goal.loop-i-preserved
-loop-i-preserved c = next_fits c.args.task.now.instance.now c.args.task.now.capacity c.args.levels.now _ _ _
-    c.at.result (next_of c.left-left.result.now c.loop-i.i c.loop-i-test.true) c.at.ensures.value
-    (some (goal.at.loop-i-preserved c).After-at) (c.is_tall.ensures.none c.if-is_tall.false) c.loop-i.invariant
+loop-i-preserved c = next_fits _ _ _ _ _ _ c.at.result (next_of c.left-left.result.now c.loop-i.i c.loop-i-test.true)
+    c.at.ensures.value (some (goal.at.loop-i-preserved c).After-at) (c.is_tall.ensures.none c.if-is_tall.false)
+    c.loop-i.invariant
 
 pub returns-then-is_tall : goal.returns-then-is_tall
-returns-then-is_tall c = λ k h. first_ends c.args.task.now.instance.now c.args.task.now.capacity c.args.levels.now _ _ _
-    c.at.result (next_of c.left-left.result.now c.loop-i.i c.loop-i-test.true) c.at.ensures.value
+returns-then-is_tall c = λ k h. first_ends _ _ _ _ _ _ c.at.result
+    (next_of c.left-left.result.now c.loop-i.i c.loop-i-test.true) c.at.ensures.value
     (some (goal.at.returns-then-is_tall c).After-at) (c.is_tall.ensures.some c.if-is_tall.true) c.loop-i.invariant k h
 
 pub returns : goal.returns
-returns c = λ k h. none_ends c.args.task.now.instance.now c.args.task.now.capacity c.args.levels.now _
-    (none_of c.left-left.result.now c.loop-i.i c.loop-i-test.false) c.loop-i.invariant k h
+returns c = λ k h. none_ends _ _ _ _ (none_of c.left-left.result.now c.loop-i.i c.loop-i-test.false) c.loop-i.invariant
+    k h

@@ -1,5 +1,4 @@
 use Rattle.std.proofs.Common.{length, ap}
-use Rattle.std.proofs.lemmas.Option.{slice_get_within}
 use Rattle.search_core.proofs.Words.{Log, OpenLog}
 use Rattle.dsa_search_laws.proofs.PartLists.{part_rises}
 use Rattle.dsa_model.proofs.Instances.{sound_instance}
@@ -11,29 +10,22 @@ pub search-requires-clause-rises : goal.search-requires-clause-rises
 search-requires-clause-rises c = part_rises c.args.task.now.instance.now c.args.members.now c.requires.part
 
 pub search-requires-clause-in_range : goal.search-requires-clause-in_range
-search-requires-clause-in_range c = part_in_range c.args.task.now.instance.now c.args.members.now c.requires.part
-
-pub close-requires-clause-in_log : goal.close-requires-clause-in_log
-close-requires-clause-in_log c =
-    let found = rw c.in-Line.is at c.in_ok-seats.ensures.found in
-    rw c.into_log.ensures (slice_get_within c.search.new.log.lines c.in-Line.end found.1.line found.1.stands)
+search-requires-clause-in_range c = part_in_range c.args.task.now.instance.now _ c.requires.part
 
 pub unreachable-requires : goal.unreachable-requires
 unreachable-requires c =
     let I = c.args.task.now.instance.now in
     let p = c.args.members.now in
     let found = rw c.in-Line.is at c.in_ok-seats.ensures.found in
-    let end = whole_end I c.search.new.log.lines p c.in-Line.end found.1 in
+    let end = whole_end I _ p _ found.1 in
     c.in-Err.ensures.whole end.0 (rw c.into_log.ensures end.1) end.2
 
 pub returns-in-Ok-clause-found : goal.returns-in-Ok-clause-found
 returns-in-Ok-clause-found c =
     let found = rw c.in-Line.is at c.in_ok-seats.ensures.found in (
       found.0,
-      refutes_part c.args.task.now.instance.now c.args.task.now.capacity c.args.members.now c.search.new.log
-          c.in-Ok.closed c.in-Line.end (sound_instance c.args.task.now.instance.now c.len-count.ensures.buffers)
-          c.requires.part c.in_ok-seats.ensures.log
-          (rw (ap (λ (log : OpenLog). log.lines) c.new-log.ensures.value)
+      refutes_part _ _ _ _ _ c.in-Line.end (sound_instance c.args.task.now.instance.now c.len-count.ensures.buffers)
+          c.requires.part c.in_ok-seats.ensures.log (rw (ap (λ (log : OpenLog). log.lines) c.new-log.ensures.value)
           at c.in_ok-seats.ensures.grown) (rw c.into_log.ensures at c.in-Ok.ensures.closed) c.in-Ok.ensures.accepted,
     )
 

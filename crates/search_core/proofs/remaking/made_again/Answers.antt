@@ -17,9 +17,8 @@ pub child-requires-clause-low : goal.child-requires-clause-low
 child-requires-clause-low c =
     let i = c.loop-i.i in
     let lt : i < length c.loop-i.kept = (let n = c.loop-i.auto.kept in let t = c.loop-i-test.true in omega arith) in
-    low_made c.args.sky.now.instance c.args.task.now.instance.now c.args.sky.now.claims c.loop-i.kept c.requires.subject
-    c.loop-i.invariant.along c.depth-depth.ensures.low i c.loop-i.levels
-    (slice_index_or c.loop-i.kept i c.index-kept-i.result) c.index-kept-i.result lt refl c.loop-i.invariant.are
+    low_made _ c.args.task.now.instance.now _ _ c.requires.subject c.loop-i.invariant.along c.depth-depth.ensures.low i
+    _ (slice_index_or c.loop-i.kept i c.index-kept-i.result) c.index-kept-i.result lt refl c.loop-i.invariant.are
 
 pub loop-i-preserved : goal.loop-i-preserved
 loop-i-preserved c =
@@ -27,35 +26,18 @@ loop-i-preserved c =
     let i = c.loop-i.i in
     let n = c.loop-i.auto.kept in
     let lt : i < length c.loop-i.kept = (let t = c.loop-i-test.true in omega arith) in
-    next_made c.args.sky.now.instance claims c.args.kept.now c.loop-i.kept i c.loop-i.levels
-    c.in_ok-child-in-Some.child.levels c.remember.new.self c.index-kept-i-in-loop-i.result c.loop-i.invariant n lt
-    c.index-kept-i-in-loop-i.is
-    (c.remember.ensures
+    next_made _ _ _ _ i _ _ c.remember.new.self c.index-kept-i-in-loop-i.result c.loop-i.invariant n lt
+    c.index-kept-i-in-loop-i.is (c.remember.ensures
     ∙ ap (λ (k : Kept). let r : Kept = record {
       notes = k.notes;
       chosen = k.chosen;
       order = k.order;
       levels = Some c.loop-i.levels;
-    } in r)
-    (sym c.index-kept-i-in-loop-i.is))
-    (child_made c.args.sky.now.instance c.args.task.now.instance.now claims c.loop-i.kept c.requires.subject
-    c.loop-i.invariant.along c.depth-depth.ensures.low i c.loop-i.levels
-    (slice_index_or c.loop-i.kept i c.index-kept-i.result) c.index-kept-i.result lt refl c.loop-i.invariant.are
+    } in r) (sym c.index-kept-i-in-loop-i.is))
+    (child_made _ c.args.task.now.instance.now _ _ c.requires.subject c.loop-i.invariant.along c.depth-depth.ensures.low
+    i _ (slice_index_or c.loop-i.kept i c.index-kept-i.result) c.index-kept-i.result lt refl c.loop-i.invariant.are
     c.in_ok-child-in-Some.child.levels c.in_ok-child-in-Some.ensures.levels)
-
-pub returns-in_err-child-in-Some-clause-along : goal.returns-in_err-child-in-Some-clause-along
-returns-in_err-child-in-Some-clause-along c = c.loop-i.invariant.along
-
-pub returns-in_err-child-in-Some-clause-notes : goal.returns-in_err-child-in-Some-clause-notes
-returns-in_err-child-in-Some-clause-notes c = c.loop-i.invariant.notes
-
-pub returns-after-loop-i-clause-along : goal.returns-after-loop-i-clause-along
-returns-after-loop-i-clause-along c = c.loop-i.invariant.along
-
-pub returns-after-loop-i-clause-notes : goal.returns-after-loop-i-clause-notes
-returns-after-loop-i-clause-notes c = c.loop-i.invariant.notes
 
 pub returns-after-loop-i-clause-levels : goal.returns-after-loop-i-clause-levels
 returns-after-loop-i-clause-levels c =
-    all_made c.args.sky.now.instance c.args.sky.now.claims c.args.kept.now c.loop-i.kept c.loop-i.i c.loop-i.levels
-    c.loop-i.invariant c.loop-i.auto.kept (λ lt. let t = c.loop-i-test.false in omega arith)
+    all_made _ _ _ _ _ _ c.loop-i.invariant c.loop-i.auto.kept (λ lt. let t = c.loop-i-test.false in omega arith)

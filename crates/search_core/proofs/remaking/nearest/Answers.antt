@@ -6,11 +6,9 @@ pub child-requires-clause-low : goal.child-requires-clause-low
 child-requires-clause-low c =
     let i = c.loop-i.i - 1 in
     let lt : i < length c.args.kept.now = (let n = c.loop-i.auto.i in let t = c.loop-i-test.true in omega arith) in
-    let claims = c.args.sky.now.claims in
-    let levels = kept_levels c.args.sky.now.instance claims c.args.kept.now i c.in-Some.levels c.index-kept-i.result
+    let levels = kept_levels _ _ _ i c.in-Some.levels c.index-kept-i.result
     c.requires.along lt c.in-Some.is in
-    low_made c.args.sky.now.instance c.args.task.now.instance.now claims c.args.kept.now c.requires.subject
-    c.requires.along c.depth-depth.ensures.low i c.in-Some.levels
+    low_made _ c.args.task.now.instance.now _ _ c.requires.subject c.requires.along c.depth-depth.ensures.low i _
     (slice_index_or c.args.kept.now i c.index-kept-i-in-Some.result) c.index-kept-i-in-Some.result lt refl levels
 
 pub returns-in-Some : goal.returns-in-Some
@@ -18,11 +16,10 @@ returns-in-Some c =
     let i = c.loop-i.i - 1 in
     let lt : i < length c.args.kept.now = (let n = c.loop-i.auto.i in let t = c.loop-i-test.true in omega arith) in
     let claims = c.args.sky.now.claims in
-    let levels = kept_levels c.args.sky.now.instance claims c.args.kept.now i c.in-Some.levels c.index-kept-i.result
+    let levels = kept_levels _ _ _ i c.in-Some.levels c.index-kept-i.result
     c.requires.along lt c.in-Some.is in (
       omega arith,
-      child_made c.args.sky.now.instance c.args.task.now.instance.now claims c.args.kept.now c.requires.subject
-          c.requires.along c.depth-depth.ensures.low i c.in-Some.levels
+      child_made _ c.args.task.now.instance.now _ _ c.requires.subject c.requires.along c.depth-depth.ensures.low i _
           (slice_index_or c.args.kept.now i c.index-kept-i-in-Some.result) c.index-kept-i-in-Some.result lt refl levels
           c.in_ok-child.child.levels c.in_ok-child.ensures.levels,
     )

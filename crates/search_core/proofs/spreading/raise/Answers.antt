@@ -5,19 +5,18 @@ use Rattle.search_core.proofs.spreading.raise.Goals as goal
 use Rattle.search_core.proofs.spreading.raise.Goals.{In_ok-put}
 
 pub returns-then-now-eq0-clause-done : goal.returns-then-now-eq0-clause-done
-returns-then-now-eq0-clause-done c = raised_without c.args.instance.now c.args.levels.now c.args.b c.args.c
-    c.args.raising.now c.requires.raising
+returns-then-now-eq0-clause-done c = raised_without _ _ _ c.args.c _ c.requires.raising
     (let e = rw c.deref.ensures.value at c.level_at-now.ensures.value in let t = c.if-now-eq0.true in
     omega (arith, e, t))
 
 pub returns-then-reach-now-clause-done : goal.returns-then-reach-now-clause-done
-returns-then-reach-now-clause-done c = raised_high c.args.instance.now c.args.levels.now c.args.b c.args.c
-    c.args.raising.now c.requires.raising c.args.reach (λ k d i. (c.len-count.ensures.buffers k d i).sound)
+returns-then-reach-now-clause-done c = raised_high _ _ _ c.args.c _ c.requires.raising _
+    (λ k d i. (c.len-count.ensures.buffers k d i).sound)
     c.requires.low c.requires.reach (let e = rw c.deref.ensures.value at c.level_at-now.ensures.value in
     let t = c.if-reach-now.true in omega (arith, e, t))
 
 more : (c : In_ok-put) → 0 < slice_index c.args.levels.now c.args.c
-more c = some_before c.args.instance.now c.args.levels.now c.args.b c.args.c c.args.raising.now c.requires.raising
+more c = some_before _ _ _ c.args.c _ c.requires.raising
     (some_level c.level_at-now.result (slice_index c.args.raising.now.numbers.items c.args.c)
     (rw c.deref.ensures.value at c.level_at-now.ensures.value) c.if-now-eq0.false)
 
@@ -30,9 +29,8 @@ within c =
 pub returns-in_ok-put-clause-raising : goal.returns-in_ok-put-clause-raising
 returns-in_ok-put-clause-raising c =
     let k = (goal.at.returns-in_ok-put-clause-raising c).In_ok-put in
-    raising_next c.args.instance.now c.args.levels.now c.args.b c.args.raising.now c.put.new.self c.args.c
-    c.child_level-level.result (within k) c.in_ok-put.ensures.numbers c.child_level-level.ensures.level (more k)
-    c.in_ok-put.ensures.top
+    raising_next _ _ _ _ c.put.new.self c.args.c c.child_level-level.result (within k) c.in_ok-put.ensures.numbers
+    c.child_level-level.ensures.level (more k) c.in_ok-put.ensures.top
     (c.in_ok-put.ensures.limit (2 ^ 55) c.requires.raising.limit c.child_level-level.ensures.limit)
     (λ less. c.in_ok-put.ensures.raised (let q = c.at-before.ensures.value in omega (arith, q, less)))
     c.in_ok-put.ensures.kept c.requires.raising

@@ -12,6 +12,3 @@ sections_of-own-requires c =
 pub buffer-requires : goal.buffer-requires
 buffer-requires c = level_in_range c.args.instance.now c.requires.low.above c.args.levels.now c.requires.low.are
     c.args.b c.requires.low.has
-
-pub returns-clause-done : goal.returns-clause-done
-returns-clause-done c = λ x more. c.in_ok-raise_each.ensures.done x (c.left-left.ensures.all x more) more

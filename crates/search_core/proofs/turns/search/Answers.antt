@@ -16,8 +16,7 @@ turns-preserved c =
     let root = whole c.args.task.now.instance.now c.args.members.now in
     record {
       log = c.in_ok-step.ensures.log;
-      grown = extends_along root root c.args.log.now.lines c.turns.log.lines c.step.new.log.lines (λ b h. h) i.grown
-          (rw i.root at c.in_ok-step.ensures.grown);
+      grown = extends_along _ _ _ _ _ (λ b h. h) i.grown (rw i.root at c.in_ok-step.ensures.grown);
       place = on.place;
       root = on.root ∙ i.root;
       watched = rw c.in-On.is at c.in_ok-step.ensures.watched;
@@ -37,15 +36,13 @@ turns-preserved c =
 pub returns-in-Done-clause-grown : goal.returns-in-Done-clause-grown
 returns-in-Done-clause-grown c =
     let i = c.turns.invariant in
-    let root = whole c.args.task.now.instance.now c.args.members.now in
-    extends_along root root c.args.log.now.lines c.turns.log.lines c.step.new.log.lines (λ b h. h) i.grown
-    (rw i.root at c.in_ok-step.ensures.grown)
+    extends_along _ _ _ _ _ (λ b h. h) i.grown (rw i.root at c.in_ok-step.ensures.grown)
 
 pub returns-in-Done-clause-taken : goal.returns-in-Done-clause-taken
 returns-in-Done-clause-taken c e =
     let i = c.turns.invariant in
     elim (i.taken e) [
-      | inl n ↦ unless_along c.in-Done.found
+      | inl n ↦ unless_along _
           (more_by_after c.args.meter.now c.turns.meter c.step.new.meter 1 i.most i.units)
           (rw c.in-Done.is at c.in_ok-step.ensures.taken n.0 n.1)
       | inr m ↦ unless_always c.in-Done.found

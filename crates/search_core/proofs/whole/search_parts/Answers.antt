@@ -14,7 +14,7 @@ search_part-requires-clause-part c =
 used : (c : After-search_part) → c.search_part.new.meter.used ≤ c.args.meter.now.used
     + whole_work c.args.task.now.instance.now c.args.task.now.capacity
 used c =
-    let n = part_work _ _ _ c.loop-p.p _ _ _ c.requires.parts (omega arith) c.loop-p.invariant in
+    let n = part_work _ _ _ _ _ _ _ c.requires.parts (omega arith) c.loop-p.invariant in
     let u = rw c.members.ensures.value at c.search_part.ensures.used in
     omega (arith, n, u)
 
@@ -33,16 +33,14 @@ returns-in-Spent-clause-used c = used (goal.at.returns-in-Spent-clause-used c).A
 
 pub returns-in-Spent-clause-spent : goal.returns-in-Spent-clause-spent
 returns-in-Spent-clause-spent c =
-    let n = part_work _ _ _ c.loop-p.p _ _ _ c.requires.parts (omega arith) c.loop-p.invariant in
+    let n = part_work _ _ _ _ _ _ _ c.requires.parts (omega arith) c.loop-p.invariant in
     let s = rw (c.in-Spent.is, c.members.ensures.value) at c.in_ok-found.ensures.spent in
     (s.0, omega (arith, n, s.1))
 
 pub returns-in-Refuted-clause-decided : goal.returns-in-Refuted-clause-decided
 returns-in-Refuted-clause-decided c =
     let found = rw (c.in-Refuted.is, c.members.ensures.value) at c.in_ok-found.ensures.found in (
-      part_refuted c.args.task.now.instance.now c.args.task.now.capacity c.args.parts.now c.loop-p.p
-          c.loop-p.seats.items c.args.meter.now c.loop-p.meter c.requires.parts
-          (omega arith) c.loop-p.invariant found.0,
+      part_refuted _ _ _ _ _ _ _ c.requires.parts (omega arith) c.loop-p.invariant found.0,
       found.1,
     )
 
@@ -61,28 +59,21 @@ returns-in-Refuted-clause-counted c =
 pub loop-p-preserved : goal.loop-p-preserved
 loop-p-preserved c =
     let found = rw (c.in-Seats.is, c.members.ensures.value) at c.in_ok-found.ensures.found in
-    joining_next c.args.task.now.instance.now c.args.task.now.capacity c.args.parts.now c.loop-p.p c.loop-p.seats.items
-    c.in-Seats.found.items c.extend_from_slice.new.self.items c.args.meter.now
-    c.loop-p.meter c.search_part.new.meter (omega arith) c.loop-p.invariant found
-    (c.in_ok-extend_from_slice-in-Seats.ensures.items ∙ (rw c.deref.ensures.value refl)) c.search_part.ensures.most
-    c.search_part.ensures.units (rw c.in-Seats.is at c.in_ok-found.ensures.taken)
+    joining_next _ _ _ _ _ c.in-Seats.found.items c.extend_from_slice.new.self.items _ _ _ (omega arith)
+    c.loop-p.invariant found (c.in_ok-extend_from_slice-in-Seats.ensures.items ∙ (rw c.deref.ensures.value refl))
+    c.search_part.ensures.most c.search_part.ensures.units (rw c.in-Seats.is at c.in_ok-found.ensures.taken)
     (rw c.members.ensures.value at c.search_part.ensures.used)
 
 pub returns-in_err-offsets-clause-used : goal.returns-in_err-offsets-clause-used
-returns-in_err-offsets-clause-used c =
-    all_work c.args.task.now.instance.now c.args.task.now.capacity c.args.parts.now c.loop-p.p c.loop-p.seats.items
-    c.args.meter.now c.loop-p.meter c.requires.parts c.loop-p.invariant
+returns-in_err-offsets-clause-used c = all_work _ _ _ _ _ _ _ c.requires.parts c.loop-p.invariant
 
 pub returns-clause-used : goal.returns-clause-used
-returns-clause-used c =
-    all_work c.args.task.now.instance.now c.args.task.now.capacity c.args.parts.now c.loop-p.p c.loop-p.seats.items
-    c.args.meter.now c.loop-p.meter c.requires.parts c.loop-p.invariant
+returns-clause-used c = all_work _ _ _ _ _ _ _ c.requires.parts c.loop-p.invariant
 
 pub returns-clause-decided : goal.returns-clause-decided
 returns-clause-decided c =
-    rw (c.in_ok-offsets.ensures, c.deref-2.ensures.value)
-    (all_joined c.args.task.now.instance.now c.args.task.now.capacity c.args.parts.now c.loop-p.p c.loop-p.seats.items
-    c.args.meter.now c.loop-p.meter c.requires.parts (omega arith) c.loop-p.invariant)
+    rw (c.in_ok-offsets.ensures, c.deref-2.ensures.value) (all_joined _ _ _ _ _
+    _ _ c.requires.parts (omega arith) c.loop-p.invariant)
 
 pub returns-clause-taken : goal.returns-clause-taken
 returns-clause-taken c =

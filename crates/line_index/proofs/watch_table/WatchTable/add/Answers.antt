@@ -7,8 +7,7 @@ use Rattle.line_index.proofs.watch_table.WatchTable.add.Goals as goal
 pub invariant_of-self : goal.invariant_of-self
 invariant_of-self c =
     let rows = c.self.inside.rows.items in
-    filed_appended c.self.inside.watches.items rows (slice_set rows c.args.b c.push.new.self)
-    (length-set rows c.args.b c.push.new.self)
+    filed_appended _ _ _ (length-set rows c.args.b c.push.new.self)
     (appended_row rows c.args.b c.index_mut-row.result.now c.push.new.self c.args.mark
     (omega (arith, c.self.inside.rows.ok.0)) c.index_mut-row.ensures.value c.in_ok-push.ensures.appended)
     c.self.invariant

@@ -13,9 +13,9 @@ invariant_of-self c =
     let rows = c.self.inside.rows.items in
     let old = c.index_mut-row.result.now in
     let lt = inside (goal.at.invariant_of-self c).After-take in
-    filed_taken c.self.inside.watches.items rows c.args.b c.args.i old c.take.new.self
-    (row_within rows c.args.b c.args.i lt) c.index_mut-row.ensures.value
-    (within_old rows c.args.b c.args.i old c.index_mut-row.ensures.value lt) c.take.ensures
+    filed_taken _ _ c.args.b c.args.i old c.take.new.self (row_within rows c.args.b c.args.i lt)
+    c.index_mut-row.ensures.value (within_old rows c.args.b c.args.i old c.index_mut-row.ensures.value lt)
+    c.take.ensures
     (subst (λ (t : WatchedLines). IsUnwatched t c.args.b c.args.i) (sym c.self.view_is) c.requires.unwatched)
     c.self.invariant
 

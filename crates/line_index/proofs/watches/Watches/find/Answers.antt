@@ -20,15 +20,13 @@ loop-number-preserved c =
     let items = c.args.raised.now in
     let i = c.loop-number.number-index in
     let x = slice_index items i in
-    let old = c.loop-number.self-inside.table.watches in
     let new = c.find_in.new.table.watches in
     let found = c.in_ok-found.ensures in
     record {
-      moved = moved_trans lines now c.args.self.now old new c.loop-number.invariant.moved found.moved;
-      fail = fail_next lines c.args.before.now now items old new x (drop i items) (drop (i + 1) items)
-          (next_of items i c.loop-number-test.true) found.moved
+      moved = moved_trans _ _ _ _ _ c.loop-number.invariant.moved found.moved;
+      fail = fail_next _ _ _ _ _ _ x _ (drop (i + 1) items) (next_of items i c.loop-number-test.true) found.moved
           (subst (FailAt lines new now x) c.level_at.ensures.value
-          (from_none c.in_ok-found.found (sym c.if-is_some.ensures) found.none)) c.loop-number.invariant.fail;
+          (from_none _ (sym c.if-is_some.ensures) found.none)) c.loop-number.invariant.fail;
     }
 
 pub returns-clause-none : goal.returns-clause-none
@@ -39,10 +37,8 @@ returns-clause-none c = λ above all.
     let items = c.args.raised.now in
     let watches = c.loop-number.self-inside.table.watches in
     all_watched lines now before c.args.self.now watches (length now) (omega arith) c.loop-number.invariant.moved
-    (λ b lt. fail_at_all lines before now items watches (drop c.loop-number.number-index items)
+    (λ b lt. fail_at_all _ _ _ _ _ _
     (none_of items c.loop-number.number-index c.loop-number-test.false) all c.loop-number.invariant.fail b) above
 
 pub returns-clause-uncovered : goal.returns-clause-uncovered
-returns-clause-uncovered c = λ I l h above all w.
-    watched_none I c.args.log.now.lines c.loop-number.self-inside.table.watches l c.args.now.now h
-    (returns-clause-none c above all w)
+returns-clause-uncovered c = λ I l h above all w. watched_none I _ _ l _ h (returns-clause-none c above all w)

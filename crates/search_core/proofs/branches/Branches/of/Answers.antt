@@ -9,8 +9,7 @@ invariant_of-view c =
     let q = c.in_ok-ground.ensures.value I c.requires.0 c.requires.1 in
     rw q (record {
       at_lows = lifted_at_lows I c.requires.0 (λ k d i. (c.len-count.ensures.buffers k d i).sound);
-      leveled = lifted_levels I c.requires.0 c.args.levels (λ k d i. (c.len-count.ensures.buffers k d i).sound)
-          c.requires.1;
+      leveled = lifted_levels I _ _ (λ k d i. (c.len-count.ensures.buffers k d i).sound) c.requires.1;
     })
 
 pub returns-clause-branches : goal.returns-clause-branches

@@ -8,6 +8,6 @@ returns-clause-first c = λ l h some.
     let s : IsInstance I = (λ k d i. (c.len-count.ensures.buffers k d i).sound) in
     let first = c.first-chosen.ensures.first I l h some in
     record {
-      left = some_choice I l c.first-chosen.result s first;
-      chosen = first_is I l c.first-chosen.result s first;
+      left = some_choice I l _ s first;
+      chosen = first_is I l _ s first;
     }

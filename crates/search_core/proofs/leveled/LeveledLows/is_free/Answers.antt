@@ -7,8 +7,7 @@ returns-clause-value c =
     let v = c.args.self.now in (
       λ h. has_level v.instance.now v.claim.now v.levels.now v.leveled c.args.b
           (let k = some_number c.at.result h in let e = c.at.ensures in omega arith),
-      λ i. one_more c.at.result _
-          (c.at.ensures.value ∙ level_inside v.instance.now v.claim.now v.levels.now v.leveled c.args.b i),
+      λ i. one_more c.at.result _ (c.at.ensures.value ∙ level_inside v.instance.now _ _ v.leveled c.args.b i),
     )
 
 pub returns-clause-stands : goal.returns-clause-stands

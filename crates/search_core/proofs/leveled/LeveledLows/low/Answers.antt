@@ -5,7 +5,7 @@ use Rattle.search_core.proofs.leveled.LeveledLows.low.Goals as goal
 pub returns-clause-value : goal.returns-clause-value
 returns-clause-value c =
     let v = c.args.self.now in
-    let k = level_inside v.instance.now v.claim.now v.levels.now v.leveled c.args.b c.requires in
+    let k = level_inside v.instance.now _ _ v.leveled c.args.b c.requires in
     let e = c.at.ensures in
     let s = c.saturating_sub.ensures in
     omega arith

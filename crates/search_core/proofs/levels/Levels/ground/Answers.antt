@@ -6,8 +6,7 @@ use Rattle.search_core.proofs.levels.Levels.ground.Goals as goal
 pub returns-clause-value : goal.returns-clause-value
 returns-clause-value c = λ I l h.
     let k = rw c.deref.ensures.value at c.in_ok-ground.ensures in
-    ground_is_lifted I l c.self.inside.numbers.items c.in_ok-ground.ground k
-    (subst (AreLevels I l) (sym c.self.view_is) h)
+    ground_is_lifted I l _ _ k (subst (AreLevels I l) (sym c.self.view_is) h)
 
 pub returns-clause-low : goal.returns-clause-low
 returns-clause-low c =

@@ -12,7 +12,6 @@ returns-in-Some-levels c =
     let k = c.in-Some.kept.now in
     let got : slice_get kept (length kept - 1) ≡ Some k =
     sym (c.in-Some.ensures.value ∙ ap (λ (ks : List Kept). slice_get ks (length ks - 1)) c.deref.ensures.value) in
-    is_above sky.instance sky.claims kept c.args.self.now.frames k c.in-Some-levels.levels _ c.self.invariant
-    (ap (λ (w : Way). w.frames) c.self.view_is)
-    (let lt = slice_get_within kept (length kept - 1) k got in omega arith)
+    is_above _ _ _ c.args.self.now.frames k c.in-Some-levels.levels _ c.self.invariant
+    (ap (λ (w : Way). w.frames) c.self.view_is) (let lt = slice_get_within kept (length kept - 1) k got in omega arith)
     (sym (get_or_from_slice_get kept (length kept - 1) k k got)) c.in-Some-levels.is refl refl

@@ -5,9 +5,9 @@ use Rattle.search_core.proofs.path.Path.go_back.Goals as goal
 
 pub returns-in_ok-frame_of-in-Some-clause-some : goal.returns-in_ok-frame_of-in-Some-clause-some
 returns-in_ok-frame_of-in-Some-clause-some c =
-    back c.args.self.now c.frame_of.new.self c.self.inside.sky c.pop-in-Some.new.self c.self.inside.kept.items
-    c.pop.new.self.items c.in-Some.kept c.in_ok-frame_of-in-Some.field-0 c.self.view_is c.frame_of.ensures.unchanged
-    c.self.invariant c.pop-in-Some.ensures.instance c.pop-in-Some.ensures.claims c.in-Some.ensures.items
+    back c.args.self.now c.frame_of.new.self c.self.inside.sky c.pop-in-Some.new.self _ c.pop.new.self.items
+    c.in-Some.kept c.in_ok-frame_of-in-Some.field-0 c.self.view_is c.frame_of.ensures.unchanged c.self.invariant
+    c.pop-in-Some.ensures.instance c.pop-in-Some.ensures.claims c.in-Some.ensures.items
     c.in_ok-frame_of-in-Some.ensures.value
 
 pub returns-in-None-clause-none : goal.returns-in-None-clause-none

@@ -17,8 +17,8 @@ pushed c =
     let br : AreBranches I l b =
     branches_from I l c.args.frame b n c.parts-branches.ensures c.requires.order c.requires.levels in
     let k : Kept = record { notes = n; chosen = c.chosen-b.result; order = Some b.order; levels = Some b.levels } in
-    down c.args.self.now c.self.inside.sky c.push-2.new.self c.self.inside.kept.items c.push.new.self.items c.args.frame
-    k (c.self.view_is ∙ c.forget.ensures) c.self.invariant (c.parts-branches.ensures ∙ tries_are I l b n br)
+    down c.args.self.now c.self.inside.sky c.push-2.new.self _ c.push.new.self.items _ k
+    (c.self.view_is ∙ c.forget.ensures) c.self.invariant (c.parts-branches.ensures ∙ tries_are I l b n br)
     c.chosen-b.ensures c.requires.left br.levels br.order c.push-2.ensures.instance c.push-2.ensures.claims
     c.in_ok-push.ensures.items
 

@@ -17,8 +17,8 @@ pushed c =
     let x = c.args.fresh in
     let n : Notes = record { refuted = c.new-refuted.result; asked = x.asked } in
     let k : Kept = record { notes = n; chosen = x.chosen; order = None; levels = Some x.levels } in
-    down c.args.self.now c.self.inside.sky c.push-2.new.self c.self.inside.kept.items c.push.new.self.items
-    (tries_at I l x) k (c.self.view_is ∙ c.forget.ensures) c.self.invariant
+    down c.args.self.now c.self.inside.sky c.push-2.new.self _ c.push.new.self.items _ k
+    (c.self.view_is ∙ c.forget.ensures) c.self.invariant
     (fresh_are I l x n c.requires.levels c.new-refuted.ensures.items refl) c.requires.first.chosen c.requires.first.left
     c.requires.levels tt c.push-2.ensures.instance c.push-2.ensures.claims c.in_ok-push.ensures.items
 

@@ -5,9 +5,9 @@ use Rattle.search_core.proofs.path.Path.leave.Goals as goal
 
 pub returns-in-Some-clause-some : goal.returns-in-Some-clause-some
 returns-in-Some-clause-some c =
-    back_by c.args.self.now _ c.self.inside.sky c.pop-in-Some.new.self c.self.inside.kept.items
-    c.pop.new.self.items c.in-Some.kept c.taken.result c.self.view_is refl c.self.invariant
-    c.pop-in-Some.ensures.instance c.pop-in-Some.ensures.claims c.in-Some.ensures.items c.taken.ensures
+    back_by c.args.self.now _ c.self.inside.sky c.pop-in-Some.new.self _ c.pop.new.self.items c.in-Some.kept
+    c.taken.result c.self.view_is refl c.self.invariant c.pop-in-Some.ensures.instance c.pop-in-Some.ensures.claims
+    c.in-Some.ensures.items c.taken.ensures
 
 pub returns-in-None-clause-none : goal.returns-in-None-clause-none
 returns-in-None-clause-none c =

@@ -4,8 +4,7 @@ use Rattle.search_core.proofs.raising.Raising.put.Goals as goal
 use Rattle.search_core.proofs.raising.Raising.put.Goals.{else-self-level, then-self-level}
 
 pub returns-in_ok-push-clause-raised : goal.returns-in_ok-push-clause-raised
-returns-in_ok-push-clause-raised c = λ less.
-    subst (IsIn c.args.b) (sym c.in_ok-push.ensures.items)
+returns-in_ok-push-clause-raised c = λ less. subst (IsIn c.args.b) (sym c.in_ok-push.ensures.items)
     (right_append c.if-self-level.self.raised.items (c.args.b ∷ []) c.args.b (inl refl))
 
 pub returns-in_ok-push-clause-kept : goal.returns-in_ok-push-clause-kept
@@ -15,5 +14,4 @@ returns-in_ok-push-clause-kept c = λ b i.
       | then-self-level w ↦ ap (λ v. v.raised.items) w.self-is
       | else-self-level w ↦ ap (λ v. v.raised.items) w.self-is
     ] in
-    subst (IsIn b) (sym c.in_ok-push.ensures.items)
-    (left_append old (c.args.b ∷ []) b (subst (IsIn b) (sym same) i))
+    subst (IsIn b) (sym c.in_ok-push.ensures.items) (left_append old (c.args.b ∷ []) b (subst (IsIn b) (sym same) i))

@@ -10,15 +10,13 @@ use Rattle.search_core.proofs.search.SearchDecider.decide.Goals.{in-Spent, in_de
 pub returns-clause-right : goal.returns-clause-right
 returns-clause-right c =
     let subject = ap (λ (v : Course). v.subject) c.self.view_is in
-    rw (← subject) (is_right c.self.inside.instance.now c.args.capacity c.in_ok-decided.decided
-    c.len-count.ensures.buffers c.in_ok-decided.ensures.decided)
+    rw (← subject) (is_right _ _ _ c.len-count.ensures.buffers c.in_ok-decided.ensures.decided)
 
 pub returns-clause-settles : goal.returns-clause-settles
 returns-clause-settles c =
     let subject = ap (λ (v : Course). v.subject) c.self.view_is in
     rw (← subject) (right_settles c.self.inside.instance.now c.args.capacity c.in_ok-decided.decided
-    (sound_instance c.self.inside.instance.now c.len-count.ensures.buffers)
-    (is_right c.self.inside.instance.now c.args.capacity c.in_ok-decided.decided c.len-count.ensures.buffers
+    (sound_instance c.self.inside.instance.now c.len-count.ensures.buffers) (is_right _ _ _ c.len-count.ensures.buffers
     c.in_ok-decided.ensures.decided))
 
 pub returns-clause-charged : goal.returns-clause-charged

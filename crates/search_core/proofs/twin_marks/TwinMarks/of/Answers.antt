@@ -6,6 +6,5 @@ loop-b-preserved c =
     let i = c.loop-b.invariant in
     rw c.in_ok-push.ensures.items (
       one_more c.loop-b.marks.items c.follows_its_like.result c.loop-b.b i.0,
-      marks_next c.args.instance.now c.loop-b.marks.items c.follows_its_like.result c.loop-b.b i.0
-          c.follows_its_like.ensures i.1,
+      marks_next _ _ c.follows_its_like.result c.loop-b.b i.0 c.follows_its_like.ensures i.1,
     )

@@ -1,4 +1,4 @@
-use Rattle.std.proofs.Common.{◌≡◌, ◌∷◌, ◌++◌, [], ℕ, None, arith, refl, subst, sym}
+use Rattle.std.proofs.Common.{◌≡◌, ◌∷◌, ◌++◌, [], ℕ, None, refl, subst, sym}
 use Rattle.search_core.proofs.Words.{child, entry_of, in_range, last_claim}
 use Rattle.search_core.specs.Fresh.{tries_at}
 use Rattle.search_core.specs.Tries.{Tried}
@@ -13,21 +13,14 @@ use Rattle.search_core.proofs.Watched.{all_watched_push}
 use Rattle.search_core.proofs.walk.Walk.begin.Goals as goal
 
 -- ---- a line that is at hand
-pub find-line-requires-clause-count : goal.find-line-requires-clause-count
-find-line-requires-clause-count c = rw c.as_slice-levels.ensures.value c.requires.ready.opened.trying.levels.count
-
-pub find-line-requires-clause-low : goal.find-line-requires-clause-low
-find-line-requires-clause-low c = λ k d lt. let le = c.as_slice-levels.ensures.low k d lt in omega arith
-
 pub find-line-requires-clause-b_in : goal.find-line-requires-clause-b_in
 find-line-requires-clause-b_in c =
     let I = c.args.task.now.instance.now in
     let l = last_claim c.args.self.now.path.sky.claims in
     let t = c.requires.ready.opened.trying in
     let s = rw (c.instance.ensures.value, c.requires.ready.opened.path.subject) at c.instance.ensures.stands in
-    let has = first_in I c.args.task.now.capacity l c.args.log.now.lines c.args.fresh c.requires.first t in
-    rw c.as_slice-levels.ensures.value
-    (some_level I l c.args.fresh.levels c.args.fresh.chosen t.levels has (in_range I l c.args.fresh.chosen s has))
+    let has = first_in I _ l _ _ c.requires.first t in
+    rw c.as_slice-levels.ensures.value (some_level I l _ _ t.levels has (in_range I l c.args.fresh.chosen s has))
 
 pub frame-requires : goal.frame-requires
 frame-requires c = (last_claim c.args.self.now.path.sky.claims, c.requires.ready.opened.trying.levels)
@@ -48,15 +41,7 @@ returns-then-is_some c =
 
 -- ---- the first choice
 pub go_first-requires-clause-has : goal.go_first-requires-clause-has
-go_first-requires-clause-has c =
-    first_in c.args.task.now.instance.now c.args.task.now.capacity (last_claim c.args.self.now.path.sky.claims)
-    c.args.log.now.lines c.args.fresh c.requires.first c.requires.ready.opened.trying
-
-pub go_first-requires-clause-first : goal.go_first-requires-clause-first
-go_first-requires-clause-first c = rw c.requires.ready.opened.path.subject c.requires.first
-
-pub go_first-requires-clause-levels : goal.go_first-requires-clause-levels
-go_first-requires-clause-levels c = rw c.requires.ready.opened.path.subject c.requires.ready.opened.trying.levels
+go_first-requires-clause-has c = first_in _ _ _ _ _ c.requires.first c.requires.ready.opened.trying
 
 pub returns : goal.returns
 returns c =
@@ -69,14 +54,11 @@ returns c =
     record {
       log = c.requires.log;
       grown = extends_none l lines;
-      ahead = ahead_deeper I c.args.task.now.capacity lines (place_of c.args.self.now)
-          (place_on c.go_first.new.self None) f p c.requires.ready.opened.trying c.requires.first.left
-          c.requires.ready.asked c.in_ok-go_first.ensures.instance
+      ahead = ahead_deeper I _ _ _ (place_on c.go_first.new.self None) f p c.requires.ready.opened.trying
+          c.requires.first.left c.requires.ready.asked c.in_ok-go_first.ensures.instance
           (subst (λ (b : ℕ). c.go_first.new.self.sky.claims
           ≡ c.args.self.now.path.sky.claims ++ child I l (entry_of l b) ∷ []) c.requires.first.chosen
           (rw p.subject at c.in_ok-go_first.ensures.claims)) frames refl;
-      watched = λ h held.
-          all_watched_push lines c.args.self.now.watches c.args.self.now.path.frames c.go_first.new.self.frames f
-          frames h held;
+      watched = λ h held. all_watched_push _ _ _ c.go_first.new.self.frames f frames h held;
       counted = one_claim_more lines c.args.self.now.path c.go_first.new.self f frames;
     }

@@ -1,4 +1,3 @@
-use Rattle.search_core.specs.Walks.{place_of}
 use Rattle.search_core.proofs.Passing.{ahead_of_less}
 use Rattle.search_core.proofs.walk.Walk.proceed.Goals as goal
 
@@ -21,10 +20,8 @@ returns c =
     record {
       log = on.log;
       grown = on.grown;
-      ahead = ahead_of_less c.args.task.now.instance.now c.args.task.now.capacity c.advance.new.log.lines
-          (place_of c.args.self.now) (place_of c.advance.new.self) c.pass_over.new.frame c.args.frame
-          c.in_ok-pass_over.ensures.less on.ahead;
-      watched = λ h held.
-          (rw (c.in_ok-pass_over.ensures.levels, c.in_ok-pass_over.ensures.asked) at (on.watched h)) held;
+      ahead = ahead_of_less _ _ _ _ _ _ c.args.frame c.in_ok-pass_over.ensures.less on.ahead;
+      watched = λ h held. (rw (c.in_ok-pass_over.ensures.levels, c.in_ok-pass_over.ensures.asked) at (on.watched h))
+          held;
       counted = on.counted;
     }

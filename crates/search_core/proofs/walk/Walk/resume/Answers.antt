@@ -1,7 +1,6 @@
 use Rattle.std.proofs.Common.{arith}
 use Rattle.search_core.proofs.Words.{last_claim, watched_none}
 use Rattle.search_core.specs.Descents.{above_of}
-use Rattle.search_core.specs.Walks.{place_of}
 use Rattle.search_core.proofs.Descending.{ahead_covered, are_raised}
 use Rattle.search_core.proofs.Descent.{is_instance}
 use Rattle.search_core.proofs.Growing.{extends_none}
@@ -27,11 +26,10 @@ returns-in-Some c =
     record {
       log = c.requires.log;
       grown = extends_none l lines;
-      ahead = ahead_covered I C l lines lines (place_of c.args.self.now) c.args.frame c.in-Some.line
-          (extends_none l lines) o.path
-          (record { none = covered_has_none I C l c.args.log.now c.in-Some.line s c.requires.log h; covered = h });
-      watched = λ watched held. all_watched_still lines c.args.self.now.watches c.ask.new.self levels frames
-          (are_raised I C lines l levels above frames (is_instance I l s) o.path.descends o.trying.levels)
+      ahead = ahead_covered I C l _ _ _ c.args.frame c.in-Some.line (extends_none l lines) o.path
+          (record { none = covered_has_none I C l _ _ s c.requires.log h; covered = h });
+      watched = λ watched held. all_watched_still _ _ c.ask.new.self _ _
+          (are_raised I C _ l _ _ frames (is_instance I l s) o.path.descends o.trying.levels)
           (rw (c.as_slice-levels.ensures.value, c.levels.ensures, c.log.ensures) at c.in_ok-line.ensures.kept) watched;
       counted = omega arith;
     }
@@ -46,11 +44,9 @@ proceed-requires-clause-ready c =
       opened = record {
         path = o.path;
         not_empty = o.not_empty;
-        trying = trying_asked c.args.task.now.instance.now c.args.task.now.capacity
-            (last_claim c.args.self.now.path.sky.claims) c.args.log.now.lines c.args.frame c.len.result o.trying;
+        trying = trying_asked _ _ _ _ _ c.len.result o.trying;
       };
-      fresh = watched_none c.args.task.now.instance.now c.args.log.now.lines c.ask.new.self
-          (last_claim c.args.self.now.path.sky.claims) c.args.frame.levels o.trying.levels (k c.requires.held);
+      fresh = watched_none _ _ _ _ _ o.trying.levels (k c.requires.held);
       asked = rw c.log-2.ensures at c.len.ensures.value;
     })
 
@@ -59,13 +55,10 @@ returns c =
     let I = c.args.task.now.instance.now in
     let C = c.args.task.now.capacity in
     let l = last_claim c.args.self.now.path.sky.claims in
-    let lines = c.args.log.now.lines in
     let s = rw (c.instance.ensures.value, c.requires.opened.path.subject) at c.instance.ensures.stands in
     let k = rw (c.as_slice-levels.ensures.value, c.levels.ensures, c.asked.ensures, c.log.ensures, c.in_default.is)
     at c.in_ok-line.ensures.none in
     let o = c.requires.opened in
-    let levels = c.args.frame.levels in
-    let above = above_of c.args.self.now.path.sky.claims in
     let frames = c.args.self.now.path.frames in
     let on = c.in_ok-proceed.ensures in
     let ahead = rw c.ask_to.ensures at on.ahead in
@@ -73,12 +66,10 @@ returns c =
       log = on.log;
       grown = on.grown;
       ahead = record { place = ahead.place; root = ahead.root; owed = ahead.owed; turns = ahead.turns };
-      watched = λ watched held.
-          on.watched
-          (all_watched_still lines c.args.self.now.watches c.ask.new.self levels frames
-          (are_raised I C lines l levels above frames (is_instance I l s) o.path.descends o.trying.levels)
+      watched = λ watched held. on.watched (all_watched_still _ _ c.ask.new.self _ _
+          (are_raised I C _ l _ _ frames (is_instance I l s) o.path.descends o.trying.levels)
           (rw (c.as_slice-levels.ensures.value, c.levels.ensures, c.log.ensures) at c.in_ok-line.ensures.kept) watched)
-          (rw c.ask_to.ensures (watched_to lines c.ask.new.self levels c.len.result
+          (rw c.ask_to.ensures (watched_to _ _ _ c.len.result
           (rw c.log-2.ensures at c.len.ensures.value) (k held)));
       counted = on.counted;
     }

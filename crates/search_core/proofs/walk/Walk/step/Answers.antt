@@ -1,6 +1,6 @@
 use Rattle.std.proofs.Common.{◌+◌, ◌≤◌, ap, arith, length}
 use Rattle.search_core.proofs.Words.{last_claim, Stands, AreWatched}
-use Rattle.search_core.specs.Descents.{above_of, claim_at, owed, sky_root}
+use Rattle.search_core.specs.Descents.{claim_at, owed, sky_root}
 use Rattle.search_core.specs.Logs.{Extends}
 use Rattle.search_core.specs.Walks.{place_of, place_on}
 use Rattle.search_core.specs.Watches.{AreWatchedAt}
@@ -17,8 +17,7 @@ use Rattle.search_core.proofs.walk.Walk.step.Goals.{In-None, In-Some-2, In_ok-k-
 -- what is known of the claim that the search is back at
 back : (c : In-Some-2) → IsBack c.args.task.now.instance.now c.args.task.now.capacity c.args.log.now.lines
     (place_of c.args.self.now) (place_on c.go_back.new.self c.args.self.now.line) c.in-Some-2.frame
-back c = is_back_from c.args.task.now.instance.now c.args.task.now.capacity c.args.log.now.lines c.args.self.now.path
-    c.go_back.new.self c.args.self.now.line c.in-Some-2.frame c.requires.place.path
+back c = is_back_from _ _ _ _ _ c.args.self.now.line _ c.requires.place.path
     (rw c.in-Some-2.is at c.in_ok-frame-in-Some.ensures.some)
 
 -- and what is watched above it and there
@@ -26,8 +25,7 @@ watched : (c : In-Some-2) → AreWatchedAt c.args.log.now.lines c.args.self.now.
     × AreWatched c.args.log.now.lines c.args.self.now.watches c.in-Some-2.frame.levels c.in-Some-2.frame.asked
 watched c =
     let off = rw c.in-Some-2.is at c.in_ok-frame-in-Some.ensures.some in
-    all_watched_pop c.args.log.now.lines c.args.self.now.watches c.args.self.now.path.frames c.go_back.new.self.frames
-    c.in-Some-2.frame off.frames c.requires.watched
+    all_watched_pop _ _ _ c.go_back.new.self.frames c.in-Some-2.frame off.frames c.requires.watched
 
 pub chosen-requires : goal.chosen-requires
 chosen-requires c = (back (goal.at.chosen-requires c).In-Some-2).standing.is_left
@@ -46,30 +44,22 @@ pub resume-requires-clause-opened : goal.resume-requires-clause-opened
 resume-requires-clause-opened c =
     let I = c.args.task.now.instance.now in
     let C = c.args.task.now.capacity in
-    let lines = c.args.log.now.lines in
-    let here = place_of c.args.self.now in
-    let popped = place_on c.go_back.new.self c.args.self.now.line in
     let b = back (goal.at.resume-requires-clause-opened c).In-Some-2 in
     rw c.in_ok-note-in-Some-2.ensures (record {
       path = b.path;
       not_empty = b.not_empty;
-      trying = back_noted I C lines here popped c.in-Some-2.frame c.in-Some.k b
-          (known_line I C lines here c.requires.place c.in-Some.k c.in-Some.is);
+      trying = back_noted I C _ _ _ _ _ b (known_line I C _ _ c.requires.place c.in-Some.k c.in-Some.is);
     })
 
 pub returns-in_ok-resume-in-Some-2-clause-grown : goal.returns-in_ok-resume-in-Some-2-clause-grown
 returns-in_ok-resume-in-Some-2-clause-grown c =
     let b = back (goal.at.returns-in_ok-resume-in-Some-2-clause-grown c).In-Some-2 in
-    rw b.root (grown_below c.args.task.now.instance.now c.args.task.now.capacity c.args.log.now.lines
-    c.resume.new.log.lines (place_on c.go_back.new.self c.args.self.now.line) b.path
-    c.in_ok-resume-in-Some-2.ensures.grown)
+    rw b.root (grown_below _ _ _ _ _ b.path c.in_ok-resume-in-Some-2.ensures.grown)
 
 pub returns-in_ok-resume-in-Some-2-clause-turned : goal.returns-in_ok-resume-in-Some-2-clause-turned
 returns-in_ok-resume-in-Some-2-clause-turned c =
     let off = rw c.in-Some-2.is at c.in_ok-frame-in-Some.ensures.some in
-    on_back c.args.task.now.instance.now c.args.task.now.capacity c.args.log.now.lines (place_of c.args.self.now)
-    c.requires.place c.resume.new.log.lines (place_on c.go_back.new.self c.args.self.now.line)
-    (place_of c.resume.new.self) c.in-Some-2.frame c.in-Some.k c.args.meter.now c.in-Some.is off.frames
+    on_back _ _ _ _ c.requires.place _ _ _ _ c.in-Some.k c.args.meter.now c.in-Some.is off.frames
     (back (goal.at.returns-in_ok-resume-in-Some-2-clause-turned c).In-Some-2)
     (rw c.in_ok-note-in-Some-2.ensures at c.in_ok-resume-in-Some-2.ensures.ahead)
 
@@ -82,8 +72,7 @@ pub returns-in-None-2-clause-turned : goal.returns-in-None-2-clause-turned
 returns-in-None-2-clause-turned c =
     let none = rw c.in-None-2.is at c.in_ok-frame-in-Some.ensures.none in
     record {
-      found = root_refuted c.args.task.now.instance.now c.args.task.now.capacity c.args.log.now.lines
-          (place_of c.args.self.now) c.requires.place c.in-Some.k c.in-Some.is none.0;
+      found = root_refuted _ _ _ _ c.requires.place c.in-Some.k c.in-Some.is none.0;
       spent = tt;
     }
 
@@ -94,49 +83,39 @@ stands c = rw (c.instance.ensures.value, c.requires.place.path.subject) at c.ins
 
 -- it is left to look at
 some : (c : In-None) → 1 ≤ owed c.args.task.now.instance.now c.args.task.now.capacity (place_of c.args.self.now)
-some c = some_owed c.args.task.now.instance.now c.args.task.now.capacity c.args.log.now.lines (place_of c.args.self.now)
-    c.requires.place c.in-None.is (stands c).claim
+some c = some_owed _ _ _ _ c.requires.place c.in-None.is (stands c).claim
 
 -- what the log has once it is opened
 grown : (c : In_ok-k-in-None) → Extends (sky_root c.args.self.now.path.sky) c.args.log.now.lines c.open.new.log.lines
-grown c = grown_below c.args.task.now.instance.now c.args.task.now.capacity c.args.log.now.lines c.open.new.log.lines
-    (place_of c.args.self.now) c.requires.place.path c.in_ok-k-in-None.ensures.grown
+grown c = grown_below _ _ _ _ _ c.requires.place.path c.in_ok-k-in-None.ensures.grown
 
 pub open-requires-clause-latest : goal.open-requires-clause-latest
-open-requires-clause-latest c =
-    asked_above c.args.task.now.instance.now c.args.task.now.capacity c.args.log.now.lines (place_of c.args.self.now)
-    c.requires.place c.in-None.is
+open-requires-clause-latest c = asked_above _ _ _ _ c.requires.place c.in-None.is
 
 pub open-requires-clause-under : goal.open-requires-clause-under
 open-requires-clause-under c =
     let path = c.args.self.now.path in
-    under_last c.args.task.now.instance.now c.args.task.now.capacity c.args.log.now.lines
-    (last_claim path.sky.claims) (above_of path.sky.claims) path.frames c.requires.place.path.descends
+    under_last _ _ _ _ _ path.frames c.requires.place.path.descends
 
 pub open-requires-clause-raised : goal.open-requires-clause-raised
 open-requires-clause-raised c = λ levels a.
     let I = c.args.task.now.instance.now in
     let path = c.args.self.now.path in
     let l = last_claim path.sky.claims in
-    are_raised I c.args.task.now.capacity c.args.log.now.lines l levels (above_of path.sky.claims) path.frames
-    (is_instance I l (stands (goal.at.open-requires-clause-raised c).In-None)) c.requires.place.path.descends a
+    are_raised I _ _ l _ _ path.frames (is_instance I l (stands (goal.at.open-requires-clause-raised c).In-None))
+    c.requires.place.path.descends a
 
 pub returns-in_err-k-in-None-clause-used : goal.returns-in_err-k-in-None-clause-used
 returns-in_err-k-in-None-clause-used c =
     omega (arith, some (goal.at.returns-in_err-k-in-None-clause-used c).In-None, c.open.ensures.one)
 
-pub begin-requires-clause-first : goal.begin-requires-clause-first
-begin-requires-clause-first c = (rw c.in-Choices.is at c.in_ok-k-in-None.ensures.opened).0
-
 pub begin-requires-clause-ready : goal.begin-requires-clause-ready
 begin-requires-clause-ready c =
-    let here = place_of c.args.self.now in
     let choices = (rw c.in-Choices.is at c.in_ok-k-in-None.ensures.opened).1 in
     let all = rw c.in-Choices.is at c.in_ok-k-in-None.ensures.asked in
     record {
       opened = record {
-        path = path_still c.args.task.now.instance.now c.args.task.now.capacity (claim_at here) c.args.log.now.lines
-            c.open.new.log.lines here c.in_ok-k-in-None.ensures.grown c.requires.place.path;
+        path = path_still _ _ _ _ _ _ c.in_ok-k-in-None.ensures.grown c.requires.place.path;
         not_empty = choices.not_empty;
         trying = choices.trying;
       };
@@ -152,13 +131,11 @@ pub returns-in-Line-clause-grown : goal.returns-in-Line-clause-grown
 returns-in-Line-clause-grown c = grown (goal.at.returns-in-Line-clause-grown c).In_ok-k-in-None
 
 pub returns-in-Line-clause-used : goal.returns-in-Line-clause-used
-returns-in-Line-clause-used c =
-    omega (arith, some (goal.at.returns-in-Line-clause-used c).In-None, c.open.ensures.one)
+returns-in-Line-clause-used c = omega (arith, some (goal.at.returns-in-Line-clause-used c).In-None, c.open.ensures.one)
 
 pub returns-in-Line-clause-turned : goal.returns-in-Line-clause-turned
 returns-in-Line-clause-turned c =
-    on_line c.args.task.now.instance.now c.args.task.now.capacity c.args.log.now.lines (place_of c.args.self.now)
-    c.requires.place c.open.new.log.lines c.in-Line.k c.args.meter.now c.open.new.meter c.in-None.is
+    on_line _ _ _ _ c.requires.place _ _ c.args.meter.now c.open.new.meter c.in-None.is
     (stands (goal.at.returns-in-Line-clause-turned c).In-None).claim c.in_ok-k-in-None.ensures.grown
     (rw c.in-Line.is at c.in_ok-k-in-None.ensures.opened) c.open.ensures.one
 
@@ -166,9 +143,7 @@ pub returns-in_ok-begin-in-Choices-clause-grown : goal.returns-in_ok-begin-in-Ch
 returns-in_ok-begin-in-Choices-clause-grown c =
     let here = place_of c.args.self.now in
     let l = claim_at here in
-    grown_below c.args.task.now.instance.now c.args.task.now.capacity c.args.log.now.lines c.begin.new.log.lines here
-    c.requires.place.path
-    (extends_along l l c.args.log.now.lines c.open.new.log.lines c.begin.new.log.lines (λ b h. h)
+    grown_below _ _ _ _ _ c.requires.place.path (extends_along l l _ _ _ (λ b h. h)
     c.in_ok-k-in-None.ensures.grown c.in_ok-begin-in-Choices.ensures.grown)
 
 pub returns-in_ok-seats-in-Empty-clause-grown : goal.returns-in_ok-seats-in-Empty-clause-grown
@@ -187,15 +162,6 @@ returns-in-Spent-clause-turned c =
     let o = some (goal.at.returns-in-Spent-clause-turned c).In-None in
     let h = rw c.in-Spent.is at c.in_ok-k-in-None.ensures.opened in
     record { found = tt; spent = (h.0, omega (arith, o, h.1)) }
-
-pub returns-in-Line-clause-taken : goal.returns-in-Line-clause-taken
-returns-in-Line-clause-taken c _ e = rw c.in-Line.is at c.in_ok-k-in-None.ensures.taken e
-
-pub returns-in_ok-begin-in-Choices-clause-taken : goal.returns-in_ok-begin-in-Choices-clause-taken
-returns-in_ok-begin-in-Choices-clause-taken c _ e = rw c.in-Choices.is at c.in_ok-k-in-None.ensures.taken e
-
-pub returns-in_ok-seats-in-Empty-clause-taken : goal.returns-in_ok-seats-in-Empty-clause-taken
-returns-in_ok-seats-in-Empty-clause-taken c _ e = rw c.in-Empty.is at c.in_ok-k-in-None.ensures.taken e
 
 pub returns-in_ok-begin-in-Choices-clause-watched : goal.returns-in_ok-begin-in-Choices-clause-watched
 returns-in_ok-begin-in-Choices-clause-watched c =
