@@ -1,6 +1,5 @@
 -- The watches of one buffer after another fail at the levels of a claim, but for those of the buffers that are left.
-use Rattle.std.proofs.Common.{◌≡◌, ℕ, suc, ◌+◌, ◌<◌, ◌≤◌, ◌⊎◌, inl, inr, List, [], ◌∷◌, drop, length, slice_index, sym, ap, ◌∙◌, subst, arith}
-use Rattle.std.proofs.lemmas.Grind.{common_steps}
+use Rattle.std.proofs.Common.{◌≡◌, ℕ, ◌+◌, ◌<◌, ◌⊎◌, inl, inr, List, [], ◌∷◌, drop, length, slice_index, sym, subst, arith, slice_index_or, add-one}
 use Rattle.std.proofs.Math.Seq.{drop-cons}
 use Rattle.dsa_terms.specs.Claims.{Entry, IsIn}
 use Rattle.dsa_terms.specs.Logs.{Line}
@@ -15,14 +14,9 @@ FailBut lines before now watches buffers left = (b : ℕ) → IsIn b buffers →
     IsIn b left ⊎ FailAt lines watches now b (slice_index before b)
 
 -- ---- what is left of the buffers
-pub next_of : (bs : List ℕ) (i : ℕ) → i < length bs → drop i bs ≡ slice_index bs i ∷ drop (i + 1) bs
-next_of bs i lt = drop-cons bs i 0 lt ∙ ap (λ (n : ℕ). slice_index bs i ∷ drop n bs) (one i)
-  where
-    one : (i : ℕ) → suc i ≡ i + 1
-    one i = omega arith
-
-pub none_of : (bs : List ℕ) (i : ℕ) → length bs ≤ i → drop i bs ≡ []
-none_of bs i le = grind (arith, common_steps)
+pub next_of : {X : Type 0} (xs : List X) (i : ℕ) (d : X) → i < length xs →
+    drop i xs ≡ slice_index_or xs i d ∷ drop (i + 1) xs
+next_of xs i d lt = rw add-one (drop-cons xs i d lt)
 
 module _ (lines : List Line) (before now buffers : List ℕ) where
   pub fail_next : (old new : List Entry) (x : ℕ) (left rest : List ℕ) → left ≡ x ∷ rest →

@@ -1,17 +1,6 @@
 -- A walk along the entries of a claim: the entry at a place, and those that are left.
-use Rattle.std.proofs.Common.{◌≡◌, ℕ, zero, suc, ◌+◌, ◌<◌, ◌≤◌, [], ◌∷◌, drop, length, slice_index_or, ap, ◌∙◌, subst, arith}
-use Rattle.std.proofs.lemmas.Grind.{common_steps}
-use Rattle.std.proofs.Math.Seq.{drop-cons}
+use Rattle.std.proofs.Common.{◌≡◌, ℕ, zero, suc, ◌<◌, [], ◌∷◌, drop, length, slice_index_or, subst}
 use Rattle.search_core.proofs.Words.{Claim, IsIn, Rises, buffers_of, in_at, in_buffers, HasBuffer, entry_of, is_entry}
-
-pub next_left : (l : Claim) (i : ℕ) → i < length l → drop i l ≡ slice_index_or l i (0, 0) ∷ drop (i + 1) l
-next_left l i lt = drop-cons l i (0, 0) lt ∙ ap (λ (n : ℕ). slice_index_or l i (0, 0) ∷ drop n l) (one i)
-  where
-    one : (i : ℕ) → suc i ≡ i + 1
-    one i = omega arith
-
-pub nothing_left : (l : Claim) (i : ℕ) → length l ≤ i → drop i l ≡ []
-nothing_left l i le = grind (arith, common_steps)
 
 module _ (l items : Claim) (i : ℕ) (q : items ≡ l) (lt : i < length items) where
   pub place_in : IsIn (slice_index_or items i (0, 0)) l

@@ -1,7 +1,7 @@
 -- The levels of a child, from those of the claim above it.
 use Rattle.std.proofs.Common.{◌≡◌, ◌≢◌, ℕ, ◌+◌, ◌-◌, ◌<◌, ◌≤◌, ◌^◌, ◌⊎◌, inl, inr, List, slice_set, subst, All, max, length, slice_index, ap, sym, ◌∙◌, refl, arith, get_or-set_other, get_or-set_same}
 use Rattle.std.specs.Int.{next_multiple_of}
-use Rattle.search_core.proofs.Words.{Instance, IsInstance, buffer, IsBuffer, buffer_limit, Claim, Entry, IsClaim, child, step, up, below_or_from, claim-child, HasBuffer, IsBoundedBy, entry_of, Stands, up_limit, AreLevels, IsLevel, entry_of_child, from_child, in_child_by, has_level, level_inside}
+use Rattle.search_core.proofs.Words.{Instance, IsInstance, buffer, IsBuffer, buffer_limit, Claim, Entry, IsClaim, child, step, up, below_or_from, claim-child, HasBuffer, IsBoundedBy, entry_of, Stands, up_limit, AreLevels, IsLevel, entry_of_child, from_child, in_child_by, has_level, level_inside, same_or_not}
 use Rattle.line_index.proofs.Rising.{low_of_child}
 use Rattle.search_core.specs.Descents.{IsUnder}
 use Rattle.search_core.specs.Levels.{HasLowChild}
@@ -87,13 +87,10 @@ child_low I l c n buffers count claim low has q =
 pub set_cases : (xs : List ℕ) (j v c : ℕ) → j < length xs →
     ((c ≡ j) × (slice_index (slice_set xs j v) c ≡ v))
     ⊎ ((c ≢ j) × (slice_index (slice_set xs j v) c ≡ slice_index xs c))
-set_cases xs j v c lt = elim (equal_or_not c j) [
+set_cases xs j v c lt = elim (same_or_not c j) [
   | inl q ↦ inl (q, ap (slice_index (slice_set xs j v)) q ∙ get_or-set_same xs j v 0 lt)
   | inr ne ↦ inr (ne, get_or-set_other xs j c v 0 ne)
 ]
-  where
-    equal_or_not : (c j : ℕ) → (c ≡ j) ⊎ (c ≢ j)
-    equal_or_not c j = grind arith
 
 -- ---- the claim that the search is at, under the last frame
 pub low_child : (I : Instance) (f : Tried) (levels : List ℕ) (b : ℕ) (l : Claim) → IsUnder I f l →

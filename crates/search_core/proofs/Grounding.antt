@@ -47,17 +47,14 @@ ground_is_lifted I l levels ground k h =
         omega arith
 
 -- ---- what levels keep
-pub entry_within : (levels : List ℕ) (e : Entry) → slice_index levels e.0 ≡ e.1 + 1 → e.0 < length levels
-entry_within levels e q = elim (below_or_from e.0 (length levels)) [
-  | inl lt ↦ lt
-  | inr le ↦ absurd (let z : slice_index levels e.0 ≡ 0 = get_or_past levels e.0 0 le in omega arith)
-]
-
 pub some_within : (levels : List ℕ) (b : ℕ) → 0 < slice_index levels b → b < length levels
 some_within levels b more = elim (below_or_from b (length levels)) [
   | inl lt ↦ lt
   | inr le ↦ absurd (let z : slice_index levels b ≡ 0 = get_or_past levels b 0 le in omega arith)
 ]
+
+pub entry_within : (levels : List ℕ) (e : Entry) → slice_index levels e.0 ≡ e.1 + 1 → e.0 < length levels
+entry_within levels e q = some_within levels e.0 (omega (arith, q))
 
 module _ (levels : List ℕ) (k : Claim) (each : (e : Entry) → IsIn e k → slice_index levels e.0 ≡ e.1 + 1) where
   pub bounds_low : All (λ level. level ≤ 2 ^ 55) levels → IsBoundedBy (2 ^ 60) k

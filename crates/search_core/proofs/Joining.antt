@@ -1,9 +1,8 @@
 -- The answers of parts, put together one after another.
-use Rattle.std.proofs.Common.{◌≡◌, ℕ, ◌+◌, ◌<◌, ◌≤◌, List, [], ◌∷◌, ◌++◌, length, drop, slice_index_or, Option, Some, None, sum_by, sym, subst, refl, ap, ◌∙◌, arith, append_assoc, add-one, append-nil}
+use Rattle.std.proofs.Common.{◌≡◌, ℕ, ◌+◌, ◌<◌, ◌≤◌, List, [], ◌++◌, length, drop, slice_index_or, Option, Some, None, sum_by, sym, subst, refl, ap, ◌∙◌, arith, append_assoc, append-nil}
 use Rattle.std.proofs.lemmas.List.Sums.{sum_by-cons}
 use Rattle.std.proofs.Math.ListN.{drop_of_length-le}
-use Rattle.std.proofs.Math.Seq.{drop-cons}
-use Rattle.search_core.proofs.Words.{Instance, Entry, IsIn, first_of_all, join, offsets_of, parts, searched, whole, whole_work, first, work, in_at}
+use Rattle.search_core.proofs.Words.{Instance, Entry, IsIn, first_of_all, join, offsets_of, parts, searched, whole, whole_work, first, work, in_at, next_of}
 use Rattle.search_core.specs.Meters.{AreMore, Units}
 use Rattle.search_core.proofs.Counting.{more_by_after}
 use Rattle.search_core.proofs.Taking.{some_part}
@@ -21,9 +20,6 @@ pub record IsJoining (I : Instance) (C : ℕ) (ps : List (List ℕ)) (i : ℕ) (
   pub taken : 0 < i → AreMore before after
   pub work : after.used + work_of_parts I C (drop i ps) ≤ before.used + work_of_parts I C ps
 
-next_part : (ps : List (List ℕ)) (i : ℕ) → i < length ps → drop i ps ≡ slice_index_or ps i [] ∷ drop (i + 1) ps
-next_part ps i lt = rw add-one (drop-cons ps i [] lt)
-
 join_along : (seats found : List Entry) (rest : Option (List Entry)) →
     join (Some seats) (join (Some found) rest) ≡ join (Some (seats ++ found)) rest
 join_along seats found None = refl
@@ -40,7 +36,7 @@ module _ (I : Instance) (C : ℕ) (ps : List (List ℕ)) where
       between.used + (work I C (whole I (slice_index_or ps i [])) + work_of_parts I C
       (drop (i + 1) ps)) ≤ before.used + work_of_parts I C ps
   left_work i seats before between lt j = rw (
-    next_part ps i lt,
+    next_of ps i [] lt,
     sum_by-cons (λ p. work I C (whole I p))
         (slice_index_or ps i []) (drop (i + 1) ps),
   ) at j.work
@@ -63,7 +59,7 @@ module _ (I : Instance) (C : ℕ) (ps : List (List ℕ)) where
       after.used ≤ between.used + work I C (whole I (slice_index_or ps i [])) →
       IsJoining I C ps (i + 1) all before after
   joining_next i seats found all before between after lt j some q most units more used = record {
-    left = j.left ∙ (rw (next_part ps i lt, some, q) (join_along seats found (first_of_all I C (drop (i + 1) ps))));
+    left = j.left ∙ (rw (next_of ps i [] lt, some, q) (join_along seats found (first_of_all I C (drop (i + 1) ps))));
     most = most ∙ j.most;
     units = let k = j.units in omega arith;
     taken = λ _. more_by_after before between after 1 j.most j.units more;
@@ -75,7 +71,7 @@ module _ (I : Instance) (C : ℕ) (ps : List (List ℕ)) where
       first I C (whole I (slice_index_or ps i [])) ≡ None → searched I C ≡ None
   unfolding searched
   part_refuted i seats before between q lt j none =
-      let k : first_of_all I C ps ≡ None = j.left ∙ (rw (next_part ps i lt, none) refl) in
+      let k : first_of_all I C ps ≡ None = j.left ∙ (rw (next_of ps i [] lt, none) refl) in
       rw (← q, k) refl
 
   -- all parts are searched, and so is one

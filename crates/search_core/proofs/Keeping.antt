@@ -1,6 +1,6 @@
 -- What is kept of the choices of claims, and what is made again.
 use Rattle.std.proofs.Common.{◌≡◌, ℕ, zero, suc, ◌+◌, ◌-◌, ◌<◌, ◌==◌, Bool, true, false, cond, List, [], ◌∷◌, ◌++◌, length, map, slice_get, slice_index_or, slice_set, IfSome, Some, inl, inr, refl, sym, ap, ◌∙◌, subst, arith, length-append, ext_get_or, get_or-set_other, length-set}
-use Rattle.std.proofs.lemmas.List.{get_or_append_left, get_or_push}
+use Rattle.std.proofs.lemmas.List.{get_or_append_left, get_or_push, map-append, length-map}
 use Rattle.std.proofs.lemmas.List.FromFn.{get_or-map-range_with_len, length-map-range_with_len}
 use Rattle.std.proofs.lemmas.Grind.{get_or-set_at}
 use Rattle.std.proofs.Math.Seq.{map-set_same}
@@ -109,14 +109,6 @@ pub no_tries : (I : Instance) (claims : List Claim) → tries_of I claims [] ≡
 no_tries I [] = refl
 no_tries I (l ∷ ls) = refl
 
-notes_push : (kept : List Kept) (k : Kept) → notes_of (kept ++ k ∷ []) ≡ notes_of kept ++ k.notes ∷ []
-notes_push [] k = refl
-notes_push (x ∷ xs) k = ap (λ ns. x.notes ∷ ns) (notes_push xs k)
-
-notes_count : (kept : List Kept) → length (notes_of kept) ≡ length kept
-notes_count [] = refl
-notes_count (x ∷ xs) = let e = notes_count xs in omega (arith, e)
-
 -- the tries of one claim
 pub tries_get : (I : Instance) (claims : List Claim) (kept : List Kept) (i : ℕ) (d : Kept) → i < length kept →
     length kept < length claims →
@@ -198,9 +190,9 @@ module _ (I : Instance) (claims : List Claim) (kept : List Kept) (c : Claim) (k 
       tries_of I (claims ++ c ∷ []) (notes_of (kept ++ k ∷ [])) ≡
       tries_of I claims (notes_of kept) ++ tried_of I (last_claim claims) k.notes ∷ []
   pushed_tries h =
-      ap (tries_of I (claims ++ c ∷ [])) (notes_push kept k)
+      ap (tries_of I (claims ++ c ∷ [])) (map-append (λ (k : Kept). k.notes) kept (k ∷ []))
       ∙ tries_push I claims (notes_of kept) c k.notes
-      (let e = h.count in let n = notes_count kept in omega arith)
+      (let e = h.count in let n = length-map kept (λ (k : Kept). k.notes) in omega arith)
 
 -- other levels at one place
 pub set_kept : (I : Instance) (claims : List Claim) (kept : List Kept) (i : ℕ) (k old : Kept) → i < length kept →

@@ -5,10 +5,10 @@ use Rattle.std.specs.Ordering.{match_ordering, nat_cmp, ordering_then}
 use Rattle.std.specs.declared.cmp.Ordering.{Ordering}
 use Rattle.std.specs.declared.cmp.Ordering.TheVariants.{Less, Equal, Greater}
 use Rattle.std.specs.BTreeSet.{insert_key}
-use Rattle.search_core.proofs.Words.{Instance, Claim, Entry, IsIn, Rises, buffers_of, up, comes_before, choices, not_excluded, from_ordered_by, from_filter, same, in_buffers, entry_of}
+use Rattle.search_core.proofs.Words.{Instance, Claim, Entry, IsIn, Rises, buffers_of, up, comes_before, choices, not_excluded, from_ordered_by, from_filter, same, in_buffers, entry_of, next_of}
 use Rattle.dsa_terms.specs.Sorts.{ordered_by, put_by}
 use Rattle.search_core.specs.Keys.{key_of}
-use Rattle.search_core.proofs.Along.{next_left, rises_left}
+use Rattle.search_core.proofs.Along.{rises_left}
 use Rattle.search_core.proofs.LiftedChoices.{order_entries}
 
 -- by the first numbers, then by the second ones
@@ -70,7 +70,7 @@ module _ (I : Instance) (l left rest : Claim) (e : Entry) (s : left ≡ e ∷ re
 module _ (I : Instance) (l items : Claim) (i j : ℕ) (m : i ≡ j + 1) (lt : j < length items) (f : Entry)
     (is : slice_index_or items j (0, 0) ≡ f) where
   s : drop j items ≡ f ∷ drop i items
-  s = next_left items j lt ∙ ap (λ (x : Entry). x ∷ drop (j + 1) items) is ∙ ap (λ (n : ℕ). f ∷ drop n items) (sym m)
+  s = next_of items j (0, 0) lt ∙ ap (λ (x : Entry). x ∷ drop (j + 1) items) is ∙ ap (λ (n : ℕ). f ∷ drop n items) (sym m)
 
   pub keys_exclude_at : not_excluded I l f ≡ false → keys_of I l (drop i items) ≡ keys_of I l (drop j items)
   keys_exclude_at t = keys_exclude I l (drop j items) (drop i items) f s t

@@ -1,6 +1,6 @@
 -- Choices whose children lines are known to cover.
-use Rattle.std.proofs.Common.{◌≡◌, ℕ, ◌+◌, ◌-◌, ◌<◌, ◌≤◌, cond, List, ◌∷◌, [], length, map, slice_index, Option, Some, None, is_some, ap, ◌∙◌, arith, length-append}
-use Rattle.search_core.proofs.Words.{Instance, Claim, Entry, child, Line, first, work, claim-child, HasBuffer, entry_of, AreLevels, Stands, OpenLog, IsCoveredBy}
+use Rattle.std.proofs.Common.{◌≡◌, ℕ, ◌+◌, ◌-◌, ◌<◌, ◌≤◌, cond, List, ◌∷◌, [], length, map, Option, Some, None, is_some, ap, ◌∙◌, arith, length-append}
+use Rattle.search_core.proofs.Words.{Instance, Claim, Entry, child, Line, first, work, claim-child, entry_of, Stands, OpenLog, IsCoveredBy}
 use Rattle.search_core.specs.Descents.{IsTrying, Place, claim_at, through}
 use Rattle.search_core.specs.Logs.{IsSearchLog}
 use Rattle.search_core.specs.Tries.{IsLeft, Tried, chosen_of, later_of, noted_by, rest_of}
@@ -20,11 +20,6 @@ pub record IsPassing (I : Instance) (C : ℕ) (lines : List Line) (l : Claim) (o
   pub less : left_below I C l f ≤ left_below I C l old
   pub levels : f.levels ≡ old.levels
   pub asked : f.asked ≡ old.asked
-
--- a level of a buffer of the claim is above 0
-pub some_level : (I : Instance) (l : Claim) (levels : List ℕ) (b : ℕ) → AreLevels I l levels → HasBuffer l b →
-    b < length I → 0 < slice_index levels b
-some_level I l levels b a h lt = let k = (a.each b lt).inside h in omega arith
 
 module _ (I : Instance) (C : ℕ) (l : Claim) (log : OpenLog) (f : Tried) (k : ℕ) (s : Stands I l)
     (h : IsSearchLog I C log) (t : IsTrying I C log.lines l f) (lt : IsLeft f)

@@ -1,12 +1,11 @@
 -- What the search through a claim knows after some of its choices.
-use Rattle.std.proofs.Common.{◌≡◌, ◌≢◌, length-append, ℕ, ◌+◌, ◌-◌, ◌<◌, ◌≤◌, ◌==◌, true, false, List, [], ◌∷◌, map, drop, length, slice_index_or, Some, None, sym, refl, ap, ◌∙◌, subst, inl, inr, arith, append_assoc, add-one, append-nil}
+use Rattle.std.proofs.Common.{◌≡◌, ◌≢◌, length-append, ℕ, ◌+◌, ◌-◌, ◌<◌, ◌≤◌, ◌==◌, true, false, List, [], ◌∷◌, map, drop, length, slice_index_or, Some, None, sym, refl, ap, ◌∙◌, subst, inl, inr, arith, append_assoc, append-nil}
 use Rattle.std.proofs.lemmas.Bool.Decides.{nat_tests}
 use Rattle.std.proofs.lemmas.List.{length-map, map-append}
 use Rattle.std.proofs.Math.ListN.{drop_of_length-le}
-use Rattle.std.proofs.Math.Seq.{drop-cons}
-use Rattle.search_core.proofs.Words.{Instance, buffer, Claim, Entry, IsIn, IsClaim, Covers, child, up, choices, first, is_tall, not_excluded, seated, into_map, from_append, from_map, left_append, in_at, in_buffers, HasBuffer, entry_of, least_buffer, AreLevels, Line, NoneCovers}
+use Rattle.search_core.proofs.Words.{Instance, buffer, Claim, Entry, IsIn, IsClaim, Covers, child, up, choices, first, is_tall, not_excluded, seated, into_map, from_append, from_map, left_append, in_at, in_buffers, HasBuffer, entry_of, least_buffer, AreLevels, Line, NoneCovers, next_of}
 use Rattle.dsa_search_laws.proofs.Complete.{from_choices, into_choices, tall_is}
-use Rattle.dsa_search_laws.proofs.Search.{first_equation, first_empty}
+use Rattle.dsa_search_laws.proofs.Search.{first_equation}
 use Rattle.search_core.specs.declared.found.Refuted.{Refuted}
 use Rattle.search_core.specs.declared.fresh.Fresh.{Fresh}
 use Rattle.search_core.specs.Cites.{IsChildCovered}
@@ -45,10 +44,6 @@ pub tall_in_range : (I : Instance) (C : ℕ) (l : Claim) (b : ℕ) → IsClaim I
 tall_in_range I C l b c h = let r = least_passes (is_tall I C) l b h in let k = c.in_range r.0 r.1 in let q = r.2 in
     omega arith
 
-pub first_of_nothing : (I : Instance) (C : ℕ) (l : Claim) → length l ≡ 0 → first I C l ≡ Some []
-first_of_nothing I C [] h = first_empty I C
-first_of_nothing I C (x ∷ xs) h = absurd (omega arith)
-
 -- ---- the choices
 pub chosen_at : (I : Instance) (l : Claim) (order : List ℕ) (i : ℕ) →
     map (entry_of l) order ≡ choices I (not_excluded I) l → i < length order → HasBuffer l (slice_index_or order i 0)
@@ -64,7 +59,7 @@ drop_zero (x ∷ xs) = refl
 
 -- the next choice, and those after it
 pub next_choice : (f : Tried) → IsLeft f → rest_of f ≡ chosen_of f ∷ later_of f
-next_choice f lt = rw add-one (drop-cons f.order (length f.refuted) 0 lt)
+next_choice f lt = next_of f.order (length f.refuted) 0 lt
 
 pub rest_of_noted : (f : Tried) (k : ℕ) → rest_of (noted_by f k) ≡ later_of f
 rest_of_noted f k = ap (λ n. drop n f.order) (length-append f.refuted (record { buffer = chosen_of f; line = k } ∷ []))

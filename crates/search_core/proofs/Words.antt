@@ -26,7 +26,7 @@ unfoldable pub use Rattle.dsa_terms.specs.Parts.{has, is_cut, last_cut, part_of,
 pub use Rattle.dsa_terms.specs.Search.{choices, first_of, first_some, not_excluded, seated}
 unfoldable pub use Rattle.dsa_terms.specs.Search.{comes_before, first, is_tall, work}
 pub use Rattle.lifetime.specs.SectionList.{AreSectionsOf, SectionList, count_of, members_of, sections_of, start_of}
-pub use Rattle.line_index.proofs.Finding.{next_of, none_of}
+pub use Rattle.line_index.proofs.Finding.{next_of}
 pub use Rattle.line_index.proofs.WatchLemmas.{raised_trans, watched_more, watched_none}
 pub use Rattle.line_index.specs.Covered.{IsCoveredBy, NoneCovers}
 pub use Rattle.line_index.specs.Watches.{AreRaised, AreWatched, RulesOut}

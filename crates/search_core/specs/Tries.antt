@@ -32,13 +32,8 @@ later_of f = drop (length f.refuted + 1) f.order
 
 -- the same choices, with the first that was not refuted noted as refuted by the line of that number
 abbrev pub noted_by : Tried → ℕ → Tried
-noted_by f k = record {
-  order = f.order;
-  refuted = f.refuted ++ record { buffer = chosen_of f; line = k } ∷ [];
-  levels = f.levels;
-  asked = f.asked;
-}
+noted_by f k = record f { refuted = f.refuted ++ record { buffer = chosen_of f; line = k } ∷ [] }
 
 -- the same choices, with the first n lines asked
 abbrev pub asked_to : Tried → ℕ → Tried
-asked_to f n = record { order = f.order; refuted = f.refuted; levels = f.levels; asked = n }
+asked_to f n = record f { asked = n }

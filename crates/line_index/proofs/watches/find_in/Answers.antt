@@ -8,7 +8,6 @@ use Rattle.line_index.proofs.watches.find_in.Goals.{else-low-mark-via-then-low-m
 
 pub loop-i-preserved-then-mark-high : goal.loop-i-preserved-then-mark-high
 loop-i-preserved-then-mark-high c =
-    let lines = c.args.log.now.lines in
     let before = c.loop-i.table in
     let after = c.try_mark.new.table in
     let found = c.in_ok-found.ensures in

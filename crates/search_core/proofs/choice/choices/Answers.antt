@@ -1,13 +1,13 @@
-use Rattle.std.proofs.Common.{◌≡◌, ◌∙◌, ◌+◌, ◌-◌, ◌<◌, ℕ, [], ap, arith, drop, length, map, refl, rules, subst, sym}
+use Rattle.std.proofs.Common.{◌≡◌, ◌∙◌, ◌+◌, ◌-◌, ◌<◌, ℕ, [], ap, arith, drop, length, map, refl, rules, subst, sym, drop_of_length-le}
 use Rattle.search_core.proofs.Words.{Claim, Rises, buffers_of}
-use Rattle.search_core.proofs.Along.{nothing_left, place_in}
+use Rattle.search_core.proofs.Along.{place_in}
 use Rattle.search_core.proofs.Order.{all_keys, keys_exclude_at, keys_of, keys_take_at}
 use Rattle.search_core.proofs.choice.choices.Goals as goal
 
 pub loop-i-init : goal.loop-i-init
 loop-i-init c =
     let items = c.pairs-pairs.result.now in
-    let none : drop (length items) items ≡ [] = nothing_left items (length items) (omega arith) in
+    let none : drop (length items) items ≡ [] = drop_of_length-le items (omega arith) in
     c.new-keys.ensures.empty ∙ sym (ap (keys_of c.args.view.now.instance.now c.args.view.now.claim.now) none)
 
 pub takes-requires-clause-pair_in : goal.takes-requires-clause-pair_in

@@ -1,4 +1,4 @@
-use Rattle.std.proofs.Common.{◌≡◌, ◌∙◌, ◌+◌, slice_index_or, subst, sym, take, take_all}
+use Rattle.std.proofs.Common.{◌+◌, slice_index_or, subst, sym, take}
 use Rattle.std.proofs.lemmas.List.{take_more}
 use Rattle.search_core.proofs.Words.{Entry, IsIn, cite_value}
 use Rattle.search_core.specs.Cites.{IsCiteFor}
@@ -38,11 +38,3 @@ loop-i-preserved c =
     zip_more cite_value R _ (take (i + 1) items) x c.loop-i.cites.items c.push.new.self.items c.cite_for.result
     (take_more items i (0, 0) c.loop-i-test.true) c.in_ok-push.ensures.items
     (subst (λ (e : Entry). R e (cite_value c.cite_for.result)) (sym is) c.cite_for.ensures) c.loop-i.invariant
-
-pub returns : goal.returns
-returns c =
-    let l = c.args.view.now.claim.now in
-    let items = c.pairs-pairs.result.now in
-    let whole : take c.loop-i.i items ≡ l =
-    take_all c.loop-i.i items c.loop-i-test.false ∙ c.pairs-pairs.ensures.value in
-    rw c.from_vec.ensures (rw whole at c.loop-i.invariant)

@@ -1,6 +1,7 @@
-use Rattle.std.proofs.Common.{◌+◌, ◌∙◌, ap, arith, drop, refl, slice_index_or, subst, sym}
+use Rattle.std.proofs.Common.{◌+◌, ◌∙◌, ap, arith, drop, refl, slice_index_or, subst, sym, drop_of_length-le}
+use Rattle.search_core.proofs.Words.{next_of}
 use Rattle.conflicts.specs.Ends.{end_of}
-use Rattle.search_core.proofs.Along.{next_left, nothing_left, place_in, place_is}
+use Rattle.search_core.proofs.Along.{place_in, place_is}
 use Rattle.search_core.proofs.Ends.{IsLeastBut, least_keep, least_of_all, least_take}
 use Rattle.search_core.proofs.ending.least_end.Goals as goal
 use Rattle.search_core.proofs.ending.least_end.Goals.{else-end-least, then-end-least}
@@ -16,7 +17,7 @@ loop-pair-preserved c =
     let items = c.pairs-pair-items.result.now in
     let i = c.loop-pair.pair-index in
     let x = slice_index_or items i (0, 0) in
-    let s = next_left items i c.loop-pair-test.true in
+    let s = next_of items i (0, 0) c.loop-pair-test.true in
     let r = c.pairs-pair-items.ensures.kept.rises in
     let q = c.pairs-pair-items.ensures.value in
     let is = ap (end_of I) (place_is l items i q c.loop-pair-test.true r) in
@@ -32,4 +33,4 @@ loop-pair-preserved c =
 
 pub returns : goal.returns
 returns c = least_of_all _ _ _ _
-    (nothing_left c.pairs-pair-items.result.now c.loop-pair.pair-index c.loop-pair-test.false) c.loop-pair.invariant
+    (drop_of_length-le c.pairs-pair-items.result.now c.loop-pair-test.false) c.loop-pair.invariant

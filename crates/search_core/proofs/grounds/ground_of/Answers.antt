@@ -1,5 +1,5 @@
-use Rattle.std.proofs.Common.{◌+◌, arith, drop, slice_index, subst, sym}
-use Rattle.search_core.proofs.Words.{in_at, next_of, none_of}
+use Rattle.std.proofs.Common.{◌+◌, arith, drop, slice_index, subst, sym, drop_of_length-le}
+use Rattle.search_core.proofs.Words.{in_at, next_of}
 use Rattle.search_core.specs.Levels.{AreKept}
 use Rattle.search_core.proofs.Grounding.{bounds_low, entries_all, entries_few, entry_next, left_kept}
 use Rattle.search_core.proofs.LeftBuffers.{left_within}
@@ -18,12 +18,12 @@ overflow_sub-levels c =
 pub loop-i-preserved : goal.loop-i-preserved
 loop-i-preserved c = entry_next c.args.levels.now c.args.left.now c.loop-i.pairs.items c.push.new.self.items
     (slice_index c.args.left.now c.loop-i.i) (drop c.loop-i.i c.args.left.now) (drop (c.loop-i.i + 1) c.args.left.now)
-    (next_of c.args.left.now c.loop-i.i c.loop-i-test.true) c.in_ok-push.ensures.items c.loop-i.invariant
+    (next_of c.args.left.now c.loop-i.i 0 c.loop-i-test.true) c.in_ok-push.ensures.items c.loop-i.invariant
 
 kept : (c : After-loop-i) → AreKept c.args.levels.now c.loop-i.pairs.items
 kept c = left_kept _ _ c.loop-i.pairs.items c.requires.few c.requires.low c.requires.left
     (entries_all c.args.levels.now c.args.left.now c.loop-i.pairs.items (drop c.loop-i.i c.args.left.now)
-    (none_of c.args.left.now c.loop-i.i c.loop-i-test.false) c.loop-i.invariant)
+    (drop_of_length-le c.args.left.now c.loop-i-test.false) c.loop-i.invariant)
 
 pub from_vec-requires-clause-rises : goal.from_vec-requires-clause-rises
 from_vec-requires-clause-rises c = (kept c).rises
@@ -39,4 +39,4 @@ pub returns : goal.returns
 returns c = subst (AreKept c.args.levels.now) (sym c.from_vec.ensures)
     (left_kept _ _ c.loop-i.pairs.items c.requires.few c.requires.low c.requires.left
     (entries_all c.args.levels.now c.args.left.now c.loop-i.pairs.items (drop c.loop-i.i c.args.left.now)
-    (none_of c.args.left.now c.loop-i.i c.loop-i-test.false) c.loop-i.invariant))
+    (drop_of_length-le c.args.left.now c.loop-i-test.false) c.loop-i.invariant))

@@ -1,5 +1,5 @@
-use Rattle.std.proofs.Common.{◌+◌, drop, refl, slice_index}
-use Rattle.search_core.proofs.Words.{in_at, next_of, none_of}
+use Rattle.std.proofs.Common.{◌+◌, drop, refl, slice_index, drop_of_length-le}
+use Rattle.search_core.proofs.Words.{in_at, next_of}
 use Rattle.search_core.proofs.Leading.{leads_all, leads_at_first, leads_lower, leads_still}
 use Rattle.search_core.proofs.LeftBuffers.{left_within}
 use Rattle.search_core.proofs.levels.first_level.Goals as goal
@@ -17,7 +17,7 @@ loop-i-preserved c =
     let left = c.args.left.now in
     let i = c.loop-i.i in
     let b = slice_index left i in
-    let q = next_of left i c.loop-i-test.true in
+    let q = next_of left i 0 c.loop-i-test.true in
     elim c.if-level-least.branch [
       | then-level-least w ↦ rw (w.first-is, w.least-is)
           (leads_lower _ _ _ (drop (i + 1) left) b (slice_index levels b) _
@@ -28,5 +28,5 @@ loop-i-preserved c =
     ]
 
 pub returns : goal.returns
-returns c = leads_all _ _ _ _ _ (none_of c.args.left.now c.loop-i.i c.loop-i-test.false) c.requires.low c.requires.left
+returns c = leads_all _ _ _ _ _ (drop_of_length-le c.args.left.now c.loop-i-test.false) c.requires.low c.requires.left
     c.loop-i.invariant

@@ -1,10 +1,11 @@
-use Rattle.std.proofs.Common.{◌≢◌, ◌+◌, ◌∙◌, [], arith, length, refl}
+use Rattle.std.proofs.Common.{◌≢◌, ◌+◌, ◌∙◌, [], arith, length}
+use Rattle.dsa_search_laws.proofs.Search.{first_empty}
 use Rattle.search_core.proofs.Words.{watched_none, last_claim}
 use Rattle.search_core.specs.Ways.{order_of}
 use Rattle.search_core.proofs.Counting.{counted_one_more}
 use Rattle.search_core.proofs.Descent.{is_instance}
 use Rattle.search_core.proofs.LiftedChoices.{order_entries}
-use Rattle.search_core.proofs.Searching.{are_choices, first_of_nothing}
+use Rattle.search_core.proofs.Searching.{are_choices}
 use Rattle.search_core.proofs.Taking.{none_covers}
 use Rattle.search_core.proofs.Uncovered.{covered_has_none, covers_less}
 use Rattle.search_core.proofs.Watched.{all_watched_more, watched_to}
@@ -35,7 +36,7 @@ returns-then-is_empty-clause-opened c =
     let I = c.args.task.now.instance.now in
     let l = last_claim c.args.path.now.sky.claims in
     rw (c.is_empty.ensures.none I l c.in_ok-entered.ensures.levels c.if-is_empty.true)
-    (first_of_nothing I c.args.task.now.capacity [] refl)
+    (first_empty I c.args.task.now.capacity)
 
 -- ---- an Over line
 pub append-requires-clause-legal : goal.append-requires-clause-legal

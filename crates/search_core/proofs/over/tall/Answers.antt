@@ -1,5 +1,5 @@
-use Rattle.std.proofs.Common.{◌<◌, arith, slice_index}
-use Rattle.search_core.proofs.Words.{in_at, next_of, none_of}
+use Rattle.std.proofs.Common.{◌<◌, arith, slice_index, drop_of_length-le}
+use Rattle.search_core.proofs.Words.{in_at, next_of}
 use Rattle.search_core.proofs.LeftBuffers.{left_within}
 use Rattle.search_core.proofs.TallLevels.{all_fit, first_ends, next_fits, none_at_first, none_ends}
 use Rattle.search_core.proofs.over.tall.Goals as goal
@@ -30,15 +30,15 @@ is_tall-requires-clause-b_in c =
     omega (arith, lt, n)
 
 pub loop-i-preserved : goal.loop-i-preserved
-loop-i-preserved c = next_fits _ _ _ _ _ _ c.at.result (next_of c.left-left.result.now c.loop-i.i c.loop-i-test.true)
+loop-i-preserved c = next_fits _ _ _ _ _ _ c.at.result (next_of c.left-left.result.now c.loop-i.i 0 c.loop-i-test.true)
     c.at.ensures.value (some (goal.at.loop-i-preserved c).After-at) (c.is_tall.ensures.none c.if-is_tall.false)
     c.loop-i.invariant
 
 pub returns-then-is_tall : goal.returns-then-is_tall
 returns-then-is_tall c = λ k h. first_ends _ _ _ _ _ _ c.at.result
-    (next_of c.left-left.result.now c.loop-i.i c.loop-i-test.true) c.at.ensures.value
+    (next_of c.left-left.result.now c.loop-i.i 0 c.loop-i-test.true) c.at.ensures.value
     (some (goal.at.returns-then-is_tall c).After-at) (c.is_tall.ensures.some c.if-is_tall.true) c.loop-i.invariant k h
 
 pub returns : goal.returns
-returns c = λ k h. none_ends _ _ _ _ (none_of c.left-left.result.now c.loop-i.i c.loop-i-test.false) c.loop-i.invariant
+returns c = λ k h. none_ends _ _ _ _ (drop_of_length-le c.left-left.result.now c.loop-i-test.false) c.loop-i.invariant
     k h

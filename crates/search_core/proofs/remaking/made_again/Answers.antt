@@ -22,7 +22,6 @@ child-requires-clause-low c =
 
 pub loop-i-preserved : goal.loop-i-preserved
 loop-i-preserved c =
-    let claims = c.args.sky.now.claims in
     let i = c.loop-i.i in
     let n = c.loop-i.auto.kept in
     let lt : i < length c.loop-i.kept = (let t = c.loop-i-test.true in omega arith) in

@@ -15,7 +15,6 @@ pub returns-in-Some : goal.returns-in-Some
 returns-in-Some c =
     let i = c.loop-i.i - 1 in
     let lt : i < length c.args.kept.now = (let n = c.loop-i.auto.i in let t = c.loop-i-test.true in omega arith) in
-    let claims = c.args.sky.now.claims in
     let levels = kept_levels _ _ _ i c.in-Some.levels c.index-kept-i.result
     c.requires.along lt c.in-Some.is in (
       omega arith,

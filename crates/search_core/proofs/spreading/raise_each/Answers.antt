@@ -7,7 +7,7 @@ pub loop-i-preserved : goal.loop-i-preserved
 loop-i-preserved c = record {
   raising = c.in_ok-raise.ensures.raising;
   done = λ x i. elim (c.loop-i.invariant.done x i) [
-    | inl left ↦ elim (subst (IsIn x) (next_of c.args.buffers.now c.loop-i.i c.loop-i-test.true) left) [
+    | inl left ↦ elim (subst (IsIn x) (next_of c.args.buffers.now c.loop-i.i 0 c.loop-i-test.true) left) [
       | inl q ↦ inr (subst (IsRaised c.args.instance.now c.args.levels.now c.args.b
           c.raise.new.raising.numbers.items) (sym q) c.in_ok-raise.ensures.done)
       | inr rest ↦ inl rest

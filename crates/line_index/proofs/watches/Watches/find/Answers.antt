@@ -1,7 +1,7 @@
-use Rattle.std.proofs.Common.{◌+◌, List, arith, drop, inl, length, slice_index, subst, sym}
+use Rattle.std.proofs.Common.{◌+◌, List, arith, drop, inl, length, slice_index, subst, sym, drop_of_length-le}
 use Rattle.dsa_terms.specs.Claims.{Entry}
 use Rattle.line_index.specs.Watching.{AreMoved, FailAt}
-use Rattle.line_index.proofs.Finding.{fail_at_all, fail_next, next_of, none_of}
+use Rattle.line_index.proofs.Finding.{fail_at_all, fail_next, next_of}
 use Rattle.line_index.proofs.Looking.{from_none}
 use Rattle.line_index.proofs.WatchLemmas.{all_watched, moved_refl, moved_trans, watched_none}
 use Rattle.line_index.proofs.watches.Watches.find.Goals as goal
@@ -24,7 +24,7 @@ loop-number-preserved c =
     let found = c.in_ok-found.ensures in
     record {
       moved = moved_trans _ _ _ _ _ c.loop-number.invariant.moved found.moved;
-      fail = fail_next _ _ _ _ _ _ x _ (drop (i + 1) items) (next_of items i c.loop-number-test.true) found.moved
+      fail = fail_next _ _ _ _ _ _ x _ (drop (i + 1) items) (next_of items i 0 c.loop-number-test.true) found.moved
           (subst (FailAt lines new now x) c.level_at.ensures.value
           (from_none _ (sym c.if-is_some.ensures) found.none)) c.loop-number.invariant.fail;
     }
@@ -38,7 +38,7 @@ returns-clause-none c = λ above all.
     let watches = c.loop-number.self-inside.table.watches in
     all_watched lines now before c.args.self.now watches (length now) (omega arith) c.loop-number.invariant.moved
     (λ b lt. fail_at_all _ _ _ _ _ _
-    (none_of items c.loop-number.number-index c.loop-number-test.false) all c.loop-number.invariant.fail b) above
+    (drop_of_length-le items c.loop-number-test.false) all c.loop-number.invariant.fail b) above
 
 pub returns-clause-uncovered : goal.returns-clause-uncovered
 returns-clause-uncovered c = λ I l h above all w. watched_none I _ _ l _ h (returns-clause-none c above all w)

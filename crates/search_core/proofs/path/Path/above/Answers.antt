@@ -7,7 +7,6 @@ use Rattle.search_core.proofs.path.Path.above.Goals as goal
 
 pub returns-in-Some-levels : goal.returns-in-Some-levels
 returns-in-Some-levels c =
-    let sky = c.self.inside.sky in
     let kept = c.self.inside.kept.items in
     let k = c.in-Some.kept.now in
     let got : slice_get kept (length kept - 1) ≡ Some k =

@@ -1,5 +1,5 @@
-use Rattle.std.proofs.Common.{◌≡◌, ◌∷◌, ◌++◌, [], ℕ, None, refl, subst, sym}
-use Rattle.search_core.proofs.Words.{child, entry_of, in_range, last_claim}
+use Rattle.std.proofs.Common.{◌≡◌, ◌∷◌, ◌++◌, [], ℕ, None, refl, subst, sym, arith}
+use Rattle.search_core.proofs.Words.{child, entry_of, last_claim, level_inside}
 use Rattle.search_core.specs.Fresh.{tries_at}
 use Rattle.search_core.specs.Tries.{Tried}
 use Rattle.search_core.specs.Turns.{IsUncovered}
@@ -7,7 +7,6 @@ use Rattle.search_core.specs.Walks.{GoesOn, place_of, place_on}
 use Rattle.search_core.proofs.Descending.{ahead_deeper}
 use Rattle.search_core.proofs.Counting.{one_claim_more}
 use Rattle.search_core.proofs.Growing.{extends_none}
-use Rattle.search_core.proofs.Passing.{some_level}
 use Rattle.search_core.proofs.Searching.{first_in}
 use Rattle.search_core.proofs.Watched.{all_watched_push}
 use Rattle.search_core.proofs.walk.Walk.begin.Goals as goal
@@ -18,9 +17,9 @@ find-line-requires-clause-b_in c =
     let I = c.args.task.now.instance.now in
     let l = last_claim c.args.self.now.path.sky.claims in
     let t = c.requires.ready.opened.trying in
-    let s = rw (c.instance.ensures.value, c.requires.ready.opened.path.subject) at c.instance.ensures.stands in
     let has = first_in I _ l _ _ c.requires.first t in
-    rw c.as_slice-levels.ensures.value (some_level I l _ _ t.levels has (in_range I l c.args.fresh.chosen s has))
+    let q = level_inside I l _ t.levels c.args.fresh.chosen has in
+    rw c.as_slice-levels.ensures.value (omega (arith, q))
 
 pub frame-requires : goal.frame-requires
 frame-requires c = (last_claim c.args.self.now.path.sky.claims, c.requires.ready.opened.trying.levels)

@@ -1,7 +1,7 @@
 use Rattle.std.proofs.Common.{◌-◌, ◌<◌, length, sym, subst, arith}
-use Rattle.search_core.proofs.Words.{child, entry_of, in_range, last_claim, IsCoveredBy}
+use Rattle.search_core.proofs.Words.{child, entry_of, last_claim, IsCoveredBy, level_inside}
 use Rattle.search_core.specs.Tries.{Tried, chosen_of}
-use Rattle.search_core.proofs.Passing.{IsPassing, passed_less, passed_one, passed_trying, some_level}
+use Rattle.search_core.proofs.Passing.{IsPassing, passed_less, passed_one, passed_trying}
 use Rattle.search_core.proofs.Searching.{chosen_in, one_is_left}
 use Rattle.search_core.proofs.walk.Walk.pass_over.Goals as goal
 
@@ -15,7 +15,7 @@ find-requires-clause-b_in c =
     let s = rw (c.instance.ensures.value, c.requires.subject) at c.instance.ensures.stands in
     let has = chosen_in I C l _ f t (one_is_left I C l _ f t (sym c.choices-test.ensures)) in
     rw (c.as_slice-levels.ensures.value, c.levels.ensures, c.chosen.ensures)
-    (some_level I l _ _ t.levels has (in_range I l (chosen_of f) s has))
+    (let q = level_inside I l _ t.levels (chosen_of f) has in omega (arith, q))
 
 pub choices-preserved : goal.choices-preserved
 choices-preserved c =

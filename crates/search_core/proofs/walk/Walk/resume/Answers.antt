@@ -1,6 +1,5 @@
 use Rattle.std.proofs.Common.{arith}
 use Rattle.search_core.proofs.Words.{last_claim, watched_none}
-use Rattle.search_core.specs.Descents.{above_of}
 use Rattle.search_core.proofs.Descending.{ahead_covered, are_raised}
 use Rattle.search_core.proofs.Descent.{is_instance}
 use Rattle.search_core.proofs.Growing.{extends_none}
@@ -20,8 +19,6 @@ returns-in-Some c =
     let o = c.requires.opened in
     let h = rw (c.in-Some.is, c.log.ensures)
     at (c.in_ok-line.ensures.some I l (rw (c.as_slice-levels.ensures.value, c.levels.ensures) o.trying.levels)) in
-    let levels = c.args.frame.levels in
-    let above = above_of c.args.self.now.path.sky.claims in
     let frames = c.args.self.now.path.frames in
     record {
       log = c.requires.log;
@@ -69,7 +66,6 @@ returns c =
       watched = λ watched held. on.watched (all_watched_still _ _ c.ask.new.self _ _
           (are_raised I C _ l _ _ frames (is_instance I l s) o.path.descends o.trying.levels)
           (rw (c.as_slice-levels.ensures.value, c.levels.ensures, c.log.ensures) at c.in_ok-line.ensures.kept) watched)
-          (rw c.ask_to.ensures (watched_to _ _ _ c.len.result
-          (rw c.log-2.ensures at c.len.ensures.value) (k held)));
+          (rw c.ask_to.ensures (watched_to _ _ _ c.len.result (rw c.log-2.ensures at c.len.ensures.value) (k held)));
       counted = on.counted;
     }
