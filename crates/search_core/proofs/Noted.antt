@@ -36,7 +36,8 @@ module _ {A : Type 0} (f : Entry → A) (l : Claim) where
   pub map_take : (n : ℕ) (items after : List A) → Rises (buffers_of l) → HasBuffer l n →
       after ≡ items ++ f (entry_of l n) ∷ [] → items ≡ map f (entries_below n l) →
       after ≡ map f (entries_below (n + 1) l)
-  map_take n items after r h q e = rw (q, below_take l n r h, map-append f (entries_below n l) (entry_of l n ∷ []), e) refl
+  map_take n items after r h q e =
+      rw (q, below_take l n r h, map-append f (entries_below n l) (entry_of l n ∷ []), e) refl
 
   pub map_all : (n : ℕ) (items : List A) → ((e : Entry) → IsIn e l → e.0 < n) →
       items ≡ map f (entries_below n l) → items ≡ map f l

@@ -70,7 +70,8 @@ module _ (I : Instance) (l left rest : Claim) (e : Entry) (s : left ≡ e ∷ re
 module _ (I : Instance) (l items : Claim) (i j : ℕ) (m : i ≡ j + 1) (lt : j < length items) (f : Entry)
     (is : slice_index_or items j (0, 0) ≡ f) where
   s : drop j items ≡ f ∷ drop i items
-  s = next_of items j (0, 0) lt ∙ ap (λ (x : Entry). x ∷ drop (j + 1) items) is ∙ ap (λ (n : ℕ). f ∷ drop n items) (sym m)
+  s = next_of items j (0, 0) lt ∙ ap (λ (x : Entry). x ∷ drop (j + 1) items) is
+      ∙ ap (λ (n : ℕ). f ∷ drop n items) (sym m)
 
   pub keys_exclude_at : not_excluded I l f ≡ false → keys_of I l (drop i items) ≡ keys_of I l (drop j items)
   keys_exclude_at t = keys_exclude I l (drop j items) (drop i items) f s t
