@@ -12,7 +12,7 @@ abbrev pub IsRaised : Instance → List ℕ → ℕ → List ℕ → ℕ → Typ
 IsRaised I levels b numbers c = 0 < slice_index levels c → (l : Claim) → AreLevels I l levels →
     IsLevel I (child I l (entry_of l b)) c (slice_index numbers c)
 
--- the level of b and its size: no buffer rises in the child by b that has a level from this number on
+-- the sum of the level of b and its size: no buffer rises in the child by b that has a level from this number on
 abbrev pub IsReach : Instance → List ℕ → ℕ → ℕ → Type 0
 IsReach I levels b reach = reach ≡ slice_index levels b + (buffer I b).size
 
