@@ -17,7 +17,7 @@ echo "$*" >>"$RT_ASKED"
 case $1 in
 version) echo 'rattle-kit-0 logic 0123' ;;
 run) if [ "${RT_FAILS-}" ]; then echo 'a proof fails'; exit 1; fi
-    for it in low high dsaplan; do echo "crate $it: modules loaded=1 checked=2"; done
+    echo "proved low"; for it in high dsaplan; do echo "crate $it: modules loaded=1 checked=2"; done
     mkdir -p out && cp ../../stub out/dsaplan; exit 3 ;;
 esac
 """

@@ -5,6 +5,7 @@ import importlib.machinery
 import importlib.util
 import io
 import os
+import tempfile
 import threading
 import time
 import unittest
@@ -43,11 +44,15 @@ class SideBySide(unittest.TestCase):
         left, right = Library("left", low), Library("right", low)
         self.all = [low, left, right, Library("top", left, right)]
 
-    def build(self, crates, count=4, memory=100, print_to=None):
+    def build(self, crates, count=4, memory=100, print_to=None, lines=()):
         said = io.StringIO()
         needs = {it.name: 10 for it in crates}
-        done = side_by_side.Build(crates, needs, count, memory, print_to or said).run()
+        one = lambda it, flags: it.build_rlib(flags, True) == 0
+        done = side_by_side.Build(one, crates, {**needs, **dict(lines)}, needs, count, memory, print_to or said).run()
         return done, said.getvalue().splitlines()
+
+    def jobs(self, said):
+        return [line.partition(" --jobs ")[2] for line in said if " --jobs " in line]
 
     def test_each_library_comes_after_its_own(self):
         done, said = self.build(self.all)
@@ -56,7 +61,7 @@ class SideBySide(unittest.TestCase):
             self.assertLessEqual({dep.name for dep in it.deps}, it.below)
         self.assertEqual(Library.most, 2)
         self.assertEqual(said[0], "crate low: checked=1 --jobs 4")
-        self.assertEqual({line.split(":")[0] for line in said}, {f"crate {it.name}" for it in self.all})
+        self.assertEqual({line for line in said if line.startswith("proved ")}, {f"proved {it.name}" for it in self.all})
         self.assertIn("crate left: checked=1 --jobs 2", said)
         self.assertIn("crate right: checked=1 --jobs 2", said)
 
@@ -68,19 +73,19 @@ class SideBySide(unittest.TestCase):
     def test_four_that_may_begin_have_a_job_each(self):
         done, said = self.build([Library(f"l{k}") for k in range(4)])
         self.assertTrue(done)
-        self.assertTrue(all(line.endswith("--jobs 1") for line in said))
+        self.assertEqual(self.jobs(said), ["1"] * 4)
 
     def test_no_more_are_built_at_a_time_than_memory_is_there_for(self):
         done, said = self.build([Library(f"l{k}") for k in range(9)], 4, memory=25)
         self.assertTrue(done)
         self.assertEqual(Library.most, 2)
-        self.assertTrue(all(line.endswith("--jobs 2") for line in said[:2]))
+        self.assertEqual(self.jobs(said)[:2], ["2"] * 2)
 
     def test_a_library_that_needs_more_than_there_is_is_built_alone(self):
         done, said = self.build([Library(f"l{k}") for k in range(3)], 4, memory=5)
         self.assertTrue(done)
         self.assertEqual(Library.most, 1)
-        self.assertTrue(all(line.endswith("--jobs 4") for line in said))
+        self.assertEqual(self.jobs(said), ["4"] * 3)
 
     def test_a_reader_that_is_gone_ends_the_build(self):
         reader, writer = os.pipe()
@@ -97,6 +102,82 @@ class SideBySide(unittest.TestCase):
         self.assertFalse(done)
         self.assertNotIn("top", Library.built)
         self.assertIn("crate left: checked=1 --jobs 2", said)
+        self.assertNotIn("proved left", said)
+
+    def test_the_longest_way_is_begun_first(self):
+        crates = [Library("short"), Library("long"), Library("longest")]
+        self.build(crates, 1, lines={"short": 1, "long": 20, "longest": 30})
+        self.assertEqual(Library.built, ["longest", "long", "short"])
+
+    def test_what_a_library_that_fails_printed_comes_last(self):
+        crates = [Library("bad", fails=True), Library("good")]
+        done, said = self.build(crates, 2)
+        self.assertFalse(done)
+        self.assertEqual(said[-1], "crate bad: checked=1 --jobs 1")
+        self.assertIn("proved good", said)
+        self.assertNotIn("proved bad", said)
+
+    def test_statements_are_built_again_over_another_library(self):
+        class Parts:
+            RATTLE = "rattle"
+
+            @staticmethod
+            def text_of(path):
+                with contextlib.suppress(FileNotFoundError), open(path, encoding="utf-8") as file:
+                    return file.read()
+
+            sum_of = text_of
+
+        class Crate(Library):
+            calls, kept, now = [], False, "now"
+
+            def __init__(self, folder, name, *deps):
+                super().__init__(name, *deps)
+                self.rlib = f"{folder}/{name}/out/rlib/{name}.rlib"
+
+            def below(self):
+                return self.deps
+
+            def stamp(self):
+                return self.now
+
+            def is_built(self):
+                return False
+
+            def has_kept(self):
+                return self.kept
+
+            def words(self, flags, keeps):
+                return [*flags, f"keeps={keeps}"]
+
+            def call(self, *words):
+                self.calls.append((self.name, *words[:5]))
+                os.makedirs(self.rlib)
+                return 0
+
+            def build_rlib(self, flags, anew):
+                self.calls.append((self.name, *flags, f"anew={anew}"))
+                return 0
+
+        with tempfile.TemporaryDirectory() as folder:
+            low = Crate(folder, "low")
+            high = Crate(folder, "high", low)
+            build = lambda it, keeps=False: self.assertTrue(side_by_side.build(Parts, keeps, it, ["--jobs", "1"]))
+            first = ("rattle", "build", "--jobs", "1", "keeps=False")
+            for it in (low, high, low, high):
+                build(it)
+            self.assertEqual(Crate.calls, [("low", *first), ("high", *first)])
+            with open(f"{low.rlib}/format", "w", encoding="utf-8") as file:
+                file.write("another")
+            build(high)
+            self.assertEqual(Crate.calls[2:], [("high", *first)])
+            high.now = "edited"
+            build(high)
+            self.assertEqual(Crate.calls[3:], [("high", *first)])
+            build(high, keeps=True)
+            high.kept = True
+            build(high)
+            self.assertEqual(Crate.calls[4:], [("high", "--jobs", "1", "anew=False")] * 2)
 
     def test_an_error_fails_its_library(self):
         self.all[2].build_rlib = None

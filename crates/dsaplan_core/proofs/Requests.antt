@@ -30,8 +30,8 @@ not_last None (Some m) b f is = absurd cc
 not_last None None true f is = absurd cc
 not_last None None false f is = refl
 
-with_verb : (v : Option Verb) (pairs : List Pair) (r : Request) →
-    option_map_or (λ verb. request_or_fault (record { verb = verb; pairs = pairs })) v (Err fault.UnknownCommand) ≡ Ok r →
+with_verb : (o : Option Verb) (pairs : List Pair) (r : Request) →
+    option_map_or (λ v. request_or_fault (record { verb = v; pairs = pairs })) o (Err fault.UnknownCommand) ≡ Ok r →
     has_equal (names_of r) ≡ false
 with_verb None pairs r is = absurd cc
 with_verb (Some v) pairs r is =

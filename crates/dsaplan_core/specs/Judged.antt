@@ -1,6 +1,7 @@
 -- What is promised where a layout file or a log's file is judged. With 'right' and 'drawn' the layout file gives a
 -- layout; with 'accepted', 'trimmed' and 'upgraded' the log's file says an accepted log, and no layout fits within its
--- capacity. What is drawn is a picture of that layout, and what is trimmed or upgraded says that log.
+-- capacity. What is drawn is a picture of that layout; what is trimmed says the lines of that log that its end needs,
+-- which are accepted too; and what is upgraded says that log in the second version of its text.
 use Rattle.std.specs.Prelude.{◌≡◌, ◌^◌, ℕ, List, length, Ok}
 use Rattle.dsa_terms.specs.Layouts.{IsInfeasible, IsLayout}
 use Rattle.dsa_terms.specs.Logs.{Log, IsAccepted}

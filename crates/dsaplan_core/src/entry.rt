@@ -146,8 +146,9 @@ pub fn run<F: Files, S: Sink>(alloc: Global, words: &[String], files: &mut F, ou
         (F.seen files.old) (F.seen files.new) result }
 
     // 'right' and 'accepted' say the same of the layout and of the log that were read, and so do
-    // 'drawn', 'trimmed' and 'upgraded', which write a picture of that layout, what that log needs,
-    // and that log in the second version of its text.
+    // 'drawn', at the greatest capacity, 'trimmed' and 'upgraded'. These write a picture of that
+    // layout, the lines of that log that its end needs, and that log in the second version of its
+    // text.
     ensures judged { Judged (map string_bytes words.now)
         (F.seen files.old) (F.seen files.new) result }
 
