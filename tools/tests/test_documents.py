@@ -6,7 +6,14 @@ import re
 import unittest
 
 TOP = os.path.dirname(os.path.dirname(os.path.dirname(os.path.abspath(__file__))))
-PAGES = ["README.md", "examples/README.md", "bench/README.md", *(os.path.relpath(it, TOP) for it in glob.glob(f"{TOP}/docs/*.md"))]
+
+
+def found(pattern):
+    return sorted(os.path.relpath(it, TOP) for it in glob.glob(f"{TOP}/{pattern}"))
+
+
+CRATES = found("crates/*/README.md")
+PAGES = ["README.md", "examples/README.md", "bench/README.md", *found("docs/*.md"), *CRATES]
 
 
 def text_of(name):
@@ -35,6 +42,15 @@ class Documents(unittest.TestCase):
                     path = os.path.normpath(os.path.join(os.path.dirname(page), name)) if name else page
                     self.assertTrue(os.path.exists(f"{TOP}/{path}"))
                     self.assertTrue(not anchor or anchor in anchors(path))
+
+    def test_the_readme_of_a_crate_is_a_few_sentences_and_one_table(self):
+        for page in CRATES:
+            with self.subTest(page=page):
+                form = r"# (.*)\n\n((?:(?![|#]).*\n)+)(?:\|.*\n)*"
+                read = re.fullmatch(form, text_of(page))
+                self.assertIsNotNone(read, "a heading, what it is for, a table of its calls, and nothing else")
+                self.assertEqual(read[1], os.path.basename(os.path.dirname(page)))
+                self.assertLessEqual(len(re.findall(r"[.?!]\s", read[2])), 5, "sentences")
 
     def test_the_log_that_is_explained_is_the_one_of_the_row(self):
         log = text_of("rows/a_log_that_is_explained/before/l").splitlines()
