@@ -3,7 +3,7 @@
 import subprocess
 
 from .commands import Call, options_of_commands
-from .files import file_hint, is_regular, length_hint
+from .files import file_hint, is_regular, length_hint, why_unread
 from .lines import log_hint, trace_hint
 from .rows import cycle_hint, instance_hint, layout_hint, plain_hint
 from .tables import Table, misspelt
@@ -28,7 +28,7 @@ def hints(program, status, words):
 def misspelt_hints(call):
     """The carried columns of the input whose names may be misspelt."""
     name = call.values.get("--input")
-    if not name or not is_regular(name):
+    if not name or not is_regular(name) or why_unread(name):
         return
     table = Table(name)
     for place, column in misspelt(table.names()):

@@ -49,7 +49,8 @@ def field_count_hint(table, number):
     """Where a row has more or fewer fields than the header."""
     row = table.row(number)
     is_open = " (a quote is not closed)" if row[-1].is_open else ""
-    return f"{table.at(row[0])}: {len(row)} fields, where the header has {len(table.header)}{is_open}"
+    fields = "1 field" if len(row) == 1 else f"{len(row)} fields"
+    return f"{table.at(row[0])}: {fields}, where the header has {len(table.header)}{is_open}"
 
 
 def gaps_of(field):
