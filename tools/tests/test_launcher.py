@@ -47,7 +47,7 @@ class Launcher(unittest.TestCase):
         self.asked = f"{folder.name}/asked"
 
     def write(self, path, text, mode=0o644):
-        with open(path, "w", encoding="utf-8") as file:
+        with open(path, "w", encoding="utf-8", newline="") as file:
             file.write(text)
         os.chmod(path, mode)
 
@@ -144,11 +144,14 @@ class Launcher(unittest.TestCase):
         self.assertEqual(without.stderr, "")
 
     def test_a_misspelt_column_is_told_where_all_is_well(self):
-        self.write(f"{self.work}/i", "id,lower,upper,size,align\nb1,0,3,4,8\n")
         self.stand_in("echo 'least 4'")
-        ran = self.run_it("least", "--input", "i", "--output", "o", "--log", "l")
-        self.assertEqual((ran.returncode, ran.stdout), (0, "least 4\n"))
-        self.assertIn("'align' is carried, and not read; 'alignment' would be", ran.stderr)
+        for before in ("", "\n", "\r\n\n"):
+            self.write(f"{self.work}/i", f"{before}id,lower,upper,size,Alignment\nb1,0,3,4,8\n")
+            ran = self.run_it("least", "--input", "i", "--output", "o", "--log", "l")
+            self.assertEqual((ran.returncode, ran.stdout), (0, "least 4\n"))
+            line = before.count("\n") + 1
+            wanted = f"i:{line}: the column 'Alignment' is carried, and not read; 'alignment' would be"
+            self.assertEqual(ran.stderr, f"dsaplan: {wanted}\n")
 
     def test_without_python_there_is_no_hint(self):
         self.stand_in(f"echo '{MALFORMED}'; exit 4")
