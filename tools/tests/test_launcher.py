@@ -63,7 +63,7 @@ class Launcher(unittest.TestCase):
         return subprocess.run(["bash", "-c", command, f"{self.top}/dsaplan", *words], env=environment, **how)
 
     def test_help_tells_the_commands(self):
-        for words in (["--help"], ["-h"], ["help"]):
+        for words in (["--help"], ["-h"], ["help"], ["help", "help"]):
             ran = self.run_it(*words)
             self.assertEqual((ran.returncode, ran.stderr), (0, ""))
             for command in self.forms():
@@ -77,9 +77,11 @@ class Launcher(unittest.TestCase):
             self.assertTrue(ran.stdout.startswith(f"dsaplan {command} --"))
 
     def test_help_of_another_word_names_the_nearest(self):
-        ran = self.run_it("help", "slove")
-        self.assertEqual((ran.returncode, ran.stdout), (3, ""))
-        self.assertIn("the nearest is 'solve'", ran.stderr)
+        for word in ("slove", "\\163olve"):
+            ran = self.run_it("help", word)
+            self.assertEqual((ran.returncode, ran.stdout), (3, ""))
+            self.assertIn(" is no command", ran.stderr)
+        self.assertIn("the nearest is 'solve'", self.run_it("help", "slove").stderr)
 
     def forms(self):
         """The options of each command, as the definitions have them: those that are needed and those that are not."""
