@@ -23,6 +23,14 @@ esac
 """
 
 
+SIDE_BY_SIDE = """import os, shutil
+print('''{said}''')
+top = os.path.dirname(os.path.dirname(os.path.abspath(__file__)))
+os.makedirs(f"{{top}}/crates/dsaplan/out")
+shutil.copy(f"{{top}}/stub", f"{{top}}/crates/dsaplan/out/dsaplan")
+"""
+
+
 class Launcher(unittest.TestCase):
     def setUp(self):
         folder = tempfile.TemporaryDirectory()
@@ -122,6 +130,35 @@ class Launcher(unittest.TestCase):
         self.assertRegex(version.stdout, r"\Adsaplan commit \S+\nproved with rattle-kit-0 logic 0123\n\Z")
         again = self.run_it("verify")
         self.assertEqual((again.returncode, again.stdout, again.stderr), (0, "right\n", ""))
+
+    def told_of(self, *said):
+        """What the launcher tells of a build side by side that prints these lines."""
+        self.write(f"{self.top}/stub", "#!/bin/sh\n", 0o755)
+        self.write(f"{self.top}/tools/side_by_side", SIDE_BY_SIDE.format(said="\n".join(said)))
+        told = self.run_it("verify").stderr.splitlines()[1:]
+        return [it.removeprefix("dsaplan: ") for it in told]
+
+    def test_a_build_side_by_side_names_what_is_being_proved(self):
+        self.write(f"{self.top}/crates.txt", "dsaplan: high\nhigh: low side\nlow:\nside:\nother:\n")
+        told = self.told_of(
+            *("proving side", "proving low", "rt: proving is slow", "proving ", "crate side: checked=2", "proved side"),
+            *("proved low", "proving high", "proved other", "proved high", "proving dsaplan", "crate dsaplan: checked=3"),
+        )
+        self.assertEqual(
+            told,
+            [
+                "0 of 4 crates proved; proving side",
+                "0 of 4 crates proved; proving low, side",
+                "1 of 4 crates proved; proving low",
+                "2 of 4 crates proved; proving high",
+                "3 of 4 crates proved; proving dsaplan",
+            ],
+        )
+
+    def test_a_build_of_many_at_a_time_names_four(self):
+        self.write(f"{self.top}/crates.txt", "dsaplan: a b c d e f\na:\nb:\nc:\nd:\ne:\nf:\n")
+        told = self.told_of(*(f"proving {it}" for it in "abcdef"))
+        self.assertEqual(told[3:], [f"0 of 7 crates proved; proving a, b, c, d{more}" for more in ("", " and 1 more", " and 2 more")])
 
     def test_a_build_that_fails_ends_with_9(self):
         ran = self.run_it("verify", environment={"RT_FAILS": "1"})

@@ -60,10 +60,19 @@ class SideBySide(unittest.TestCase):
         for it in self.all:
             self.assertLessEqual({dep.name for dep in it.deps}, it.below)
         self.assertEqual(Library.most, 2)
-        self.assertEqual(said[0], "crate low: checked=1 --jobs 4")
+        self.assertEqual(said[:3], ["proving low", "crate low: checked=1 --jobs 4", "proved low"])
         self.assertEqual({line for line in said if line.startswith("proved ")}, {f"proved {it.name}" for it in self.all})
         self.assertIn("crate left: checked=1 --jobs 2", said)
         self.assertIn("crate right: checked=1 --jobs 2", said)
+
+    def test_each_library_is_named_as_it_begins(self):
+        crates = [Library("low"), Library("side"), Library("last")]
+        crates[2].deps = crates[:1]
+        said = self.build(crates, 2, lines={"low": 1, "side": 20, "last": 1})[1]
+        self.assertEqual(said[:2], ["proving side", "proving low"])
+        self.assertEqual(sum(line == "proving last" for line in said), 1)
+        self.assertLess(said.index("proved low"), said.index("proving last"))
+        self.assertLess(said.index("proving last"), said.index("proved last"))
 
     def test_no_more_are_built_at_a_time_than_may_be(self):
         crates = [Library(f"l{k}") for k in range(9)]
