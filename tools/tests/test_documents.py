@@ -34,6 +34,11 @@ class Documents(unittest.TestCase):
         self.assertEqual(formats, options)
         self.assertEqual(sorted(readme), sorted(options))
 
+    def test_readme_names_the_toolchain_as_the_launcher_reads_it(self):
+        found = re.findall(r"`rt version` must print `([^`]+)`", text_of("README.md").replace("\n", " "))
+        self.assertEqual(len(found), 1)
+        self.assertRegex(found[0], r"^rattle-kit-\w+ logic [0-9a-f]+$")
+
     def test_links_lead_somewhere(self):
         for page in PAGES:
             for target in re.findall(r"(?<!!)\[[^\]]*\]\(([^)]+)\)", text_of(page)):

@@ -124,12 +124,27 @@ class Launcher(unittest.TestCase):
             ],
         )
         with open(self.asked, encoding="utf-8") as file:
-            self.assertEqual(file.read().splitlines()[:1], ["run"])
+            self.assertEqual(file.read().splitlines(), ["version", "run"])
         version = self.run_it("--version")
         self.assertEqual((version.returncode, version.stderr), (0, ""))
         self.assertRegex(version.stdout, r"\Adsaplan commit \S+\nproved with rattle-kit-0 logic 0123\n\Z")
         again = self.run_it("verify")
         self.assertEqual((again.returncode, again.stdout, again.stderr), (0, "right\n", ""))
+
+    def test_another_toolchain_is_told_before_a_build(self):
+        self.write(f"{self.top}/stub", "#!/bin/sh\n", 0o755)
+        for wanted, said in [
+            ("rattle-kit-0 logic 0123", []),
+            ("rattle-kit-1 logic 4567", [
+                "dsaplan: rt version prints 'rattle-kit-0 logic 0123', and not 'rattle-kit-1 logic 4567', as README wants;"
+                " the build may fail"
+            ]),
+        ]:
+            self.write(f"{self.top}/README.md", f"# A\n\nHere `rt version` must\nprint `{wanted}`.\n")
+            shutil.rmtree(os.path.dirname(self.program), ignore_errors=True)
+            told = self.run_it("verify").stderr.splitlines()
+            self.assertEqual(told[: len(said)], said)
+            self.assertRegex(told[len(said)], "^dsaplan: building")
 
     def told_of(self, *said):
         """What the launcher tells of a build side by side that prints these lines."""
