@@ -16,7 +16,7 @@ SECONDS = 60
 def hints(program, status, words):
     """What is to be said after the program ended with that status on these words."""
     call = Call(words)
-    if words and words[0] not in options_of_commands():
+    if not words or words[0] not in options_of_commands():
         yield word_hint(words)
         return
     yield from misspelt_hints(call)

@@ -5,19 +5,17 @@ from .texts import MOST_BUFFERS, WORD_LIMIT, nearest, shown, why_no_number
 
 
 def word_hint(words):
-    """The command that is nearest to a word that is none."""
+    """That there is no command, and which is nearest to a word that is none."""
+    if not words:
+        return "no command; 'dsaplan help' lists them"
     near = nearest(words[0], options_of_commands(), 2)
     instead = f"; the nearest is {shown(near)}" if near else ""
     return f"{shown(words[0])} is no command{instead}; 'dsaplan help' lists them"
 
 
 def usage_hint(call, fault):
-    """What is wrong with words, by the fault that the program prints."""
+    """What is wrong with the words of a command, by the fault that the program prints."""
     words, options = call.words, options_of_commands()
-    if fault == "no command":
-        return "no command; 'dsaplan help' lists them"
-    if fault == "unknown command":
-        return word_hint(words)
     more = f"; see 'dsaplan help {call.command}'"
     if fault == "same name":
         names = [it for it in call.reads() + call.writes()]

@@ -11,6 +11,7 @@ import unittest
 
 TOOLS = os.path.dirname(os.path.dirname(os.path.abspath(__file__)))
 TOP = os.path.dirname(TOOLS)
+BUILT = f"{TOP}/crates/dsaplan/out/dsaplan"
 MALFORMED = "malformed row 0 bad number size"
 RT = """#!/bin/bash
 echo "$*" >>"$RT_ASKED"
@@ -180,6 +181,42 @@ class Launcher(unittest.TestCase):
         self.assertEqual((ran.returncode, ran.stdout), (9, ""))
         self.assertIn("a proof fails", ran.stderr)
         self.assertIn("not built", self.run_it("--version").stdout)
+
+    def test_what_is_no_command_is_told_without_a_build(self):
+        for words, printed, hint in [
+            ([], "usage no command\n", "no command; 'dsaplan help' lists them"),
+            ([""], "usage unknown command\n", "'' is no command; 'dsaplan help' lists them"),
+            (["slove", "--input", "i"], "usage unknown command\n",
+             "'slove' is no command; the nearest is 'solve'; 'dsaplan help' lists them"),
+        ]:
+            with self.subTest(words=words):
+                ran = self.run_it(*words)
+                self.assertEqual((ran.returncode, ran.stdout, ran.stderr), (3, printed, f"dsaplan: {hint}\n"))
+                ran = self.run_it(*words, environment={"DSAPLAN_HINTS": "0"})
+                self.assertEqual((ran.returncode, ran.stdout, ran.stderr), (3, printed, ""))
+                for before in ("exec >&-;", "exec >/dev/full;", "exec > >(exec sleep 0); sleep 0.5;"):
+                    ran = self.run_it(*words, before=before)
+                    self.assertEqual((ran.returncode, ran.stdout), (5, ""))
+        self.assertFalse(os.path.exists(self.asked), "nothing is built")
+
+    def test_what_is_no_command_goes_to_a_program_that_is_built(self):
+        self.stand_in("echo \"usage of $#\"; exit 3")
+        for words in ([], ["slove"]):
+            ran = self.run_it(*words)
+            self.assertEqual((ran.returncode, ran.stdout), (3, f"usage of {len(words)}\n"))
+
+    def test_words_that_are_no_text_are_the_program_s(self):
+        self.write(f"{self.top}/stub", "#!/bin/sh\nexit 8\n", 0o755)
+        ran = self.run_it("slove", b"\xff")
+        self.assertEqual((ran.returncode, ran.stdout), (8, ""))
+
+    @unittest.skipUnless(os.access(BUILT, os.X_OK), "the program is not built")
+    def test_what_is_no_command_is_told_as_the_program_tells_it(self):
+        for words in ([], [""], ["slove", "--input", "i"], ["l\u00f6se"], ["-x"], ["-n"], ["Solve"], ["solve\n"]):
+            with self.subTest(words=words):
+                ran, own = self.run_it(*words), subprocess.run([BUILT, *words], capture_output=True, text=True, check=False)
+                self.assertEqual((ran.returncode, ran.stdout), (own.returncode, own.stdout))
+        self.assertFalse(os.path.exists(self.asked), "nothing is built")
 
     def test_a_newer_source_is_built_again(self):
         self.stand_in("echo old")
