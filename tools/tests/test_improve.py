@@ -13,8 +13,8 @@ TOP = os.path.dirname(TOOLS)
 STUB = """#!/usr/bin/env python3
 import os, sys, time
 top = os.path.dirname(os.path.abspath(__file__))
-if len(sys.argv) == 1:
-    print("usage no command")
+if len(sys.argv) == 2:
+    print("usage missing --input")
     sys.exit(3)
 given = dict(zip(sys.argv[2::2], sys.argv[3::2]))
 steps = given["--steps"]
@@ -30,6 +30,9 @@ while answer == "long":
     time.sleep(0.1)
 if answer == "memory":
     sys.exit(6)
+if answer == "in the way":
+    os.mkdir("o")
+    answer = "open 5 9"
 open(given["--output"], "w").write(f"layout of {steps}\\n")
 if not answer.startswith("least 0"):
     open(given["--log"], "w").write(f"log of {steps}\\n")
@@ -121,11 +124,92 @@ class Improve(unittest.TestCase):
             self.assertEqual((self.read("o"), self.read("l")), ("layout of 1000\n", "log of 1000\n"))
             self.assertEqual(self.left(), ["i", "l", "o"])
 
+    def interrupted(self, is_time, *more):
+        """How it ends where it is interrupted at that time: its status, and what it says."""
+        how = {"stdin": subprocess.PIPE, "stdout": subprocess.PIPE, "stderr": subprocess.PIPE, "text": True, "cwd": self.work}
+        with subprocess.Popen(self.words(*more), env=self.environment, **how) as run:
+            while not is_time():
+                time.sleep(0.05)
+            time.sleep(0.3)
+            run.send_signal(signal.SIGINT)
+            try:
+                run.wait(timeout=10)
+            finally:
+                run.kill()
+            return run.returncode, run.stdout.read(), run.stderr.read()
+
     def test_an_interrupt_before_any_answer_writes_nothing(self):
         self.write(f"{self.work}/o", "old")
-        ran = self.improve("0:long\n", seconds="0.5")
-        self.assertEqual((ran.returncode, ran.stdout, self.read("o")), (130, "", "old"))
+        self.write(f"{self.out}/answers", "0:long\n")
+        status, said, told = self.interrupted(lambda: self.calls() == ["0"])
+        self.assertEqual((status, said, self.read("o")), (130, "", "old"))
+        self.assertIn("interrupted before the first call had ended", told)
         self.assertEqual(self.left(), ["i", "o"])
+
+    def test_an_interrupt_while_the_input_is_awaited_writes_nothing(self):
+        status, said, told = self.interrupted(lambda: len(self.left()) == 3, "--input", "/dev/stdin")
+        self.assertEqual((status, said), (130, ""))
+        self.assertIn("interrupted before the first call;", told)
+        self.assertEqual(self.left(), ["i"])
+
+    def test_too_short_a_time_is_told(self):
+        self.write(f"{self.work}/o", "old")
+        ran = self.improve("0:long\n", seconds="0.5")
+        self.assertEqual((ran.returncode, ran.stdout, self.read("o")), (10, "", "old"))
+        self.assertIn("0.5 s were too short for the first call", ran.stderr)
+        self.assertEqual(self.left(), ["i", "o"])
+
+    def test_links_are_written_through(self):
+        for option in ("--output", "--log"):
+            with self.subTest(option):
+                self.setUp()
+                os.mkdir(f"{self.work}/there")
+                os.symlink("there/new", f"{self.work}/link")
+                ran = self.improve("0:open 5 9\n1000:least 7\n", option, "link")
+                self.assertEqual((ran.returncode, ran.stdout), (0, "least 7\n"), ran.stderr)
+                self.assertTrue(os.path.islink(f"{self.work}/link"))
+                self.assertEqual(self.read("there/new"), "layout of 1000\n" if option == "--output" else "log of 1000\n")
+                self.assertEqual(os.listdir(f"{self.work}/there"), ["new"])
+
+    def test_a_link_to_another_disk_is_written_through(self):
+        if not os.access("/dev/shm", os.W_OK) or os.stat("/dev/shm").st_dev == os.stat(self.work).st_dev:
+            self.skipTest("there is no other disk")
+        with tempfile.TemporaryDirectory(dir="/dev/shm") as there:
+            os.symlink(f"{there}/new", f"{self.work}/o")
+            ran = self.improve("0:least 7\n")
+            self.assertEqual((ran.returncode, ran.stdout), (0, "least 7\n"), ran.stderr)
+            self.assertTrue(os.path.islink(f"{self.work}/o"))
+            self.assertEqual((self.read("o"), os.listdir(there)), ("layout of 0\n", ["new"]))
+
+    def test_a_link_to_itself_is_told(self):
+        os.symlink("o", f"{self.work}/o")
+        ran = self.improve("0:least 7\n")
+        self.assertEqual((ran.returncode, ran.stdout), (5, ""))
+        self.assertIn("is a link that leads to itself", ran.stderr)
+        self.assertEqual(self.left(), ["i", "o"])
+
+    def test_a_name_that_is_not_free_is_told(self):
+        ran = self.improve("0:in the way\n")
+        self.assertEqual((ran.returncode, ran.stdout), (5, ""))
+        self.assertRegex(ran.stderr, "improve: .*/o: Is a directory")
+        self.assertEqual(self.left(), ["i", "o"])
+
+    def test_a_misspelt_column_is_told_once(self):
+        self.write(f"{self.work}/i", "id,lower,upper,size,Alignment\n")
+        warning = "dsaplan: i:1: the column 'Alignment' is carried, and not read; 'alignment' would be\n"
+        ran = self.improve("0:open 5 9\n1000:least 7\n")
+        self.assertEqual((ran.returncode, ran.stderr[: len(warning)], ran.stderr.count("Alignment")), (0, warning, 1))
+        self.write(f"{self.work}/i", "lower,upper,size,Alignment\n")
+        ran = self.improve("")
+        self.assertEqual((ran.returncode, ran.stderr.count("Alignment")), (4, 1), ran.stderr)
+        ran = self.improve("", env={**self.environment, "DSAPLAN_HINTS": "0"})
+        self.assertEqual((ran.returncode, ran.stderr), (4, ""))
+
+    def test_help_tells_each_status(self):
+        ran = subprocess.run([f"{self.top}/tools/improve", "--help"], capture_output=True, text=True, check=True)
+        for word in ("least C ", "open L H ", " 3-9 ", " 10 ", " 130 ", "Ctrl-C"):
+            self.assertIn(word, ran.stdout)
+        self.assertEqual(ran.stderr, "")
 
     def test_files_that_cannot_be_written_are_told_at_once(self):
         os.mkdir(f"{self.work}/folder")
