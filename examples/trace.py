@@ -5,63 +5,91 @@
 
 The program runs under valgrind, which prints each call of the allocator with its answer. A block is named after the order in which
 its address first came: an address that was freed and is given out again has the name that it had. `realloc` frees the old block once
-the new one is there, or before where it stays in place. The alignment is 16, what malloc gives on a 64-bit system; a block of no
-byte counts as one. What is still held at the end is not freed.
+the new one is there, or before where it stays in place. The alignment is 16, what malloc and new give on a 64-bit system, or a greater
+one that was asked for; a block of no byte counts as one. What is still held at the end is not freed, and what was refused is no block.
 
-PROGRAM allocates by malloc, calloc, realloc and free alone: at another call the script ends with a message, and what it printed is to
-be thrown away.
+PROGRAM is linked dynamically, and allocates by malloc and its kin or by new and delete of C++. At another call, where a signal ends
+the program, and where no call was seen, the script prints a message and no trace, and ends with 1.
 
 `trace.txt` was made by: LC_ALL=C python3 examples/trace.py grep -c b examples/five.csv
 """
 
 import re
+import shutil
 import subprocess
 import sys
 
-CALL = re.compile(r"^--\d+-- (?:realloc\(0x0,\d+\))?(\w+)\(([^)]*)\)(?: = (0x[0-9A-F]+))?$")
+# A call of realloc that only allocates or only frees is told of as both calls in one line.
+CALL = re.compile(r"^--\d+-- (?:realloc\(0x[0-9A-F]+,\d+\))?(\w+)\(([^)]*)\)(?: = (0x[0-9A-F]+))?$")
+# The names of C++ are those of operator new, new[], delete and delete[], in all their forms.
+FREES = re.compile(r"free|_Zd[la]Pv\w*")
+ALLOCATES = re.compile(r"malloc|_Zn[wa]\w+")
+ALIGNED = re.compile(r"memalign|posix_memalign|aligned_alloc|_Zn[wa]\w*align_val_t\w*")
 ALIGNMENT = 16
 
 
 def calls(words):
-    """The calls of the allocator: their names, their numbers, and what they answered."""
+    """The calls of the allocator: their names, what they were given, and what they answered."""
     recorder = ["valgrind", "--trace-malloc=yes", "--freelist-vol=0", *words]
-    run = subprocess.run(recorder, stdout=subprocess.DEVNULL, stderr=subprocess.PIPE, text=True)
-    for line in run.stderr.splitlines():
-        call = CALL.match(line)
-        if call:
-            name, numbers, answer = call.groups()
-            yield name, [int(n, 0) for n in re.findall(r"0x[0-9A-F]+|\d+", numbers)], answer
+    for program in (recorder[0], words[0]):
+        if not shutil.which(program):
+            sys.exit(f"there is no program {program}")
+    run = subprocess.run(recorder, stdout=subprocess.DEVNULL, stderr=subprocess.PIPE, check=False)
+    if run.returncode < 0:
+        sys.exit(f"signal {-run.returncode} ended {words[0]}")
+    lines = run.stderr.decode("utf-8", "replace").splitlines()
+    found = [call.groups() for call in map(CALL.match, lines) if call]
+    if not found:
+        sys.exit(f"no call of the allocator was seen: {lines[-1] if lines else 'valgrind said nothing'}")
+    return found
 
 
-def lines(words):
+def numbers_of(given):
+    return [int(it, 0) for it in re.findall(r"0x[0-9A-F]+|\d+", given)]
+
+
+def request(name, given):
+    """The size and the alignment that a call asks for."""
+    if ALIGNED.fullmatch(name):
+        asked = dict(re.findall(r"(size|al) (\d+)", given))
+        return int(asked["size"]), max(int(asked["al"]), ALIGNMENT)
+    numbers = numbers_of(given)
+    if name == "calloc":
+        return numbers[0] * numbers[1], ALIGNMENT
+    if name == "realloc":
+        return numbers[1], ALIGNMENT
+    if ALLOCATES.fullmatch(name):
+        return numbers[0], ALIGNMENT
+    sys.exit(f"a call that this script does not know: {name}")
+
+
+def trace(words):
     """The lines of the trace."""
-    names = {}
+    names, lines = {}, []
 
     def name_of(address):
         return names.setdefault(address, f"p{len(names)}")
 
-    for name, numbers, answer in calls(words):
-        if name == "free":
-            if numbers[0] != 0:
-                yield f"free {name_of(numbers[0])}"
+    for name, given, answer in calls(words):
+        if FREES.fullmatch(name):
+            address = numbers_of(given)[0]
+            if address != 0:
+                lines.append(f"free {name_of(address)}")
             continue
-        if name == "calloc":
-            size = numbers[0] * numbers[1]
-        elif name == "malloc":
-            size = numbers[0]
-        elif name == "realloc":
-            size = numbers[1]
-        else:
-            sys.exit(f"a call that this script does not know: {name}")
+        size, alignment = request(name, given)
+        if int(answer, 0) == 0:
+            continue
         block = name_of(int(answer, 0))
-        old = name_of(numbers[0]) if name == "realloc" else None
+        old = name_of(numbers_of(given)[0]) if name == "realloc" else None
         if old == block:
-            yield f"free {old}"
-        yield f"alloc {block} {max(size, 1)} {ALIGNMENT}"
+            lines.append(f"free {old}")
+        lines.append(f"alloc {block} {max(size, 1)} {alignment}")
         if old is not None and old != block:
-            yield f"free {old}"
+            lines.append(f"free {old}")
+    return lines
 
 
 if __name__ == "__main__":
-    for line in lines(sys.argv[1:]):
-        print(line)
+    if len(sys.argv) < 2:
+        sys.exit("usage: python3 examples/trace.py PROGRAM WORDS..")
+    print("\n".join(trace(sys.argv[1:])))
