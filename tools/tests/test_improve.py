@@ -10,6 +10,7 @@ import unittest
 
 TOOLS = os.path.dirname(os.path.dirname(os.path.abspath(__file__)))
 TOP = os.path.dirname(TOOLS)
+MOST_BYTES = 2**26
 STUB = """#!/usr/bin/env python3
 import os, sys, time
 top = os.path.dirname(os.path.abspath(__file__))
@@ -20,6 +21,9 @@ given = dict(zip(sys.argv[2::2], sys.argv[3::2]))
 steps = given["--steps"]
 with open(f"{top}/calls", "a") as file:
     file.write(steps + "\\n")
+if os.path.getsize(given["--input"]) > 2**26:
+    print("too long --input", os.path.getsize(given["--input"]))
+    sys.exit(7)
 if not open(given["--input"]).read().startswith("id"):
     print("malformed no header")
     sys.exit(4)
@@ -243,6 +247,10 @@ class Improve(unittest.TestCase):
         for words in (self.words()[:-2], self.words("--step", "1"), self.words(seconds="0"), self.words("--log", "o")):
             ran = subprocess.run(words, cwd=self.work, env=self.environment, capture_output=True, check=False)
             self.assertEqual((ran.returncode, ran.stdout), (3, b""), words)
+
+    def test_of_an_endless_input_no_more_is_taken_than_the_program_reads(self):
+        ran = self.improve("", "--input", "/dev/zero")
+        self.assertEqual((ran.returncode, ran.stdout), (7, f"too long --input {MOST_BYTES + 1}\n"))
 
     def test_an_input_through_a_pipe_is_read_once(self):
         ran = self.improve("0:open 5 9\n1000:least 7\n", "--input", "/dev/stdin", input="id,lower,upper,size\n")
