@@ -1,7 +1,7 @@
 -- The table of commands, pairs of words, and what they give an option.
 use Rattle.std.proofs.Common.{◌≡◌, Bor, List, [], ◌∷◌, ◌++◌, map, filter, Some, None, codes, refl, true, false}
 use Rattle.command_words.specs.Options.{Word, is_file, option_word}
-use Rattle.command_words.specs.Forms.{form_of, form_value, option_of, options_of, reads_of, row, verb_of, verbs, writes_of}
+use Rattle.command_words.specs.Forms.{form_of, form_value, option_of, options_of, reads_of, reads_raw, row, verb_of, verbs, writes_of}
 use Rattle.command_words.specs.Pairs.{missing_fault, number_at, number_given, pair_value, pairs_of, value_of, word_at}
 use Rattle.command_words.specs.Requests.{names_of}
 use Rattle.command_words.specs.declared.option.OptionName.{OptionName}
@@ -30,6 +30,10 @@ what_is_written : map writes_of (verb.Refute ∷ verb.Trim ∷ verb.Upgrade ∷ 
     ≡ [] ∷ (option.Output ∷ []) ∷ (option.Output ∷ []) ∷ [] ∷ (option.Output ∷ option.Log ∷ []) ∷ (option.Output ∷ []) ∷
     []
 what_is_written = refl
+
+-- of the commands with an input `unroll` alone takes it as it stands
+taken_as_it_stands : filter reads_raw verbs ≡ verb.Unroll ∷ []
+taken_as_it_stands = refl
 
 -- each option of each command is found by its word
 each_option : map (λ v. map (λ o. option_of v (option_word o)) (options_of v)) verbs

@@ -1,5 +1,5 @@
 -- The forms of commands: one row a command.
-use Rattle.std.specs.Prelude.{List, [], ◌∷◌, ◌++◌, codes, drop, filter, find, length, not, Option, take_while}
+use Rattle.std.specs.Prelude.{List, [], ◌∷◌, ◌++◌, Bool, true, false, codes, drop, filter, find, length, not, Option, take_while}
 use Rattle.std.specs.Str.{bytes_eq}
 use Rattle.command_words.specs.Options.{Word, is_file, is_output, option_word}
 use Rattle.command_words.specs.declared.option.OptionName.{OptionName}
@@ -43,6 +43,11 @@ form_of Import = row (codes "import") (Trace ∷ Output ∷ []) []
 form_of Unroll = row (codes "unroll") (Period ∷ Input ∷ Output ∷ []) []
 form_of Classes = row (codes "classes") (Input ∷ Output ∷ []) []
 form_of Core = row (codes "core") (Capacity ∷ Input ∷ Output ∷ Log ∷ []) []
+
+-- the input is read as it stands, and not as an instance
+abbrev pub reads_raw : Verb → Bool
+reads_raw Unroll = true
+reads_raw verb = false
 
 -- what the code's form stands for
 abbrev pub form_value : written.Form → Form

@@ -1,9 +1,10 @@
 //! The commands.
 
 ghost use Rattle.std.specs.Prelude.{◌≡◌};
-ghost use Rattle.command_words.specs.Forms.{option_of, verb_of};
+ghost use Rattle.command_words.specs.Forms.{form_of, form_value, option_of, verb_of};
 
 use crate::OptionName;
+use crate::form::{Form, row};
 
 /// A command. C is a capacity in bytes, S a seed, N a count of buffers and K a budget in units,
 /// each a claim that is opened, or for `pack` also so much placing; the others are names of files.
@@ -71,6 +72,31 @@ const VERBS: [Verb; 16] = [
 ];
 
 impl Verb {
+    /// The form of the command.
+    pub(crate) fn form(self) -> Form
+        ensures { form_value result ≡ form_of self }
+    {
+        use OptionName::{Capacity, Count, Input, Layout, Log, Output, Period, Seed, Steps, Trace};
+        match self {
+            Verb::Solve => row("solve", &[Capacity, Input, Output, Log], &[Steps]),
+            Verb::Least => row("least", &[Input, Output, Log], &[Steps]),
+            Verb::Pack => row("pack", &[Input, Output, Log, Steps], &[Capacity]),
+            Verb::Verify => row("verify", &[Capacity, Input, Layout], &[]),
+            Verb::Refute => row("refute", &[Input, Log], &[]),
+            Verb::Trim => row("trim", &[Input, Log, Output], &[]),
+            Verb::Upgrade => row("upgrade", &[Input, Log, Output], &[]),
+            Verb::Bounds => row("bounds", &[Input], &[]),
+            Verb::Inspect => row("inspect", &[Input], &[]),
+            Verb::Report => row("report", &[Input, Layout], &[]),
+            Verb::Draw => row("draw", &[Input, Layout, Output], &[]),
+            Verb::Trial => row("trial", &[Seed, Count, Steps], &[]),
+            Verb::Import => row("import", &[Trace, Output], &[]),
+            Verb::Unroll => row("unroll", &[Period, Input, Output], &[]),
+            Verb::Classes => row("classes", &[Input, Output], &[]),
+            Verb::Core => row("core", &[Capacity, Input, Output, Log], &[]),
+        }
+    }
+
     /// The command that has this word.
     pub(crate) fn of(word: &str) -> Option<Verb>
         ensures { result ≡ verb_of word.now }

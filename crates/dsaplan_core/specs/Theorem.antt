@@ -1,7 +1,7 @@
 -- The promise of a run in few words. The layout that is written with 'feasible', 'least C' or 'open L H' is aligned,
 -- within its capacity and free of overlap at every moment; with 'infeasible', 'least C' or 'open L H' the written log,
 -- at C - 1 unless C is zero, or at L - 1, is accepted, and an accepted log means that no layout fits.
-use Rattle.std.specs.Prelude.{◌≡◌, ◌≢◌, ◌-◌, ◌≤◌, ◌<◌, ℕ, List, IsSome, None, Some, Ok}
+use Rattle.std.specs.Prelude.{◌≡◌, ◌-◌, ◌≤◌, ◌<◌, ℕ, List, IsSome, None, Some, Ok, false}
 use Rattle.dsa_terms.specs.Buffers.{Instance}
 use Rattle.dsa_terms.specs.Claims.{IsIn}
 use Rattle.dsa_terms.specs.Layouts.{IsLayout, IsInfeasible, IsLeast}
@@ -13,7 +13,7 @@ use Rattle.csv_instance.specs.Layout.{layout_text}
 use Rattle.log_text.specs.RawTexts.{IsTextOf}
 use Rattle.log_text.specs.Text.{log_text, raw_log_of}
 use Rattle.command_words.specs.Options.{Word}
-use Rattle.command_words.specs.Forms.{reads_of}
+use Rattle.command_words.specs.Forms.{reads_of, reads_raw}
 use Rattle.command_words.specs.Pairs.{Pair, number_at, number_given, word_at}
 use Rattle.command_words.specs.Requests.{request_of}
 use Rattle.command_words.specs.declared.option.OptionName.TheVariants as option
@@ -23,9 +23,9 @@ use Rattle.readings.specs.Opens.{IsInput}
 use Rattle.run_status.specs.declared.status.Status.{Status}
 use Rattle.run_status.specs.declared.status.Status.TheVariants as status
 
--- the command reads an input and takes it as an instance, as all do but `unroll`
+-- the command reads an input, and takes it as an instance
 abbrev pub ReadsInstance : Verb → Type 0
-ReadsInstance v = IsIn option.Input (reads_of v) × (v ≢ verb.Unroll)
+ReadsInstance v = IsIn option.Input (reads_of v) × (reads_raw v ≡ false)
 
 -- what the words ask for: the command with its values, and the instance that its input holds
 pub record Asked (words : List Word) (old : FilesSeen) : Type 0 where
