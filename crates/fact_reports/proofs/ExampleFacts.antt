@@ -1,8 +1,8 @@
 -- The reports of two buffers whose best start ends at 5, and whose lower bound and least capacity are 4; and trials.
-use Rattle.std.proofs.Common.{◌≡◌, ◌≤◌, ℕ, zero, suc, [], ◌∷◌, ◌++◌, Some, None, codes, refl, sym, ap, lit≤, arith}
+use Rattle.std.proofs.Common.{◌≡◌, ◌≤◌, ℕ, zero, suc, List, [], ◌∷◌, ◌++◌, Some, None, codes, refl, sym, ap, lit≤, arith}
 use Rattle.std.specs.Fmt.{digits}
 use Rattle.dsa_terms.specs.Bounds.{stack_log}
-use Rattle.dsa_terms.specs.Buffers.{buffer, do_share, is_live, some_before}
+use Rattle.dsa_terms.specs.Buffers.{Instance, buffer, do_share, is_live, some_before}
 use Rattle.dsa_terms.specs.Parts.{is_cut, last_cut, part_of, parts}
 use Rattle.dsa_terms.specs.Plans.{load}
 use Rattle.dsa_terms.proofs.Examples.{plain, small_below}
@@ -10,6 +10,7 @@ use Rattle.dsa_model.proofs.Live.{not_live_after}
 use Rattle.dsa_outside.specs.Seen.{FilesSeen}
 use Rattle.column_report.proofs.ExampleFacts.{two_told}
 use Rattle.csv_instance.specs.Parse.{parse}
+use Rattle.csv_instance.specs.Records.{Record, table_of}
 use Rattle.csv_instance.proofs.FileFacts.{two, two_rows}
 use Rattle.layout_report.specs.Facts.{bounds_text}
 use Rattle.layout_report.specs.declared.facts.Facts.{Facts}
@@ -19,10 +20,13 @@ use Rattle.planner.specs.InstanceFacts.{AreFactsOf}
 use Rattle.planner.proofs.ExampleFacts.{facts_of_none, no_facts}
 use Rattle.planner.proofs.ExampleLeastFacts.{below_bound, below_modulus}
 use Rattle.planner.proofs.StepFacts.{best_at_5}
+use Rattle.command_words.specs.declared.verb.Verb.TheVariants as verb
+use Rattle.run_status.specs.declared.status.Role.TheVariants as role
 use Rattle.run_status.specs.declared.status.Status.TheVariants as status
-use Rattle.run_course.specs.Course.{Comes, Outcome, says, shows}
+use Rattle.run_course.specs.Course.{Comes, Concludes, Outcome, Reads, says, shows}
+use Rattle.readings.specs.Input.{instance_or_fault}
 use Rattle.deciding.proofs.LeastFacts.{found_0, found_4, left_open}
-use Rattle.fact_reports.specs.Reporting.{IsVerdict, ShowsColumns, ShowsFacts, ShowsTrial, trial}
+use Rattle.fact_reports.specs.Reporting.{IsReport, IsVerdict, ShowsReport, ShowsTrial, reporting, trial}
 
 -- ---- the peak
 below_load : load small_below 0 ≡ 4
@@ -66,29 +70,55 @@ below_text : bounds_text below_facts ≡ codes "buffers 2\npeak 0 4\nparts 1\nbo
 unfolding digits
 below_text = refl
 
-shows_below : ShowsFacts small_below (shows (codes "buffers 2\npeak 0 4\nparts 1\nbound 4 1\nbest 5\n"))
-shows_below = record { facts = below_facts; true_facts = one_part; shown = ap shows (sym below_text) }
+abbrev below_lines : List ℕ
+below_lines = codes "buffers 2\npeak 0 4\nparts 1\nbound 4 1\nbest 5\n"
+
+shows_below : (table : List Record) → ShowsReport verb.Bounds table small_below (shows below_lines)
+shows_below table = record { text = below_lines; report = (below_facts, one_part, sym below_text); shown = refl }
 
 none_text : bounds_text no_facts ≡ codes "buffers 0\npeak none\nparts 0\nbound 0 1\nbest 0\n"
 unfolding digits
 none_text = refl
 
-shows_none : ShowsFacts [] (shows (codes "buffers 0\npeak none\nparts 0\nbound 0 1\nbest 0\n"))
-shows_none = record { facts = no_facts; true_facts = facts_of_none; shown = ap shows (sym none_text) }
+abbrev none_lines : List ℕ
+none_lines = codes "buffers 0\npeak none\nparts 0\nbound 0 1\nbest 0\n"
+
+shows_none : (table : List Record) → ShowsReport verb.Bounds table [] (shows none_lines)
+shows_none table = record { text = none_lines; report = (no_facts, facts_of_none, sym none_text); shown = refl }
 
 -- a report is shown, and the status is not another
-not_as_right : ShowsFacts [] (says status.Right) → ⊥
-not_as_right h = let e = ap (λ (o : Outcome). o.status) h.shown in absurd cc
+not_as_right : (table : List Record) → ShowsReport verb.Bounds table [] (says status.Right) → ⊥
+not_as_right table h = let e = ap (λ (o : Outcome). o.status) h.shown in absurd cc
 
 -- ---- columns
-shows_columns : ShowsColumns two_rows two
-    (shows (codes "buffers 2 of 4096 aligned 0 gaps 0 lowest 0\ncolumn,meaning\nid,id\nlower,lower\nupper,upper\n"
-    ++ codes "size,size\nalignment,alignment\n"))
-shows_columns = ap shows (sym two_told)
+abbrev two_lines : List ℕ
+two_lines =
+    codes "buffers 2 of 4096 aligned 0 gaps 0 lowest 0\ncolumn,meaning\nid,id\nlower,lower\nupper,upper\n"
+    ++ codes "size,size\nalignment,alignment\n"
+
+shows_columns : ShowsReport verb.Inspect two_rows two (shows two_lines)
+shows_columns = record { text = two_lines; report = sym two_told; shown = refl }
 
 -- the columns are shown, and the status is not another
-not_silently : ShowsColumns two_rows two (says status.Right) → ⊥
-not_silently h = let e = ap (λ (o : Outcome). o.status) h in absurd cc
+not_silently : ShowsReport verb.Inspect two_rows two (says status.Right) → ⊥
+not_silently h = let e = ap (λ (o : Outcome). o.status) h.shown in absurd cc
+
+-- nothing else is the report of the columns
+not_without_text : IsReport verb.Inspect two_rows two [] → ⊥
+not_without_text e = let told = two_told in absurd cc
+
+-- ---- commands without a report
+verify_reports_nothing : (table : List Record) (I : Instance) (text : List ℕ) → IsReport verb.Verify table I text → ⊥
+verify_reports_nothing table I text h = h
+
+verify_shows_nothing : (table : List Record) (I : Instance) (o : Outcome) → ShowsReport verb.Verify table I o → ⊥
+verify_shows_nothing table I o h = h.report
+
+-- ---- how reports go
+bounds_reads_its_input : reporting verb.Bounds (codes "i") ≡ Reads role.Input (codes "i") 67108864
+    (λ bytes. instance_or_fault (parse (table_of bytes))
+    (λ I. Concludes (ShowsReport verb.Bounds (table_of bytes) I)))
+bounds_reads_its_input = refl
 
 -- ---- the verdict of a trial
 four_is_a_verdict : IsVerdict small_below 4 (status.Least 4)

@@ -8,13 +8,14 @@ use Rattle.dsa_model.specs.declared.fail.Fail.{Fail}
 use Rattle.dsa_model.specs.declared.fail.Fail.TheVariants.{Fault}
 use Rattle.dsa_model.specs.declared.fail.NoMemory.{NoMemory}
 use Rattle.csv_instance.specs.Records.{Record}
+use Rattle.command_words.specs.declared.verb.Verb.{Verb}
 use Rattle.dsa_outside.specs.Seen.{FilesSeen}
 use Rattle.run_status.specs.Spoken.{IsSpoken}
 use Rattle.run_status.specs.declared.status.Status.TheVariants.{TooMany}
 use Rattle.run_course.specs.Course.{Comes, Concludes, Outcome, says}
 use Rattle.run_course.specs.Prepares.{outcome_of}
 use Rattle.run_course.specs.declared.prepared.Prepared.{Prepared}
-use Rattle.fact_reports.specs.Reporting.{ShowsColumns, ShowsFacts, ShowsTrial, trial, unless_many}
+use Rattle.fact_reports.specs.Reporting.{ShowsReport, ShowsTrial, trial, unless_many}
 
 -- what a clause says of the fault that came
 pub fault_gives : {T E : Type 0} (P : T → Type 0) (Q : E → Type 0) (r : Result T (Fail E)) (f : Fail E) (e : E) →
@@ -23,11 +24,9 @@ fault_gives P Q r f e is f_is said =
     subst (λ x. IfFault Q x) f_is (subst (λ x. UnlessNoMemory x P Q) is said)
 
 -- each report is spoken
-pub facts_spoken : (I : Instance) (o : Outcome) → ShowsFacts I o → IsSpoken o.status
-facts_spoken I o h = subst (λ (o : Outcome). IsSpoken o.status) (sym h.shown) tt
-
-pub columns_spoken : (table : List Record) (I : Instance) (o : Outcome) → ShowsColumns table I o → IsSpoken o.status
-columns_spoken table I o h = subst (λ (o : Outcome). IsSpoken o.status) (sym h) tt
+pub report_spoken : (v : Verb) (table : List Record) (I : Instance) (o : Outcome) → ShowsReport v table I o →
+    IsSpoken o.status
+report_spoken v table I o h = subst (λ (o : Outcome). IsSpoken o.status) (sym h.shown) tt
 
 trial_spoken : (seed count steps : ℕ) (o : Outcome) → ShowsTrial seed count steps o → IsSpoken o.status
 trial_spoken seed count steps o h = subst (λ (o : Outcome). IsSpoken o.status) (sym h.shown) tt

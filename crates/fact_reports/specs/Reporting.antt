@@ -1,4 +1,4 @@
--- How the commands go that print the facts of an instance.
+-- How the commands go that print something of an instance.
 use Rattle.std.specs.Prelude.{◌≡◌, ◌++◌, ℕ, List, Option, Some, Ok, Bool, true, false, nat_lt}
 use Rattle.dsa_terms.specs.Buffers.{Instance}
 use Rattle.dsa_terms.specs.Logs.{Log}
@@ -11,6 +11,8 @@ use Rattle.layout_report.specs.declared.facts.Facts.{Facts}
 use Rattle.make_instance.specs.Made.{made_text}
 use Rattle.planner.specs.InstanceFacts.{AreFactsOf}
 use Rattle.command_words.specs.Options.{Word}
+use Rattle.command_words.specs.declared.verb.Verb.{Verb}
+use Rattle.command_words.specs.declared.verb.Verb.TheVariants as verb
 use Rattle.run_status.specs.Lines.{line}
 use Rattle.run_status.specs.declared.status.Status.{Status}
 use Rattle.run_status.specs.declared.status.Status.TheVariants as status
@@ -18,23 +20,22 @@ use Rattle.run_course.specs.Course.{Course, Outcome, Concludes, Ends, says, show
 use Rattle.readings.specs.Input.{opened}
 use Rattle.deciding.specs.Deciding.{IsSought}
 
--- the facts of the instance are shown
-pub record ShowsFacts (I : Instance) (o : Outcome) : Type 0 where
-  pub facts : Facts
-  pub true_facts : AreFactsOf I facts
-  pub shown : o ≡ shows (bounds_text facts)
+-- the text is what the command prints of its instance alone, if it prints such a text: `bounds` its facts, `inspect` how
+-- many buffers ask for something more, and what each column of the table's header means
+abbrev pub IsReport : Verb → List Record → Instance → List ℕ → Type 0
+IsReport verb.Bounds table I text = (facts : Facts) × AreFactsOf I facts × (text ≡ bounds_text facts)
+IsReport verb.Inspect table I text = text ≡ inspect_text table I
+IsReport verb table I text = ⊥
 
--- how `bounds` goes
-abbrev pub bounds : (input : Word) → Course
-bounds input = opened input (λ table I. Concludes (ShowsFacts I))
+-- such a text is shown
+pub record ShowsReport (v : Verb) (table : List Record) (I : Instance) (o : Outcome) : Type 0 where
+  pub text : List ℕ
+  pub report : IsReport v table I text
+  pub shown : o ≡ shows text
 
--- how many buffers of the instance ask for something more is shown, and what each column of the table's header means
-abbrev pub ShowsColumns : List Record → Instance → Outcome → Type 0
-ShowsColumns table I o = o ≡ shows (inspect_text table I)
-
--- how `inspect` goes
-abbrev pub inspect : (input : Word) → Course
-inspect input = opened input (λ table I. Concludes (ShowsColumns table I))
+-- how such a command goes
+abbrev pub reporting : Verb → (input : Word) → Course
+reporting v input = opened input (λ table I. Concludes (ShowsReport v table I))
 
 -- the verdict on the least capacity of the instance with k units: the status that `least` answers
 abbrev pub IsVerdict : Instance → ℕ → Status → Type 0
