@@ -64,7 +64,7 @@ module _ (words : List Word) (old new : FilesSeen) (before after : SinkSeen) (pa
   P o = IsAcceptedAt g.capacity o.status
 
   refuted : (o : Outcome) → Comes old new (course_with verb.Refute pairs) o → P o
-  refuted = opened_served old new before after I request ready calm (inl refl, λ same. cc) P
+  refuted = opened_served old new before after I request ready calm (inl refl, refl) P
       (λ table J. checked (word_at pairs option.Log) J (λ log o. o ≡ says (status.Accepted log.capacity)))
       (λ table. checked_served old new before after I request ready calm (inr (inl refl)) P
       (λ log o. o ≡ says (status.Accepted log.capacity))

@@ -22,7 +22,7 @@ use Rattle.readings.specs.Checking.{checked}
 use Rattle.judging.specs.Judging.{ShowsLayout}
 use Rattle.judging.specs.Drawing.{drawing}
 use Rattle.checking.specs.Checking.{Trims, upgrading}
-use Rattle.fact_reports.specs.Reporting.{ShowsColumns, ShowsFacts}
+use Rattle.fact_reports.specs.Reporting.{ShowsReport}
 use Rattle.trace_import.specs.Faults.{trace_of}
 use Rattle.trace_import.specs.Traces.{Trace}
 use Rattle.trace_import.specs.declared.fault.TraceFault.{TraceFault}
@@ -46,21 +46,7 @@ use Rattle.dsaplan_core.proofs.Served.{served, checked_served, judged_served, op
 
 memory : (v : Verb) (pairs : List Pair) (I : Instance) → IsConclusion v pairs I status.NoMemory
 memory verb.Solve pairs I = tt
-memory verb.Least pairs I = tt
-memory verb.Pack pairs I = tt
-memory verb.Verify pairs I = tt
-memory verb.Refute pairs I = tt
-memory verb.Trim pairs I = tt
-memory verb.Upgrade pairs I = tt
-memory verb.Bounds pairs I = tt
-memory verb.Inspect pairs I = tt
-memory verb.Report pairs I = tt
-memory verb.Draw pairs I = tt
-memory verb.Trial pairs I = tt
-memory verb.Import pairs I = tt
-memory verb.Unroll pairs I = tt
-memory verb.Classes pairs I = tt
-memory verb.Core pairs I = tt
+memory v pairs I = tt
 
 solved : (pairs : List Pair) (J : Instance) (s : Status) (layout : Option (List ℕ)) (log : Option Log) →
     IsAnswer verb.Solve pairs J s layout log → IsConclusion verb.Solve pairs J s
@@ -166,64 +152,54 @@ module _ (old new : FilesSeen) (before after : SinkSeen) (I : Instance) where
       Comes old new (course_with v pairs) o → IsDone v pairs o
   done verb.Solve pairs (ready, calm) =
       opened_served old new before after I (record { verb = verb.Solve; pairs = pairs }) ready calm
-      (inl refl, λ same. cc)
+      (inl refl, refl)
       (IsDone verb.Solve pairs)
       (λ table J. Concludes (ConcludesWith verb.Solve pairs table J))
       (λ table o comes. decided verb.Solve pairs I (solved pairs I) table o comes.1)
   done verb.Least pairs (ready, calm) =
       opened_served old new before after I (record { verb = verb.Least; pairs = pairs }) ready calm
-      (inl refl, λ same. cc)
+      (inl refl, refl)
       (IsDone verb.Least pairs)
       (λ table J. Concludes (ConcludesWith verb.Least pairs table J))
       (λ table o comes. decided verb.Least pairs I (found pairs I) table o comes.1)
   done verb.Pack pairs (ready, calm) =
       opened_served old new before after I (record { verb = verb.Pack; pairs = pairs }) ready calm
-      (inl refl, λ same. cc)
+      (inl refl, refl)
       (IsDone verb.Pack pairs)
       (λ table J. Concludes (ConcludesWith verb.Pack pairs table J))
       (λ table o comes. decided verb.Pack pairs I (packed pairs I) table o comes.1)
   done verb.Verify pairs (ready, calm) =
       let r : Request = record { verb = verb.Verify; pairs = pairs } in
       let capacity = number_at pairs option.Capacity in
-      opened_served old new before after I r ready calm (inl refl, λ same. cc) (IsDone verb.Verify pairs)
+      opened_served old new before after I r ready calm (inl refl, refl) (IsDone verb.Verify pairs)
       (λ table J. judged (word_at pairs option.Layout) table J capacity (λ offsets. Ends (says status.Right)))
       (λ table. judged_served old new before after I r ready calm (inr (inl refl)) (IsDone verb.Verify pairs)
       table capacity (λ offsets. Ends (says status.Right)) (λ cause. tt)
       (λ offsets o comes. subst (IsDone verb.Verify pairs) (sym comes.1) tt))
   done verb.Refute pairs (ready, calm) =
       let r : Request = record { verb = verb.Refute; pairs = pairs } in
-      opened_served old new before after I r ready calm (inl refl, λ same. cc) (IsDone verb.Refute pairs)
+      opened_served old new before after I r ready calm (inl refl, refl) (IsDone verb.Refute pairs)
       (λ table J. checked (word_at pairs option.Log) J (λ log o. o ≡ says (status.Accepted log.capacity)))
       (λ table. checked_served old new before after I r ready calm (inr (inl refl)) (IsDone verb.Refute pairs)
       (λ log o. o ≡ says (status.Accepted log.capacity)) (λ fault bad. tt) (λ fault bad. tt)
       (λ log holds o told. subst (IsDone verb.Refute pairs) (sym told) tt))
   done verb.Trim pairs (ready, calm) =
       let r : Request = record { verb = verb.Trim; pairs = pairs } in
-      opened_served old new before after I r ready calm (inl refl, λ same. cc) (IsDone verb.Trim pairs)
+      opened_served old new before after I r ready calm (inl refl, refl) (IsDone verb.Trim pairs)
       (λ table J. checked (word_at pairs option.Log) J (Trims (word_at pairs option.Output)))
       (λ table. checked_served old new before after I r ready calm (inr (inl refl)) (IsDone verb.Trim pairs)
       (Trims (word_at pairs option.Output)) (λ fault bad. tt) (λ fault bad. tt)
       (λ log holds o done. subst (IsDone verb.Trim pairs) (sym done.outcome) tt))
   done verb.Upgrade pairs (ready, calm) =
       let r : Request = record { verb = verb.Upgrade; pairs = pairs } in
-      opened_served old new before after I r ready calm (inl refl, λ same. cc) (IsDone verb.Upgrade pairs)
+      opened_served old new before after I r ready calm (inl refl, refl) (IsDone verb.Upgrade pairs)
       (λ table J. checked (word_at pairs option.Log) J (λ log o. o ≡ upgrading (word_at pairs option.Output) log))
       (λ table. checked_served old new before after I r ready calm (inr (inl refl)) (IsDone verb.Upgrade pairs)
       (λ log o. o ≡ upgrading (word_at pairs option.Output) log) (λ fault bad. tt) (λ fault bad. tt)
       (λ log holds o told. subst (IsDone verb.Upgrade pairs) (sym told) tt))
-  done verb.Bounds pairs (ready, calm) =
-      opened_served old new before after I (record { verb = verb.Bounds; pairs = pairs }) ready calm
-      (inl refl, λ same. cc)
-      (IsDone verb.Bounds pairs) (λ table J. Concludes (ShowsFacts J))
-      (λ table o comes. subst (IsDone verb.Bounds pairs) (sym comes.1.shown) tt)
-  done verb.Inspect pairs (ready, calm) =
-      opened_served old new before after I (record { verb = verb.Inspect; pairs = pairs }) ready calm
-      (inl refl, λ same. cc)
-      (IsDone verb.Inspect pairs) (λ table J. Concludes (ShowsColumns table J))
-      (λ table o comes. subst (IsDone verb.Inspect pairs) (sym comes.1) tt)
   done verb.Report pairs (ready, calm) =
       let r : Request = record { verb = verb.Report; pairs = pairs } in
-      opened_served old new before after I r ready calm (inl refl, λ same. cc) (IsDone verb.Report pairs)
+      opened_served old new before after I r ready calm (inl refl, refl) (IsDone verb.Report pairs)
       (λ table J. judged (word_at pairs option.Layout) table J (2 ^ 60)
       (λ offsets. Concludes (ShowsLayout table J offsets)))
       (λ table. judged_served old new before after I r ready calm (inr (inl refl)) (IsDone verb.Report pairs)
@@ -231,7 +207,7 @@ module _ (old new : FilesSeen) (before after : SinkSeen) (I : Instance) where
       (λ offsets o comes. subst (IsDone verb.Report pairs) (sym comes.1.shown) tt))
   done verb.Draw pairs (ready, calm) =
       let r : Request = record { verb = verb.Draw; pairs = pairs } in
-      opened_served old new before after I r ready calm (inl refl, λ same. cc) (IsDone verb.Draw pairs)
+      opened_served old new before after I r ready calm (inl refl, refl) (IsDone verb.Draw pairs)
       (λ table J. judged (word_at pairs option.Layout) table J (2 ^ 60)
       (λ offsets. Ends (drawing (word_at pairs option.Output) table J offsets)))
       (λ table. judged_served old new before after I r ready calm (inr (inl refl)) (IsDone verb.Draw pairs)
@@ -241,19 +217,23 @@ module _ (old new : FilesSeen) (before after : SinkSeen) (I : Instance) where
   done verb.Unroll pairs served = unrolled_done pairs served
   done verb.Classes pairs (ready, calm) =
       opened_served old new before after I (record { verb = verb.Classes; pairs = pairs }) ready calm
-      (inl refl, λ same. cc)
+      (inl refl, refl)
       (IsDone verb.Classes pairs)
       (λ table J. Concludes (Plans (word_at pairs option.Output) table J))
       (λ table o comes. planned pairs table I o comes.1)
   done verb.Core pairs (ready, calm) =
       opened_served old new before after I (record { verb = verb.Core; pairs = pairs }) ready calm
-      (inl refl, λ same. cc)
+      (inl refl, refl)
       (IsDone verb.Core pairs)
       (λ table J. Concludes (ConcludesWith verb.Core pairs table J))
       (λ table o comes. explained pairs table I o comes.1)
   done verb.Trial pairs (ready, calm) = trial_gives old new (IsDone verb.Trial pairs) (number_at pairs option.Seed)
       (number_at pairs option.Count) (number_at pairs option.Steps)
       (λ many. (refl, many)) (λ few o shows. subst (IsDone verb.Trial pairs) (sym shows.shown) few)
+  done v pairs (ready, calm) =
+      opened_served old new before after I (record { verb = v; pairs = pairs }) ready calm (inl refl, refl)
+      (IsDone v pairs) (λ table J. Concludes (ShowsReport v table J))
+      (λ table o comes. subst (IsDone v pairs) (sym comes.1.shown) (table, comes.1.text, comes.1.report))
 
   module _ (words : List Word) (r : Request) (is : request_of words ≡ Ok r) (ready : IsReady old r I)
       (calm : IsUndisturbed r old new before after) where

@@ -4,7 +4,8 @@ use Rattle.dsa_terms.specs.Buffers.{Instance}
 use Rattle.dsa_terms.proofs.Examples.{small_below, two_of_four}
 use Rattle.csv_instance.specs.declared.fault.InstanceFault.TheVariants as instance
 use Rattle.cyclic_plan.specs.declared.fault.CycleFault.TheVariants as cycle
-use Rattle.csv_instance.proofs.FileFacts.{two}
+use Rattle.csv_instance.proofs.FileFacts.{two, two_rows}
+use Rattle.column_report.specs.Report.{inspect_text}
 use Rattle.log_text.specs.declared.fault.TextFault.TheVariants as text
 use Rattle.planner.proofs.ExampleLeastFacts.{below_bound}
 use Rattle.planner.proofs.StepFacts.{best_at_5}
@@ -22,7 +23,7 @@ use Rattle.run_course.specs.Course.{Ends, says}
 use Rattle.judging.specs.Judging.{verify}
 use Rattle.judging.specs.Drawing.{draw}
 use Rattle.checking.specs.Checking.{trim, upgrade}
-use Rattle.fact_reports.specs.Reporting.{inspect, trial}
+use Rattle.fact_reports.specs.Reporting.{reporting, trial}
 use Rattle.importing.specs.Importing.{import_course}
 use Rattle.importing.specs.Unrolling.{unroll_course}
 use Rattle.planning.specs.Planning.{classes}
@@ -68,7 +69,7 @@ import_goes : course (codes "import" ∷ import_values)
     ≡ import_course (codes "t") (codes "o")
 import_goes = refl
 
-inspect_goes : course (codes "inspect" ∷ bounds_values) ≡ inspect (codes "i")
+inspect_goes : course (codes "inspect" ∷ bounds_values) ≡ reporting verb.Inspect (codes "i")
 inspect_goes = refl
 
 draw_goes : course (codes "draw" ∷ draw_values)
@@ -191,11 +192,11 @@ solve_checks_none : IsChecking verb.Solve → ⊥
 solve_checks_none h = h
 
 draw_reads_an_instance : ReadsInstance verb.Draw
-draw_reads_an_instance = (inl refl, λ same. cc)
+draw_reads_an_instance = (inl refl, refl)
 
 -- `unroll` reads an input, but as no instance
 unroll_reads_none : ReadsInstance verb.Unroll → ⊥
-unroll_reads_none h = h.1 refl
+unroll_reads_none h = let e = h.1 in absurd cc
 
 refute_judges_none : (pairs : List Pair) (C : ℕ) → IsJudgedAt verb.Refute pairs C → ⊥
 refute_judges_none pairs C h = h
@@ -214,10 +215,10 @@ concluded_by_the_picture : (pairs : List Pair) → IsConclusion verb.Draw pairs 
 concluded_by_the_picture pairs = tt
 
 not_concluded_by_a_report : (pairs : List Pair) → IsConclusion verb.Draw pairs two status.Shown → ⊥
-not_concluded_by_a_report pairs h = h
+not_concluded_by_a_report pairs h = h.2
 
 concluded_by_the_columns : (pairs : List Pair) → IsConclusion verb.Inspect pairs two status.Shown
-concluded_by_the_columns pairs = tt
+concluded_by_the_columns pairs = (two_rows, inspect_text two_rows two, refl)
 
 inspect_judges_nothing : (pairs : List Pair) → IsConclusion verb.Inspect pairs two status.Right → ⊥
 inspect_judges_nothing pairs h = h
@@ -226,6 +227,9 @@ inspect_judges_nothing pairs h = h
 concluded_by_a_fault : (pairs : List Pair) →
     IsConclusion verb.Unroll pairs two (status.CycleRefused (cycle.Instance instance.NoHeader))
 concluded_by_a_fault pairs = tt
+
+unroll_reports_nothing : (pairs : List Pair) → IsConclusion verb.Unroll pairs two status.Shown → ⊥
+unroll_reports_nothing pairs h = h.2
 
 unroll_is_never_malformed : (pairs : List Pair) →
     IsConclusion verb.Unroll pairs two (status.Malformed instance.NoHeader) → ⊥

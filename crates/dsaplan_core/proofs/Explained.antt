@@ -52,12 +52,12 @@ module _ (words : List Word) (old new : FilesSeen) (pairs : List Pair) where
 
   pub classes_promises : request_of words ≡ Ok (r verb.Classes) → (o : Outcome) →
       Comes old new (course_with verb.Classes pairs) o → Promises words old new (r verb.Classes) o
-  classes_promises is = opened_promises words old new (r verb.Classes) is (inl refl, λ same. cc)
+  classes_promises is = opened_promises words old new (r verb.Classes) is (inl refl, refl)
       (λ table I. Concludes (Plans (word_at pairs option.Output) table I))
       (λ table I input o comes. plans is table I input o comes.1)
 
   pub core_promises : request_of words ≡ Ok (r verb.Core) → (o : Outcome) →
       Comes old new (course_with verb.Core pairs) o → Promises words old new (r verb.Core) o
-  core_promises is = opened_promises words old new (r verb.Core) is (inl refl, λ same. cc)
+  core_promises is = opened_promises words old new (r verb.Core) is (inl refl, refl)
       (λ table I. Concludes (ConcludesWith verb.Core pairs table I))
       (λ table I input o comes. explains is table I input o comes.1)

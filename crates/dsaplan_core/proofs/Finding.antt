@@ -122,6 +122,6 @@ module _ (words : List Word) (old new : FilesSeen) (pairs : List Pair)
 
   pub least_promises : (o : Outcome) → Comes old new (course_with verb.Least pairs) o →
       Promises words old new request o
-  least_promises o comes = opened_promises words old new request is (inl refl, λ same. cc)
+  least_promises o comes = opened_promises words old new request is (inl refl, refl)
       (λ table I. Concludes (ConcludesWith verb.Least pairs table I))
       (λ table I input o comes. sought table I input o comes.1) o comes

@@ -1,5 +1,5 @@
 -- What an answer promises: of the files, of its choice, of a report, and of a write that failed.
-use Rattle.std.proofs.Common.{◌≡◌, ◌∷◌, ◌++◌, [], List, Option, Some, None, Ok, Err, sym, subst}
+use Rattle.std.proofs.Common.{◌≡◌, ◌∷◌, ◌++◌, [], List, Option, Some, None, Ok, Err, refl, sym, subst, inl}
 use Rattle.dsa_outside.specs.Seen.{FilesSeen, SinkSeen}
 use Rattle.command_words.specs.Options.{Word}
 use Rattle.command_words.specs.Pairs.{Pair}
@@ -31,7 +31,7 @@ use Rattle.dsaplan_core.proofs.Read.{draw_promises, refute_promises, report_prom
 use Rattle.dsaplan_core.proofs.Importing.{import_promises}
 use Rattle.dsaplan_core.proofs.Unrolling.{unroll_promises}
 use Rattle.dsaplan_core.proofs.Explained.{classes_promises, core_promises}
-use Rattle.dsaplan_core.proofs.Reported.{bounds_promises, inspect_promises, trial_promises}
+use Rattle.dsaplan_core.proofs.Reported.{reports_promise, trial_promises}
 
 -- of writes that are all own, one after the first ones is too
 pub one_own : (r : Request) (made : List Write) (lost : Write) (rest : List Write) → AreOwn r (made ++ (lost ∷ rest)) →
@@ -61,8 +61,6 @@ module _ (words : List Word) (old new : FilesSeen) where
   promised verb.Refute pairs is o comes = refute_promises words old new pairs is o comes
   promised verb.Trim pairs is o comes = trim_promises words old new pairs is o comes
   promised verb.Upgrade pairs is o comes = upgrade_promises words old new pairs is o comes
-  promised verb.Bounds pairs is o comes = bounds_promises words old new pairs is o comes
-  promised verb.Inspect pairs is o comes = inspect_promises words old new pairs is o comes
   promised verb.Report pairs is o comes = report_promises words old new pairs is o comes
   promised verb.Draw pairs is o comes = draw_promises words old new pairs is o comes
   promised verb.Trial pairs is o comes = trial_promises words old new pairs is o comes
@@ -70,6 +68,7 @@ module _ (words : List Word) (old new : FilesSeen) where
   promised verb.Unroll pairs is o comes = unroll_promises words old new pairs is o comes
   promised verb.Classes pairs is o comes = classes_promises words old new pairs is o comes
   promised verb.Core pairs is o comes = core_promises words old new pairs is o comes
+  promised v pairs is o comes = reports_promise words old new pairs v (inl refl, refl) is o comes
 
   -- what is promised of an outcome of the words that is written
   abbrev Holds : Outcome → Type 0

@@ -26,7 +26,7 @@ use Rattle.run_course.specs.Complete.{ConcludesOn, IsReadable}
 use Rattle.run_course.specs.Course.{Concludes, Outcome, shows}
 use Rattle.readings.specs.Input.{instance_or_fault}
 use Rattle.packer.specs.Packs.{IsTrimmed}
-use Rattle.fact_reports.specs.Reporting.{ShowsColumns}
+use Rattle.fact_reports.specs.Reporting.{ShowsReport}
 use Rattle.run_status.specs.declared.status.Status.TheVariants as status
 use Rattle.run_status.specs.declared.status.Role.{Role}
 use Rattle.run_status.specs.declared.status.Role.TheVariants as role
@@ -96,7 +96,7 @@ no_core_at_8 = (core_8, refl, refl, fits_at_8.0, refl)
 
 -- a command that judges a layout concludes with nothing of its instance alone
 verify_reads_more : (pairs : List Pair) (o : Outcome) → ConcludesWith verb.Verify pairs two_rows two o → ⊥
-verify_reads_more pairs o h = h.answer
+verify_reads_more pairs o h = h.report
 
 -- ---- a log of one line has none that is needless, and nine steps are enough for it
 abbrev seven_log : Log
@@ -124,7 +124,7 @@ inspected = asking (codes "inspect" ∷ bounds_values) verb.Inspect (pairs_of bo
 tells_columns : Tells (codes "inspect" ∷ bounds_values) (told input_alone) (told input_alone) status.Shown
     (codes "buffers 2 of 4096 aligned 0 gaps 0 lowest 0\ncolumn,meaning\nid,id\nlower,lower\nupper,upper\n"
     ++ codes "size,size\nalignment,alignment\n")
-tells_columns = (refl, inr (inr (inl (inspected, record { command = refl; its_text = sym two_told }))))
+tells_columns = (refl, inl (inspected, sym two_told))
 
 -- ---- files that are missed, and inputs that are refused
 missed_input : MissesFile (codes "bounds" ∷ bounds_values) (told empty) (told empty) role.Input
@@ -152,7 +152,7 @@ refused_input : RefusesInput (codes "bounds" ∷ bounds_values) empty_input empt
 refused_input = record {
   request = record { verb = verb.Bounds; pairs = pairs_of bounds_values };
   words_ask = refl;
-  read = (inl refl, λ same. cc);
+  read = (inl refl, refl);
   malformed = record {
     bytes = [];
     whole = record { held = λ there. file_at-with_file (Some empty) (codes "i") [] refl; short = lit≤ tt };
@@ -208,15 +208,20 @@ inspect_request = record { verb = verb.Inspect; pairs = pairs_of bounds_values }
 abbrev columns_shown : Outcome
 columns_shown = shows (inspect_text (table_of two_file) two)
 
+its_report : ShowsReport verb.Inspect (table_of two_file) two columns_shown
+its_report = record { text = inspect_text (table_of two_file) two; report = refl; shown = refl }
+
 concluded_by_a_report : IsConcluded (told input_alone) inspect_request status.Shown
 concluded_by_a_report = λ file.
     let there : file_at (Some input_alone) (codes "i") ≡ Some file.bytes = file.held in
     let same : two_file ≡ file.bytes = (let a = reads_input in cc) in
     subst (λ (bytes : List ℕ). ConcludesOn (told input_alone)
-    (instance_or_fault (parse (table_of bytes)) (λ I. Concludes (ShowsColumns (table_of bytes) I))) status.Shown) same
+    (instance_or_fault (parse (table_of bytes))
+    (λ I. Concludes (ShowsReport verb.Inspect (table_of bytes) I))) status.Shown) same
     (subst (λ (p : Result Instance InstanceFault).
-    ConcludesOn (told input_alone) (instance_or_fault p (λ I. Concludes (ShowsColumns (table_of two_file) I)))
-    status.Shown) (sym in_parse) (columns_shown, tt, refl, refl))
+    ConcludesOn (told input_alone)
+    (instance_or_fault p (λ I. Concludes (ShowsReport verb.Inspect (table_of two_file) I)))
+    status.Shown) (sym in_parse) (columns_shown, tt, its_report, refl))
 
 abbrev trial_request : Request
 trial_request = record { verb = verb.Trial; pairs = pairs_of (trial_values (codes "4096")) }

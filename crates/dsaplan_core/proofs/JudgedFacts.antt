@@ -1,5 +1,5 @@
 -- What is promised of a layout file that is judged, on an input of two buffers that are both live at 4.
-use Rattle.std.proofs.Common.{◌≡◌, ◌≢◌, ◌≤◌, ◌∙◌, ℕ, slice_index, List, [], ◌∷◌, Some, Ok, codes, refl, sym, ap, subst, inl, inr, lit<, lit≤, arith}
+use Rattle.std.proofs.Common.{◌≡◌, ◌∙◌, ℕ, slice_index, List, [], ◌∷◌, Some, Ok, codes, refl, sym, ap, subst, inl, inr, lit<, lit≤, arith}
 use Rattle.std.specs.FinMap.{insert}
 use Rattle.dsa_terms.specs.Buffers.{buffer, is_live}
 use Rattle.dsa_outside.specs.Held.{file_at}

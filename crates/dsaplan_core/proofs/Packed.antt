@@ -145,6 +145,6 @@ module _ (words : List Word) (old new : FilesSeen) (pairs : List Pair)
 
   pub pack_promises : (o : Outcome) → Comes old new (course_with verb.Pack pairs) o →
       Promises words old new request o
-  pack_promises o comes = opened_promises words old new request is (inl refl, λ same. cc)
+  pack_promises o comes = opened_promises words old new request is (inl refl, refl)
       (λ table I. Concludes (ConcludesWith verb.Pack pairs table I))
       (λ table I input o comes. packed table I input o comes.1) o comes

@@ -65,7 +65,7 @@ module _ (words : List Word) (old new : FilesSeen) where
     verify_promises is =
         let layout = word_at pairs option.Layout in
         let capacity = number_at pairs option.Capacity in
-        opened_promises words old new (r verb.Verify) is (inl refl, λ same. cc)
+        opened_promises words old new (r verb.Verify) is (inl refl, refl)
         (λ table I. judged layout table I capacity (λ offsets. Ends (says status.Right)))
         (λ table I input. judged_promises words old new (r verb.Verify) is (inr (inl refl)) table I capacity
         (λ offsets. Ends (says status.Right)) input refl
@@ -80,7 +80,7 @@ module _ (words : List Word) (old new : FilesSeen) where
         Comes old new (course_with verb.Report pairs) o → Promises words old new (r verb.Report) o
     report_promises is =
         let layout = word_at pairs option.Layout in
-        opened_promises words old new (r verb.Report) is (inl refl, λ same. cc)
+        opened_promises words old new (r verb.Report) is (inl refl, refl)
         (λ table I. judged layout table I (2 ^ 60) (λ offsets. Concludes (ShowsLayout table I offsets)))
         (λ table I input. judged_promises words old new (r verb.Report) is (inr (inl refl)) table I (2 ^ 60)
         (λ offsets. Concludes (ShowsLayout table I offsets)) input refl
@@ -110,7 +110,7 @@ module _ (words : List Word) (old new : FilesSeen) where
     draw_promises is =
         let layout = word_at pairs option.Layout in
         let output = word_at pairs option.Output in
-        opened_promises words old new (r verb.Draw) is (inl refl, λ same. cc)
+        opened_promises words old new (r verb.Draw) is (inl refl, refl)
         (λ table I. judged layout table I (2 ^ 60) (λ offsets. Ends (drawing output table I offsets)))
         (λ table I input. judged_promises words old new (r verb.Draw) is (inr (inl refl)) table I (2 ^ 60)
         (λ offsets. Ends (drawing output table I offsets)) input refl
@@ -133,7 +133,7 @@ module _ (words : List Word) (old new : FilesSeen) where
         Comes old new (course_with verb.Refute pairs) o → Promises words old new (r verb.Refute) o
     refute_promises is =
         let name = word_at pairs option.Log in
-        opened_promises words old new (r verb.Refute) is (inl refl, λ same. cc)
+        opened_promises words old new (r verb.Refute) is (inl refl, refl)
         (λ table I. checked name I (λ log o. o ≡ says (status.Accepted log.capacity)))
         (λ table I input. checked_promises words old new (r verb.Refute) is (inr (inl refl)) table I
         (λ log o. o ≡ says (status.Accepted log.capacity)) input tt
@@ -149,7 +149,7 @@ module _ (words : List Word) (old new : FilesSeen) where
     trim_promises is =
         let name = word_at pairs option.Log in
         let output = word_at pairs option.Output in
-        opened_promises words old new (r verb.Trim) is (inl refl, λ same. cc)
+        opened_promises words old new (r verb.Trim) is (inl refl, refl)
         (λ table I. checked name I (Trims output))
         (λ table I input. checked_promises words old new (r verb.Trim) is (inr (inl refl)) table I
         (Trims output) input tt
@@ -185,7 +185,7 @@ module _ (words : List Word) (old new : FilesSeen) where
     upgrade_promises is =
         let name = word_at pairs option.Log in
         let output = word_at pairs option.Output in
-        opened_promises words old new (r verb.Upgrade) is (inl refl, λ same. cc)
+        opened_promises words old new (r verb.Upgrade) is (inl refl, refl)
         (λ table I. checked name I (λ log o. o ≡ upgrading output log))
         (λ table I input. checked_promises words old new (r verb.Upgrade) is (inr (inl refl)) table I
         (λ log o. o ≡ upgrading output log) input tt

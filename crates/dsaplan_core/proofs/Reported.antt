@@ -1,15 +1,16 @@
--- What the commands promise that print the facts of an instance.
+-- What the commands promise that print something of an instance.
 use Rattle.std.proofs.Common.{◌≡◌, List, Ok, refl, sym, subst, inl, inr}
-use Rattle.fact_reports.specs.Reporting.{ShowsColumns, ShowsFacts}
+use Rattle.fact_reports.specs.Reporting.{ShowsReport, reporting}
 use Rattle.dsa_outside.specs.Seen.{FilesSeen}
 use Rattle.command_words.specs.Options.{Word}
-use Rattle.command_words.specs.Pairs.{Pair, number_at}
+use Rattle.command_words.specs.Pairs.{Pair, number_at, word_at}
 use Rattle.command_words.specs.Requests.{Request, request_of}
 use Rattle.command_words.specs.declared.option.OptionName.TheVariants as option
 use Rattle.command_words.specs.declared.verb.Verb.{Verb}
 use Rattle.command_words.specs.declared.verb.Verb.TheVariants as verb
 use Rattle.run_course.specs.Course.{Comes, Concludes, Outcome}
 use Rattle.dsaplan_core.specs.Courses.{course_with}
+use Rattle.dsaplan_core.specs.Theorem.{ReadsInstance}
 use Rattle.dsaplan_core.proofs.Promises.{Promises, asked}
 use Rattle.dsaplan_core.proofs.Gives.{trial_gives}
 use Rattle.dsaplan_core.proofs.Refusals.{opened_promises}
@@ -18,40 +19,14 @@ module _ (words : List Word) (old new : FilesSeen) (pairs : List Pair) where
   abbrev r : Verb → Request
   r v = record { verb = v; pairs = pairs }
 
-  pub bounds_promises : request_of words ≡ Ok (r verb.Bounds) → (o : Outcome) →
-      Comes old new (course_with verb.Bounds pairs) o → Promises words old new (r verb.Bounds) o
-  bounds_promises is = opened_promises words old new (r verb.Bounds) is (inl refl, λ same. cc)
-      (λ table I. Concludes (ShowsFacts I))
-      (λ table I input o comes. subst (Promises words old new (r verb.Bounds)) (sym comes.1.shown) (
+  -- a command that prints something of its instance alone
+  pub reports_promise : (v : Verb) → ReadsInstance v → request_of words ≡ Ok (r v) → (o : Outcome) →
+      Comes old new (reporting v (word_at pairs option.Input)) o → Promises words old new (r v) o
+  reports_promise v reads is = opened_promises words old new (r v) is reads
+      (λ table I. Concludes (ShowsReport v table I))
+      (λ table I input o comes. subst (Promises words old new (r v)) (sym comes.1.shown) (
         λ files.
-            let a = asked words old (r verb.Bounds) is table I input in (
-              tt,
-              tt,
-              (
-                files,
-                inl (
-                  a,
-                  record {
-                    command = refl;
-                    facts = comes.1.facts;
-                    true_facts = comes.1.true_facts;
-                    its_text = refl;
-                  },
-                ),
-              ),
-              tt,
-            ),
-        tt,
-      ))
-
-  pub inspect_promises : request_of words ≡ Ok (r verb.Inspect) → (o : Outcome) →
-      Comes old new (course_with verb.Inspect pairs) o → Promises words old new (r verb.Inspect) o
-  inspect_promises is = opened_promises words old new (r verb.Inspect) is (inl refl, λ same. cc)
-      (λ table I. Concludes (ShowsColumns table I))
-      (λ table I input o comes. subst (Promises words old new (r verb.Inspect)) (sym comes.1) (
-        λ files.
-            let a = asked words old (r verb.Inspect) is table I input in
-            (tt, tt, (files, inr (inr (inl (a, record { command = refl; its_text = refl })))), tt),
+            (tt, tt, (files, inl (asked words old (r v) is table I input, comes.1.report)), tt),
         tt,
       ))
 
@@ -70,7 +45,7 @@ module _ (words : List Word) (old new : FilesSeen) (pairs : List Pair) where
           tt,
           (
             files,
-            inr (inr (inr (record {
+            inr (inr (record {
               pairs = pairs;
               instance = shows.instance;
               facts = shows.facts;
@@ -81,7 +56,7 @@ module _ (words : List Word) (old new : FilesSeen) (pairs : List Pair) where
               true_facts = shows.true_facts;
               true_verdict = shows.true_verdict;
               its_text = refl;
-            }))),
+            })),
           ),
           tt,
         ),

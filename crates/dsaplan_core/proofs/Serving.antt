@@ -93,13 +93,6 @@ module _ (old new : FilesSeen) (before after : SinkSeen) where
   -- the course of each command
   course_is : (v : Verb) (pairs : List Pair) → IsUndisturbed (record { verb = v; pairs = pairs }) old new before after →
       IsServed old new (course_with v pairs)
-  course_is verb.Solve pairs calm = alone_is verb.Solve pairs calm (inl refl)
-  course_is verb.Least pairs calm = alone_is verb.Least pairs calm (inl refl)
-  course_is verb.Pack pairs calm = alone_is verb.Pack pairs calm (inl refl)
-  course_is verb.Bounds pairs calm = alone_is verb.Bounds pairs calm (inl refl)
-  course_is verb.Inspect pairs calm = alone_is verb.Inspect pairs calm (inl refl)
-  course_is verb.Classes pairs calm = alone_is verb.Classes pairs calm (inl refl)
-  course_is verb.Core pairs calm = alone_is verb.Core pairs calm (inl refl)
   course_is verb.Verify pairs calm =
       let r : Request = record { verb = verb.Verify; pairs = pairs } in
       let C = number_at pairs option.Capacity in
@@ -142,6 +135,7 @@ module _ (old new : FilesSeen) (before after : SinkSeen) where
       (is_calm (record { verb = verb.Import; pairs = pairs }) calm option.Trace (inl refl), λ bytes. tt)
   course_is verb.Unroll pairs calm =
       (is_calm (record { verb = verb.Unroll; pairs = pairs }) calm option.Input (inl refl), λ bytes. tt)
+  course_is v pairs calm = alone_is v pairs calm (inl refl)
 
   module _ (words : List Word) (r : Request) (is : request_of words ≡ Ok r)
       (calm : IsUndisturbed r old new before after) where

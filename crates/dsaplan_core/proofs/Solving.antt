@@ -109,6 +109,6 @@ module _ (words : List Word) (old new : FilesSeen) (pairs : List Pair)
 
   pub solve_promises : (o : Outcome) → Comes old new (course_with verb.Solve pairs) o →
       Promises words old new request o
-  solve_promises o comes = opened_promises words old new request is (inl refl, λ same. cc)
+  solve_promises o comes = opened_promises words old new request is (inl refl, refl)
       (λ table I. Concludes (ConcludesWith verb.Solve pairs table I))
       (λ table I input o comes. solved table I input o comes.1) o comes

@@ -4,12 +4,14 @@ use Rattle.dsa_terms.specs.Buffers.{Instance}
 use Rattle.dsa_terms.specs.Layouts.{IsFeasible, IsInfeasible, IsLeast}
 use Rattle.dsa_model.specs.Buffer.{buffer_limit}
 use Rattle.size_classes.specs.Plain.{IsPlain, first_rough}
+use Rattle.csv_instance.specs.Records.{Record}
 use Rattle.command_words.specs.Pairs.{Pair, number_at, number_given}
 use Rattle.command_words.specs.declared.option.OptionName.TheVariants as option
 use Rattle.command_words.specs.declared.verb.Verb.{Verb}
 use Rattle.command_words.specs.declared.verb.Verb.TheVariants as verb
 use Rattle.run_status.specs.declared.status.Status.{Status}
 use Rattle.run_status.specs.declared.status.Status.TheVariants as status
+use Rattle.fact_reports.specs.Reporting.{IsReport}
 use Rattle.packing.specs.Packing.{AreEnds}
 use Rattle.planner.specs.Shortage.{IsShortOfHunt, IsShortOfWork}
 
@@ -21,7 +23,7 @@ MayStayOpen verb pairs steps I L H = ⊥
 
 -- the statuses that conclude a command on an instance: a layout where there is one and a refutation where there is
 -- none, the least capacity, or neither where the command's steps are too few, or `pack` did not find out; a plan where
--- all buffers are plain, a core where they do not fit; or memory ran out
+-- all buffers are plain, a core where they do not fit; a report where the command has one; or memory ran out
 abbrev pub IsConclusion : Verb → List Pair → Instance → Status → Type 0
 IsConclusion verb.Solve pairs I (status.Feasible C) = (C ≡ number_at pairs option.Capacity) × IsFeasible I C
 IsConclusion verb.Solve pairs I (status.Infeasible C) = (C ≡ number_at pairs option.Capacity) × IsInfeasible I C
@@ -40,8 +42,6 @@ IsConclusion verb.Trim pairs I (status.Trimmed before after) = Unit {0}
 IsConclusion verb.Trim pairs I (status.LogRefused cause) = Unit {0}
 IsConclusion verb.Upgrade pairs I (status.Upgraded lines) = Unit {0}
 IsConclusion verb.Upgrade pairs I (status.LogRefused cause) = Unit {0}
-IsConclusion verb.Bounds pairs I status.Shown = Unit {0}
-IsConclusion verb.Inspect pairs I status.Shown = Unit {0}
 IsConclusion verb.Report pairs I status.Shown = Unit {0}
 IsConclusion verb.Report pairs I (status.Wrong cause) = Unit {0}
 IsConclusion verb.Draw pairs I (status.Drawn count) = Unit {0}
@@ -57,5 +57,6 @@ IsConclusion verb.Classes pairs I (status.Classed height load) = IsPlain I
 IsConclusion verb.Classes pairs I (status.NotPlain b) = first_rough I ≡ Some b
 IsConclusion verb.Core pairs I (status.Core count) = IsInfeasible I (number_at pairs option.Capacity)
 IsConclusion verb.Core pairs I (status.NoCore C) = (C ≡ number_at pairs option.Capacity) × IsFeasible I C
+IsConclusion verb pairs I status.Shown = (table : List Record) × (text : List ℕ) × IsReport verb table I text
 IsConclusion verb pairs I status.NoMemory = Unit {0}
 IsConclusion verb pairs I status = ⊥

@@ -17,7 +17,7 @@ use Rattle.readings.specs.Input.{opened}
 use Rattle.judging.specs.Judging.{report, verify}
 use Rattle.judging.specs.Drawing.{draw}
 use Rattle.checking.specs.Checking.{refute, trim, upgrade}
-use Rattle.fact_reports.specs.Reporting.{ShowsColumns, ShowsFacts, trial}
+use Rattle.fact_reports.specs.Reporting.{ShowsReport, trial}
 use Rattle.importing.specs.Importing.{import_course}
 use Rattle.importing.specs.Unrolling.{unroll_course}
 use Rattle.planning.specs.Planning.{Plans}
@@ -40,11 +40,12 @@ IsAnswer verb pairs I = λ status layout log. ⊥
 
 -- with which outcomes a command concludes that reads its instance alone, by the table and the instance
 abbrev pub ConcludesWith : Verb → List Pair → List Record → Instance → Outcome → Type 0
-ConcludesWith verb.Bounds pairs = λ table. ShowsFacts
-ConcludesWith verb.Inspect pairs = ShowsColumns
+ConcludesWith verb.Solve pairs = λ table I. Gives (IsAnswer verb.Solve pairs I) (names_in pairs) table
+ConcludesWith verb.Least pairs = λ table I. Gives (IsAnswer verb.Least pairs I) (names_in pairs) table
+ConcludesWith verb.Pack pairs = λ table I. Gives (IsAnswer verb.Pack pairs I) (names_in pairs) table
 ConcludesWith verb.Classes pairs = Plans (word_at pairs Output)
 ConcludesWith verb.Core pairs = ExplainsOrFits (number_at pairs Capacity) (names_in pairs)
-ConcludesWith verb pairs = λ table I. Gives (IsAnswer verb pairs I) (names_in pairs) table
+ConcludesWith verb pairs = ShowsReport verb
 
 -- how a command goes
 abbrev pub course_with : Verb → List Pair → Course

@@ -6,7 +6,6 @@ use Rattle.dsa_outside.specs.Held.{with_text}
 use Rattle.dsa_outside.specs.Seen.{FilesSeen, SinkSeen}
 use Rattle.csv_instance.specs.Records.{table_of}
 use Rattle.csv_instance.specs.Parse.{parse}
-use Rattle.column_report.specs.Report.{inspect_text}
 use Rattle.layout_report.specs.Facts.{bounds_text}
 use Rattle.layout_report.specs.Report.{IsReportOf}
 use Rattle.layout_report.specs.declared.facts.Facts.{Facts}
@@ -20,27 +19,15 @@ use Rattle.command_words.specs.declared.verb.Verb.TheVariants as verb
 use Rattle.run_status.specs.Lines.{line}
 use Rattle.run_status.specs.declared.status.Status.{Status}
 use Rattle.run_status.specs.declared.status.Status.TheVariants as status
-use Rattle.fact_reports.specs.Reporting.{IsVerdict}
+use Rattle.fact_reports.specs.Reporting.{IsReport, IsVerdict}
 use Rattle.dsaplan_core.specs.Theorem.{Asked}
 use Rattle.dsaplan_core.specs.Judged.{GivesLayoutAt}
-
--- the facts of the input's instance
-pub record TellsFacts {words : List Word} {old : FilesSeen} (a : Asked words old) (text : List ℕ) : Type 0 where
-  pub command : a.verb ≡ verb.Bounds
-  pub facts : Facts
-  pub true_facts : AreFactsOf a.instance facts
-  pub its_text : text ≡ bounds_text facts
 
 -- the tightest moment of the layout that the layout file gives
 pub record TellsLayout {words : List Word} {old : FilesSeen} (a : Asked words old) (text : List ℕ) : Type 0 where
   pub command : a.verb ≡ verb.Report
   pub given : GivesLayoutAt a (2 ^ 60)
   pub its_text : IsReportOf a.table a.instance given.offsets text
-
--- how many buffers of the input's instance ask for something more, and what each column of its header means
-pub record TellsColumns {words : List Word} {old : FilesSeen} (a : Asked words old) (text : List ℕ) : Type 0 where
-  pub command : a.verb ≡ verb.Inspect
-  pub its_text : text ≡ inspect_text a.table a.instance
 
 -- the facts of the made instance, and the verdict on it
 pub record TellsTrial (words : List Word) (text : List ℕ) : Type 0 where
@@ -55,11 +42,12 @@ pub record TellsTrial (words : List Word) (text : List ℕ) : Type 0 where
   pub true_verdict : IsVerdict instance (number_at pairs option.Steps) verdict
   pub its_text : text ≡ bounds_text facts ++ line verdict
 
--- what the text of the status says and what files then hold, where it is a report
+-- what the text of the status says and what files then hold, where it is a report: what the command prints of the
+-- input's instance alone, of the layout that the layout file gives, or of the made instance
 abbrev pub Tells : List Word → FilesSeen → FilesSeen → Status → List ℕ → Type 0
 Tells words old new status.Shown text = (new.held ≡ old.held)
-    × (((a : Asked words old) × TellsFacts a text) ⊎ ((a : Asked words old) × TellsLayout a text)
-    ⊎ ((a : Asked words old) × TellsColumns a text) ⊎ TellsTrial words text)
+    × (((a : Asked words old) × IsReport a.verb a.table a.instance text)
+    ⊎ ((a : Asked words old) × TellsLayout a text) ⊎ TellsTrial words text)
 Tells words old new status text = Unit {0}
 
 -- a true report has been printed, and the files are as before

@@ -16,7 +16,7 @@ use command_words::{OptionName, Request, Verb, read_words};
 use deciding::{Least, Solve};
 use dsa_outside::{Files, Sink};
 use explaining::Core;
-use fact_reports::{Bounds, Inspect, Trial};
+use fact_reports::{Bounds, Inspect, Reporting, Trial};
 use importing::{Import, Unroll};
 use judging::{Draw, Report, Verify};
 use packing::Pack;
@@ -78,8 +78,14 @@ fn answer<F: Files, S: Sink>(
             let upgrade = Upgrade { input, log, output };
             perform(alloc, &upgrade, files, out)
         }
-        Verb::Bounds => perform(alloc, &Bounds { input }, files, out),
-        Verb::Inspect => perform(alloc, &Inspect { input }, files, out),
+        Verb::Bounds => {
+            let report = Bounds;
+            perform(alloc, &Reporting { input, report }, files, out)
+        }
+        Verb::Inspect => {
+            let report = Inspect;
+            perform(alloc, &Reporting { input, report }, files, out)
+        }
         Verb::Report => perform(alloc, &Report { input, layout }, files, out),
         Verb::Draw => {
             let draw = Draw {

@@ -29,7 +29,7 @@ ghost use Rattle.dsaplan_core.specs.Lost.{HasLongFile, LosesFile, MissesFile};
 ghost use Rattle.dsaplan_core.specs.Refused.{IsMisuse};
 ghost use Rattle.dsaplan_core.specs.Shown.{Shows};
 
-/// A report that is shown is true of the input's instance, of its layout, of how the input is read,
+/// A report that is shown is what its command prints of the input's instance, or true of its layout
 /// or of the made instance.
 pub fn shown()
     ensures { (words : List Word) (old new : FilesSeen) (before after : SinkSeen) →
@@ -51,7 +51,7 @@ pub fn checks()
 
 /// Where a command's files are readable, its input is an instance, and nothing outside fails, the
 /// status is one of those that conclude the command: a layout where there is one, a refutation
-/// where there is none, a verdict or what is derived; 'open' never comes without steps.
+/// where there is none, a verdict, a report or what is derived; 'open' never comes without steps.
 pub fn conclusions()
     ensures { (words : List Word) (old new : FilesSeen) (before after : SinkSeen)
         (request : Request) (I : Instance) (s : Status) → request_of words ≡ Ok request →
