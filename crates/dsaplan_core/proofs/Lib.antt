@@ -25,3 +25,4 @@ mod WorldFacts
 mod ExampleFacts
 mod HeldFacts
 mod JudgedFacts
+mod ChoiceFacts
