@@ -249,6 +249,16 @@ fn faults_outside_are_told(rt: HostRuntime) -> Result<(), Fail> {
         (LEAST, 1, 9, 5, "unwritten --output\n", None, None),
         (LEAST, 2, 9, 5, "unwritten --log\n", Some(FIVE_AT_12), None),
         (LEAST, 9, 0, 5, "", Some(FIVE_AT_12), Some(FIVE_OVER_11)),
+        // the line is printed by one put: a second one would fail
+        (
+            LEAST,
+            9,
+            1,
+            0,
+            "least 12\n",
+            Some(FIVE_AT_12),
+            Some(FIVE_OVER_11),
+        ),
         (LEAST, 0, 0, 5, "", None, None),
         (
             "refute --input i --log log",
