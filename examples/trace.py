@@ -8,19 +8,26 @@ its address first came: an address that was freed and is given out again has the
 the new one is there, or before where it stays in place. The alignment is 16, what malloc and new give on a 64-bit system, or a greater
 one that was asked for; a block of no byte counts as one. What is still held at the end is not freed, and what was refused is no block.
 
-PROGRAM is linked dynamically, and allocates by malloc and its kin or by new and delete of C++. At another call, where a signal ends
-the program, and where no call was seen, the script prints a message and no trace, and ends with 1.
+PROGRAM is linked dynamically, and allocates by malloc and its kin or by new and delete of C++. A program that PROGRAM starts is not
+traced, and of a script, what runs it is. At another call, where a signal ends the program or it becomes another one, and where no block
+was seen, the script prints a message and no trace, and ends with 1. What PROGRAM says on standard error is passed on.
 
 `trace.txt` was made by: LC_ALL=C python3 examples/trace.py grep -c b examples/five.csv
 """
 
+import os
 import re
 import shutil
 import subprocess
 import sys
+import tempfile
 
+# The process that a line of the log is of, and what it says.
+LINE = re.compile(r"(?:==|--)(\d+)(?:==|--) ?(.*)")
+# With this line the log of a process ends.
+END = "ERROR SUMMARY: "
 # A call of realloc that only allocates or only frees is told of as both calls in one line.
-CALL = re.compile(r"^--\d+-- (?:realloc\(0x[0-9A-F]+,\d+\))?(\w+)\(([^)]*)\)(?: = (0x[0-9A-F]+))?$")
+CALL = re.compile(r"(?:realloc\(0x[0-9A-F]+,\d+\))?(\w+)\(([^)]*)\)(?: = (0x[0-9A-F]+))?")
 # The names of C++ are those of operator new, new[], delete and delete[], in all their forms.
 FREES = re.compile(r"free|_Zd[la]Pv\w*")
 ALLOCATES = re.compile(r"malloc|_Zn[wa]\w+")
@@ -28,20 +35,36 @@ ALIGNED = re.compile(r"memalign|posix_memalign|aligned_alloc|_Zn[wa]\w*align_val
 ALIGNMENT = 16
 
 
-def calls(words):
-    """The calls of the allocator: their names, what they were given, and what they answered."""
-    recorder = ["valgrind", "--trace-malloc=yes", "--freelist-vol=0", *words]
-    for program in (recorder[0], words[0]):
+def log_of(words):
+    """What valgrind tells of the program's run. It goes to a file of its own: on standard error the program's text could break into it."""
+    for program in ("valgrind", words[0]):
         if not shutil.which(program):
             sys.exit(f"there is no program {program}")
-    run = subprocess.run(recorder, stdout=subprocess.DEVNULL, stderr=subprocess.PIPE, check=False)
-    if run.returncode < 0:
-        sys.exit(f"signal {-run.returncode} ended {words[0]}")
-    lines = run.stderr.decode("utf-8", "replace").splitlines()
-    found = [call.groups() for call in map(CALL.match, lines) if call]
-    if not found:
-        sys.exit(f"no call of the allocator was seen: {lines[-1] if lines else 'valgrind said nothing'}")
-    return found
+    with tempfile.TemporaryDirectory() as folder:
+        name = f"{folder}/log"
+        # In the name of a log % begins a pattern.
+        recorder = ["valgrind", "--trace-malloc=yes", "--freelist-vol=0", f"--log-file={name.replace('%', '%%')}"]
+        run = subprocess.run([*recorder, *words], stdout=subprocess.DEVNULL, check=False)
+        if run.returncode < 0:
+            sys.exit(f"signal {-run.returncode} ended {words[0]}")
+        if not os.path.exists(name):
+            sys.exit(f"valgrind did not run {words[0]}")
+        with open(name, encoding="utf-8", errors="replace") as file:
+            return file.read()
+
+
+def lines_of_first(log):
+    """The lines of the first process of a log: a process that it forks writes into the same log."""
+    lines = [it.groups() for it in map(LINE.fullmatch, log.splitlines()) if it]
+    return [text for process, text in lines if process == lines[0][0]]
+
+
+def calls(words):
+    """The calls of the allocator: their names, what they were given, and what they answered."""
+    lines = lines_of_first(log_of(words))
+    if not any(it.startswith(END) for it in lines):
+        sys.exit(f"the log has no end: {words[0]} became another program, or the disk of {tempfile.gettempdir()} is full")
+    return [call.groups() for call in map(CALL.fullmatch, lines) if call]
 
 
 def numbers_of(given):
@@ -89,7 +112,20 @@ def trace(words):
     return lines
 
 
-if __name__ == "__main__":
-    if len(sys.argv) < 2:
+def main(words):
+    if not words:
         sys.exit("usage: python3 examples/trace.py PROGRAM WORDS..")
-    print("\n".join(trace(sys.argv[1:])))
+    if sys.stdout is None:
+        sys.exit("standard output is closed")
+    lines = trace(words)
+    if not lines:
+        sys.exit(f"no block was seen: {words[0]} allocates none, or is linked statically")
+    try:
+        with open(sys.stdout.fileno(), "w", encoding="ascii", closefd=False) as out:
+            out.write("".join(f"{line}\n" for line in lines))
+    except OSError as fault:
+        sys.exit(f"the trace could not be written: {fault.strerror}")
+
+
+if __name__ == "__main__":
+    main(sys.argv[1:])

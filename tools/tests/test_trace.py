@@ -9,8 +9,13 @@ import unittest
 
 TOP = os.path.dirname(os.path.dirname(os.path.dirname(os.path.abspath(__file__))))
 STUB = """#!/bin/sh
-sed 's/^/--7-- /' "$(dirname "$0")/calls" >&2
-if [ -e "$(dirname "$0")/dies" ]; then kill -SEGV $$; fi
+for word; do case $word in --log-file=*) log=${word#*=} ;; esac; done
+here=$(dirname "$0")
+printf %s "$(cat "$here/said")" >&2
+{ echo "==7== Command: true"; sed '/^--/!s/^/--7-- /' "$here/calls"; } >"$log"
+if [ -e "$here/dies" ]; then kill -SEGV $$; fi
+if [ -e "$here/goes on" ]; then exit; fi
+echo "==7== ERROR SUMMARY: 0 errors from 0 contexts" >>"$log"
 """
 PROGRAM = """
 #include <new>
@@ -21,6 +26,23 @@ int main() {
     delete wide;
     delete[] many;
     delete one;
+}
+"""
+FORKS = """
+#include <cstdio>
+#include <cstdlib>
+#include <sys/wait.h>
+#include <unistd.h>
+void *kept[3];
+int main() {
+    fprintf(stderr, "progress..");
+    kept[0] = malloc(1000);
+    if (fork() == 0) {
+        kept[1] = malloc(777);
+        _exit(0);
+    }
+    wait(nullptr);
+    kept[2] = malloc(33);
 }
 """
 
@@ -35,17 +57,18 @@ class Trace(unittest.TestCase):
         with open(f"{self.folder}/{name}", "w", encoding="utf-8") as file:
             file.write(text)
 
-    def trace(self, *words, path=""):
+    def trace(self, *words, path="", **how):
         environment = {**os.environ, "PATH": path + os.environ["PATH"]}
-        how = {"capture_output": True, "text": True, "env": environment, "check": False}
+        how = {"stdout": subprocess.PIPE, "stderr": subprocess.PIPE, "text": True, "env": environment, "check": False, **how}
         return subprocess.run([sys.executable, "-B", f"{TOP}/examples/trace.py", *words], **how)
 
-    def traced(self, *calls):
-        """What is told of a program for which valgrind prints these calls."""
+    def traced(self, *calls, said="", **how):
+        """What is told of a program that says this, and for which valgrind prints these calls."""
         self.write("valgrind", STUB)
         os.chmod(f"{self.folder}/valgrind", 0o755)
+        self.write("said", said)
         self.write("calls", "".join(f"{it}\n" for it in calls))
-        return self.trace("true", path=f"{self.folder}:")
+        return self.trace("true", path=f"{self.folder}:", **how)
 
     def of(self, *calls):
         """The lines of that trace."""
@@ -94,23 +117,52 @@ class Trace(unittest.TestCase):
         self.write("dies", "")
         self.assertEqual(self.fault(self.traced("malloc(9) = 0xA0")), "signal 11 ended true\n")
 
-    def test_no_call_is_no_trace(self):
-        self.assertEqual(self.fault(self.traced("statically linked")), "no call of the allocator was seen: --7-- statically linked\n")
+    def test_no_block_is_no_trace(self):
+        for calls in ((), ("statically linked",), ("free(0x0)", "malloc(1152921504606846976) = 0x0")):
+            with self.subTest(calls=calls):
+                self.assertEqual(self.fault(self.traced(*calls)), "no block was seen: true allocates none, or is linked statically\n")
+
+    def test_what_the_program_says_hides_no_call(self):
+        ran = self.traced("malloc(1048576) = 0xA0", "free(0xA0)", said="progress..")
+        self.assertEqual((ran.returncode, ran.stdout, ran.stderr), (0, "alloc p0 1048576 16\nfree p0\n", "progress.."))
+
+    def test_a_process_that_it_forks_is_not_traced(self):
+        child = ["--8-- malloc(777) = 0xB0", "--8-- free(0xA0)"]
+        self.assertEqual(self.of(*child, "malloc(9) = 0xA0", *child, "free(0xA0)"), ["alloc p0 9 16", "free p0"])
+
+    def test_a_log_without_its_end_leaves_no_trace(self):
+        self.write("goes on", "")
+        self.assertIn("the log has no end: true became another program", self.fault(self.traced("malloc(9) = 0xA0")))
+
+    def test_output_that_is_full_or_closed_is_told(self):
+        with open("/dev/full", "w", encoding="utf-8") as full:
+            ran = self.traced("malloc(9) = 0xA0", stdout=full)
+        self.assertEqual((ran.returncode, ran.stderr), (1, "the trace could not be written: No space left on device\n"))
+        ran = self.traced("malloc(9) = 0xA0", stdout=None, preexec_fn=lambda: os.close(1))
+        self.assertEqual((ran.returncode, ran.stderr), (1, "standard output is closed\n"))
 
     def test_a_program_that_is_missing_is_told(self):
         self.traced()
         self.assertEqual(self.fault(self.trace("./none", path=f"{self.folder}:")), "there is no program ./none\n")
         self.assertIn("usage", self.fault(self.trace()))
 
-    def test_a_program_of_cpp_under_valgrind(self):
+    def recorded(self, program):
+        """What is told of a program of C++ under valgrind, and the sizes and alignments of its blocks."""
         if not shutil.which("valgrind") or not shutil.which("c++"):
             self.skipTest("valgrind or a compiler is missing")
-        self.write("program.cc", PROGRAM)
+        self.write("program.cc", program)
         subprocess.run(["c++", "-std=c++17", "-O0", "-o", f"{self.folder}/program", f"{self.folder}/program.cc"], check=True)
         ran = self.trace(f"{self.folder}/program")
         self.assertEqual(ran.returncode, 0, ran.stderr)
-        sizes = [it.split()[2:] for it in ran.stdout.splitlines() if it.startswith("alloc")]
-        self.assertEqual(sizes[-3:], [["4", "16"], ["40", "16"], ["128", "64"]])
+        return ran.stderr, [it.split()[2:] for it in ran.stdout.splitlines() if it.startswith("alloc")]
+
+    def test_a_program_of_cpp_under_valgrind(self):
+        self.assertEqual(self.recorded(PROGRAM)[1][-3:], [["4", "16"], ["40", "16"], ["128", "64"]])
+
+    def test_a_program_that_forks_and_says_how_far_it_is_under_valgrind(self):
+        said, sizes = self.recorded(FORKS)
+        self.assertIn("progress..", said)
+        self.assertEqual(sizes[-2:], [["1000", "16"], ["33", "16"]])
 
 
 if __name__ == "__main__":
