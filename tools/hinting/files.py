@@ -29,6 +29,8 @@ def why_unread(name):
         mode = os.stat(name).st_mode
         if stat.S_ISDIR(mode):
             return REASONS[errno.EISDIR]
+        if stat.S_ISSOCK(mode):
+            return "is a socket"
         if stat.S_ISREG(mode):
             with open(name, "rb") as file:
                 file.read(1)
@@ -38,7 +40,11 @@ def why_unread(name):
 
 
 def why_unwritten(name):
-    """Why a file cannot be written, or nothing."""
+    """Why a file cannot be written, or nothing. Of a link it is what the link leads to that would be."""
+    if os.path.islink(name):
+        name = os.path.realpath(name)
+    if os.path.islink(name):
+        return REASONS[errno.ELOOP]
     folder = os.path.dirname(name) or "."
     if os.path.isdir(name):
         return "is a folder"
@@ -66,15 +72,17 @@ def file_hint(call):
         why = why_unwritten(name)
         if why:
             return f"{option}: {name} {why}"
-    return "the system refused a read or a write that it would take now, or standard output could not be written"
+    return "the system refused a read or a write; the disk may be too small for the text, or standard output took none"
 
 
 def length_hint(call):
-    """Which file is longer than it may be."""
+    """Which file is longer than it may be: a regular one that is, or else the one that is none."""
+    others = [(option, name) for option, name in call.reads() if not is_regular(name)]
     for option, name in call.reads():
-        limit = LIMITS[option]
-        if is_regular(name) and os.stat(name).st_size > limit:
-            return f"{option}: {name} has {os.stat(name).st_size} bytes, where {limit} are the most"
-        if not is_regular(name):
-            return f"{option}: {name} has more bytes than {limit}"
-    return None
+        if is_regular(name) and os.stat(name).st_size > LIMITS[option]:
+            return f"{option}: {name} has {os.stat(name).st_size} bytes, where {LIMITS[option]} are the most"
+    # Of two pipes it is not known which of them it was.
+    if len(others) != 1:
+        return None
+    option, name = others[0]
+    return f"{option}: {name} has more bytes than {LIMITS[option]}"

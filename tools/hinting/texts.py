@@ -45,8 +45,8 @@ def distance(one, other):
     return row[-1]
 
 
-def nearest(word, words, most):
-    """The word that is nearest, if it is no further than most letters or begins as the word does."""
+def nearest(word, words):
+    """The word that is nearest, if it begins as the word does or is no further than two letters and half of the word."""
     best = min(words, key=lambda it: (not it.startswith(word) or len(word) < 3, distance(word, it)))
-    near = distance(word, best) <= most or (len(word) >= 3 and best.startswith(word))
+    near = distance(word, best) <= min(2, len(word) // 2) or (len(word) >= 3 and best.startswith(word))
     return best if near else None

@@ -8,9 +8,17 @@ def word_hint(words):
     """That there is no command, and which is nearest to a word that is none."""
     if not words:
         return "no command; 'dsaplan help' lists them"
-    near = nearest(words[0], options_of_commands(), 2)
+    near = nearest(words[0], options_of_commands())
     instead = f"; the nearest is {shown(near)}" if near else ""
     return f"{shown(words[0])} is no command{instead}; 'dsaplan help' lists them"
+
+
+def option_hint(word, options):
+    """What may be meant by a word that is no option: one with its value, or another one, by the letters after the dashes."""
+    if word.partition("=")[0] in options:
+        return "; an option and its value are two words"
+    near = nearest(word.lstrip("-"), [it.lstrip("-") for it in options])
+    return f"; the nearest is --{near}" if near else ""
 
 
 def usage_hint(call, fault):
@@ -26,8 +34,7 @@ def usage_hint(call, fault):
         return f"{call.command} needs {' '.join(it for it in needed_options(call.command) if it == place)}{more}"
     word = words[int(place)]
     if kind == "unknown option":
-        near = nearest(word, options[call.command], 3)
-        return f"{shown(word)} is no option of {call.command}" + (f"; the nearest is {near}" if near else "") + more
+        return f"{shown(word)} is no option of {call.command}{option_hint(word, options[call.command])}{more}"
     if kind == "repeated option":
         return f"{word} stands twice"
     if kind == "missing value":

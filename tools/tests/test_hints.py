@@ -6,6 +6,7 @@ import errno
 import glob
 import os
 import re
+import socket
 import stat
 import subprocess
 import sys
@@ -28,6 +29,7 @@ VERIFY = "verify --capacity 8 --input i --layout a"
 REFUTE = "refute --input i --log l"
 IMPORT = "import --trace t --output o"
 LONG = "i" * 300
+CLASSES = "classes --input i --output o"
 UNROLL = "unroll --period 10 --input i --output o"
 
 
@@ -71,8 +73,22 @@ CASES = [
     ({}, "slove --input i", 3, "usage unknown command",
      "'slove' is no command; the nearest is 'solve'; 'dsaplan help' lists them"),
     ({}, "plan", 3, "usage unknown command", "'plan' is no command; 'dsaplan help' lists them"),
+    ({}, "x", 3, "usage unknown command", "'x' is no command; 'dsaplan help' lists them"),
     ({}, "bounds --inptu i", 3, "usage unknown option 1",
      "'--inptu' is no option of bounds; the nearest is --input; see 'dsaplan help bounds'"),
+    ({}, "pack -input i", 3, "usage unknown option 1",
+     "'-input' is no option of pack; the nearest is --input; see 'dsaplan help pack'"),
+    ({}, "pack --cap 4", 3, "usage unknown option 1",
+     "'--cap' is no option of pack; the nearest is --capacity; see 'dsaplan help pack'"),
+    ({}, "pack -o x", 3, "usage unknown option 1", "'-o' is no option of pack; see 'dsaplan help pack'"),
+    ({}, "pack -lg x", 3, "usage unknown option 1",
+     "'-lg' is no option of pack; the nearest is --log; see 'dsaplan help pack'"),
+    ({}, "pack x", 3, "usage unknown option 1", "'x' is no option of pack; see 'dsaplan help pack'"),
+    ({}, "verify --output o", 3, "usage unknown option 1", "'--output' is no option of verify; see 'dsaplan help verify'"),
+    ({}, "bounds --input=mine.csv", 3, "usage unknown option 1",
+     "'--input=mine.csv' is no option of bounds; an option and its value are two words; see 'dsaplan help bounds'"),
+    ({}, "pack --steps=20", 3, "usage unknown option 1",
+     "'--steps=20' is no option of pack; an option and its value are two words; see 'dsaplan help pack'"),
     ({}, "bounds --input i --input i", 3, "usage repeated option 3", "--input stands twice"),
     ({}, "bounds --input", 3, "usage missing value 1", "--input is the last word, and has no value"),
     ({}, "verify --capacity 4K --input i --layout a", 3, "usage bad value 1",
@@ -254,6 +270,10 @@ CASES = [
      "--log: f/l lies in f, which is no folder"),
     ({"i": TWO}, "classes --input i --output /dev/full", 5, "unwritten --output",
      "--output: /dev/full is no regular file, and took no text"),
+    ({"i": TWO, "o": Link("f/o")}, CLASSES, 5, "unwritten --output", "--output: o lies in WORK/f, which is no folder"),
+    ({"i": TWO, "o": Link("o")}, CLASSES, 5, "unwritten --output", "--output: o is a link that leads to itself"),
+    ({"i": TWO, "o": Link("p"), "p": Link("o")}, CLASSES, 5, "unwritten --output",
+     "--output: o is a link that leads to itself"),
     ({"i": 67108865}, BOUNDS, 7, "too long --input", "--input: i has 67108865 bytes, where 67108864 are the most"),
     ({"i": TWO, "a": 67108865}, VERIFY, 7, "too long --layout",
      "--layout: a has 67108865 bytes, where 67108864 are the most"),
@@ -322,7 +342,8 @@ class Hints(unittest.TestCase):
                 self.setUp()
                 self.lay(files)
                 before = self.left()
-                wanted = [f"dsaplan: {it}" for it in ([hint] if isinstance(hint, str) else hint)]
+                hint = [hint] if isinstance(hint, str) else hint
+                wanted = [f"dsaplan: {it}".replace("WORK", os.path.realpath(self.work)) for it in hint]
                 self.assertEqual(self.hints(self.stub(line, status), status, words), wanted)
                 self.assertEqual(self.left(), before)
 
@@ -363,6 +384,30 @@ class Hints(unittest.TestCase):
             with self.subTest(words=words), without_leave(name):
                 said = list(answers.hints("none", 5, words.split()))
                 self.assertEqual(said, [f"{option}: {name} may not be read, for want of leave"])
+
+    def test_a_socket_is_told(self):
+        with socket.socket(socket.AF_UNIX) as made:
+            made.bind(f"{self.work}/i")
+        self.assertEqual(self.hints(self.stub("", 5), 5, BOUNDS.split()), ["dsaplan: --input: i is a socket"])
+
+    def test_a_disk_that_was_too_small_is_no_riddle(self):
+        self.lay({"i": TWO})
+        self.assertEqual(
+            self.hints(self.stub("", 5), 5, CLASSES.split()),
+            ["dsaplan: the system refused a read or a write; the disk may be too small for the text, or standard output took none"],
+        )
+
+    def test_of_a_pipe_and_a_file_that_is_too_long_the_file_is_told(self):
+        os.mkfifo(f"{self.work}/i")
+        self.lay({"a": 67108865})
+        told = ["dsaplan: --layout: a has 67108865 bytes, where 67108864 are the most"]
+        self.assertEqual(self.hints(self.stub("", 7), 7, VERIFY.split()), told)
+        self.lay({"t": ""})
+        os.remove(f"{self.work}/a")
+        os.mkfifo(f"{self.work}/a")
+        self.assertEqual(self.hints(self.stub("", 7), 7, VERIFY.split()), [])
+        told = ["dsaplan: --layout: a has more bytes than 67108864"]
+        self.assertEqual(self.hints(self.stub("", 7), 7, VERIFY.replace("input i", "input t").split()), told)
 
     def test_a_command_that_writes_is_not_made_again(self):
         self.lay(row("b1,0,1,4K,,"))
