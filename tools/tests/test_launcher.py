@@ -18,6 +18,7 @@ echo "$*" >>"$RT_ASKED"
 case $1 in
 version) echo 'rattle-kit-0 logic 0123' ;;
 run) if [ "${RT_FAILS-}" ]; then echo 'a proof fails'; exit 1; fi
+    [ "${RT_LASTS-}" ] && sleep 60
     echo "proved low"; for it in high dsaplan; do echo "crate $it: modules loaded=1 checked=2"; done
     mkdir -p out && cp ../../stub out/dsaplan; exit 3 ;;
 esac
@@ -84,6 +85,7 @@ class Launcher(unittest.TestCase):
             self.assertEqual((ran.returncode, ran.stderr), (0, ""))
             for command in self.forms():
                 self.assertRegex(ran.stdout, rf"(?m)^  {command} +[a-z]")
+            self.assertIn("\n  tools/improve --help ", ran.stdout)
         self.assertFalse(os.path.exists(self.asked), "help builds nothing")
 
     def test_help_tells_of_one_command(self):
@@ -92,12 +94,26 @@ class Launcher(unittest.TestCase):
             self.assertEqual((ran.returncode, ran.stderr), (0, ""))
             self.assertTrue(ran.stdout.startswith(f"dsaplan {command} --"))
 
+    def test_help_after_a_command_is_the_launcher_s_whether_built_or_not(self):
+        for stand_in in (lambda: None, lambda: self.stand_in("echo usage; exit 3")):
+            stand_in()
+            for command in self.forms():
+                for word in ("--help", "-h"):
+                    ran = self.run_it(command, word)
+                    self.assertEqual((ran.returncode, ran.stderr), (0, ""))
+                    self.assertEqual(ran.stdout, self.run_it("help", command).stdout)
+        self.assertFalse(os.path.exists(self.asked), "help builds nothing")
+        for words in (["pack", "--help", "more"], ["pack", "--input", "--help"], ["-h", "-h"], ["slove", "-h"]):
+            self.assertNotIn("dsaplan pack --", self.run_it(*words).stdout)
+
     def test_help_of_another_word_names_the_nearest(self):
         for word in ("slove", "\\163olve"):
             ran = self.run_it("help", word)
             self.assertEqual((ran.returncode, ran.stdout), (3, ""))
             self.assertIn(" is no command", ran.stderr)
         self.assertIn("the nearest is 'solve'", self.run_it("help", "slove").stderr)
+        ran = self.run_it("help", "slove", environment={"DSAPLAN_HINTS": "0"})
+        self.assertEqual((ran.returncode, ran.stdout, ran.stderr), (3, "", ""))
 
     def forms(self):
         """The options of each command, as the definitions have them: those that are needed and those that are not."""
@@ -131,8 +147,7 @@ class Launcher(unittest.TestCase):
                 "dsaplan: 2 of 3 crates proved; proving dsaplan",
             ],
         )
-        with open(self.asked, encoding="utf-8") as file:
-            self.assertEqual(file.read().splitlines(), ["version", "run"])
+        self.assertEqual(self.asked_of_rt(), ["version", "run"])
         version = self.run_it("--version")
         self.assertEqual((version.returncode, version.stderr), (0, ""))
         self.assertRegex(version.stdout, r"\Adsaplan commit \S+\nproved with rattle-kit-0 logic 0123\n\Z")
@@ -188,6 +203,34 @@ class Launcher(unittest.TestCase):
         self.assertEqual((ran.returncode, ran.stdout), (9, ""))
         self.assertIn("a proof fails", ran.stderr)
         self.assertIn("not built", self.run_it("--version").stdout)
+
+    def test_a_build_leaves_nothing_in_the_folder_for_temporary_files(self):
+        self.write(f"{self.top}/stub", "#!/bin/sh\n", 0o755)
+        there = {"TMPDIR": self.work}
+        left = os.listdir(self.work)
+        for more in ({"RT_FAILS": "1"}, {}):
+            self.run_it("verify", environment={**there, **more})
+            self.assertEqual(os.listdir(self.work), left)
+        for number in (signal.SIGINT, signal.SIGTERM, signal.SIGHUP):
+            shutil.rmtree(os.path.dirname(self.program), ignore_errors=True)
+            os.remove(self.asked)
+            how = {"env": {**self.environment, **there, "RT_LASTS": "1"}, "start_new_session": True, "stderr": subprocess.DEVNULL}
+            with subprocess.Popen([f"{self.top}/dsaplan", "verify"], **how) as run:
+                self.wait_for(lambda: "run" in self.asked_of_rt())
+                os.killpg(run.pid, number)
+            self.assertEqual((run.returncode, os.listdir(self.work)), (-number, left))
+
+    def asked_of_rt(self):
+        with open(self.asked, encoding="utf-8") as file:
+            return file.read().splitlines()
+
+    @unittest.skipUnless(shutil.which("git"), "there is no git")
+    def test_the_commit_is_that_of_its_own_repository(self):
+        above, top = os.path.dirname(self.top), self.top
+        for folder, commit in ((above, "unknown"), (top, "[0-9a-f]{12}")):
+            for words in (["init", "-q"], ["-c", "user.name=a", "-c", "user.email=a@b", "commit", "-qm", "a", "--allow-empty"]):
+                subprocess.run(["git", "-C", folder, *words], check=True)
+            self.assertRegex(self.run_it("--version").stdout, rf"\Adsaplan commit {commit}(, changed since)?\nnot built\n\Z")
 
     def test_what_is_no_command_is_told_without_a_build(self):
         for words, printed, hint in [
