@@ -1,6 +1,7 @@
 """improve, over a copy of it with a stub for the program, whose answers a table gives by its steps."""
 
 import os
+import resource
 import shutil
 import signal
 import subprocess
@@ -12,15 +13,16 @@ TOOLS = os.path.dirname(os.path.dirname(os.path.abspath(__file__)))
 TOP = os.path.dirname(TOOLS)
 MOST_BYTES = 2**26
 STUB = """#!/usr/bin/env python3
-import os, sys, time
+import os, signal, sys, time
 top = os.path.dirname(os.path.abspath(__file__))
 if len(sys.argv) == 2:
     print("usage missing --input")
     sys.exit(3)
 given = dict(zip(sys.argv[2::2], sys.argv[3::2]))
-steps = given["--steps"]
-with open(f"{top}/calls", "a") as file:
-    file.write(steps + "\\n")
+steps = given.get("--steps")
+if steps:
+    with open(f"{top}/calls", "a") as file:
+        file.write(steps + "\\n")
 if os.path.getsize(given["--input"]) > 2**26:
     print("too long --input", os.path.getsize(given["--input"]))
     sys.exit(7)
@@ -34,6 +36,8 @@ while answer == "long":
     time.sleep(0.1)
 if answer == "memory":
     sys.exit(6)
+if answer == "killed":
+    os.kill(os.getpid(), signal.SIGKILL)
 if answer == "in the way":
     os.mkdir("o")
     answer = "open 5 9"
@@ -79,10 +83,11 @@ class Improve(unittest.TestCase):
     def words(self, *more, seconds="20"):
         return [f"{self.top}/tools/improve", "--seconds", seconds, "--input", "i", "--output", "o", "--log", "l", *more]
 
-    def improve(self, answers, *more, seconds="20", **how):
+    def improve(self, answers, *more, seconds="20", before=(), **how):
         self.write(f"{self.out}/answers", answers)
-        how = {"capture_output": True, "text": True, "cwd": self.work, "check": False, "env": self.environment, **how}
-        return subprocess.run(self.words(*more, seconds=seconds), **how)
+        pipes = {"stdout": subprocess.PIPE, "stderr": subprocess.PIPE}
+        how = {**pipes, "text": True, "cwd": self.work, "check": False, "env": self.environment, **how}
+        return subprocess.run([*before, *self.words(*more, seconds=seconds)], **how)
 
     def left(self):
         return sorted(os.listdir(self.work))
@@ -114,19 +119,36 @@ class Improve(unittest.TestCase):
         self.assertEqual((ran.returncode, ran.stdout, self.read("l")), (0, "least 0\n", "old"))
 
     def test_an_interrupt_leaves_whole_files(self):
-        for number in (signal.SIGINT, signal.SIGTERM):
-            self.setUp()
-            self.write(f"{self.out}/answers", "0:open 5 9\n1000:open 6 8\nmore:long\n")
-            how = {"stdout": subprocess.PIPE, "stderr": subprocess.PIPE, "text": True, "cwd": self.work}
-            with subprocess.Popen(self.words(), env=self.environment, **how) as run:
-                while len(self.calls()) < 3:
-                    time.sleep(0.05)
-                time.sleep(0.3)
-                run.send_signal(number)
-                said, _ = run.communicate(timeout=10)
-            self.assertEqual((run.returncode, said), (2, "open 6 8\n"))
-            self.assertEqual((self.read("o"), self.read("l")), ("layout of 1000\n", "log of 1000\n"))
-            self.assertEqual(self.left(), ["i", "l", "o"])
+        for number in (signal.SIGINT, signal.SIGTERM, signal.SIGHUP):
+            with self.subTest(number=number):
+                self.setUp()
+                self.ends_whole(number)
+
+    def test_a_signal_that_is_ignored_ends_nothing(self):
+        for number in (signal.SIGHUP, signal.SIGTERM):
+            with self.subTest(number=number):
+                self.setUp()
+                self.ends_whole(signal.SIGINT, ignored=number)
+
+    def ends_whole(self, number, ignored=None):
+        """That a signal in the third call ends it with whole files, and that one which it was told to ignore does not."""
+        self.write(f"{self.out}/answers", "0:open 5 9\n1000:open 6 8\nmore:long\n")
+        how = {"stdout": subprocess.PIPE, "stderr": subprocess.PIPE, "text": True, "cwd": self.work}
+        if ignored:
+            how["preexec_fn"] = lambda: signal.signal(ignored, signal.SIG_IGN)
+        with subprocess.Popen(self.words(), env=self.environment, **how) as run:
+            while len(self.calls()) < 3:
+                time.sleep(0.05)
+            time.sleep(0.3)
+            if ignored:
+                run.send_signal(ignored)
+                time.sleep(1)
+                self.assertIsNone(run.poll())
+            run.send_signal(number)
+            said, _ = run.communicate(timeout=10)
+        self.assertEqual((run.returncode, said), (2, "open 6 8\n"))
+        self.assertEqual((self.read("o"), self.read("l")), ("layout of 1000\n", "log of 1000\n"))
+        self.assertEqual(self.left(), ["i", "l", "o"])
 
     def interrupted(self, is_time, *more):
         """How it ends where it is interrupted at that time: its status, and what it says."""
@@ -188,15 +210,47 @@ class Improve(unittest.TestCase):
     def test_a_link_to_itself_is_told(self):
         os.symlink("o", f"{self.work}/o")
         ran = self.improve("0:least 7\n")
-        self.assertEqual((ran.returncode, ran.stdout), (5, ""))
-        self.assertIn("is a link that leads to itself", ran.stderr)
+        self.assertEqual((ran.returncode, ran.stdout), (5, "unwritten --output\n"))
+        self.assertEqual(ran.stderr, "improve: --output: o is a link that leads to itself\n")
         self.assertEqual(self.left(), ["i", "o"])
 
     def test_a_name_that_is_not_free_is_told(self):
         ran = self.improve("0:in the way\n")
-        self.assertEqual((ran.returncode, ran.stdout), (5, ""))
-        self.assertRegex(ran.stderr, "improve: .*/o: Is a directory")
+        self.assertEqual((ran.returncode, ran.stdout), (5, "unwritten --output\n"))
+        self.assertEqual(ran.stderr, "improve: --output: o cannot be written: Is a directory\n")
         self.assertEqual(self.left(), ["i", "o"])
+
+    def test_a_file_that_is_replaced_keeps_its_mode(self):
+        for name, mode in (("o", 0o640), ("l", 0o600)):
+            self.write(f"{self.work}/{name}", "old")
+            os.chmod(f"{self.work}/{name}", mode)
+        self.assertEqual(self.improve("0:open 5 9\n1000:least 7\n").returncode, 0)
+        self.assertEqual((self.read("o"), self.read("l")), ("layout of 1000\n", "log of 1000\n"))
+        self.assertEqual([os.stat(f"{self.work}/{it}").st_mode & 0o777 for it in "ol"], [0o640, 0o600])
+
+    @unittest.skipIf(os.geteuid() == 0 and not shutil.which("setpriv"), "root may write everywhere")
+    def test_a_file_in_a_folder_that_takes_no_other_one_is_written_in_place(self):
+        os.mkdir(f"{self.work}/closed")
+        for name in ("closed/o", "closed/l"):
+            self.write(f"{self.work}/{name}", "the text of an earlier run, which is longer")
+            os.chmod(f"{self.work}/{name}", 0o666)
+        os.chmod(f"{self.work}/closed", 0o555)
+        self.addCleanup(os.chmod, f"{self.work}/closed", 0o755)
+        words = ["--output", "closed/o", "--log", "closed/l"]
+        ran = self.improve("0:least 7\n", *words, before=self.as_nobody())
+        self.assertEqual((ran.returncode, ran.stdout), (0, "least 7\n"), ran.stderr)
+        self.assertEqual((self.read("closed/o"), self.read("closed/l")), ("layout of 0\n", "log of 0\n"))
+        ran = self.improve("0:least 7\n", *words, "--log", "closed/new", before=self.as_nobody())
+        self.assertEqual((ran.returncode, ran.stdout), (5, "unwritten --log\n"))
+        self.assertEqual(ran.stderr, "improve: --log: closed/new cannot be written: Permission denied\n")
+
+    def as_nobody(self):
+        """What has a command run by a user who is not root."""
+        if os.geteuid() != 0:
+            return []
+        os.chmod(os.path.dirname(self.top), 0o755)
+        os.chmod(self.out, 0o777)
+        return ["setpriv", "--reuid=65534", "--regid=65534", "--clear-groups"]
 
     def test_a_misspelt_column_is_told_once(self):
         self.write(f"{self.work}/i", "id,lower,upper,size,Alignment\n")
@@ -211,40 +265,87 @@ class Improve(unittest.TestCase):
 
     def test_help_tells_each_status(self):
         ran = subprocess.run([f"{self.top}/tools/improve", "--help"], capture_output=True, text=True, check=True)
-        for word in ("least C ", "open L H ", " 3-9 ", " 10 ", " 130 ", "Ctrl-C"):
+        for word in ("least C ", "open L H ", " 3-9 ", " 10 ", " 130 ", "Ctrl-C", "SIGKILL"):
             self.assertIn(word, ran.stdout)
         self.assertEqual(ran.stderr, "")
 
     def test_files_that_cannot_be_written_are_told_at_once(self):
         os.mkdir(f"{self.work}/folder")
-        for more, said in [
-            (["--log", "none/l"], "none"), (["--output", "none/o"], "none"), (["--log", "folder"], "is no regular file"),
+        os.remove(f"{self.out}/dsaplan")
+        missing = "cannot be written: No such file or directory"
+        for option, name, said in [
+            ("--log", "none/l", missing), ("--output", "none/o", missing), ("--log", "folder", "is no regular file"),
+            ("--output", "new/", "is the name of a folder"), ("--log", "folder/..", "is the name of a folder"),
         ]:
-            ran = self.improve("0:least 4\n", *more)
-            self.assertEqual((ran.returncode, ran.stdout), (5, ""))
-            self.assertIn(said, ran.stderr)
-        self.assertEqual(self.calls(), [])
+            ran = self.improve("0:least 4\n", option, name)
+            self.assertEqual((ran.returncode, ran.stdout), (5, f"unwritten {option}\n"))
+            self.assertEqual(ran.stderr, f"improve: {option}: {name} {said}\n")
         self.assertEqual(self.left(), ["folder", "i"])
 
     def test_a_fault_is_handed_on_with_its_hint(self):
         self.write(f"{self.work}/i", "")
         ran = self.improve("0:least 4\n")
         self.assertEqual((ran.returncode, ran.stdout), (4, "malformed no header\n"))
+        self.assertEqual(ran.stderr, "dsaplan: i: has no record; the first line is to be id,lower,upper,size\n")
         self.assertEqual(self.left(), ["i"])
 
     def test_an_input_that_is_missing_is_told(self):
         os.remove(f"{self.work}/i")
+        os.remove(f"{self.out}/dsaplan")
         ran = self.improve("0:least 4\n")
-        self.assertEqual(ran.returncode, 5)
+        self.assertEqual((ran.returncode, ran.stdout), (5, "unread --input\n"))
+        self.assertEqual(ran.stderr, "improve: --input: i cannot be read: No such file or directory\n")
         self.assertEqual(self.left(), [])
+
+    def test_a_copy_of_the_input_that_finds_no_room_is_no_fault_of_the_input(self):
+        small = lambda: resource.setrlimit(resource.RLIMIT_FSIZE, (10, 10))
+        ran = self.improve("0:least 4\n", preexec_fn=small)
+        self.assertEqual((ran.returncode, ran.stdout), (5, "unwritten --output\n"))
+        self.assertEqual(ran.stderr, "improve: --output: o has no room for a copy of the input: File too large\n")
+        self.assertEqual(self.left(), ["i"])
+
+    def test_a_toolchain_that_is_missing_is_told(self):
+        os.remove(f"{self.out}/dsaplan")
+        path = os.pathsep.join(it for it in os.environ["PATH"].split(os.pathsep) if not os.path.exists(f"{it}/rt"))
+        if not all(shutil.which(it, path=path) for it in ("bash", "python3", "awk")):
+            self.skipTest("rt lies beside what the launcher needs")
+        ran = self.improve("0:least 4\n", env={**self.environment, "PATH": path})
+        self.assertEqual((ran.returncode, ran.stdout), (9, ""))
+        self.assertIn("rt, the command of the Rattle toolchain, is not on the PATH", ran.stderr)
+        self.assertEqual(self.left(), ["i"])
+
+    def test_output_that_is_closed_full_or_without_a_reader_ends_with_5(self):
+        reader, writer = os.pipe()
+        os.close(reader)
+        with open("/dev/full", "w", encoding="utf-8") as full, os.fdopen(writer, "w") as gone:
+            for how in ({"stdout": full}, {"stdout": gone}, {"stdout": None, "preexec_fn": lambda: os.close(1)}):
+                ran = self.improve("0:open 5 9\n1000:least 7\n", **how)
+                self.assertEqual(ran.returncode, 5, ran.stderr)
+                self.assertRegex(ran.stderr.splitlines()[-1], "improve: standard output: [A-Z]")
+                self.assertEqual((self.read("o"), self.read("l")), ("layout of 1000\n", "log of 1000\n"))
 
     def test_want_of_memory_ends_with_what_there_is(self):
         ran = self.improve("0:open 5 9\n1000:memory\n")
         self.assertEqual((ran.returncode, ran.stdout), (2, "open 5 9\n"))
-        self.assertIn("ended with 6", ran.stderr)
+        self.assertEqual(ran.stderr.splitlines()[-1], "improve: the last call ended with 6")
+
+    def test_a_signal_that_ends_a_call_ends_with_what_there_is(self):
+        ran = self.improve("0:open 5 9\n1000:killed\n")
+        self.assertEqual((ran.returncode, ran.stdout), (2, "open 5 9\n"))
+        self.assertEqual(ran.stderr.splitlines()[-1], "improve: the last call was ended by signal 9")
+
+    def test_a_first_call_that_ends_without_a_line_is_told(self):
+        for answer, said in [
+            ("memory", "dsaplan: memory ran out"),
+            ("killed", "improve: the first call was ended by signal 9; nothing is written"),
+        ]:
+            ran = self.improve(f"0:{answer}\n")
+            self.assertEqual((ran.returncode, ran.stdout, ran.stderr), (6, "", f"{said}\n"))
+            self.assertEqual(self.left(), ["i"])
 
     def test_words_that_are_none_end_with_3(self):
-        for words in (self.words()[:-2], self.words("--step", "1"), self.words(seconds="0"), self.words("--log", "o")):
+        nameless = [self.words(it, "") for it in ("--input", "--output", "--log")]
+        for words in (self.words()[:-2], self.words("--step", "1"), self.words(seconds="0"), self.words("--log", "o"), *nameless):
             ran = subprocess.run(words, cwd=self.work, env=self.environment, capture_output=True, check=False)
             self.assertEqual((ran.returncode, ran.stdout), (3, b""), words)
 
