@@ -5,6 +5,8 @@ import importlib.machinery
 import importlib.util
 import io
 import os
+import subprocess
+import sys
 import tempfile
 import threading
 import time
@@ -187,6 +189,22 @@ class SideBySide(unittest.TestCase):
             high.kept = True
             build(high)
             self.assertEqual(Crate.calls[4:], [("high", "--jobs", "1", "anew=False")] * 2)
+
+    def ended(self, rt):
+        """The status over an rt that has this text, and what is said."""
+        with tempfile.TemporaryDirectory() as folder:
+            with open(f"{folder}/rt", "w", encoding="utf-8") as file:
+                file.write(rt)
+            os.chmod(f"{folder}/rt", 0o755)
+            how = {"capture_output": True, "text": True, "check": False, "env": {**os.environ, "PATH": folder}}
+            ran = subprocess.run([sys.executable, f"{TOOLS}/side_by_side"], **how)
+        return ran.returncode, ran.stderr
+
+    def test_what_the_system_refuses_is_no_other_rt(self):
+        full = "import errno, os\nraise OSError(errno.ENOSPC, os.strerror(errno.ENOSPC), 'out/rlib')\n"
+        self.assertEqual(self.ended(full), (1, "side by side: out/rlib: No space left on device\n"))
+        status, said = self.ended("processors = None\n")
+        self.assertEqual((status, said[:54]), (2, "side by side: not used, since this rt is another one: "))
 
     def test_an_error_fails_its_library(self):
         self.all[2].build_rlib = None
