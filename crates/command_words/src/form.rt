@@ -15,7 +15,11 @@ pub(crate) struct Form {
 }
 
 /// A row of the table of forms.
-pub(crate) fn row(word: &'static str, needed: &'static [OptionName], optional: &'static [OptionName]) -> Form
+pub(crate) fn row(
+    word: &'static str,
+    needed: &'static [OptionName],
+    optional: &'static [OptionName],
+) -> Form
     ensures { form_value result ≡ row word.now needed.now optional.now }
 {
     Form {

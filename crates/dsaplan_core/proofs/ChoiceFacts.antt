@@ -1,15 +1,12 @@
--- Which answers of `solve` and `least` a run gives, on two buffers whose best start ends at 5, and whose lower bound and
--- least capacity are 4.
+-- Which answers of `solve`, `least` and `pack` a run gives, on two buffers whose best start ends at 5, and whose lower
+-- bound and least capacity are 4.
 use Rattle.std.proofs.Common.{◌≡◌, ◌≢◌, ◌∙◌, ℕ, slice_index, List, [], ◌∷◌, Option, None, Some, Ok, codes, refl, sym, ap, subst, inl, inr, lit≤, arith}
 use Rattle.std.specs.FinMap.{empty, insert}
-use Rattle.csv.specs.Machine.{next_record}
-use Rattle.csv.specs.Reading.{records_from, strip_bom}
-use Rattle.dsa_terms.specs.Buffers.{Instance, is_live, some_before}
+use Rattle.dsa_terms.specs.Buffers.{Instance}
 use Rattle.dsa_terms.specs.Layouts.{IsLayout}
 use Rattle.dsa_terms.specs.Logs.{Log}
 use Rattle.dsa_terms.proofs.ExamplePlanFacts.{small_below_plan_at_5}
 use Rattle.dsa_terms.proofs.Examples.{small_below}
-use Rattle.dsa_model.specs.Buffer.{is_ever_live}
 use Rattle.dsa_outside.specs.Held.{FileMap, file_at}
 use Rattle.dsa_outside.specs.Seen.{FilesSeen}
 use Rattle.dsa_outside.proofs.Lookups.{file_at-with_file}
@@ -27,7 +24,7 @@ use Rattle.run_status.specs.declared.status.Status.TheVariants as status
 use Rattle.run_course.specs.Answers.{with_writes}
 use Rattle.readings.specs.Opens.{IsInput}
 use Rattle.writings.specs.Answers.{answer_files}
-use Rattle.writings.proofs.ExampleFacts.{below_rows, log_alone, low_alone, low_and_log, low_file, start_alone, start_file, three_file, three_log}
+use Rattle.writings.proofs.ExampleFacts.{below_file, below_rows, file_is_below, log_alone, low_alone, low_and_log, low_file, rows_are_below, start_alone, start_file, three_file, three_log}
 use Rattle.deciding.specs.Deciding.{IsPlanWithin, IsProofWithin, IsSolved, IsSought}
 use Rattle.deciding.proofs.LeastFacts.{found_4}
 use Rattle.dsaplan_core.specs.Choice.{Choice, IsAnswered}
@@ -36,17 +33,6 @@ use Rattle.dsaplan_core.specs.Theorem.{Asked}
 use Rattle.dsaplan_core.proofs.WorldFacts.{core_values, pack_values, pack_within, told}
 
 -- ---- the input stands in the file i, and nothing else is there
-abbrev below_file : List ℕ
-below_file = codes "id,lower,upper,size,alignment\nA,0,1,3,1\nB,0,1,1,4\n"
-
-below_reads : table_of below_file ≡ below_rows
-unfolding strip_bom records_from next_record
-below_reads = refl
-
-below_parse : parse below_rows ≡ Ok small_below
-unfolding is_live some_before is_ever_live
-below_parse = refl
-
 abbrev below_alone : FileMap
 below_alone = insert empty (codes "i") below_file
 
@@ -57,8 +43,8 @@ its_input : IsInput (told below_alone) (codes "i") below_rows small_below
 its_input = record {
   bytes = below_file;
   whole = record { held = λ there. reads_below; short = lit≤ tt };
-  records = sym below_reads;
-  parsed = below_parse;
+  records = sym file_is_below;
+  parsed = rows_are_below;
 }
 
 -- it is this table alone
@@ -67,8 +53,8 @@ only_input : (t : List Record) (I : Instance) → IsInput (told below_alone) (co
 only_input t I h =
     let held : Some below_file ≡ Some h.bytes = sym reads_below ∙ h.whole.held refl in
     let bytes : below_file ≡ h.bytes = cc in
-    let table : t ≡ below_rows = h.records ∙ ap table_of (sym bytes) ∙ below_reads in
-    let parsed = sym below_parse ∙ ap parse (sym table) ∙ h.parsed in
+    let table : t ≡ below_rows = h.records ∙ ap table_of (sym bytes) ∙ file_is_below in
+    let parsed = sym rows_are_below ∙ ap parse (sym table) ∙ h.parsed in
     (table, cc)
 
 -- ---- what words ask for on it

@@ -228,12 +228,13 @@ concluded_by_a_fault : (pairs : List Pair) →
     IsConclusion verb.Unroll pairs two (status.CycleRefused (cycle.Instance instance.NoHeader))
 concluded_by_a_fault pairs = tt
 
-unroll_reports_nothing : (pairs : List Pair) → IsConclusion verb.Unroll pairs two status.Shown → ⊥
-unroll_reports_nothing pairs h = h.2
-
 unroll_is_never_malformed : (pairs : List Pair) →
     IsConclusion verb.Unroll pairs two (status.Malformed instance.NoHeader) → ⊥
 unroll_is_never_malformed pairs h = h
+
+-- it prints nothing of an instance alone
+unroll_reports_nothing : (pairs : List Pair) → IsConclusion verb.Unroll pairs two status.Shown → ⊥
+unroll_reports_nothing pairs h = h.2
 
 concluded_by_layout : IsConclusion verb.Solve (pairs_of (core_values (codes "8"))) two (status.Feasible 8)
 concluded_by_layout = (refl, (0 ∷ 4 ∷ [], laid_at_8))

@@ -3,6 +3,8 @@
 use Rattle.std.proofs.Common.{◌≡◌, ◌<◌, ℕ, inl, inr, List, [], ◌∷◌, None, Some, Ok, codes, refl, ap, ap₂, lit<, lit≤, arith}
 use Rattle.std.proofs.lemmas.List.Elements.{All-cons, All-nil}
 use Rattle.std.specs.Fmt.{digits}
+use Rattle.csv.specs.Machine.{next_record}
+use Rattle.csv.specs.Reading.{records_from, strip_bom}
 use Rattle.csv.specs.Writing.{escaped, fields_text, is_blank}
 use Rattle.dsa_terms.specs.Bounds.{counted, stack_log, stack_line, line_height, pile, rounded_size}
 use Rattle.dsa_terms.specs.Buffers.{buffer, is_live, some_before, floor}
@@ -12,7 +14,7 @@ use Rattle.dsa_terms.proofs.Examples.{small_below}
 use Rattle.dsa_model.specs.Buffer.{is_ever_live}
 use Rattle.csv_instance.specs.Layout.{layout_text}
 use Rattle.csv_instance.specs.Parse.{parse}
-use Rattle.csv_instance.specs.Records.{Record}
+use Rattle.csv_instance.specs.Records.{Record, table_of}
 use Rattle.csv_instance.proofs.FileFacts.{five_rows}
 use Rattle.log_text.specs.RawTexts.{HasCite}
 use Rattle.log_text.specs.Numerals.{numeral}
@@ -42,9 +44,17 @@ below_rows =
     ∷ (codes "A" ∷ codes "0" ∷ codes "1" ∷ codes "3" ∷ codes "1" ∷ [])
     ∷ (codes "B" ∷ codes "0" ∷ codes "1" ∷ codes "1" ∷ codes "4" ∷ []) ∷ []
 
-rows_are_below : parse below_rows ≡ Ok small_below
+pub rows_are_below : parse below_rows ≡ Ok small_below
 unfolding is_live some_before is_ever_live
 rows_are_below = refl
+
+-- their file
+abbrev pub below_file : List ℕ
+below_file = codes "id,lower,upper,size,alignment\nA,0,1,3,1\nB,0,1,1,4\n"
+
+pub file_is_below : table_of below_file ≡ below_rows
+unfolding strip_bom records_from next_record
+file_is_below = refl
 
 -- the best start
 abbrev pub start_file : List ℕ
