@@ -21,6 +21,11 @@ def text_of(name):
         return file.read()
 
 
+def commands_of(readme):
+    """The commands in the table of README's section on them."""
+    return re.findall(r"(?m)^\| `([a-z]+)` \|", readme.split("## Commands")[1].split("\n## ")[0])
+
+
 def anchors(name):
     heads = re.findall(r"(?m)^#+ (.*)$", text_of(name))
     return {re.sub(r"[^a-z0-9 _-]", "", it.lower()).replace(" ", "-") for it in heads}
@@ -30,9 +35,13 @@ class Documents(unittest.TestCase):
     def test_help_readme_and_formats_have_the_same_commands(self):
         options = dict(re.findall(r"(?m)^dsaplan ([a-z]+) (--.*)$", text_of("tools/help.txt")))
         formats = dict(re.findall(r"(?m)^    ([a-z]+) (--.*)$", text_of("docs/FORMATS.md").split("## The launcher")[0]))
-        readme = re.findall(r"(?m)^\| `([a-z]+)` \|", text_of("README.md"))
         self.assertEqual(formats, options)
-        self.assertEqual(sorted(readme), sorted(options))
+        self.assertEqual(sorted(commands_of(text_of("README.md"))), sorted(options))
+
+    def test_a_word_of_another_table_is_no_command(self):
+        table = "| Word | What\n|---|---\n| `{}` | a word\n\n"
+        readme = f"# A\n\n{table}## Commands\n\n{table}## More\n\n{table}".format("before", "least", "after")
+        self.assertEqual(commands_of(readme), ["least"])
 
     def test_readme_names_the_toolchain_as_the_launcher_reads_it(self):
         found = re.findall(r"`rt version` must print `([^`]+)`", text_of("README.md").replace("\n", " "))
