@@ -42,8 +42,9 @@ def log_of(words):
             sys.exit(f"there is no program {program}")
     with tempfile.TemporaryDirectory() as folder:
         name = f"{folder}/log"
-        # In the name of a log % begins a pattern.
-        recorder = ["valgrind", "--trace-malloc=yes", "--freelist-vol=0", f"--log-file={name.replace('%', '%%')}"]
+        # The user's own options may turn off what is read here. In the name of a log % begins a pattern.
+        recorder = ["valgrind", "--command-line-only=yes", "--trace-malloc=yes", "--freelist-vol=0"]
+        recorder.append(f"--log-file={name.replace('%', '%%')}")
         run = subprocess.run([*recorder, *words], stdout=subprocess.DEVNULL, check=False)
         if run.returncode < 0:
             sys.exit(f"signal {-run.returncode} ended {words[0]}")

@@ -9,12 +9,12 @@ import unittest
 
 TOP = os.path.dirname(os.path.dirname(os.path.dirname(os.path.abspath(__file__))))
 STUB = """#!/bin/sh
-for word; do case $word in --log-file=*) log=${word#*=} ;; esac; done
+for word; do case $word in --log-file=*) log=${word#*=} ;; --command-line-only=yes) VALGRIND_OPTS= ;; esac; done
 here=$(dirname "$0")
 printf %s "$(cat "$here/said")" >&2
 { echo "==7== Command: true"; sed '/^--/!s/^/--7-- /' "$here/calls"; } >"$log"
 if [ -e "$here/dies" ]; then kill -SEGV $$; fi
-if [ -e "$here/goes on" ]; then exit; fi
+if [ -e "$here/goes on" ] || [ "$VALGRIND_OPTS" = -q ]; then exit; fi
 echo "==7== ERROR SUMMARY: 0 errors from 0 contexts" >>"$log"
 """
 PROGRAM = """
@@ -133,6 +133,13 @@ class Trace(unittest.TestCase):
     def test_a_log_without_its_end_leaves_no_trace(self):
         self.write("goes on", "")
         self.assertIn("the log has no end: true became another program", self.fault(self.traced("malloc(9) = 0xA0")))
+
+    def test_options_of_the_user_change_nothing(self):
+        quiet = {**os.environ, "VALGRIND_OPTS": "-q"}
+        ran = self.traced("malloc(9) = 0xA0", env={**quiet, "PATH": f"{self.folder}:{os.environ['PATH']}"})
+        self.assertEqual((ran.returncode, ran.stdout, ran.stderr), (0, "alloc p0 9 16\n", ""))
+        if shutil.which("valgrind"):
+            self.assertEqual(self.trace("true", env=quiet).stdout, self.trace("true").stdout)
 
     def test_output_that_is_full_or_closed_is_told(self):
         with open("/dev/full", "w", encoding="utf-8") as full:
