@@ -228,9 +228,13 @@ class Launcher(unittest.TestCase):
     def test_the_commit_is_that_of_its_own_repository(self):
         above, top = os.path.dirname(self.top), self.top
         for folder, commit in ((above, "unknown"), (top, "[0-9a-f]{12}")):
-            for words in (["init", "-q"], ["-c", "user.name=a", "-c", "user.email=a@b", "commit", "-qm", "a", "--allow-empty"]):
+            for words in (["init", "-q"], ["-c", "user.name=a", "-c", "user.email=a@b", "commit", "-qm", folder, "--allow-empty"]):
                 subprocess.run(["git", "-C", folder, *words], check=True)
             self.assertRegex(self.run_it("--version").stdout, rf"\Adsaplan commit {commit}(, changed since)?\nnot built\n\Z")
+        other = {"GIT_DIR": f"{above}/.git", "GIT_WORK_TREE": top, "GIT_INDEX_FILE": f"{above}/none"}
+        for names in (["GIT_DIR"], ["GIT_DIR", "GIT_WORK_TREE"], ["GIT_INDEX_FILE"]):
+            ran = self.run_it("--version", environment={it: other[it] for it in names})
+            self.assertEqual(ran.stdout, self.run_it("--version").stdout)
 
     def test_what_is_no_command_is_told_without_a_build(self):
         for words, printed, hint in [
