@@ -1,5 +1,10 @@
 """improve, over a copy of it with a stub for the program, whose answers a table gives by its steps."""
 
+import contextlib
+import errno
+import importlib.machinery
+import importlib.util
+import io
 import os
 import resource
 import shutil
@@ -8,10 +13,14 @@ import subprocess
 import tempfile
 import time
 import unittest
+from unittest import mock
 
 TOOLS = os.path.dirname(os.path.dirname(os.path.abspath(__file__)))
 TOP = os.path.dirname(TOOLS)
 MOST_BYTES = 2**26
+loader = importlib.machinery.SourceFileLoader("improve", f"{TOOLS}/improve")
+improve = importlib.util.module_from_spec(importlib.util.spec_from_loader("improve", loader))
+loader.exec_module(improve)
 STUB = """#!/usr/bin/env python3
 import os, signal, sys, time
 top = os.path.dirname(os.path.abspath(__file__))
@@ -41,6 +50,9 @@ if answer == "killed":
 if answer == "in the way":
     os.mkdir("o")
     answer = "open 5 9"
+if answer == "no layout":
+    print("open 6 8")
+    sys.exit(2)
 open(given["--output"], "w").write(f"layout of {steps}\\n")
 if not answer.startswith("least 0"):
     open(given["--log"], "w").write(f"log of {steps}\\n")
@@ -220,6 +232,13 @@ class Improve(unittest.TestCase):
         self.assertEqual(ran.stderr, "improve: --output: o cannot be written: Is a directory\n")
         self.assertEqual(self.left(), ["i", "o"])
 
+    def test_a_file_that_does_not_take_a_later_one_ends_with_what_there_is(self):
+        ran = self.improve("0:open 5 9\n1000:no layout\n")
+        self.assertEqual((ran.returncode, ran.stdout), (2, "open 5 9\n"), ran.stderr)
+        self.assertEqual(ran.stderr.splitlines()[-1], "improve: --output: o cannot be written: No such file or directory")
+        self.assertEqual((self.read("o"), self.read("l")), ("layout of 0\n", "log of 0\n"))
+        self.assertEqual(self.left(), ["i", "l", "o"])
+
     def test_a_file_that_is_replaced_keeps_its_mode(self):
         for name, mode in (("o", 0o640), ("l", 0o600)):
             self.write(f"{self.work}/{name}", "old")
@@ -356,6 +375,89 @@ class Improve(unittest.TestCase):
     def test_an_input_through_a_pipe_is_read_once(self):
         ran = self.improve("0:open 5 9\n1000:least 7\n", "--input", "/dev/stdin", input="id,lower,upper,size\n")
         self.assertEqual((ran.returncode, ran.stdout), (0, "least 7\n"), ran.stderr)
+
+
+class Files(unittest.TestCase):
+    """What improve does with its files where the system refuses something."""
+
+    FULL = OSError(errno.ENOSPC, os.strerror(errno.ENOSPC))
+
+    def setUp(self):
+        folder = tempfile.TemporaryDirectory()
+        self.addCleanup(folder.cleanup)
+        self.folder, self.o, self.l = folder.name, f"{folder.name}/o", f"{folder.name}/l"
+        for name in (self.o, self.l):
+            self.write(name, "old")
+
+    def write(self, path, text):
+        with open(path, "w", encoding="utf-8") as file:
+            file.write(text)
+
+    def read(self, path):
+        with open(path, encoding="utf-8") as file:
+            return file.read()
+
+    def test_a_disk_without_room_is_no_closed_folder(self):
+        with mock.patch("tempfile.mkdtemp", side_effect=[self.FULL, self.folder]):
+            with self.assertRaises(improve.Refused) as raised:
+                improve.Kept("--output", self.o)
+        self.assertEqual(raised.exception.args, ("unwritten --output", self.o, "cannot be written: No space left on device"))
+        self.assertEqual(self.read(self.o), "old")
+
+    def test_a_folder_is_found_beside_a_file_of_the_longest_name(self):
+        name = f"{self.folder}/" + "\u00e4" * 127
+        self.write(name, "old")
+        room, is_beside = improve.room_for(name)
+        self.assertEqual((os.path.dirname(room), is_beside), (self.folder, True))
+
+    def test_the_group_is_kept_where_the_owner_cannot_be(self):
+        given = []
+
+        def chown(_, owner, group):
+            if owner != -1:
+                raise PermissionError
+            given.append(group)
+
+        os.chmod(self.o, 0o640)
+        with mock.patch("os.chown", chown):
+            improve.make_like(self.l, self.o)
+        self.assertEqual((given, os.stat(self.l).st_mode & 0o777), ([os.stat(self.o).st_gid], 0o640))
+
+    def ended(self, best):
+        """How it ends after answers of which the third is not taken whole, and what it says last."""
+        answers = iter([(5, 9), (6, 8), (7, 7)])
+
+        def call(*_):
+            self.write(best.layout.draft(), "layout")
+            self.write(best.log.draft(), "log")
+            return next(answers)
+
+        with mock.patch.object(improve, "call", call), contextlib.redirect_stderr(io.StringIO()) as told:
+            how = improve.ended(best, 60, "", mock.Mock(came=False))
+        return how, told.getvalue().splitlines()[-1]
+
+    def test_of_two_files_the_one_that_is_taken_counts(self):
+        for name, nth, bracket in (("o", 4, "open 6 8"), ("l", 5, "open 6 7")):
+            best, calls, replace = improve.Best(self.o, self.l), [], os.replace
+
+            def once(*names):
+                calls.append(names)
+                if len(calls) > nth:
+                    raise self.FULL
+                replace(*names)
+
+            with self.subTest(name), mock.patch("os.replace", once):
+                option = {"o": "--output", "l": "--log"}[name]
+                said = f"improve: {option}: {self.folder}/{name} cannot be written: No space left on device"
+                self.assertEqual(self.ended(best), ((2, bracket), said))
+            best.clear()
+
+    def test_a_file_that_is_half_written_holds_no_plan(self):
+        best, copy = improve.Best(self.o, self.l), mock.Mock(side_effect=[None] * 4 + [self.FULL])
+        self.addCleanup(best.clear)
+        best.layout.is_beside = best.log.is_beside = False
+        with mock.patch("shutil.copyfile", copy), self.assertRaises(improve.Refused):
+            self.ended(best)
 
 
 if __name__ == "__main__":
