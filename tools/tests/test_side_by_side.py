@@ -5,12 +5,15 @@ import importlib.machinery
 import importlib.util
 import io
 import os
+import shutil
+import signal
 import subprocess
 import sys
 import tempfile
 import threading
 import time
 import unittest
+from unittest import mock
 
 TOOLS = os.path.dirname(os.path.dirname(os.path.abspath(__file__)))
 loader = importlib.machinery.SourceFileLoader("side_by_side", f"{TOOLS}/side_by_side")
@@ -24,19 +27,188 @@ class Library:
     lock, built, at_once, most = threading.Lock(), [], 0, 0
 
     def __init__(self, name, *deps, fails=False):
-        self.name, self.folder, self.deps, self.fails = name, name, deps, fails
+        self.name, self.folder, self.deps, self.fails, self.meets = name, name, deps, fails, None
 
     def build_rlib(self, flags, anew):
         with Library.lock:
             Library.at_once += 1
             Library.most = max(Library.most, Library.at_once)
             self.below = set(Library.built)
+        if self.meets:
+            self.meets.wait()
         time.sleep(0.02)
         print(f"crate {self.name}: checked=1", *flags, file=self.out)
         with Library.lock:
             Library.at_once -= 1
             Library.built.append(self.name)
         return int(self.fails)
+
+
+def write(path, text):
+    os.makedirs(os.path.dirname(path), exist_ok=True)
+    with open(path, "w", encoding="utf-8") as file:
+        file.write(text)
+
+
+class Parts:
+    """The parts of rt, over crates of a folder, with what was called of these."""
+
+    RATTLE, KIT = "rattle", "kit"
+
+    def __init__(self):
+        self.rtlib, self.crates, self.calls = self, {}, []
+
+    @staticmethod
+    def text_of(path):
+        with contextlib.suppress(FileNotFoundError), open(path, encoding="utf-8") as file:
+            return file.read()
+
+    sum_of = text_of
+    processors, free, need = lambda _: 4, lambda _: 100, lambda *_: 10
+    guarded = share_work = root_above = lambda *_: None
+    lock, help_of = lambda *_: [], lambda *_: "--statements"
+
+    def Crate(self, folder, *_):
+        return self.crates[os.path.basename(folder)]
+
+
+class Crate(Library):
+    """A crate of a folder, which writes what it is asked to build, and fails where it is told to."""
+
+    kept, now, is_program = False, "now", False
+
+    def __init__(self, parts, folder, name, *deps, fails=False):
+        super().__init__(name, *deps, fails=fails)
+        self.parts, self.folder = parts, f"{folder}/{name}"
+        self.rlib = f"{self.folder}/out/rlib/{name}.rlib"
+        os.makedirs(self.folder)
+        parts.crates[name] = self
+
+    def below(self):
+        return list(self.deps)
+
+    def stamp(self):
+        return self.now
+
+    def is_built(self):
+        return Parts.text_of(f"{self.folder}/out/rlib/stamp") == self.now
+
+    def has_kept(self):
+        return self.kept
+
+    def words(self, flags, keeps):
+        return [*flags, f"keeps={keeps}"]
+
+    def note(self, *words):
+        """Notes a call, and returns the status of what was called."""
+        with Library.lock:
+            self.parts.calls.append(f"{self.name}: {' '.join(words)}")
+        return int(self.fails)
+
+    def call(self, *words):
+        where = words.index("-o")
+        if words[where + 1] == self.rlib:
+            os.makedirs(self.rlib)
+            return self.note(*words[:where])
+        return self.note(*words)
+
+    def build_rlib(self, flags, _):
+        return 0 if self.is_built() else self.note("build_rlib", *flags)
+
+    def build_static(self, flags):
+        return self.note("build_static", *flags)
+
+    def run(self, flags, arguments):
+        if not self.note("run", *flags, *arguments):
+            write(f"{self.folder}/out/{self.name}", "program")
+        return 3
+
+
+class Main(unittest.TestCase):
+    """What is built of a program and of a static library over two libraries."""
+
+    BUILT = "rattle build --jobs {} keeps=False --statements"
+
+    def setUp(self):
+        folder = tempfile.TemporaryDirectory()
+        self.addCleanup(folder.cleanup)
+        self.parts, self.folder = Parts(), folder.name
+        low = Crate(self.parts, self.folder, "low")
+        self.below = [low, Crate(self.parts, self.folder, "high", low)]
+        self.tops = [Crate(self.parts, self.folder, name, *self.below) for name in ("dsaplan", "archive")]
+        self.tops[0].is_program = True
+        for it in (
+            mock.patch.object(side_by_side, "CRATES", self.folder),
+            mock.patch.object(side_by_side, "parts_of_rt", lambda: self.parts),
+            mock.patch.dict(os.environ, {"DSAPLAN_JOBS": "", "DSAPLAN_KEEP": ""}),
+        ):
+            it.start()
+            self.addCleanup(it.stop)
+        self.addCleanup(os.chdir, os.getcwd())
+        self.addCleanup(signal.signal, signal.SIGINT, signal.getsignal(signal.SIGINT))
+
+    def ended(self, *words):
+        """The status, what was called, and what is said on standard error."""
+        self.parts.calls.clear()
+        with contextlib.redirect_stdout(io.StringIO()), contextlib.redirect_stderr(io.StringIO()) as told:
+            status = side_by_side.main(*words)
+        return status, [*self.parts.calls], told.getvalue()
+
+    def libraries(self):
+        return [f"{it.name}: {self.BUILT.format(4)}" for it in self.below]
+
+    PROVED = "archive: rattle build --jobs 4 keeps=False --toolchain kit/toolchain --backend llvm -o out/libarchive.a"
+
+    def test_the_program_is_built_where_nothing_is_named(self):
+        self.assertEqual(self.ended(), (0, [*self.libraries(), "dsaplan: run --jobs 4"], ""))
+        self.assertEqual(self.ended("dsaplan"), (0, ["dsaplan: run --jobs 4"], ""))
+
+    def test_a_program_of_before_is_not_taken_for_the_one_that_fails(self):
+        self.assertEqual(self.ended()[0], 0)
+        self.tops[0].fails = True
+        self.assertEqual(self.ended()[0], 1)
+
+    def test_a_static_library_is_built_over_kept_work(self):
+        self.assertEqual(self.ended("archive"), (0, [*self.libraries(), "archive: build_static --jobs 4"], ""))
+        self.tops[1].fails = True
+        self.assertEqual(self.ended("archive")[0], 1)
+
+    def test_what_the_gate_left_is_taken(self):
+        for it in self.below:
+            os.makedirs(it.rlib)
+        for words in (["--proved", "archive"], ["archive", "--proved"]):
+            self.assertEqual(self.ended(*words), (0, [self.PROVED], ""))
+        self.tops[1].fails = True
+        self.assertEqual(self.ended("--proved", "archive")[0], 1)
+
+    def test_what_the_gate_put_back_is_built_where_it_is_not_current(self):
+        for name in ("stamp", "statements"):
+            for it in self.below:
+                os.makedirs(it.rlib, exist_ok=True)
+            write(f"{self.below[1].folder}/out/rlib/{name}", "earlier")
+            with self.subTest(name):
+                self.assertEqual(self.ended("--proved", "archive"), (0, [*self.libraries(), self.PROVED], ""))
+                self.assertEqual(self.ended("--proved", "archive"), (0, [self.PROVED], ""))
+            for it in self.below:
+                shutil.rmtree(f"{it.folder}/out")
+
+    def test_a_library_that_rt_built_and_that_is_current_is_taken(self):
+        for it in self.below:
+            os.makedirs(it.rlib)
+            write(f"{it.folder}/out/rlib/stamp", it.now)
+        self.assertEqual(self.ended("--proved", "archive"), (0, [self.PROVED], ""))
+
+    def test_a_library_that_is_missing_is_built(self):
+        os.makedirs(self.below[0].rlib)
+        self.assertEqual(self.ended("--proved", "archive"), (0, [*self.libraries(), self.PROVED], ""))
+
+    def test_with_one_processor_nothing_is_done(self):
+        os.environ["DSAPLAN_JOBS"] = "1"
+        self.assertEqual(self.ended("archive"), (2, [], ""))
+
+    def test_a_name_that_is_no_crate_is_told(self):
+        for name in ("archives", "", "--prove", "../low"):
+            self.assertEqual(self.ended(name), (1, [], f"side by side: '{name}' is no crate\n"))
 
 
 class SideBySide(unittest.TestCase):
@@ -53,10 +225,17 @@ class SideBySide(unittest.TestCase):
         done = side_by_side.Build(one, crates, {**needs, **dict(lines)}, needs, count, memory, print_to or said).run()
         return done, said.getvalue().splitlines()
 
+    def meet(self, *crates):
+        """Has these libraries wait for each other, so that they are built at a time however long that takes."""
+        meets = threading.Barrier(len(crates), timeout=60)
+        for it in crates:
+            it.meets = meets
+
     def jobs(self, said):
         return [line.partition(" --jobs ")[2] for line in said if " --jobs " in line]
 
     def test_each_library_comes_after_its_own(self):
+        self.meet(*self.all[1:3])
         done, said = self.build(self.all)
         self.assertTrue(done)
         for it in self.all:
@@ -78,6 +257,7 @@ class SideBySide(unittest.TestCase):
 
     def test_no_more_are_built_at_a_time_than_may_be(self):
         crates = [Library(f"l{k}") for k in range(9)]
+        self.meet(*crates[:3])
         self.assertTrue(self.build(crates, 3)[0])
         self.assertEqual(Library.most, 3)
 
@@ -87,7 +267,9 @@ class SideBySide(unittest.TestCase):
         self.assertEqual(self.jobs(said), ["1"] * 4)
 
     def test_no_more_are_built_at_a_time_than_memory_is_there_for(self):
-        done, said = self.build([Library(f"l{k}") for k in range(9)], 4, memory=25)
+        crates = [Library(f"l{k}") for k in range(9)]
+        self.meet(*crates[:2])
+        done, said = self.build(crates, 4, memory=25)
         self.assertTrue(done)
         self.assertEqual(Library.most, 2)
         self.assertEqual(self.jobs(said)[:2], ["2"] * 2)
@@ -129,66 +311,25 @@ class SideBySide(unittest.TestCase):
         self.assertNotIn("proved bad", said)
 
     def test_statements_are_built_again_over_another_library(self):
-        class Parts:
-            RATTLE = "rattle"
-
-            @staticmethod
-            def text_of(path):
-                with contextlib.suppress(FileNotFoundError), open(path, encoding="utf-8") as file:
-                    return file.read()
-
-            sum_of = text_of
-
-        class Crate(Library):
-            calls, kept, now = [], False, "now"
-
-            def __init__(self, folder, name, *deps):
-                super().__init__(name, *deps)
-                self.rlib = f"{folder}/{name}/out/rlib/{name}.rlib"
-
-            def below(self):
-                return self.deps
-
-            def stamp(self):
-                return self.now
-
-            def is_built(self):
-                return False
-
-            def has_kept(self):
-                return self.kept
-
-            def words(self, flags, keeps):
-                return [*flags, f"keeps={keeps}"]
-
-            def call(self, *words):
-                self.calls.append((self.name, *words[:5]))
-                os.makedirs(self.rlib)
-                return 0
-
-            def build_rlib(self, flags, anew):
-                self.calls.append((self.name, *flags, f"anew={anew}"))
-                return 0
-
         with tempfile.TemporaryDirectory() as folder:
-            low = Crate(folder, "low")
-            high = Crate(folder, "high", low)
-            build = lambda it, keeps=False: self.assertTrue(side_by_side.build(Parts, keeps, it, ["--jobs", "1"]))
-            first = ("rattle", "build", "--jobs", "1", "keeps=False")
+            parts = Parts()
+            low = Crate(parts, folder, "low")
+            high = Crate(parts, folder, "high", low)
+            build = lambda it, keeps=False: self.assertTrue(side_by_side.build(parts, keeps, it, ["--jobs", "1"]))
+            first = "rattle build --jobs 1 keeps=False --statements"
             for it in (low, high, low, high):
                 build(it)
-            self.assertEqual(Crate.calls, [("low", *first), ("high", *first)])
-            with open(f"{low.rlib}/format", "w", encoding="utf-8") as file:
-                file.write("another")
+            self.assertEqual(parts.calls, [f"low: {first}", f"high: {first}"])
+            write(f"{low.rlib}/format", "another")
             build(high)
-            self.assertEqual(Crate.calls[2:], [("high", *first)])
+            self.assertEqual(parts.calls[2:], [f"high: {first}"])
             high.now = "edited"
             build(high)
-            self.assertEqual(Crate.calls[3:], [("high", *first)])
+            self.assertEqual(parts.calls[3:], [f"high: {first}"])
             build(high, keeps=True)
             high.kept = True
             build(high)
-            self.assertEqual(Crate.calls[4:], [("high", "--jobs", "1", "anew=False")] * 2)
+            self.assertEqual(parts.calls[4:], ["high: build_rlib --jobs 1"] * 2)
 
     def ended(self, rt):
         """The status over an rt that has this text, and what is said."""
