@@ -16,6 +16,11 @@ import unittest
 from unittest import mock
 
 TOOLS = os.path.dirname(os.path.dirname(os.path.abspath(__file__)))
+
+# Whoever runs the tests may ignore signals, as nohup does, and what they begin would inherit that.
+for number in (signal.SIGINT, signal.SIGTERM, signal.SIGHUP):
+    if signal.getsignal(number) is signal.SIG_IGN:
+        signal.signal(number, signal.SIG_DFL)
 TOP = os.path.dirname(TOOLS)
 MOST_BYTES = 2**26
 loader = importlib.machinery.SourceFileLoader("improve", f"{TOOLS}/improve")

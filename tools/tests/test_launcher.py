@@ -10,6 +10,11 @@ import time
 import unittest
 
 TOOLS = os.path.dirname(os.path.dirname(os.path.abspath(__file__)))
+
+# Whoever runs the tests may ignore signals, as nohup does, and what they begin would inherit that.
+for number in (signal.SIGINT, signal.SIGTERM, signal.SIGHUP):
+    if signal.getsignal(number) is signal.SIG_IGN:
+        signal.signal(number, signal.SIG_DFL)
 TOP = os.path.dirname(TOOLS)
 BUILT = f"{TOP}/crates/dsaplan/out/dsaplan"
 MALFORMED = "malformed row 0 bad number size"
