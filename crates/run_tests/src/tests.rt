@@ -1,6 +1,6 @@
 //! Runs over files and sinks in memory: what is written, and what fails outside.
 
-use dsa_outside::{MemoryFiles, MemorySink, SoundFiles, SoundSink};
+use dsa_outside::{MemoryFiles, MemorySink};
 use dsaplan_core::run;
 use std::alloc::{AllocError, Global};
 use std::test::Fail;
@@ -82,6 +82,7 @@ fn what_is_decided_is_written(rt: HostRuntime) -> Result<(), Fail> {
         (
             "solve --capacity 12 --input i --output o --log l",
             FIVE,
+            2,
             0,
             "feasible 12\n",
             Some(FIVE_AT_12),
@@ -90,6 +91,7 @@ fn what_is_decided_is_written(rt: HostRuntime) -> Result<(), Fail> {
         (
             "solve --capacity 11 --input i --output o --log l",
             FIVE,
+            2,
             1,
             "infeasible 11\n",
             None,
@@ -98,6 +100,7 @@ fn what_is_decided_is_written(rt: HostRuntime) -> Result<(), Fail> {
         (
             "solve --capacity x --input i --output o --log l",
             FIVE,
+            0,
             3,
             "usage bad value 1\n",
             None,
@@ -106,6 +109,7 @@ fn what_is_decided_is_written(rt: HostRuntime) -> Result<(), Fail> {
         (
             LEAST,
             FIVE,
+            3,
             0,
             "least 12\n",
             Some(FIVE_AT_12),
@@ -114,6 +118,7 @@ fn what_is_decided_is_written(rt: HostRuntime) -> Result<(), Fail> {
         (
             "least --input i --output o --log l --steps 0",
             THREE,
+            3,
             2,
             "open 4 5\n",
             Some(THREE_AT_5),
@@ -122,6 +127,7 @@ fn what_is_decided_is_written(rt: HostRuntime) -> Result<(), Fail> {
         (
             "pack --input i --output o --log l --steps 0",
             FIVE,
+            3,
             0,
             "least 12\n",
             Some(FIVE_AT_12),
@@ -130,6 +136,7 @@ fn what_is_decided_is_written(rt: HostRuntime) -> Result<(), Fail> {
         (
             "pack --capacity 4 --input i --output o --log l --steps 0",
             THREE,
+            3,
             2,
             "open 4 5\n",
             Some(THREE_AT_5),
@@ -138,6 +145,7 @@ fn what_is_decided_is_written(rt: HostRuntime) -> Result<(), Fail> {
         (
             "solve --capacity 4 --input i --output o --log l --steps 0",
             THREE,
+            3,
             2,
             "open 4 5\n",
             Some(THREE_AT_5),
@@ -146,6 +154,7 @@ fn what_is_decided_is_written(rt: HostRuntime) -> Result<(), Fail> {
         (
             "trim --input i --log waste --output o",
             FIVE,
+            2,
             1,
             "refused count 3 5\n",
             None,
@@ -154,6 +163,7 @@ fn what_is_decided_is_written(rt: HostRuntime) -> Result<(), Fail> {
         (
             "trim --input i --log waste --output o",
             THREE,
+            3,
             0,
             "trimmed 6 5\n",
             Some(THREE_OVER_4),
@@ -162,6 +172,7 @@ fn what_is_decided_is_written(rt: HostRuntime) -> Result<(), Fail> {
         (
             "classes --input i --output o",
             FIVE,
+            2,
             0,
             "classes 12 12\n",
             Some(FIVE_AT_12),
@@ -170,6 +181,7 @@ fn what_is_decided_is_written(rt: HostRuntime) -> Result<(), Fail> {
         (
             "classes --input i --output o",
             THREE,
+            1,
             4,
             "not plain 0\n",
             None,
@@ -178,6 +190,7 @@ fn what_is_decided_is_written(rt: HostRuntime) -> Result<(), Fail> {
         (
             "core --capacity 11 --input i --output o --log l",
             FIVE,
+            3,
             1,
             "core 3\n",
             Some(CORE_OF_FIVE),
@@ -186,6 +199,7 @@ fn what_is_decided_is_written(rt: HostRuntime) -> Result<(), Fail> {
         (
             "core --capacity 12 --input i --output o --log l",
             FIVE,
+            1,
             0,
             "no core 12\n",
             None,
@@ -194,6 +208,7 @@ fn what_is_decided_is_written(rt: HostRuntime) -> Result<(), Fail> {
         (
             "upgrade --input i --log waste --output o",
             THREE,
+            3,
             0,
             "upgraded 6\n",
             Some(THREE_UPGRADED),
@@ -202,6 +217,7 @@ fn what_is_decided_is_written(rt: HostRuntime) -> Result<(), Fail> {
         (
             "unroll --period 10 --input i --output o",
             "id,lower,upper,size\nA,8,2,4\nB,2,8,4\n",
+            2,
             0,
             "unrolled 2\n",
             Some("id,lower,upper,size,gaps\nA,0,10,4,2-8\nB,2,8,4,\n"),
@@ -210,6 +226,7 @@ fn what_is_decided_is_written(rt: HostRuntime) -> Result<(), Fail> {
         (
             "unroll --period 10 --input i --output o",
             "id,lower,upper,size\nA,10,2,4\n",
+            1,
             4,
             "cycle row 0 outside\n",
             None,
@@ -218,17 +235,19 @@ fn what_is_decided_is_written(rt: HostRuntime) -> Result<(), Fail> {
         (
             "import --trace i --output o",
             "alloc a 4 1\nfree a\n",
+            2,
             0,
             "imported 1\n",
             Some("id,lower,upper,size,alignment,name\na0,0,1,4,1,a\n"),
             None,
         ),
     ];
-    for (line, input, code, printed, output, log) in cases {
-        let mut files = SoundFiles::new(alloc);
+    // a call more on the files would fail, and so would a second put
+    for (line, input, calls, code, printed, output, log) in cases {
+        let mut files = MemoryFiles::new(alloc, vec![in alloc; calls]?);
         files.insert("i", input.as_bytes())?;
         files.insert("waste", THREE_OVER_4_WITH_WASTE.as_bytes())?;
-        let mut out = SoundSink::new(alloc);
+        let mut out = MemorySink::new(alloc, vec![in alloc; 1]?);
         let words = words_of(alloc, line)?;
         assert_eq!(rt;
             run(alloc, words.as_slice(), &mut files, &mut out).code(),
@@ -249,16 +268,6 @@ fn faults_outside_are_told(rt: HostRuntime) -> Result<(), Fail> {
         (LEAST, 1, 9, 5, "unwritten --output\n", None, None),
         (LEAST, 2, 9, 5, "unwritten --log\n", Some(FIVE_AT_12), None),
         (LEAST, 9, 0, 5, "", Some(FIVE_AT_12), Some(FIVE_OVER_11)),
-        // the line is printed by one put: a second one would fail
-        (
-            LEAST,
-            9,
-            1,
-            0,
-            "least 12\n",
-            Some(FIVE_AT_12),
-            Some(FIVE_OVER_11),
-        ),
         (LEAST, 0, 0, 5, "", None, None),
         (
             "refute --input i --log log",
