@@ -123,13 +123,13 @@ not_broken old new before after words r is calm role =
 
 module _ (old new : FilesSeen) (before after : SinkSeen) (I : Instance) where
   -- a request whose files are readable and are not disturbed
-  abbrev IsServed : Request → Type 0
-  IsServed r = IsReady old r I × IsUndisturbed r old new before after
+  abbrev IsLeftAlone : Request → Type 0
+  IsLeftAlone r = IsReady old r I × IsUndisturbed r old new before after
 
   abbrev IsDone : Verb → List Pair → Outcome → Type 0
   IsDone v pairs o = IsConclusion v pairs I o.status
 
-  imported_done : (pairs : List Pair) → IsServed (record { verb = verb.Import; pairs = pairs }) → (o : Outcome) →
+  imported_done : (pairs : List Pair) → IsLeftAlone (record { verb = verb.Import; pairs = pairs }) → (o : Outcome) →
       Comes old new (course_with verb.Import pairs) o → IsDone verb.Import pairs o
   imported_done pairs (ready, calm) o (inl failed) =
       gives.unreadable old new (IsDone verb.Import pairs) role.Trace (word_at pairs option.Trace) file_limit
@@ -138,7 +138,7 @@ module _ (old new : FilesSeen) (before after : SinkSeen) (I : Instance) where
   imported_done pairs (ready, calm) o (inr (bytes, whole, comes)) =
       subst (IsDone verb.Import pairs) (sym comes.1) (imports_conclude pairs I (trace_of bytes))
 
-  unrolled_done : (pairs : List Pair) → IsServed (record { verb = verb.Unroll; pairs = pairs }) → (o : Outcome) →
+  unrolled_done : (pairs : List Pair) → IsLeftAlone (record { verb = verb.Unroll; pairs = pairs }) → (o : Outcome) →
       Comes old new (course_with verb.Unroll pairs) o → IsDone verb.Unroll pairs o
   unrolled_done pairs (ready, calm) o (inl failed) =
       gives.unreadable old new (IsDone verb.Unroll pairs) role.Input (word_at pairs option.Input) file_limit
@@ -148,7 +148,7 @@ module _ (old new : FilesSeen) (before after : SinkSeen) (I : Instance) where
       subst (IsDone verb.Unroll pairs) (sym comes.1)
       (unrolls_conclude pairs (table_of bytes) I (unrolled_of (number_at pairs option.Period) (table_of bytes)))
 
-  done : (v : Verb) (pairs : List Pair) → IsServed (record { verb = v; pairs = pairs }) → (o : Outcome) →
+  done : (v : Verb) (pairs : List Pair) → IsLeftAlone (record { verb = v; pairs = pairs }) → (o : Outcome) →
       Comes old new (course_with v pairs) o → IsDone v pairs o
   done verb.Solve pairs (ready, calm) =
       opened_served old new before after I (record { verb = verb.Solve; pairs = pairs }) ready calm

@@ -18,12 +18,12 @@ use Rattle.dsaplan_core.specs.Judged.{Judged}
 use Rattle.dsaplan_core.specs.Derived.{Derived}
 use Rattle.dsaplan_core.specs.Choice.{Choice}
 use Rattle.dsaplan_core.specs.Causes.{IsCaused}
-use Rattle.dsaplan_core.specs.Lost.{Blames, IsOwnWrite, LosesFile}
+use Rattle.dsaplan_core.specs.Lost.{IsOwnWrite, LosesFile}
 use Rattle.dsaplan_core.specs.Refused.{IsMisuse}
 use Rattle.dsaplan_core.specs.Shown.{Shows, Tells}
 use Rattle.dsaplan_core.proofs.Answered.{answered, words_give}
 use Rattle.dsaplan_core.proofs.Promised.{Promised, to_derived, to_headline, to_judged}
-use Rattle.dsaplan_core.proofs.Promises.{AreOwn, Promises}
+use Rattle.dsaplan_core.proofs.Promises.{AreOwn, Blames, Promises}
 use Rattle.dsaplan_core.proofs.Solving.{solve_promises}
 use Rattle.dsaplan_core.proofs.Finding.{least_promises}
 use Rattle.dsaplan_core.proofs.Packed.{pack_promises}

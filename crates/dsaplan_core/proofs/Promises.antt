@@ -7,12 +7,15 @@ use Rattle.command_words.specs.Options.{Word}
 use Rattle.command_words.specs.Pairs.{word_at}
 use Rattle.command_words.specs.Requests.{Request, request_of}
 use Rattle.command_words.specs.declared.option.OptionName.TheVariants as option
+use Rattle.run_status.specs.declared.status.Status.{Status}
+use Rattle.run_status.specs.declared.status.Status.TheVariants as status
 use Rattle.run_course.specs.Course.{Outcome, Write}
 use Rattle.run_course.specs.Answers.{with_writes}
 use Rattle.readings.specs.Opens.{IsInput}
 use Rattle.dsaplan_core.specs.Theorem.{Asked}
+use Rattle.dsaplan_core.specs.Causes.{IsCaused}
 use Rattle.dsaplan_core.specs.Choice.{Choice}
-use Rattle.dsaplan_core.specs.Lost.{Blames, IsOwnWrite}
+use Rattle.dsaplan_core.specs.Lost.{HasLongFile, IsOwnWrite, LosesFile, MissesFile}
 use Rattle.dsaplan_core.specs.Shown.{Tells}
 use Rattle.dsaplan_core.proofs.Promised.{Promised}
 
@@ -20,6 +23,13 @@ use Rattle.dsaplan_core.proofs.Promised.{Promised}
 abbrev pub AreOwn : Request → List Write → Type 0
 AreOwn r [] = Unit {0}
 AreOwn r (w ∷ ws) = IsOwnWrite r w × AreOwn r ws
+
+-- which file a status blames, and for what; and why it refuses
+abbrev pub Blames : List Word → FilesSeen → FilesSeen → Status → Type 0
+Blames words old new (status.ReadFault role) = MissesFile words old new role
+Blames words old new (status.TooLong role) = HasLongFile words old new role
+Blames words old new (status.WriteFault role) = LosesFile words old new role
+Blames words old new s = IsCaused words old new s
 
 -- what is promised once the outcome is written; its writes are of files that the command writes
 abbrev pub Promises : List Word → FilesSeen → FilesSeen → Request → Outcome → Type 0

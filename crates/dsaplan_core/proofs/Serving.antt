@@ -23,9 +23,9 @@ use Rattle.command_words.specs.declared.verb.Verb.TheVariants as verb
 use Rattle.run_status.specs.declared.status.Status.{Status}
 use Rattle.run_status.specs.declared.status.Status.TheVariants as status
 use Rattle.run_course.specs.Course.{Comes, Concludes, Course, Ends, Outcome, says}
-use Rattle.run_course.specs.Complete.{ConcludesOn, IsCalm, IsServed}
+use Rattle.run_course.specs.Complete.{ConcludesOn, IsCalm}
 use Rattle.run_course.specs.Answers.{Answers}
-use Rattle.run_course.proofs.Concluding.{concludes_on}
+use Rattle.run_course.proofs.Concluding.{IsServed, concludes_on}
 use Rattle.readings.specs.Input.{instance_or_fault, opened}
 use Rattle.readings.specs.Judging.{judged, layout_or_fault, offsets_or_fault}
 use Rattle.readings.specs.Checking.{checked}

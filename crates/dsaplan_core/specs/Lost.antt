@@ -10,8 +10,6 @@ use Rattle.command_words.specs.Pairs.{word_at}
 use Rattle.command_words.specs.Requests.{Request, request_of}
 use Rattle.command_words.specs.declared.option.OptionName.{OptionName}
 use Rattle.command_words.specs.declared.option.OptionName.TheVariants as option
-use Rattle.run_status.specs.declared.status.Status.{Status}
-use Rattle.run_status.specs.declared.status.Status.TheVariants.{ReadFault, TooLong, WriteFault}
 use Rattle.run_status.specs.declared.status.Role.{Role}
 use Rattle.run_status.specs.declared.status.Role.TheVariants as role
 use Rattle.run_course.specs.Readings.{HoldsMore, IsUnread}
@@ -19,7 +17,6 @@ use Rattle.run_course.specs.Course.{Comes, Outcome, Write}
 use Rattle.run_course.specs.Answers.{with_writes}
 use Rattle.dsaplan_core.specs.Courses.{course_with}
 use Rattle.dsaplan_core.specs.Complete.{limit_of}
-use Rattle.dsaplan_core.specs.Causes.{IsCaused}
 
 -- the option that names the file of the role
 abbrev pub option_of_role : Role → OptionName
@@ -65,10 +62,3 @@ pub record LosesFile (words : List Word) (old new : FilesSeen) (role : Role) : T
   pub own : IsOwnWrite request lost
   pub rose : Rose (old.faults lost.name) (new.faults lost.name)
   pub others : without_file new.held lost.name ≡ without_file (with_writes old.held made) lost.name
-
--- which file a status blames, and for what; and why it refuses
-abbrev pub Blames : List Word → FilesSeen → FilesSeen → Status → Type 0
-Blames words old new (ReadFault role) = MissesFile words old new role
-Blames words old new (TooLong role) = HasLongFile words old new role
-Blames words old new (WriteFault role) = LosesFile words old new role
-Blames words old new status = IsCaused words old new status

@@ -9,7 +9,7 @@ use Rattle.dsa_outside.specs.Seen.{FilesSeen, SinkSeen}
 use Rattle.run_course.specs.Readings.{HoldsMore}
 use Rattle.run_course.specs.Course.{Course, Concludes, Reads, Comes, Outcome}
 use Rattle.run_course.specs.Answers.{IsSaid, Leaves, as_told, with_writes}
-use Rattle.run_course.specs.Complete.{IsReadable, IsServed, ConcludesOn}
+use Rattle.run_course.specs.Complete.{IsCalm, IsReadable, ConcludesOn}
 
 -- the outcome that the run came to, with all its files written
 pub record Came (course : Course) (old new : FilesSeen) (s : Status) : Type 0 where
@@ -51,6 +51,12 @@ too_long files name most file more =
     let e : file.bytes ≡ more.bytes = same_bytes files.held name file.bytes more.bytes file.held (λ told. more.held) in
     let short : length more.bytes ≤ most = subst (λ b. length b ≤ most) e file.short in
     omega (arith, short, more.long)
+
+-- no call failed on a file that the course may read
+abbrev pub IsServed : FilesSeen → FilesSeen → Course → Type 0
+IsServed old new (Concludes allowed) = Unit {0}
+IsServed old new (Reads role name most next) =
+    IsCalm old new name × ((bytes : List ℕ) → IsServed old new (next bytes))
 
 -- where no call on its files failed, the course concludes with the status of the outcome that it comes to
 pub concludes_on : (old new : FilesSeen) (course : Course) (o : Outcome) → IsServed old new course →

@@ -10,8 +10,9 @@ use Rattle.dsa_outside.proofs.Lookups.{file_at-with_file}
 use Rattle.run_status.specs.declared.status.Role.TheVariants as role
 use Rattle.run_status.specs.declared.status.Status.TheVariants as status
 use Rattle.run_course.specs.Answers.{Answers, AreBroken, IsCutShort, Leaves, Tells}
-use Rattle.run_course.specs.Complete.{ConcludesOn, IsServed}
+use Rattle.run_course.specs.Complete.{ConcludesOn}
 use Rattle.run_course.specs.Course.{Comes, Course, Ends, Outcome, Reads, Write, says, writes}
+use Rattle.run_course.proofs.Concluding.{IsServed}
 
 -- ---- the course
 abbrev output : List ℕ → Write

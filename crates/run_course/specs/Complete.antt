@@ -18,12 +18,6 @@ pub record IsReadable (files : FilesSeen) (name : Word) (most : ℕ) : Type 0 wh
 abbrev pub IsCalm : FilesSeen → FilesSeen → Word → Type 0
 IsCalm old new name = ¬ Rose (old.faults name) (new.faults name)
 
--- no call failed on a file that the course may read
-abbrev pub IsServed : FilesSeen → FilesSeen → Course → Type 0
-IsServed old new (Concludes allowed) = Unit {0}
-IsServed old new (Reads role name most next) =
-    IsCalm old new name × ((bytes : List ℕ) → IsServed old new (next bytes))
-
 -- the course concludes with this status from what the files hold, where each file that it reads is readable
 abbrev pub ConcludesOn : FilesSeen → Course → Status → Type 0
 ConcludesOn files (Concludes allowed) status =
