@@ -10,6 +10,7 @@ import resource
 import shutil
 import signal
 import subprocess
+import sys
 import tempfile
 import time
 import unittest
@@ -44,6 +45,10 @@ if not open(given["--input"]).read().startswith("id"):
     print("malformed no header")
     sys.exit(4)
 answers = dict(line.split(":") for line in open(f"{top}/answers").read().split("\\n") if line)
+if sys.argv[1] in ("verify", "refute"):
+    told = answers.get(f"{sys.argv[1]} {given.get('--capacity', '')}".rstrip(), "wrong")
+    print(told)
+    sys.exit(told == "wrong")
 answer = answers[steps if steps in answers else "more"]
 while answer == "long":
     open(given["--output"], "w").write("half")
@@ -52,6 +57,9 @@ if answer == "memory":
     sys.exit(6)
 if answer == "killed":
     os.kill(os.getpid(), signal.SIGKILL)
+if answer == "gone":
+    os.remove(os.path.abspath(__file__))
+    answer = "open 5 9"
 if answer == "in the way":
     os.mkdir("o")
     answer = "open 5 9"
@@ -130,6 +138,40 @@ class Improve(unittest.TestCase):
         self.assertEqual((ran.returncode, ran.stdout), (0, "least 7\n"), ran.stderr)
         self.assertEqual((self.read("o"), self.read("l")), ("layout of 0\n", "log of 1000\n"))
 
+    def lay(self, plan, log):
+        """A plan and a log that were there before."""
+        self.write(f"{self.work}/i", "id,lower,upper,size\na,0,1,4\n")
+        self.write(f"{self.work}/o", plan)
+        self.write(f"{self.work}/l", log)
+
+    def test_it_goes_on_from_what_the_files_hold(self):
+        plan = "id,lower,upper,size,offset\na,0,1,4,3\n"
+        for judged, line, kept in (
+            ("verify 7:right", "open 5 7", (plan, "log of 0\n")),
+            ("refute:accepted 5", "open 6 9", ("layout of 0\n", "old")),
+            ("verify 7:right\nrefute:accepted 5", "open 6 7", (plan, "old")),
+            ("verify 8:right", "open 5 9", ("layout of 0\n", "log of 0\n")),
+        ):
+            with self.subTest(judged):
+                self.lay(plan, "old")
+                ran = self.improve(f"{judged}\n0:open 5 9\n1000:memory\n")
+                self.assertEqual((ran.returncode, ran.stdout), (2, f"{line}\n"), ran.stderr)
+                self.assertEqual((self.read("o"), self.read("l")), kept)
+
+    def test_files_that_decide_need_no_call(self):
+        plan = "id,lower,upper,size,offset\na,0,1,4,3\n"
+        self.lay(plan, "old")
+        ran = self.improve("verify 7:right\nrefute:accepted 6\n")
+        self.assertEqual((ran.returncode, ran.stdout, self.calls()), (0, "least 7\n", []))
+        self.assertEqual((self.read("o"), self.read("l")), (plan, "old"))
+
+    def test_a_plan_of_another_input_is_none(self):
+        for plan in ("id,lower,upper,size,offset\na,0,2,4,3\n", "id,lower,upper,size\na,0,1,4\n", "id,offset\na,3\n", ""):
+            with self.subTest(plan):
+                self.lay(plan, "old")
+                ran = self.improve("verify 7:right\n0:open 5 9\n1000:memory\n")
+                self.assertEqual((ran.stdout, self.read("o")), ("open 5 9\n", "layout of 0\n"))
+
     def test_nothing_to_place_leaves_the_log_alone(self):
         self.write(f"{self.work}/l", "old")
         ran = self.improve("0:least 0\n")
@@ -154,8 +196,7 @@ class Improve(unittest.TestCase):
         if ignored:
             how["preexec_fn"] = lambda: signal.signal(ignored, signal.SIG_IGN)
         with subprocess.Popen(self.words(), env=self.environment, **how) as run:
-            while len(self.calls()) < 3:
-                time.sleep(0.05)
+            self.wait_for(lambda: len(self.calls()) == 3)
             time.sleep(0.3)
             if ignored:
                 run.send_signal(ignored)
@@ -167,12 +208,33 @@ class Improve(unittest.TestCase):
         self.assertEqual((self.read("o"), self.read("l")), ("layout of 1000\n", "log of 1000\n"))
         self.assertEqual(self.left(), ["i", "l", "o"])
 
+    def wait_for(self, is_time):
+        for _ in range(400):
+            if is_time():
+                return
+            time.sleep(0.05)
+        self.fail("it did not come")
+
+    def test_a_signal_in_a_build_ends_what_builds(self):
+        self.write(f"{self.top}/dsaplan", f"#!/bin/sh\nsleep 60 &\necho $! >{self.work}/number\nwait\n")
+        with subprocess.Popen(self.words(), env=self.environment, cwd=self.work, stderr=subprocess.DEVNULL) as run:
+            self.wait_for(lambda: os.path.exists(f"{self.work}/number") and self.read("number"))
+            run.send_signal(signal.SIGTERM)
+            self.assertEqual(run.wait(timeout=10), 130)
+        self.wait_for(lambda: not self.is_alive(self.read("number").strip()))
+
+    def is_alive(self, number):
+        try:
+            with open(f"/proc/{number}/stat", encoding="utf-8") as file:
+                return file.read().split()[2] != "Z"
+        except FileNotFoundError:
+            return False
+
     def interrupted(self, is_time, *more):
         """How it ends where it is interrupted at that time: its status, and what it says."""
         how = {"stdin": subprocess.PIPE, "stdout": subprocess.PIPE, "stderr": subprocess.PIPE, "text": True, "cwd": self.work}
         with subprocess.Popen(self.words(*more), env=self.environment, **how) as run:
-            while not is_time():
-                time.sleep(0.05)
+            self.wait_for(is_time)
             time.sleep(0.3)
             run.send_signal(signal.SIGINT)
             try:
@@ -348,6 +410,18 @@ class Improve(unittest.TestCase):
                 self.assertRegex(ran.stderr.splitlines()[-1], "improve: standard output: [A-Z]")
                 self.assertEqual((self.read("o"), self.read("l")), ("layout of 1000\n", "log of 1000\n"))
 
+    def test_standard_error_that_is_closed_or_full_changes_nothing(self):
+        with open("/dev/full", "w", encoding="utf-8") as full:
+            for how in ({"stderr": full}, {"stderr": None, "preexec_fn": lambda: os.close(2)}):
+                # Before the interpreter there may be a script that opens it again.
+                ran = self.improve("0:open 5 9\n1000:least 7\n", before=[sys.executable], **how)
+                self.assertEqual((ran.returncode, ran.stdout), (0, "least 7\n"))
+
+    def test_a_program_that_is_gone_ends_with_what_there_is(self):
+        ran = self.improve("0:gone\n")
+        self.assertEqual((ran.returncode, ran.stdout), (2, "open 5 9\n"))
+        self.assertEqual(ran.stderr.splitlines()[-1], f"improve: {self.out}/dsaplan: No such file or directory")
+
     def test_want_of_memory_ends_with_what_there_is(self):
         ran = self.improve("0:open 5 9\n1000:memory\n")
         self.assertEqual((ran.returncode, ran.stdout), (2, "open 5 9\n"))
@@ -410,10 +484,32 @@ class Files(unittest.TestCase):
         self.assertEqual(self.read(self.o), "old")
 
     def test_a_folder_is_found_beside_a_file_of_the_longest_name(self):
-        name = f"{self.folder}/" + "\u00e4" * 127
-        self.write(name, "old")
-        room, is_beside = improve.room_for(name)
-        self.assertEqual((os.path.dirname(room), is_beside), (self.folder, True))
+        for letters in ("\u00e4" * 127, "\u4e2d" * 85):
+            name = f"{self.folder}/{letters}"
+            self.write(name, "old")
+            room, is_beside = improve.room_for(name)
+            self.assertEqual((os.path.dirname(room), is_beside), (self.folder, True))
+            # The program takes no other names.
+            os.fsencode(room).decode("utf-8")
+
+    def test_a_folder_that_may_be_read_alone_takes_no_other_file(self):
+        for number in (errno.EROFS, errno.EACCES):
+            with mock.patch("tempfile.mkdtemp", side_effect=[OSError(number, ""), self.folder]):
+                self.assertFalse(improve.Kept("--output", self.o).is_beside)
+
+    def test_a_file_that_keeps_its_name_is_written_in_place(self):
+        kept = improve.Kept("--output", self.o)
+        self.addCleanup(kept.clear)
+        self.write(kept.draft(), "new")
+        with mock.patch("os.replace", side_effect=OSError(errno.EBUSY, os.strerror(errno.EBUSY))):
+            kept.take()
+        self.assertEqual(self.read(self.o), "new")
+
+    def test_an_owner_without_a_number_here_is_not_kept(self):
+        os.chmod(self.o, 0o640)
+        with mock.patch("os.chown", side_effect=OSError(errno.EINVAL, os.strerror(errno.EINVAL))):
+            improve.make_like(self.l, self.o)
+        self.assertEqual(os.stat(self.l).st_mode & 0o777, 0o640)
 
     def test_the_group_is_kept_where_the_owner_cannot_be(self):
         given = []
@@ -458,11 +554,12 @@ class Files(unittest.TestCase):
             best.clear()
 
     def test_a_file_that_is_half_written_holds_no_plan(self):
-        best, copy = improve.Best(self.o, self.l), mock.Mock(side_effect=[None] * 4 + [self.FULL])
-        self.addCleanup(best.clear)
-        best.layout.is_beside = best.log.is_beside = False
-        with mock.patch("shutil.copyfile", copy), self.assertRaises(improve.Refused):
-            self.ended(best)
+        for taken in (4, 5):
+            best, copy = improve.Best(self.o, self.l), mock.Mock(side_effect=[None] * taken + [self.FULL])
+            self.addCleanup(best.clear)
+            best.layout.is_beside = best.log.is_beside = False
+            with self.subTest(taken), mock.patch("shutil.copyfile", copy), self.assertRaises(improve.Refused):
+                self.ended(best)
 
 
 if __name__ == "__main__":
