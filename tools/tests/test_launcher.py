@@ -15,6 +15,10 @@ TOOLS = os.path.dirname(os.path.dirname(os.path.abspath(__file__)))
 for number in (signal.SIGINT, signal.SIGTERM, signal.SIGHUP):
     if signal.getsignal(number) is signal.SIG_IGN:
         signal.signal(number, signal.SIG_DFL)
+# A hook of git tells of its repository, and the commits below would go there. Nor does anybody sign them.
+for name in [it for it in os.environ if it.startswith("GIT_")]:
+    del os.environ[name]
+os.environ["GIT_CONFIG_GLOBAL"] = os.environ["GIT_CONFIG_SYSTEM"] = os.devnull
 TOP = os.path.dirname(TOOLS)
 BUILT = f"{TOP}/crates/dsaplan/out/dsaplan"
 MALFORMED = "malformed row 0 bad number size"
@@ -23,7 +27,7 @@ echo "$*" >>"$RT_ASKED"
 case $1 in
 version) echo 'rattle-kit-0 logic 0123' ;;
 run) if [ "${RT_FAILS-}" ]; then echo 'a proof fails'; exit 1; fi
-    [ "${RT_LASTS-}" ] && sleep 60
+    [ "${RT_LASTS-}" ] && sleep "$RT_LASTS"
     echo "proved low"; for it in high dsaplan; do echo "crate $it: modules loaded=1 checked=2"; done
     mkdir -p out && cp ../../stub out/dsaplan; exit 3 ;;
 esac
@@ -219,7 +223,7 @@ class Launcher(unittest.TestCase):
         for number in (signal.SIGINT, signal.SIGTERM, signal.SIGHUP):
             shutil.rmtree(os.path.dirname(self.program), ignore_errors=True)
             os.remove(self.asked)
-            how = {"env": {**self.environment, **there, "RT_LASTS": "1"}, "start_new_session": True, "stderr": subprocess.DEVNULL}
+            how = {"env": {**self.environment, **there, "RT_LASTS": "60"}, "start_new_session": True, "stderr": subprocess.DEVNULL}
             with subprocess.Popen([f"{self.top}/dsaplan", "verify"], **how) as run:
                 self.wait_for(lambda: "run" in self.asked_of_rt())
                 os.killpg(run.pid, number)
@@ -237,9 +241,54 @@ class Launcher(unittest.TestCase):
                 subprocess.run(["git", "-C", folder, *words], check=True)
             self.assertRegex(self.run_it("--version").stdout, rf"\Adsaplan commit {commit}(, changed since)?\nnot built\n\Z")
         other = {"GIT_DIR": f"{above}/.git", "GIT_WORK_TREE": top, "GIT_INDEX_FILE": f"{above}/none"}
-        for names in (["GIT_DIR"], ["GIT_DIR", "GIT_WORK_TREE"], ["GIT_INDEX_FILE"]):
+        other["GIT_OBJECT_DIRECTORY"] = f"{above}/.git/objects"
+        for names in (["GIT_DIR"], ["GIT_DIR", "GIT_WORK_TREE"], ["GIT_INDEX_FILE"], ["GIT_OBJECT_DIRECTORY"]):
             ran = self.run_it("--version", environment={it: other[it] for it in names})
             self.assertEqual(ran.stdout, self.run_it("--version").stdout)
+
+    def test_a_note_of_another_build_is_none(self):
+        self.write(f"{self.top}/stub", "#!/bin/sh\n", 0o755)
+        self.run_it("verify")
+        self.assertIn("proved with rattle-kit-0", self.run_it("--version").stdout)
+        later = time.time() + 5
+        os.utime(self.program, (later, later))
+        self.assertIn("a toolchain that was not noted", self.run_it("--version").stdout)
+
+    def test_a_program_that_cannot_be_removed_is_not_taken_for_what_is_built(self):
+        os.makedirs(f"{self.program}/in the way")
+        os.utime(self.program, (0, 0))
+        ran = self.run_it("verify")
+        self.assertEqual((ran.returncode, ran.stdout), (9, ""))
+        self.assertEqual(self.asked_of_rt(), ["version"])
+
+    def test_a_crate_that_takes_longer_than_a_shell_waits_ends_no_build(self):
+        self.write(f"{self.top}/stub", "#!/bin/sh\n", 0o755)
+        ran = self.run_it("verify", environment={"TMOUT": "1", "RT_LASTS": "2"})
+        self.assertEqual(ran.stderr.splitlines()[-1], "dsaplan: 2 of 3 crates proved; proving dsaplan")
+
+    def test_an_answer_of_its_own_that_is_not_printed_ends_with_5(self):
+        for words in (["help"], ["help", "solve"], ["--help"], ["solve", "-h"], ["--version"]):
+            for before in ("exec >&-;", "exec >/dev/full;"):
+                ran = self.run_it(*words, before=before)
+                self.assertEqual((ran.returncode, ran.stdout, ran.stderr), (5, "", ""))
+            self.assertEqual(self.run_without_reader(*words).returncode, 5)
+
+    def test_a_file_that_the_caller_opened_is_the_program_s(self):
+        self.stand_in("cat <&3")
+        for hints in ("0", "1"):
+            ran = self.run_it("verify", before="exec 3<i;", environment={"DSAPLAN_HINTS": hints})
+            self.assertEqual((ran.returncode, ran.stdout), (0, "id,lower,upper,size\nb1,0,3,4K\n"))
+
+    def test_an_interrupt_while_a_hint_is_sought_ends_the_hint_alone(self):
+        again = f"{self.work}/again"
+        self.stand_in(f"echo '{MALFORMED}'; [ -e {again} ] && : >{again}s && exec sleep 60; : >{again}; exit 4")
+        how = {"env": self.environment, "cwd": self.work, "start_new_session": True, "text": True}
+        pipes = {"stdout": subprocess.PIPE, "stderr": subprocess.PIPE}
+        with subprocess.Popen([f"{self.top}/dsaplan", "bounds", "--input", "i"], **how, **pipes) as run:
+            self.wait_for(lambda: os.path.exists(f"{again}s"))
+            os.killpg(run.pid, signal.SIGINT)
+            said = run.communicate(timeout=10)
+        self.assertEqual((run.returncode, *said), (4, f"{MALFORMED}\n", ""))
 
     def test_what_is_no_command_is_told_without_a_build(self):
         for words, printed, hint in [
