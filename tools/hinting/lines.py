@@ -70,6 +70,8 @@ def end_line(name):
 
 def log_hint(table, name, fault):
     """Where a log has the fault that the program prints."""
+    if fault == "not a log" and last_line(name) == 0:
+        return f"{name}: has no line; the first is to be 'dsalog 1 COUNT CAPACITY'"
     if fault == "not a log":
         return f"{at(name, 1)} is no header, as 'dsalog 1 COUNT CAPACITY'"
     if fault.startswith("version "):

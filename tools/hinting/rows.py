@@ -41,6 +41,8 @@ def header_hint(table, fault, wanted="id,lower,upper,size"):
         near = [it for it in names[:MOST_NAMES] if len(it) <= LONGEST_NAME and it not in READ]
         near = [it for it in near if is_same_word(it, column) or is_near(it, column)]
         instead = f"; {shown(near[0])} is another name" if near else ""
+        if not any(it.encode() in names for it in wanted.split(",")):
+            instead = f"; the first line is to be {wanted}"
         return f"{table.at(table.header[0])}: no column has the name {missing[1]}{instead}"
     return None
 

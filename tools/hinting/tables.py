@@ -121,9 +121,9 @@ def is_same_word(name, column):
 
 
 def is_near(name, column):
-    """Whether a name is a column's but for two letters, or the beginning of it."""
+    """Whether a name is a column's but for two letters, the beginning of it, or more around a long one."""
     plain = re.sub(rb"[\s_-]", b"", name).lower()
-    if len(plain) >= 3 and column.startswith(plain):
+    if len(plain) >= 3 and column.startswith(plain) or len(column) >= 6 and column in plain:
         return True
     most = 2 if len(column) >= 5 and len(plain) >= 4 else 1 if len(column) == 4 and len(plain) >= 3 else 0
     return distance(plain, column) <= most

@@ -112,6 +112,8 @@ CASES = [
      ["i:1: the column 'sizes' is carried, and not read; 'size' would be",
       "i:1: no column has the name size; 'sizes' is another name"]),
     ({"i": "id,lower,upper,bytes\n"}, BOUNDS, 4, "malformed missing column size", "i:1: no column has the name size"),
+    ({"i": "id;lower;upper;size\n"}, BOUNDS, 4, "malformed missing column id",
+     "i:1: no column has the name id; the first line is to be id,lower,upper,size"),
     # rows of instances
     ({"i": "id,lower,upper,size\n" + "".join(f"b{k},0,1,1\n" for k in range(4097))}, BOUNDS, 4,
      "malformed too many buffers", "i:4098: one buffer more than 4096"),
@@ -201,6 +203,7 @@ CASES = [
     (layout("id,offset\nb2,2\nb1,0\n"), "draw --input i --layout a --output p", 1, "wrong overlap 0 1 2",
      "a:3: offset: 'b1' at 0-4 and 'b2' at 2-6 of line 2 share bytes at moment 2"),
     # logs
+    (log(""), REFUTE, 1, "refused not a log", "l: has no line; the first is to be 'dsalog 1 COUNT CAPACITY'"),
     (log("dsalog 1 2\n"), REFUTE, 1, "refused not a log",
      "l:1: 'dsalog 1 2' is no header, as 'dsalog 1 COUNT CAPACITY'"),
     (log("dsalog 3 2 7\nend 0\n"), REFUTE, 1, "refused version 3", "l:1: 'dsalog 3 2 7' has a version that is not read"),
@@ -385,6 +388,14 @@ class Hints(unittest.TestCase):
                 said = list(answers.hints("none", 5, words.split()))
                 self.assertEqual(said, [f"{option}: {name} may not be read, for want of leave"])
 
+    def test_no_environment_of_python_s_hides_a_hint(self):
+        self.lay({"i": "id,lower,upper,size\nb1,0,1,4\u20ac\n"})
+        stub = self.stub("malformed row 0 bad number size", 4)
+        for name, value, shown in (("PYTHONSAFEPATH", "1", "4\u20ac"), ("PYTHONIOENCODING", "latin-1", "4\\u20ac")):
+            with self.subTest(name), mock.patch.dict(os.environ, {name: value}):
+                told = [f"dsaplan: i:2: size: '{shown}' is no number of 1 to 20 digits"]
+                self.assertEqual(self.hints(stub, 4, BOUNDS.split()), told)
+
     def test_a_socket_is_told(self):
         with socket.socket(socket.AF_UNIX) as made:
             made.bind(f"{self.work}/i")
@@ -438,6 +449,8 @@ class Hints(unittest.TestCase):
             ("id,lower,upper,size,sizes", "size"),
             ("id,lower,upper,size,Size", "size"),
             ("id,lower,upper,size,Lowest", "lowest"),
+            ("id,lower,upper,size,alignment_bytes", "alignment"),
+            ("id,lower,upper,size,byte alignment", "alignment"),
         ]:
             with self.subTest(header=header):
                 self.setUp()
