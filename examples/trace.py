@@ -18,6 +18,7 @@ was seen, the script prints a message and no trace, and ends with 1. What PROGRA
 import os
 import re
 import shutil
+import signal
 import subprocess
 import sys
 import tempfile
@@ -45,13 +46,23 @@ def log_of(words):
         # The user's own options may turn off what is read here. In the name of a log % begins a pattern.
         recorder = ["valgrind", "--command-line-only=yes", "--trace-malloc=yes", "--freelist-vol=0"]
         recorder.append(f"--log-file={name.replace('%', '%%')}")
-        run = subprocess.run([*recorder, *words], stdout=subprocess.DEVNULL, check=False)
+        run = run_to_its_end([*recorder, *words])
         if run.returncode < 0:
             sys.exit(f"signal {-run.returncode} ended {words[0]}")
         if not os.path.exists(name):
             sys.exit(f"valgrind did not run {words[0]}")
         with open(name, encoding="utf-8", errors="replace") as file:
             return file.read()
+
+
+def run_to_its_end(words):
+    """Runs a program. Ctrl-C is for it alone: it may end by that in its own way, as a server does."""
+    heeded = signal.getsignal(signal.SIGINT)
+    if heeded is not signal.SIG_IGN:
+        signal.signal(signal.SIGINT, lambda *_: None)
+    run = subprocess.run(words, stdout=subprocess.DEVNULL, check=False)
+    signal.signal(signal.SIGINT, heeded)
+    return run
 
 
 def lines_of_first(log):

@@ -196,7 +196,7 @@ def least(buffers: Iterable[Buffer], steps: Optional[int] = None) -> Layout:
 def pack(buffers: Iterable[Buffer], steps: int) -> Layout:
     """The lowest layout that is found in `steps` steps.
 
-    A step is a claim that a search opens; placing all n buffers anew counts as 1/8 + n**2/2**18 of one.
+    A step is a claim that a search opens; placing all n buffers anew counts as 1/8 + n**2/2**17 of one.
     The height is the least capacity where it is `low`. A bad buffer raises BadBuffer.
     """
     _, offsets, detail = _call(_library.dsaplan_pack, buffers, _word(steps, "steps"))

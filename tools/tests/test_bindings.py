@@ -18,17 +18,19 @@ with open(os.environ["ASKED"], "a") as file:
     print("side_by_side", *sys.argv[1:], file=file)
 sys.exit(int(os.environ["STATUS"]))
 """
+# A name of the archiver's script ends at a blank.
 AR = """#!/bin/sh
 echo "ar $*" >>"$ASKED"
+while read -r word name more; do [ "$word" != create ] || : >"$name"; [ -z "$more" ] || exit 9; done
 """
-MADE = "made bindings/out/libdsaplan.a\nno C compiler: libdsaplan.so is not made\n"
+MADE = "made bindings/out/libdsaplan.a\nno C compiler 'no-compiler': libdsaplan.so is not made\n"
 
 
 class Build(unittest.TestCase):
     def setUp(self):
         folder = tempfile.TemporaryDirectory()
         self.addCleanup(folder.cleanup)
-        self.top, self.bin, self.asked = f"{folder.name}/top", f"{folder.name}/bin", f"{folder.name}/asked"
+        self.top, self.bin, self.asked = f"{folder.name}/a top", f"{folder.name}/bin", f"{folder.name}/asked"
         for name in (f"{self.top}/bindings", f"{self.top}/tools", f"{self.top}/crates/dsaplan_c", self.bin):
             os.makedirs(name)
         shutil.copy(f"{TOP}/bindings/build", f"{self.top}/bindings")
@@ -55,6 +57,12 @@ class Build(unittest.TestCase):
             asked = ["rt doc", " ".join(["side_by_side", *words, "dsaplan_c"]), "ar -M"]
             self.assertEqual(self.built(*words), (0, MADE, "", asked))
 
+    def test_the_shell_s_path_for_folders_changes_nothing(self):
+        environment = {**os.environ, "PATH": f"{self.bin}:{os.environ['PATH']}", "ASKED": self.asked, "STATUS": "0", "CC": "no-compiler"}
+        how = {"capture_output": True, "text": True, "check": False, "env": {**environment, "CDPATH": "."}, "cwd": self.top}
+        ran = subprocess.run(["bindings/build"], **how)
+        self.assertEqual((ran.returncode, ran.stdout, ran.stderr), (0, MADE, ""))
+
     def test_rt_proves_it_where_nothing_is_proved_side_by_side(self):
         self.assertEqual(self.built(status=2), (0, MADE, "", ["rt doc", "side_by_side dsaplan_c", "rt lib", "ar -M"]))
 
@@ -68,7 +76,7 @@ class Build(unittest.TestCase):
     def test_a_toolchain_that_is_missing_is_told(self):
         found = f"{self.top}/found"
         os.mkdir(found)
-        for name in ("bash", "dirname"):
+        for name in ("bash", "dirname", "readlink"):
             os.symlink(shutil.which(name), f"{found}/{name}")
         self.assertEqual(self.built(path=found), (9, "", "bindings/build: rt is not on the PATH\n", []))
 

@@ -13,7 +13,7 @@ def found(pattern):
 
 
 CRATES = found("crates/*/README.md")
-PAGES = ["README.md", "examples/README.md", "bench/README.md", *found("docs/*.md"), *CRATES]
+PAGES = ["README.md", "bindings/README.md", "examples/README.md", "bench/README.md", *found("docs/*.md"), *CRATES]
 
 
 def text_of(name):

@@ -2,6 +2,7 @@
 
 import os
 import shutil
+import signal
 import subprocess
 import sys
 import tempfile
@@ -14,6 +15,8 @@ here=$(dirname "$0")
 printf %s "$(cat "$here/said")" >&2
 { echo "==7== Command: true"; sed '/^--/!s/^/--7-- /' "$here/calls"; } >"$log"
 if [ -e "$here/dies" ]; then kill -SEGV $$; fi
+if [ -e "$here/serves" ]; then trap 'rm "$here/serves"' INT; kill -INT 0; fi
+if [ -e "$here/serves" ]; then exit; fi
 if [ -e "$here/goes on" ] || [ "$VALGRIND_OPTS" = -q ]; then exit; fi
 echo "==7== ERROR SUMMARY: 0 errors from 0 contexts" >>"$log"
 """
@@ -117,6 +120,13 @@ class Trace(unittest.TestCase):
         self.write("dies", "")
         self.assertEqual(self.fault(self.traced("malloc(9) = 0xA0")), "signal 11 ended true\n")
 
+    def test_an_interrupt_is_the_program_s(self):
+        self.write("serves", "")
+        heeded = signal.signal(signal.SIGINT, signal.default_int_handler)
+        self.addCleanup(signal.signal, signal.SIGINT, heeded)
+        ran = self.traced("malloc(9) = 0xA0", start_new_session=True)
+        self.assertEqual((ran.returncode, ran.stdout, ran.stderr), (0, "alloc p0 9 16\n", ""))
+
     def test_no_block_is_no_trace(self):
         for calls in ((), ("statically linked",), ("free(0x0)", "malloc(1152921504606846976) = 0x0")):
             with self.subTest(calls=calls):
@@ -139,7 +149,10 @@ class Trace(unittest.TestCase):
         ran = self.traced("malloc(9) = 0xA0", env={**quiet, "PATH": f"{self.folder}:{os.environ['PATH']}"})
         self.assertEqual((ran.returncode, ran.stdout, ran.stderr), (0, "alloc p0 9 16\n", ""))
         if shutil.which("valgrind"):
-            self.assertEqual(self.trace("true", env=quiet).stdout, self.trace("true").stdout)
+            words = ["grep", "-c", "b", f"{TOP}/examples/five.csv"]
+            plain = self.trace(*words).stdout
+            self.assertIn("alloc", plain)
+            self.assertEqual(self.trace(*words, env=quiet).stdout, plain)
 
     def test_output_that_is_full_or_closed_is_told(self):
         with open("/dev/full", "w", encoding="utf-8") as full:
