@@ -1,6 +1,7 @@
 """improve, over a copy of it with a stub for the program, whose answers a table gives by its steps."""
 
 import contextlib
+import csv
 import errno
 import importlib.machinery
 import importlib.util
@@ -47,6 +48,11 @@ if not open(given["--input"]).read().startswith("id"):
 answers = dict(line.split(":") for line in open(f"{top}/answers").read().split("\\n") if line)
 if sys.argv[1] in ("verify", "refute"):
     told = answers.get(f"{sys.argv[1]} {given.get('--capacity', '')}".rstrip(), "wrong")
+    if told == "memory":
+        sys.exit(6)
+    while told == "long":
+        open(f"{top}/judging", "w").close()
+        time.sleep(0.1)
     print(told)
     sys.exit(told == "wrong")
 answer = answers[steps if steps in answers else "more"]
@@ -157,6 +163,27 @@ class Improve(unittest.TestCase):
                 ran = self.improve(f"{judged}\n0:open 5 9\n1000:memory\n")
                 self.assertEqual((ran.returncode, ran.stdout), (2, f"{line}\n"), ran.stderr)
                 self.assertEqual((self.read("o"), self.read("l")), kept)
+
+    def test_what_could_not_be_judged_stays(self):
+        plan = "id,lower,upper,size,offset\na,0,1,4,3\n"
+        for judged, status in (("verify 7:long", 10), ("refute:long", 10), ("verify 7:memory", 6), ("refute:memory", 6)):
+            with self.subTest(judged):
+                self.lay(plan, "old")
+                ran = self.improve(f"{judged}\n0:open 5 9\n", seconds="2" if status == 10 else "20")
+                self.assertEqual((ran.returncode, ran.stdout), (status, ""), ran.stderr)
+                self.assertEqual((self.read("o"), self.read("l"), self.calls()), (plan, "old", []))
+
+    def test_an_interrupt_while_a_file_is_judged_writes_nothing(self):
+        self.lay("", "old")
+        self.write(f"{self.out}/answers", "refute:long\n0:open 5 9\n")
+        status, said, _ = self.interrupted(lambda: os.path.exists(f"{self.out}/judging"))
+        self.assertEqual((status, said, self.read("l"), self.calls()), (130, "", "old", []))
+
+    def test_there_may_be_time_without_end(self):
+        for seconds in ("inf", "1e9"):
+            self.lay("id,lower,upper,size,offset\na,0,1,4,3\n", "old")
+            ran = self.improve("verify 7:right\nrefute:accepted 6\n", seconds=seconds)
+            self.assertEqual((ran.returncode, ran.stdout), (0, "least 7\n"), ran.stderr)
 
     def test_files_that_decide_need_no_call(self):
         plan = "id,lower,upper,size,offset\na,0,1,4,3\n"
@@ -469,7 +496,7 @@ class Files(unittest.TestCase):
             self.write(name, "old")
 
     def write(self, path, text):
-        with open(path, "w", encoding="utf-8") as file:
+        with open(path, "w", encoding="utf-8", newline="") as file:
             file.write(text)
 
     def read(self, path):
@@ -524,6 +551,24 @@ class Files(unittest.TestCase):
             improve.make_like(self.l, self.o)
         self.assertEqual((given, os.stat(self.l).st_mode & 0o777), ([os.stat(self.o).st_gid], 0o640))
 
+    def test_a_height_is_found_as_the_program_reads(self):
+        long = "x" * 200000
+        for given in ("\ufeffid,size\na,4\n", f"id,size,note\r\na,4,{long}\r\n", 'id,size,note\n\na,4,"b\r\nc"\n', "id,size\ra,4"):
+            self.write(self.l, given)
+            rows = list(improve.records_of(self.l))
+            with open(self.o, "w", newline="", encoding="utf-8") as file:
+                csv.writer(file).writerows([[*rows[0], "offset"], [*rows[1], "3"]])
+            self.assertEqual(improve.height_of(self.l, self.o), 7)
+
+    def test_a_file_that_is_no_layout_is_not_read_through(self):
+        self.write(self.l, "id,size\na,4\n")
+        os.truncate(self.o, 2**36)
+        self.assertIsNone(improve.height_of(self.l, self.o))
+        self.write(self.o, "other\n" + "a,4,3\n" * 5000000)
+        begun = time.process_time()
+        self.assertIsNone(improve.height_of(self.l, self.o))
+        self.assertLess(time.process_time() - begun, 1)
+
     def ended(self, best):
         """How it ends after answers of which the third is not taken whole, and what it says last."""
         answers = iter([(5, 9), (6, 8), (7, 7)])
@@ -533,7 +578,9 @@ class Files(unittest.TestCase):
             self.write(best.log.draft(), "log")
             return next(answers)
 
-        with mock.patch.object(improve, "call", call), contextlib.redirect_stderr(io.StringIO()) as told:
+        # What was there before is neither a layout nor a log.
+        stubs = mock.patch.multiple(improve, call=call, said_to=lambda *_: [])
+        with stubs, contextlib.redirect_stderr(io.StringIO()) as told:
             how = improve.ended(best, 60, "", mock.Mock(came=False))
         return how, told.getvalue().splitlines()[-1]
 

@@ -245,6 +245,9 @@ class Launcher(unittest.TestCase):
         for names in (["GIT_DIR"], ["GIT_DIR", "GIT_WORK_TREE"], ["GIT_INDEX_FILE"], ["GIT_OBJECT_DIRECTORY"]):
             ran = self.run_it("--version", environment={it: other[it] for it in names})
             self.assertEqual(ran.stdout, self.run_it("--version").stdout)
+        trusted = {"GIT_CONFIG_COUNT": "1", "GIT_CONFIG_KEY_0": "safe.directory", "GIT_CONFIG_VALUE_0": "*"}
+        ran = self.run_it("--version", environment={"GIT_TEST_ASSUME_DIFFERENT_OWNER": "1", **trusted})
+        self.assertEqual(ran.stdout, self.run_it("--version").stdout)
 
     def test_a_note_of_another_build_is_none(self):
         self.write(f"{self.top}/stub", "#!/bin/sh\n", 0o755)
