@@ -48,8 +48,8 @@ if not open(given["--input"]).read().startswith("id"):
 answers = dict(line.split(":") for line in open(f"{top}/answers").read().split("\\n") if line)
 if sys.argv[1] in ("verify", "refute"):
     told = answers.get(f"{sys.argv[1]} {given.get('--capacity', '')}".rstrip(), "wrong")
-    if told == "memory":
-        sys.exit(6)
+    if told in ("memory", "words"):
+        sys.exit(6 if told == "memory" else 8)
     while told == "long":
         open(f"{top}/judging", "w").close()
         time.sleep(0.1)
@@ -166,7 +166,8 @@ class Improve(unittest.TestCase):
 
     def test_what_could_not_be_judged_stays(self):
         plan = "id,lower,upper,size,offset\na,0,1,4,3\n"
-        for judged, status in (("verify 7:long", 10), ("refute:long", 10), ("verify 7:memory", 6), ("refute:memory", 6)):
+        ends = [("verify 7:long", 10), ("refute:long", 10), ("verify 7:memory", 6), ("refute:memory", 6), ("verify 7:words", 8)]
+        for judged, status in ends:
             with self.subTest(judged):
                 self.lay(plan, "old")
                 ran = self.improve(f"{judged}\n0:open 5 9\n", seconds="2" if status == 10 else "20")
@@ -241,6 +242,13 @@ class Improve(unittest.TestCase):
                 return
             time.sleep(0.05)
         self.fail("it did not come")
+
+    def test_a_signal_in_a_build_that_ends_by_itself_is_an_interrupt(self):
+        self.write(f"{self.top}/dsaplan", f"#!/bin/sh\n: >{self.work}/begun\nsleep 0.2\nexit 3\n")
+        with subprocess.Popen(self.words(), env=self.environment, cwd=self.work, stderr=subprocess.DEVNULL) as run:
+            self.wait_for(lambda: os.path.exists(f"{self.work}/begun"))
+            run.send_signal(signal.SIGTERM)
+            self.assertEqual(run.wait(timeout=10), 130)
 
     def test_a_signal_in_a_build_ends_what_builds(self):
         self.write(f"{self.top}/dsaplan", f"#!/bin/sh\nsleep 60 &\necho $! >{self.work}/number\nwait\n")
