@@ -1,11 +1,12 @@
 -- Worked facts: a line of two bounds, and what it is watched by at some levels.
-use Rattle.std.proofs.Common.{◌≡◌, ℕ, zero, suc, ◌<◌, ◌≤◌, List, [], ◌∷◌, Some, inl, inr, slice_get, slice_index, refl, sym, ap, subst, arith}
+use Rattle.std.proofs.Common.{◌≡◌, ℕ, zero, suc, ◌<◌, ◌≤◌, ◌⊎◌, List, [], ◌∷◌, Some, inl, inr, slice_get, slice_index, refl, sym, ap, subst, arith}
 use Rattle.dsa_terms.specs.Claims.{Claim, Entry, IsIn}
 use Rattle.dsa_terms.specs.Logs.{Line, Over, claim_of}
 use Rattle.dsa_terms.proofs.Lists.{same_some}
+use Rattle.canonical_order.specs.Claims.{HasBuffer}
 use Rattle.line_index.specs.declared.look.Look.TheVariants.{Covers, Unmet, Lacks}
 use Rattle.line_index.specs.Looks.{IsLacked, IsLook, IsUnmet}
-use Rattle.line_index.specs.Watches.{AreRaised, AreTheRaised, AreWatched, Fails, HasLevels, RulesOut}
+use Rattle.line_index.specs.Watches.{AreNoted, AreRaised, AreTheRaised, AreWatched, Fails, HasLevels, LineWatches, RulesOut}
 
 -- the line has the bounds 2 of buffer 0 and 5 of buffer 1
 abbrev pub claim : Claim
@@ -129,8 +130,35 @@ no_entry_of_it r = go r.among
     go (inr (inl q)) = absurd (let k : 6 ≡ 5 = ap (λ (e : Entry). e.1) q in omega arith)
     go (inr (inr j)) = j
 
-pub watched_at_low : AreWatched lines ((1, 5) ∷ []) low 1
-watched_at_low = record { within = omega arith; each = each }
+-- ---- notes
+noted : (b : ℕ) → (b ≡ 0) ⊎ (b ≡ 1) → AreNoted lines (b ∷ []) 1
+noted b either zero lt line at = (b, refl, subst (λ (x : Line). HasBuffer (claim_of x) b) (same_some at) (has either))
+  where
+    has : (b ≡ 0) ⊎ (b ≡ 1) → HasBuffer claim b
+    has (inl q) = inl q
+    has (inr q) = inr (inl q)
+noted b either (suc k) lt line at = absurd (omega arith)
+
+not_noted : AreNoted lines (2 ∷ []) 1 → ⊥
+not_noted h = let n = h 0 (omega arith) (Over claim 0 5 1) refl in
+    absurd (elim n.2 [
+      | inl q ↦ (let b : 2 ≡ n.0 = same_some n.1 in omega arith)
+      | inr i ↦ elim i [ inl q ↦ (let b : 2 ≡ n.0 = same_some n.1 in omega arith) | inr j ↦ j ]
+    ])
+
+-- ---- all of it
+abbrev pub watches_of : List Entry → List ℕ → LineWatches
+watches_of entries notes = record { entries = entries; notes = notes }
+
+-- the watch is the bound of buffer 1, and so is the note
+abbrev pub by_one : LineWatches
+by_one = watches_of ((1, 5) ∷ []) (1 ∷ [])
+
+without_note : AreWatched lines (watches_of ((1, 5) ∷ []) []) low 1 → ⊥
+without_note w = let n = w.noted 0 (omega arith) (Over claim 0 5 1) refl in cc
+
+pub watched_at_low : AreWatched lines by_one low 1
+watched_at_low = record { within = omega arith; noted = noted 1 (inr refl); each = each }
   where
     each : (k : ℕ) (line : Line) → k < 1 → slice_get lines k ≡ Some line →
         (e : Entry) × (slice_get ((1, 5) ∷ []) k ≡ Some e) × RulesOut low (claim_of line) e
@@ -142,13 +170,13 @@ watched_at_low = record { within = omega arith; each = each }
     )
     each (suc k) line lt at = absurd (omega arith)
 
-one_line_alone : AreWatched lines ((1, 5) ∷ []) low 2 → ⊥
+one_line_alone : AreWatched lines by_one low 2 → ⊥
 one_line_alone w = absurd (let k = w.within in omega arith)
 
-without_watch : AreWatched lines [] low 1 → ⊥
+without_watch : AreWatched lines (watches_of [] []) low 1 → ⊥
 without_watch w = let r = w.each 0 (Over claim 0 5 1) (omega arith) refl in cc
 
-pub met_by_high : AreWatched lines ((1, 5) ∷ []) high 1 → ⊥
+pub met_by_high : AreWatched lines by_one high 1 → ⊥
 met_by_high w =
     let r = w.each 0 (Over claim 0 5 1) (omega arith) refl in
     not_high (subst (RulesOut high claim) (sym (same_some r.1)) r.2)

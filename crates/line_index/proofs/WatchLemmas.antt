@@ -9,13 +9,13 @@ use Rattle.canonical_order.specs.Levels.{AreLevels}
 use Rattle.dsa_terms.proofs.NumberTests.{below_or_from, same_or_not}
 use Rattle.line_index.specs.Covered.{IsCoveredBy, NoneCovers}
 use Rattle.line_index.specs.Looks.{IsLacked, IsUnmet}
-use Rattle.line_index.specs.Watches.{AreRaised, AreWatched, Fails, HasLevels, RulesOut}
+use Rattle.line_index.specs.Watches.{AreNoted, AreRaised, AreWatched, Fails, HasLevels, LineWatches, RulesOut}
 use Rattle.line_index.specs.Watching.{AreMoved, AreOwnMoved, FailAt, IsWatched}
 use Rattle.refute_log.proofs.Legal.{get_before}
 use Rattle.line_index.proofs.Meeting.{is_met, meets}
 
 -- ---- what watched lines say
-pub watched_none : (I : Instance) (lines : List Line) (watches : List Entry) (l : Claim) (levels : List ℕ) →
+pub watched_none : (I : Instance) (lines : List Line) (watches : LineWatches) (l : Claim) (levels : List ℕ) →
     AreLevels I l levels → AreWatched lines watches levels (length lines) → NoneCovers I lines l
 watched_none I lines watches l levels h w k line at covers =
     let r = w.each k line (slice_get_within lines k line at) at in
@@ -24,10 +24,11 @@ watched_none I lines watches l levels h w k line at covers =
     (let z : f.1 < slice_index levels f.0 = is_met I l _ h f (covers f i) in omega arith)) in
     absurd (omega arith)
 
-pub watched_more : (lines more : List Line) (watches : List Entry) (levels : List ℕ) (n : ℕ) →
+pub watched_more : (lines more : List Line) (watches : LineWatches) (levels : List ℕ) (n : ℕ) →
     AreWatched lines watches levels n → AreWatched (lines ++ more) watches levels n
 watched_more lines more watches levels n w = record {
   within = (let le = w.within in let q = length-append lines more in omega arith);
+  noted = λ k lt line at. w.noted k lt line (sym (get_before lines more k (let le = w.within in omega arith)) ∙ at);
   each = λ k line lt at. w.each k line lt
       (sym (get_before lines more k (let le = w.within in omega arith)) ∙ at);
 }
@@ -122,6 +123,22 @@ module _ (lines : List Line) (levels : List ℕ) where
   pub own_of_moved : (xs ys : List Entry) → AreMoved lines levels xs ys → AreOwnMoved lines levels xs ys
   own_of_moved xs ys h k line e at stands i = elim (h k line at) [ inl q ↦ inl (q ∙ stands) | inr u ↦ inr u ]
 
+  pub own_trans : (xs ys zs : List Entry) → AreOwnMoved lines levels xs ys → AreOwnMoved lines levels ys zs →
+      AreOwnMoved lines levels xs zs
+  own_trans xs ys zs h g k line e at is i = elim (h k line e at is i) [
+    | inl same ↦ g k line e at same i
+    | inr u ↦ elim (g k line u.0 at u.1 u.2.among) [ inl same ↦ inr (u.0, same, u.2) | inr v ↦ inr v ]
+  ]
+
+  pub watched_still : (xs ys : List Entry) (k : ℕ) → AreOwnMoved lines levels xs ys → IsWatched lines xs levels k →
+      IsWatched lines ys levels k
+  watched_still xs ys k h w line at =
+      let r = w line at in
+      elim (h k line r.0 at r.1 r.2.among) [
+        | inl same ↦ (r.0, same, r.2)
+        | inr u ↦ (u.0, u.1, unmet_rules_out levels levels (claim_of line) u.0 (raised_refl levels) u.2)
+      ]
+
   -- a watch that was no entry of its line's claim may become any
   pub own_set : (xs : List Entry) (k : ℕ) (line : Line) (e old : Entry) → slice_get lines k ≡ Some line →
       slice_get xs k ≡ Some old → (IsIn old (claim_of line) → ⊥) → AreOwnMoved lines levels xs (slice_set xs k e)
@@ -151,11 +168,14 @@ module _ (lines : List Line) (levels : List ℕ) where
       same e = cc
 
   -- all lines were watched at the claim above, and each watch whose bound is met now fails
-  pub all_watched : (before : List ℕ) (xs ys : List Entry) (n : ℕ) → length levels ≤ n → AreMoved lines levels xs ys →
-      ((b : ℕ) → b < n → FailAt lines ys levels b (slice_index before b)) → AreRaised before levels →
-      AreWatched lines xs before (length lines) → AreWatched lines ys levels (length lines)
-  all_watched before xs ys n le h fail raised w = record {
+  pub all_watched : (before : List ℕ) (old new : LineWatches) (n : ℕ) → length levels ≤ n →
+      AreMoved lines levels old.entries new.entries →
+      ((b : ℕ) → b < n → FailAt lines new.entries levels b (slice_index before b)) → AreRaised before levels →
+      AreNoted lines new.notes (length lines) → AreWatched lines old before (length lines) →
+      AreWatched lines new levels (length lines)
+  all_watched before old new n le h fail raised noted w = record {
     within = w.within;
+    noted = noted;
     each = λ k line lt at.
         (let r = w.each k line lt at in elim (h k line at) [
           | inl q ↦ (r.0, q ∙ r.1, record { among = r.2.among; unmet = unmet k line r.0 at (q ∙ r.1) r.2 })
@@ -163,8 +183,8 @@ module _ (lines : List Line) (levels : List ℕ) where
         ]);
   }
     where
-      unmet : (k : ℕ) (line : Line) (e : Entry) → slice_get lines k ≡ Some line → slice_get ys k ≡ Some e →
-          RulesOut before (claim_of line) e → HasLevels levels (claim_of line) → slice_index levels e.0 ≤ e.1
+      unmet : (k : ℕ) (line : Line) (e : Entry) → slice_get lines k ≡ Some line →
+          slice_get new.entries k ≡ Some e → RulesOut before (claim_of line) e → HasLevels levels (claim_of line) → slice_index levels e.0 ≤ e.1
       unmet k line e at stands out has = elim (below_or_from e.1 (slice_index levels e.0)) [
         | inr from ↦ from
         | inl below ↦ elim (below_or_from e.0 n) [
@@ -175,11 +195,12 @@ module _ (lines : List Line) (levels : List ℕ) where
       ]
 
   -- what was asked before stays watched, and the lines from n on were asked now
-  pub watched_from : (xs ys : List Entry) (n : ℕ) → AreOwnMoved lines levels xs ys →
-      ((k : ℕ) → n ≤ k → k < length lines → IsWatched lines ys levels k) → AreWatched lines xs levels n →
-      AreWatched lines ys levels (length lines)
-  watched_from xs ys n moved new w = record {
+  pub watched_from : (old now : LineWatches) (n : ℕ) → AreOwnMoved lines levels old.entries now.entries →
+      ((k : ℕ) → n ≤ k → k < length lines → IsWatched lines now.entries levels k) →
+      AreNoted lines now.notes (length lines) → AreWatched lines old levels n → AreWatched lines now levels (length lines)
+  watched_from old now n moved new noted w = record {
     within = omega arith;
+    noted = noted;
     each = λ k line lt at.
         (elim (below_or_from k n) [
           | inr from ↦ new k from lt line at
@@ -189,5 +210,19 @@ module _ (lines : List Line) (levels : List ℕ) where
                 | inl same ↦ (r.0, same, r.2)
                 | inr u ↦ (u.0, u.1, record { among = u.2.among; unmet = λ _. u.2.unmet })
               ]
+        ]);
+  }
+
+  -- at a claim above, what was watched stays so
+  pub kept_above : (above : List ℕ) (old now : LineWatches) (n : ℕ) → AreRaised above levels →
+      AreOwnMoved lines levels old.entries now.entries → AreNoted lines now.notes n → AreWatched lines old above n →
+      AreWatched lines now above n
+  kept_above above old now n raised moved noted w = record {
+    within = w.within;
+    noted = noted;
+    each = λ k line lt at.
+        (let r = w.each k line lt at in elim (moved k line r.0 at r.1 r.2.among) [
+          | inl same ↦ (r.0, same, r.2)
+          | inr u ↦ (u.0, u.1, unmet_rules_out above levels (claim_of line) u.0 raised u.2)
         ]);
   }

@@ -1,7 +1,14 @@
--- Watches: for each line of a log one entry of its claim, which shows that the line does not cover a claim.
+-- Watches: for each line of a log one entry of its claim, which shows that the line does not cover a claim; and notes: one
+-- buffer of its claim.
 use Rattle.std.specs.Prelude.{◌≡◌, ℕ, ◌<◌, ◌≤◌, List, length, slice_get, slice_index, Some}
 use Rattle.dsa_terms.specs.Claims.{Claim, Entry, IsIn}
 use Rattle.dsa_terms.specs.Logs.{Line, claim_of}
+use Rattle.canonical_order.specs.Claims.{HasBuffer}
+
+-- the watches and the notes by line
+pub record LineWatches : Type 0 where
+  pub entries : List Entry
+  pub notes : List ℕ
 
 -- each buffer of k has a level
 abbrev pub HasLevels : List ℕ → Claim → Type 0
@@ -16,11 +23,22 @@ pub record RulesOut (levels : List ℕ) (k : Claim) (e : Entry) : Type 0 where
   pub among : IsIn e k
   pub unmet : Fails levels k e
 
--- there are n lines at least, and the watch of each of the first n rules out that it covers the claim of the levels
-pub record AreWatched (lines : List Line) (watches : List Entry) (levels : List ℕ) (n : ℕ) : Type 0 where
+-- the line of that number has a note, of a buffer of its claim
+abbrev pub IsNoted : List Line → List ℕ → ℕ → Type 0
+IsNoted lines notes k = (line : Line) → slice_get lines k ≡ Some line →
+    (b : ℕ) × (slice_get notes k ≡ Some b) × HasBuffer (claim_of line) b
+
+-- each of the first n lines has one
+abbrev pub AreNoted : List Line → List ℕ → ℕ → Type 0
+AreNoted lines notes n = (k : ℕ) → k < n → IsNoted lines notes k
+
+-- there are n lines at least, each of the first n has a note, and its watch rules out that it covers the claim of the
+-- levels
+pub record AreWatched (lines : List Line) (watches : LineWatches) (levels : List ℕ) (n : ℕ) : Type 0 where
   pub within : n ≤ length lines
+  pub noted : AreNoted lines watches.notes n
   pub each : (k : ℕ) (line : Line) → k < n → slice_get lines k ≡ Some line →
-      (e : Entry) × (slice_get watches k ≡ Some e) × RulesOut levels (claim_of line) e
+      (e : Entry) × (slice_get watches.entries k ≡ Some e) × RulesOut levels (claim_of line) e
 
 -- each buffer that has a level now had one before, which was no higher
 abbrev pub AreRaised : List ℕ → List ℕ → Type 0

@@ -4,6 +4,7 @@
 mod child_cover;
 mod levels;
 mod look;
+mod notes;
 mod recent;
 mod watch_row;
 mod watch_table;

@@ -8,11 +8,12 @@ ghost use Rattle.canonical_order.specs.Levels.{AreLevels};
 ghost use Rattle.line_index.specs.declared.watch_row.Mark.{Mark as MarkTerm};
 ghost use Rattle.line_index.specs.Covered.{IsCoveredBy, NoneCovers};
 ghost use Rattle.line_index.specs.Looks.{IsUnmet};
-ghost use Rattle.line_index.specs.Watches.{AreRaised, AreTheRaised, AreWatched};
+ghost use Rattle.line_index.specs.Watches.{AreNoted, AreRaised, AreTheRaised, AreWatched};
 ghost use Rattle.line_index.specs.Watching.{AreMoved, AreOwnMoved, FailAt, FailsAtMark, IsWatched, row_at};
 
 use crate::levels::level_at;
 use crate::look::{Look, look_at};
+use crate::notes::Notes;
 use crate::watch_table::WatchTable;
 use canonical_order::Claim;
 use dsa_model::NoMemory;
@@ -73,11 +74,23 @@ fn covers(table: &mut WatchTable, log: &Log, levels: &[u64], k: u64) -> Result<b
     Ok(false)
 }
 
+/// Yes only where the line of that number has a note, of a buffer that has no level.
+fn is_passed(notes: &Notes, k: u64, levels: &[u64]) -> bool
+    ensures { result ≡ true →
+        (b : ℕ) × (slice_get notes.now k ≡ Some b) × (slice_index levels.now b ≡ 0) }
+{
+    match notes.get(k) {
+        Some(b) => level_at(levels, b as usize) == 0,
+        None => false,
+    }
+}
+
 /// The line of the mark at a place of the row of b, if it covers the claim of the levels, which
 /// meets the bound of the mark. If not, either no line has the mark for its watch, or the watch
 /// fails at the levels. Marks at the places before stay.
 fn try_mark(
     table: &mut WatchTable,
+    notes: &mut Notes,
     log: &Log,
     b: usize,
     i: usize,
@@ -89,10 +102,13 @@ fn try_mark(
     ensures some { (I : Instance) (l : ClaimTerm) → AreLevels I l now.now →
         IfOk result (λ found. IfSome found (IsCoveredBy I log.now.lines l)) }
     ensures none { (m : MarkTerm) → slice_get (row_at table.old.rows b) i ≡ Some m →
+        AreNoted log.now.lines notes.old (length log.now.lines) →
         IfOk result (λ found. IfNone found
         (FailsAtMark log.now.lines table.new.watches now.now b m)) }
     ensures moved { let lines = log.now.lines in
         OnOk result (AreMoved lines now.now table.old.watches table.new.watches) }
+    ensures noted { (n : ℕ) → AreNoted log.now.lines notes.old n →
+        OnOk result (AreNoted log.now.lines notes.new n) }
     ensures before { OnOk result
         (take i (row_at table.new.rows b) ≡ take i (row_at table.old.rows b)) }
 {
@@ -106,6 +122,9 @@ fn try_mark(
         table.take(b, i);
         return Ok(None);
     }
+    if is_passed(notes, k, now) {
+        return Ok(None);
+    }
     match look_at(log.line(k).claim(), now) {
         Look::Covers => Ok(Some(k)),
         Look::Unmet(c, bound) => {
@@ -113,7 +132,10 @@ fn try_mark(
             table.take(b, i);
             Ok(None)
         }
-        Look::Lacks(..) => Ok(None),
+        Look::Lacks(c, _) => {
+            notes.set(k, c);
+            Ok(None)
+        }
     }
 }
 
@@ -121,6 +143,7 @@ fn try_mark(
 /// and below the level. If there is none, such watches fail there.
 fn find_in(
     table: &mut WatchTable,
+    notes: &mut Notes,
     log: &Log,
     b: usize,
     low: u64,
@@ -129,10 +152,13 @@ fn find_in(
     requires few { length now.now ≤ buffer_limit }
     ensures some { (I : Instance) (l : ClaimTerm) → AreLevels I l now.now →
         IfOk result (λ found. IfSome found (IsCoveredBy I log.now.lines l)) }
-    ensures none { IfOk result (λ found. IfNone found
+    ensures none { AreNoted log.now.lines notes.old (length log.now.lines) →
+        IfOk result (λ found. IfNone found
         (FailAt log.now.lines table.new.watches now.now b low)) }
     ensures moved { let lines = log.now.lines in
         OnOk result (AreMoved lines now.now table.old.watches table.new.watches) }
+    ensures noted { (n : ℕ) → AreNoted log.now.lines notes.old n →
+        OnOk result (AreNoted log.now.lines notes.new n) }
 {
     let high = level_at(now, b);
     if high <= low {
@@ -141,7 +167,7 @@ fn find_in(
     for i in (0..table.row_len(b)).rev() {
         let mark = table.mark(b, i);
         if low <= mark.bound && mark.bound < high {
-            let found = try_mark(table, log, b, i, now)?;
+            let found = try_mark(table, notes, log, b, i, now)?;
             if found.is_some() {
                 return Ok(found);
             }
@@ -155,31 +181,34 @@ fn find_in(
 /// cover it. So where a search goes down to a child, only the lines whose watch the child meets and
 /// the claim above does not are tried: such a line covers the child, gets another watch, or has a
 /// buffer that the child has not and keeps its watch. Going back up undoes nothing, since lows fall
-/// on the way. Contracts see the watches by line.
+/// on the way. Each line also has a note, the buffer that a claim lacked when the line was looked
+/// at last: where the child lacks it too, the line is not read. Contracts see the watches and the
+/// notes by line.
 ///
 /// A claim is given by its levels: for each buffer of the instance one more than its low in bytes,
 /// and 0 where it is not in the claim.
 #[derive(Drop)]
 pub struct Watches {
     table: WatchTable,
+    notes: Notes,
 }
 
 impl Model for Watches {
-    ghost use Rattle.std.specs.Prelude.{List};
-    ghost use Rattle.dsa_terms.specs.Claims.{Entry};
+    ghost use Rattle.line_index.specs.Watches.{LineWatches};
 
-    ghost Value = { List Entry };
+    ghost Value = { LineWatches };
 
-    ghost view = { λ w. w.table.watches };
+    ghost view = { λ w. record { entries = w.table.watches; notes = w.notes } };
 }
 
 impl Watches {
     /// No lines.
     pub fn new(alloc: Global) -> Result<Watches, NoMemory>
-        ensures { IfOk result (λ watches. watches ≡ []) }
+        ensures { IfOk result (λ watches. watches ≡ record { entries = []; notes = [] }) }
     {
         let table = WatchTable::new(alloc)?;
-        Ok(Watches { table })
+        let notes = Notes::new(alloc);
+        Ok(Watches { table, notes })
     }
 
     /// A line that covers the claim of the levels, looked for from line `asked` on: all lines are
@@ -200,10 +229,12 @@ impl Watches {
             IfOk result (λ _. AreWatched log.now.lines self.new above n) }
     {
         self.table.extend(log.len())?;
+        self.notes.extend(log.len())?;
         for k in (asked..log.len()).rev() {
             if covers(&mut self.table, log, levels, k)? {
                 return Ok(Some(k));
             }
+            self.notes.set(k, self.table.watch(k).0);
         }
         Ok(None)
     }
@@ -238,7 +269,8 @@ impl Watches {
     {
         for number in raised {
             let b = *number as usize;
-            let found = find_in(&mut self.table, log, b, level_at(before, b), now)?;
+            let low = level_at(before, b);
+            let found = find_in(&mut self.table, &mut self.notes, log, b, low, now)?;
             if found.is_some() {
                 return Ok(found);
             }

@@ -1,6 +1,6 @@
 -- What is found where claims are opened of a buffer of size 3 and one of size 1 that stands at multiples of 4 alone.
 use Rattle.std.proofs.Common.{◌≡◌, ◌<◌, ℕ, zero, suc, List, [], ◌∷◌, slice_get, Some, inl, refl, sym, ◌∙◌, subst, arith}
-use Rattle.search_core.proofs.Words.{buffer, have_same_moments, is_live, some_before, Entry, up, Line, claim_of, ends_below, is_twin, comes_before, first, work, small_below, same_some, RulesOut}
+use Rattle.search_core.proofs.Words.{buffer, have_same_moments, is_live, some_before, Entry, up, Line, claim_of, ends_below, is_twin, comes_before, first, work, small_below, same_some, HasBuffer, AreNoted, LineWatches, RulesOut}
 use Rattle.search_core.specs.declared.fresh.Fresh.{Fresh}
 use Rattle.search_core.specs.declared.opening.Opened.TheVariants as opened
 use Rattle.search_core.specs.Meters.{Units}
@@ -40,9 +40,18 @@ abbrev fresh : ℕ → Fresh
 fresh n = record { levels = 1 ∷ 1 ∷ []; chosen = 0; asked = n }
 
 -- ---- lines that were asked, and are watched
-asked_and_watched : AreAllAsked (over ∷ []) ((1, 4) ∷ []) (fresh 1)
-asked_and_watched = record { asked = refl; watched = record { within = omega arith; each = each } }
+abbrev of_buffer_1 : LineWatches
+of_buffer_1 = record { entries = (1, 4) ∷ []; notes = 1 ∷ [] }
+
+asked_and_watched : AreAllAsked (over ∷ []) of_buffer_1 (fresh 1)
+asked_and_watched =
+    record { asked = refl; watched = record { within = omega arith; noted = noted; each = each } }
   where
+    noted : AreNoted (over ∷ []) (1 ∷ []) 1
+    noted zero lt line at =
+        (1, refl, subst (λ (x : Line). HasBuffer (claim_of x) 1) (same_some at) (inl refl))
+    noted (suc k) lt = absurd (omega arith)
+
     each : (k : ℕ) (line : Line) → k < 1 → slice_get (over ∷ []) k ≡ Some line →
         (e : Entry) × (slice_get ((1, 4) ∷ []) k ≡ Some e) × RulesOut (1 ∷ 1 ∷ []) (claim_of line) e
     each zero line lt at = (
@@ -53,10 +62,10 @@ asked_and_watched = record { asked = refl; watched = record { within = omega ari
     )
     each (suc k) line lt at = absurd (omega arith)
 
-not_all_asked : AreAllAsked (over ∷ []) ((1, 4) ∷ []) (fresh 0) → ⊥
+not_all_asked : AreAllAsked (over ∷ []) of_buffer_1 (fresh 0) → ⊥
 not_all_asked h = let k = h.asked in omega arith
 
-asked_without_watch : AreAllAsked (over ∷ []) [] (fresh 1) → ⊥
+asked_without_watch : AreAllAsked (over ∷ []) (record { entries = []; notes = [] }) (fresh 1) → ⊥
 asked_without_watch h = let r = h.watched.each 0 over (omega arith) refl in let e = r.1 in absurd cc
 
 -- ---- what is found

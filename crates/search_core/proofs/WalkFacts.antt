@@ -1,6 +1,6 @@
 -- A search that is at what is left of one buffer, below a root of two.
 use Rattle.std.proofs.Common.{◌≡◌, ℕ, [], ◌∷◌, Some, None, length, refl, ap, arith}
-use Rattle.search_core.proofs.Words.{Instance, OpenLog}
+use Rattle.search_core.proofs.Words.{Instance, LineWatches, OpenLog}
 use Rattle.search_core.specs.declared.walk.Walk.{Walk}
 use Rattle.search_core.specs.Meters.{Units}
 use Rattle.search_core.specs.Tries.{Tried}
@@ -53,8 +53,11 @@ module _ (walk : Walk) (units : Units) where
   its_watches h = h
 
   -- ---- a line that was asked, and is not watched
-  not_watched : walk.path.frames ≡ both_left 1 ∷ [] → walk.watches ≡ [] → HasWatches (over ∷ []) walk → ⊥
+  abbrev none : LineWatches
+  none = record { entries = []; notes = [] }
+
+  not_watched : walk.path.frames ≡ both_left 1 ∷ [] → walk.watches ≡ none → HasWatches (over ∷ []) walk → ⊥
   not_watched e w h =
-      let k : AreWatchedAt (over ∷ []) [] (both_left 1 ∷ []) = rw (e, w) at h in
+      let k : AreWatchedAt (over ∷ []) none (both_left 1 ∷ []) = rw (e, w) at h in
       let r = (k 0 (both_left 1) (omega arith)).each 0 over (omega arith) refl in
       cc

@@ -1,14 +1,14 @@
 -- Worked facts: a line of two bounds that is watched at the claims of one frame, and not at those of two.
 use Rattle.std.proofs.Common.{zero, suc, [], ◌∷◌, arith}
-use Rattle.line_index.proofs.WatchFacts.{fallen, high, lines, low, met_by_high, raised, watched_at_low}
+use Rattle.line_index.proofs.WatchFacts.{by_one, fallen, high, lines, low, met_by_high, raised, watched_at_low}
 use Rattle.search_core.specs.Tries.{untried}
 use Rattle.search_core.specs.Watches.{AreRaisedFrom, AreWatchedAt}
 
-watched_at_one : AreWatchedAt lines ((1, 5) ∷ []) (untried (0 ∷ []) low 1 ∷ [])
+watched_at_one : AreWatchedAt lines by_one (untried (0 ∷ []) low 1 ∷ [])
 watched_at_one zero d lt = watched_at_low
 watched_at_one (suc k) d lt = absurd (omega arith)
 
-not_at_both : AreWatchedAt lines ((1, 5) ∷ []) (untried (0 ∷ []) low 1 ∷ untried (0 ∷ []) high 1 ∷ []) → ⊥
+not_at_both : AreWatchedAt lines by_one (untried (0 ∷ []) low 1 ∷ untried (0 ∷ []) high 1 ∷ []) → ⊥
 not_at_both h = met_by_high (h 1 (untried [] [] 0) (omega arith))
 
 raised_from_one : AreRaisedFrom (untried (0 ∷ []) low 1 ∷ []) high

@@ -2,7 +2,7 @@
 use Rattle.std.proofs.Common.{◌≡◌, ℕ, ◌-◌, List, [], ◌∷◌, ◌++◌, length, slice_index_or, Option, Some, IfSome, subst, sym}
 use Rattle.std.proofs.lemmas.List.Elements.{All-pop, All-push, All-weaker}
 use Rattle.std.proofs.lemmas.Option.{get_or_from_slice_get, slice_get_within}
-use Rattle.search_core.proofs.Words.{Claim, Entry, Line, AreRaised, AreWatched, watched_more}
+use Rattle.search_core.proofs.Words.{Claim, Line, AreRaised, AreWatched, LineWatches, watched_more}
 use Rattle.search_core.specs.declared.path.Above.{Above}
 use Rattle.search_core.specs.Descents.{HasAskedAll}
 use Rattle.search_core.specs.Logs.{Extends}
@@ -11,7 +11,7 @@ use Rattle.search_core.specs.Watches.{AreRaisedFrom, AreWatchedAt}
 use Rattle.search_core.specs.Ways.{IsAbove}
 
 -- a log that grows keeps what is watched
-pub all_watched_more : (l : Claim) (lines after : List Line) (watches : List Entry) (frames : List Tried) →
+pub all_watched_more : (l : Claim) (lines after : List Line) (watches : LineWatches) (frames : List Tried) →
     Extends l lines after → AreWatchedAt lines watches frames → AreWatchedAt after watches frames
 all_watched_more l lines after watches frames grown =
     All-weaker (λ (f : Tried). AreWatched lines watches f.levels f.asked)
@@ -20,7 +20,7 @@ all_watched_more l lines after watches frames grown =
     (watched_more _ grown.more _ _ _ w)) frames
 
 -- and so do watches that move, where each claim above keeps what is watched there
-pub all_watched_still : (lines : List Line) (before after : List Entry) (levels : List ℕ) (frames : List Tried) →
+pub all_watched_still : (lines : List Line) (before after : LineWatches) (levels : List ℕ) (frames : List Tried) →
     AreRaisedFrom frames levels →
     ((above : List ℕ) (n : ℕ) → AreRaised above levels → AreWatched lines before above n →
     AreWatched lines after above n) → AreWatchedAt lines before frames → AreWatchedAt lines after frames
@@ -28,7 +28,7 @@ all_watched_still lines before after levels frames raised kept watched k d lt =
     kept _ _ (raised k d lt) (watched k d lt)
 
 -- a frame is put last
-pub all_watched_push : (lines : List Line) (watches : List Entry) (frames after : List Tried) (f : Tried) →
+pub all_watched_push : (lines : List Line) (watches : LineWatches) (frames after : List Tried) (f : Tried) →
     after ≡ frames ++ f ∷ [] → AreWatchedAt lines watches frames → AreWatched lines watches f.levels f.asked →
     AreWatchedAt lines watches after
 all_watched_push lines watches frames after f e h w =
@@ -36,19 +36,19 @@ all_watched_push lines watches frames after f e h w =
     (All-push (λ (f : Tried). AreWatched lines watches f.levels f.asked) frames f h w)
 
 -- the last frame is taken off
-pub all_watched_pop : (lines : List Line) (watches : List Entry) (frames rest : List Tried) (f : Tried) →
+pub all_watched_pop : (lines : List Line) (watches : LineWatches) (frames rest : List Tried) (f : Tried) →
     frames ≡ rest ++ f ∷ [] → AreWatchedAt lines watches frames →
     AreWatchedAt lines watches rest × AreWatched lines watches f.levels f.asked
 all_watched_pop lines watches frames rest f e h =
     All-pop (λ (f : Tried). AreWatched lines watches f.levels f.asked) frames rest (Some f) e h
 
 -- the number of lines was read
-pub watched_to : (lines : List Line) (watches : List Entry) (levels : List ℕ) (n : ℕ) → n ≡ length lines →
+pub watched_to : (lines : List Line) (watches : LineWatches) (levels : List ℕ) (n : ℕ) → n ≡ length lines →
     AreWatched lines watches levels (length lines) → AreWatched lines watches levels n
 watched_to lines watches levels n e w = subst (AreWatched lines watches levels) (sym e) w
 
 -- the claim above the last one asked all lines
-pub watched_above : (lines : List Line) (watches : List Entry) (levels : List ℕ) (frames : List Tried) (above : Above) →
+pub watched_above : (lines : List Line) (watches : LineWatches) (levels : List ℕ) (frames : List Tried) (above : Above) →
     IsAbove frames above → AreWatchedAt lines watches frames → AreRaisedFrom frames levels → HasAskedAll lines frames →
     AreRaised above.levels.now levels × AreWatched lines watches above.levels.now (length lines)
 watched_above lines watches levels frames above a h raised latest =

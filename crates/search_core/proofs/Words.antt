@@ -29,7 +29,7 @@ pub use Rattle.lifetime.specs.SectionList.{AreSectionsOf, SectionList, count_of,
 pub use Rattle.line_index.proofs.Finding.{next_of}
 pub use Rattle.line_index.proofs.WatchLemmas.{raised_trans, watched_more, watched_none}
 pub use Rattle.line_index.specs.Covered.{IsCoveredBy, NoneCovers}
-pub use Rattle.line_index.specs.Watches.{AreRaised, AreWatched, RulesOut}
+pub use Rattle.line_index.specs.Watches.{AreNoted, AreRaised, AreWatched, LineWatches, RulesOut}
 pub use Rattle.refute_log.specs.Lines.{IsCiteWithin, cite_value, line_value}
 pub use Rattle.refute_log.specs.Logs.{Belongs, OpenLog, ended}
 pub use Rattle.skyline.specs.Skies.{AreLow, Sky, last_claim}

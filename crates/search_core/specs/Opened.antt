@@ -1,12 +1,12 @@
 -- What is found where a claim is opened.
 use Rattle.std.specs.Prelude.{◌≡◌, ◌≢◌, ℕ, ◌+◌, ⊤, Some, [], List, length, map}
 use Rattle.dsa_terms.specs.Buffers.{Instance}
-use Rattle.dsa_terms.specs.Claims.{Claim, Entry}
+use Rattle.dsa_terms.specs.Claims.{Claim}
 use Rattle.dsa_terms.specs.Logs.{Line}
 use Rattle.dsa_terms.specs.Search.{first, work}
 use Rattle.canonical_order.specs.Claims.{entry_of}
 use Rattle.line_index.specs.Covered.{NoneCovers}
-use Rattle.line_index.specs.Watches.{AreWatched}
+use Rattle.line_index.specs.Watches.{AreWatched, LineWatches}
 use Rattle.search_core.specs.declared.opening.Opened.{Opened}
 use Rattle.search_core.specs.declared.opening.Opened.TheVariants as opened
 use Rattle.search_core.specs.declared.fresh.Fresh.{Fresh}
@@ -23,7 +23,7 @@ pub record AreChoices (I : Instance) (C : ℕ) (lines : List Line) (l : Claim) (
   pub work : work I C l ≡ 1 + through I C l (map (entry_of l) (rest_of f))
 
 -- all lines were asked at the claim of the choices, and are watched there
-pub record AreAllAsked (lines : List Line) (watches : List Entry) (x : Fresh) : Type 0 where
+pub record AreAllAsked (lines : List Line) (watches : LineWatches) (x : Fresh) : Type 0 where
   pub asked : x.asked ≡ length lines
   pub watched : AreWatched lines watches x.levels x.asked
 

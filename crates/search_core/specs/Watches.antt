@@ -1,13 +1,12 @@
 -- What is watched at the claims above the one that the search is at.
 use Rattle.std.specs.Prelude.{ℕ, List}
 use Rattle.std.specs.List.{All}
-use Rattle.dsa_terms.specs.Claims.{Entry}
 use Rattle.dsa_terms.specs.Logs.{Line}
-use Rattle.line_index.specs.Watches.{AreRaised, AreWatched}
+use Rattle.line_index.specs.Watches.{AreRaised, AreWatched, LineWatches}
 use Rattle.search_core.specs.Tries.{Tried}
 
 -- at each of these claims the lines that were asked there are watched
-abbrev pub AreWatchedAt : List Line → List Entry → List Tried → Type 0
+abbrev pub AreWatchedAt : List Line → LineWatches → List Tried → Type 0
 AreWatchedAt lines watches frames = All (λ (f : Tried). AreWatched lines watches f.levels f.asked) frames
 
 -- the levels of each of these claims are no higher than these levels
