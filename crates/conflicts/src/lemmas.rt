@@ -10,7 +10,7 @@ ghost use Rattle.refute_log.specs.Reasons.{first_reason};
 ghost use Rattle.conflicts.specs.Covering.{IsCoveringLine};
 
 use canonical_order::{Lows, covers};
-use dsa_model::{Fail, Instance};
+use dsa_model::{Fail, Instance, NoMemory};
 use refute_log::{Line, Log, Reason};
 use std::alloc::Global;
 use std::marker::Model;
@@ -73,6 +73,22 @@ impl Lemmas {
         ensures unchanged { OnErr result (self.new ≡ self.old) }
     {
         self.log.push(instance, line)
+    }
+
+    /// Appends a line that is known to be legal after the others, without judging it again, and
+    /// gives its number. Without memory the lines stay as they are. The lines are of the instance,
+    /// and the numbers of the line are within their limits, as for `push`.
+    pub fn push_legal(&mut self, instance: &Instance, line: Line) -> Result<u64, NoMemory>
+        requires belongs { Belongs instance.now self.old }
+        requires within { IsWithin (line_value line) }
+        requires legal { IsLegal instance.now self.old.capacity self.old.lines (line_value line) }
+        ensures number { IfOk result (λ k. k ≡ length self.old.lines) }
+        ensures appended { let lines = self.old.lines ++ line_value line ∷ [] in
+            OnOk result (self.new ≡ record self.old { lines = lines }) }
+        ensures belongs { Belongs instance.now self.new }
+        ensures unchanged { OnErr result (self.new ≡ self.old) }
+    {
+        self.log.push_legal(instance, line)
     }
 
     /// The number of the least line whose claim covers the claim, and none exactly where there is

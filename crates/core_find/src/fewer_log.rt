@@ -12,7 +12,7 @@ ghost use Rattle.core_find.specs.Carried.{NeedsOnly, carried, place_among, place
 
 use crate::members::sub_instance;
 use canonical_order::Claim;
-use dsa_model::{Fail, Instance, NoMemory};
+use dsa_model::{Instance, NoMemory};
 use log_trim::trim;
 use refute_log::{Cite, Cites, ClosedLog, Line, Log};
 use std::alloc::{AllocError, Global};
@@ -129,11 +129,8 @@ fn append(instance: &Instance, log: &mut Log, line: Line) -> Result<(), NoMemory
         OnOk result (log.new ≡ record log.old { lines = lines }) }
     ensures belongs { Belongs instance.now log.new }
 {
-    match log.push(instance, line) {
-        Ok(_) => Ok(()),
-        Err(Fail::NoMemory) => Err(NoMemory),
-        Err(Fail::Fault(_)) => unreachable!(),
-    }
+    log.push_legal(instance, line)?;
+    Ok(())
 }
 
 /// The lines of the log with the new numbers of their buffers, on a log of the instance, for which

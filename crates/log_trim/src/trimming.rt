@@ -12,7 +12,7 @@ ghost use Rattle.log_trim.specs.Marks.{marks_of};
 
 use crate::marking::needed;
 use crate::moving::moved_line;
-use dsa_model::{Fail, Instance, NoMemory};
+use dsa_model::{Instance, NoMemory};
 use refute_log::{ClosedLog, Line, Log};
 use std::alloc::Global;
 
@@ -25,11 +25,8 @@ fn append(instance: &Instance, log: &mut Log, line: Line) -> Result<(), NoMemory
         OnOk result (log.new ≡ record log.old { lines = lines }) }
     ensures belongs { Belongs instance.now log.new }
 {
-    match log.push(instance, line) {
-        Ok(_) => Ok(()),
-        Err(Fail::NoMemory) => Err(NoMemory),
-        Err(Fail::Fault(_)) => unreachable!(),
-    }
+    log.push_legal(instance, line)?;
+    Ok(())
 }
 
 /// The marked lines in order, on a log of their own, with their cites renumbered: the number of a

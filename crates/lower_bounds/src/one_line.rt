@@ -12,7 +12,7 @@ ghost use Rattle.lower_bounds.specs.Stacks.{counts};
 
 use crate::Bound;
 use canonical_order::Claim;
-use dsa_model::{Buffer, Fail, Instance, NoMemory};
+use dsa_model::{Buffer, Instance, NoMemory};
 use dsa_start_laws::bound_is_low;
 use refute_log::{ClosedLog, Line, Log};
 use std::alloc::{AllocError, Global};
@@ -93,13 +93,10 @@ impl Bound {
             height,
             modulus: self.modulus,
         };
-        match log.push(instance, line) {
-            Ok(end) => match log.close(instance, end) {
-                Ok(closed) => Ok(closed),
-                Err(_) => unreachable!(),
-            },
-            Err(Fail::NoMemory) => Err(NoMemory),
-            Err(Fail::Fault(_)) => unreachable!(),
+        let end = log.push_legal(instance, line)?;
+        match log.close(instance, end) {
+            Ok(closed) => Ok(closed),
+            Err(_) => unreachable!(),
         }
     }
 }

@@ -12,7 +12,7 @@ ghost use Rattle.refute_log.specs.Reasons.{first_reason};
 
 use crate::judging::first_reason;
 use crate::{ClosedLog, Line, Reason};
-use dsa_model::{Fail, Instance};
+use dsa_model::{Fail, Instance, NoMemory};
 use std::alloc::Global;
 use std::marker::Model;
 
@@ -81,6 +81,23 @@ impl Log {
         if let Some(reason) = fault {
             return Err(Fail::Fault(reason));
         }
+        Ok(self.push_legal(instance, line)?)
+    }
+
+    /// Appends a line that is known to be legal after the others, without judging it again, and
+    /// gives its number. Without memory the log stays as it is. The log is of the instance, and the
+    /// numbers of the line are within their limits, as for `push`.
+    pub fn push_legal(&mut self, instance: &Instance, line: Line) -> Result<u64, NoMemory>
+        requires belongs { Belongs instance.now self.old }
+        requires within { IsWithin (line_value line) }
+        requires legal { IsLegal instance.now self.old.capacity self.old.lines (line_value line) }
+        ensures number { IfOk result (λ k. k ≡ length self.old.lines) }
+        ensures appended { let lines = self.old.lines ++ line_value line ∷ [] in
+            OnOk result (self.new ≡ record self.old { lines = lines }) }
+        ensures belongs { Belongs instance.now self.new }
+        ensures unchanged { OnErr result (self.new ≡ self.old) }
+    {
+        let _count = instance.len();
         let number = self.lines.len() as u64;
         self.lines.push(line)?;
         Ok(number)

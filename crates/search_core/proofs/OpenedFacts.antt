@@ -50,7 +50,7 @@ asked_and_watched =
     noted : AreNoted (over ∷ []) (1 ∷ []) 1
     noted zero lt line at =
         (1, refl, subst (λ (x : Line). HasBuffer (claim_of x) 1) (same_some at) (inl refl))
-    noted (suc k) lt = absurd (omega arith)
+    noted (suc k) lt line at = absurd (omega arith)
 
     each : (k : ℕ) (line : Line) → k < 1 → slice_get (over ∷ []) k ≡ Some line →
         (e : Entry) × (slice_get ((1, 4) ∷ []) k ≡ Some e) × RulesOut (1 ∷ 1 ∷ []) (claim_of line) e

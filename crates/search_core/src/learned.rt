@@ -6,7 +6,7 @@ ghost use Rattle.refute_log.specs.Lines.{IsWithin, line_value};
 ghost use Rattle.refute_log.specs.Logs.{Belongs};
 
 use conflicts::Lemmas;
-use dsa_model::{Fail, Instance, NoMemory};
+use dsa_model::{Instance, NoMemory};
 use refute_log::{Line, Log};
 use std::alloc::Global;
 use std::marker::Model;
@@ -63,10 +63,6 @@ impl Learned {
         ensures belongs { Belongs instance.now self.new }
         ensures unchanged { OnErr result (self.new ≡ self.old) }
     {
-        match self.lemmas.push(instance, line) {
-            Ok(k) => Ok(k),
-            Err(Fail::NoMemory) => Err(NoMemory),
-            Err(Fail::Fault(_)) => unreachable!(),
-        }
+        self.lemmas.push_legal(instance, line)
     }
 }

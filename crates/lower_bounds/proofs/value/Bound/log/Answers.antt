@@ -25,32 +25,31 @@ pub new-log-requires : goal.new-log-requires
 new-log-requires c = capacity_limit _ _ _ (is_above _ _ _ c.requires.bound c.requires.below
     (c.bound_is_low.ensures.log c.args.instance.now)) c.in_ok-lifted.ensures.buffers c.in_ok-lifted.ensures.limit
 
-pub push-requires-clause-within : goal.push-requires-clause-within
-push-requires-clause-within c = line_within _ _ _ _ _ (is_above _ _ _ c.requires.bound c.requires.below
+pub push_legal-requires-clause-within : goal.push_legal-requires-clause-within
+push_legal-requires-clause-within c = line_within _ _ _ _ _ (is_above _ _ _ c.requires.bound c.requires.below
     (c.bound_is_low.ensures.log c.args.instance.now)) c.in_ok-lifted.ensures.buffers
     (c.from_vec-claim.ensures ∙ c.in_ok-lifted.ensures.value) c.line_height-height.ensures.limit
+
+pub push_legal-requires-clause-legal : goal.push_legal-requires-clause-legal
+push_legal-requires-clause-legal c =
+    let a = is_above _ _ _ c.requires.bound c.requires.below (c.bound_is_low.ensures.log c.args.instance.now) in
+    legal_after c.args.instance.now c.args.self.now c.args.capacity c.line_height-height.result
+    c.from_vec-claim.result c.new-log.result a (c.from_vec-claim.ensures ∙ c.in_ok-lifted.ensures.value)
+    (height_is _ _ _ _ a c.line_height-height.ensures.value) c.new-log.ensures.value
 
 pub unreachable-requires : goal.unreachable-requires
 unreachable-requires c = c.in-Err.ensures.whole
     (Over c.from_vec-claim.result c.args.self.now.moment c.line_height-height.result c.args.self.now.modulus)
-    (end_line c.args.instance.now c.args.capacity c.in-Ok.end _ c.new-log.result c.push.new.self
-    c.new-log.ensures.value c.in-Ok.ensures.number c.in-Ok.ensures.appended)
+    (end_line c.args.instance.now c.args.capacity c.in_ok-end.end _ c.new-log.result c.push_legal.new.self
+    c.new-log.ensures.value c.in_ok-end.ensures.number c.in_ok-end.ensures.appended)
     (whole_of _ c.args.self.now c.line_height-height.result _
     (c.from_vec-claim.ensures ∙ c.in_ok-lifted.ensures.value) c.line_height-height.ensures.limit)
 
-pub unreachable-requires-in-Err-Fault : goal.unreachable-requires-in-Err-Fault
-unreachable-requires-in-Err-Fault c =
+pub returns-clause-value : goal.returns-clause-value
+returns-clause-value c =
     let a = is_above _ _ _ c.requires.bound c.requires.below (c.bound_is_low.ensures.log c.args.instance.now) in
-    (rw c.in-Err-Fault.field-0-is at c.in-Err-Fault.ensures.legal)
-    (legal_after c.args.instance.now c.args.self.now c.args.capacity c.line_height-height.result
-    c.from_vec-claim.result c.new-log.result a (c.from_vec-claim.ensures ∙ c.in_ok-lifted.ensures.value)
-    (height_is _ _ _ _ a c.line_height-height.ensures.value) c.new-log.ensures.value)
-
-pub returns-in-Ok-close-clause-value : goal.returns-in-Ok-close-clause-value
-returns-in-Ok-close-clause-value c =
-    let a = is_above _ _ _ c.requires.bound c.requires.below (c.bound_is_low.ensures.log c.args.instance.now) in
-    log_is c.args.instance.now c.args.self.now c.args.capacity c.line_height-height.result c.in-Ok.end
-    c.from_vec-claim.result c.new-log.result c.push.new.self c.in-Ok-close.closed
+    log_is c.args.instance.now c.args.self.now c.args.capacity c.line_height-height.result c.in_ok-end.end
+    c.from_vec-claim.result c.new-log.result c.push_legal.new.self c.in-Ok.closed
     (c.from_vec-claim.ensures ∙ c.in_ok-lifted.ensures.value)
     (height_is _ _ _ _ a c.line_height-height.ensures.value)
-    c.new-log.ensures.value c.in-Ok.ensures.number c.in-Ok.ensures.appended c.in-Ok-close.ensures.closed
+    c.new-log.ensures.value c.in_ok-end.ensures.number c.in_ok-end.ensures.appended c.in-Ok.ensures.closed
