@@ -207,6 +207,22 @@ class Launcher(unittest.TestCase):
         told = self.told_of(*(f"proving {it}" for it in "abcdef"))
         self.assertEqual(told[3:], [f"0 of 7 crates proved; proving a, b, c, d{more}" for more in ("", " and 1 more", " and 2 more")])
 
+    def test_a_build_that_waits_for_another_says_so(self):
+        self.write(f"{self.top}/crates.txt", "dsaplan: low\nlow:\n")
+        told = self.told_of(
+            "rt: waiting for another rt to finish in /a b/crates/low",
+            "proving low",
+            "rt: low: another copy of the repository is building this library; waiting for it, at most half an hour, to use its work",
+        )
+        self.assertEqual(
+            told[:3],
+            [
+                "another build is at work in these folders; waiting for it",
+                "0 of 2 crates proved; proving low",
+                "another copy of the sources is building low; waiting for it",
+            ],
+        )
+
     def test_a_build_that_fails_ends_with_9(self):
         ran = self.run_it("verify", environment={"RT_FAILS": "1"})
         self.assertEqual((ran.returncode, ran.stdout), (9, ""))

@@ -206,6 +206,11 @@ class Main(unittest.TestCase):
         os.environ["DSAPLAN_JOBS"] = "1"
         self.assertEqual(self.ended("archive"), (2, [], ""))
 
+    def test_a_number_that_is_none_is_passed_over(self):
+        for number in ("\u00b2", "0", "-1", "many"):
+            os.environ["DSAPLAN_JOBS"] = number
+            self.assertEqual(self.ended("archive")[0], 0, number)
+
     def test_a_name_that_is_no_crate_is_told(self):
         for name in ("archives", "", "--prove", "../low"):
             self.assertEqual(self.ended(name), (1, [], f"side by side: '{name}' is no crate\n"))
