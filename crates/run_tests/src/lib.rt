@@ -3,6 +3,12 @@
 #![tactic(auto)]
 
 #[cfg(test)]
+mod case;
+#[cfg(test)]
+mod deciding_tests;
+#[cfg(test)]
+mod fault_tests;
+#[cfg(test)]
 mod judging_tests;
 #[cfg(test)]
-mod tests;
+mod texts;
