@@ -4,10 +4,11 @@ ghost use Rattle.std.specs.Prelude.{◌≡◌, ◌^◌, ◌≤◌, IfOk};
 ghost use Rattle.dsa_terms.specs.Logs.{IsAccepted};
 ghost use Rattle.refute_log.specs.Lines.{IsWithin, line_value};
 
+use crate::instances::{Row, instance_of};
 use crate::numbers::numbers_below;
 use canonical_order::Claim;
 use core_find::{Ask, Asked, Found, find_core};
-use dsa_model::{BUFFER_LIMIT, Buffer, Instance, NoMemory, judge};
+use dsa_model::{BufferFault, Fail, Instance, NoMemory, judge};
 use refute_log::{ClosedLog, Line, Log};
 use std::alloc::Global;
 
@@ -86,40 +87,56 @@ impl Ask for Stacker {
     }
 }
 
-/// The members of the core of buffers of these sizes, all live at moment 0, and none where they
-/// fit; and how often was asked.
-fn core_members(alloc: Global, sizes: &[u64], capacity: u64) -> Result<(Vec<u32>, u64), NoMemory>
-    requires { capacity ≤ 2 ^ 60 }
-{
-    let mut instance = Instance::new(alloc);
-    for size in sizes {
-        let Ok(buffer) = Buffer::new(alloc, 0, 1, *size, 1, &[], 0) else {
-            return Err(NoMemory);
-        };
-        if instance.len() < BUFFER_LIMIT {
-            instance.push(buffer)?;
-        }
-    }
+/// Some buffers that are live together, their core, if they do not fit, and how often is asked.
+struct Case {
+    rows: &'static [Row],
+    capacity: u32,
+    members: &'static [u32],
+    asks: u64,
+}
+
+static CASES: [Case; 4] = [
+    Case {
+        rows: &[(0, 1, 4, 1); 4],
+        capacity: 16,
+        members: &[],
+        asks: 1,
+    },
+    Case {
+        rows: &[(0, 1, 4, 1); 4],
+        capacity: 11,
+        members: &[1, 2, 3],
+        asks: 4,
+    },
+    Case {
+        rows: &[(0, 1, 9, 1), (0, 1, 1, 1), (0, 1, 1, 1), (0, 1, 1, 1)],
+        capacity: 8,
+        members: &[0],
+        asks: 2,
+    },
+    Case {
+        rows: &[(0, 1, 1, 1), (0, 1, 3, 1), (0, 1, 5, 1), (0, 1, 3, 1)],
+        capacity: 7,
+        members: &[2, 3],
+        asks: 3,
+    },
+];
+
+/// Whether the core has the members, and so often was asked.
+fn is_met(alloc: Global, case: &Case) -> Result<bool, Fail<BufferFault>> {
+    let instance = instance_of(alloc, case.rows)?;
     let mut stacker = Stacker { asks: 0 };
-    let members = match find_core(alloc, &instance, capacity, &mut stacker)? {
-        Found::Fits(_offsets) => Vec::new(alloc),
-        Found::Core(core) => core.members,
+    let met = match find_core(alloc, &instance, case.capacity as u64, &mut stacker)? {
+        Found::Fits(_offsets) => case.members.is_empty(),
+        Found::Core(core) => core.members.as_slice() == case.members,
     };
-    Ok((members, stacker.asks))
+    Ok(met && stacker.asks == case.asks)
 }
 
 #[test]
 fn buffers_are_dropped_in_order_while_the_others_do_not_fit(rt: HostRuntime) {
-    let alloc = rt.alloc();
-    let rows: [([u64; 4], u64, &[u32], u64); 4] = [
-        ([4, 4, 4, 4], 16, &[], 1),
-        ([4, 4, 4, 4], 11, &[1, 2, 3], 4),
-        ([9, 1, 1, 1], 8, &[0], 2),
-        ([1, 3, 5, 3], 7, &[2, 3], 3),
-    ];
-    for (sizes, capacity, want, asks) in rows {
-        let (members, asked) = core_members(alloc, &sizes, capacity).expect(&rt, "memory");
-        assert_eq!(rt; members.as_slice(), want, "at {capacity}");
-        assert_eq!(rt; asked, asks, "asked at {capacity}");
+    for case in &CASES {
+        let met = is_met(rt.alloc(), case).expect(&rt, "memory");
+        assert!(rt; met, "at {}", case.capacity);
     }
 }

@@ -1,5 +1,5 @@
-//! Tests of the starts, of orders of rows, of the search and what it goes by, of the planner and the
-//! portfolio, and of cores.
+//! Tests of the starts, of orders of rows, of the search and what it goes by, of the planner and
+//! the portfolio, and of cores.
 #![tactic(auto)]
 
 #[cfg(test)]
@@ -10,6 +10,8 @@ mod core_find_tests;
 mod draws;
 #[cfg(test)]
 mod first_fit_tests;
+#[cfg(test)]
+mod instances;
 #[cfg(test)]
 mod line_index_tests;
 #[cfg(test)]
@@ -26,5 +28,7 @@ mod portfolio_tests;
 mod row_orders_tests;
 #[cfg(test)]
 mod search_core_tests;
+#[cfg(test)]
+mod searches;
 #[cfg(test)]
 mod skyline_tests;

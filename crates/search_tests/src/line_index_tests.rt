@@ -5,27 +5,25 @@ ghost use Rattle.dsa_model.specs.Buffer.{buffer_limit};
 ghost use Rattle.canonical_order.specs.Claims.{HasBuffer};
 ghost use Rattle.skyline.specs.Skies.{last_claim};
 
-use crate::draws::Draws;
+use crate::draws::{Draws, made};
+use crate::searches::searched;
 use canonical_order::Lows;
 use conflicts::Lemmas;
-use dsa_model::{BUFFER_LIMIT, Buffer, BufferFault, Fail, Instance, NoMemory};
+use dsa_model::{Fail, Instance, NoMemory};
 use lifetime::Sections;
 use line_index::Watches;
-use refute_log::{ClosedLog, Decided, Decider, Log, Reason};
-use search_core::{Budget, Search};
+use refute_log::{ClosedLog, Decided, Log, Reason};
+use search_core::Budget;
 use skyline::Skyline;
 use split_sections::parts;
 use std::alloc::Global;
 use std::marker::Model;
 
-/// How many buffers a made instance has.
-const COUNT: u64 = 9;
-
 /// How many buffers stand at most where a line is looked up for each child.
 const DEPTH: u32 = 4;
 
 /// Seeds, each with a capacity that the search refutes by thirty lines or more.
-const REFUTED: [(u64, u32); 20] = [
+static REFUTED: [(u64, u32); 20] = [
     (0, 185),
     (2, 100),
     (9, 259),
@@ -48,43 +46,13 @@ const REFUTED: [(u64, u32); 20] = [
     (66, 150),
 ];
 
-/// The next buffer, drawn as the crate `make_instance` draws one.
-fn next_buffer(alloc: Global, draws: &mut Draws) -> Result<Buffer, Fail<BufferFault>> {
-    let lower = draws.below(2 * COUNT);
-    let length = 1 + draws.below(16);
-    let size = 1 + draws.below(64);
-    let alignment = 1 + draws.below(4);
-    let upper = lower + length;
-    if draws.below(4) == 0 && length >= 3 {
-        let gaps = [(lower + 1, upper - 1)];
-        return Buffer::new(alloc, lower, upper, size, alignment, &gaps, 0);
-    }
-    Buffer::new(alloc, lower, upper, size, alignment, &[], 0)
-}
-
-/// The instance of a seed.
-fn made(alloc: Global, seed: u64) -> Result<Instance, Fail<BufferFault>> {
-    let mut draws = Draws::new(seed);
-    let mut instance = Instance::new(alloc);
-    for _ in 0..COUNT {
-        let buffer = next_buffer(alloc, &mut draws)?;
-        if instance.len() < BUFFER_LIMIT {
-            instance.push(buffer)?;
-        }
-    }
-    Ok(instance)
-}
-
 /// The log by which the search refutes the capacity, if it does.
 fn refuted(
     alloc: Global,
     instance: &Instance,
     capacity: u32,
 ) -> Result<Option<ClosedLog>, NoMemory> {
-    let sections = Sections::build(alloc, instance)?;
-    let parts = parts(alloc, instance)?;
-    let mut search = Search::new(alloc, instance, &sections, &parts, Budget::unlimited())?;
-    match search.decide(capacity as u64)? {
+    match searched(alloc, instance, capacity, Budget::unlimited())? {
         Decided::Refuted(log) => Ok(Some(log)),
         _ => Ok(None),
     }
@@ -286,19 +254,22 @@ fn replayed(
     Ok(replay.tally)
 }
 
+/// The tally after the log of the seed's instance at the capacity, and none where there is no log.
+fn tally_of(alloc: Global, seed: u64, capacity: u32, tally: Tally) -> Option<Tally> {
+    let instance = made(alloc, seed).ok()?;
+    let log = refuted(alloc, &instance, capacity).ok()??;
+    replayed(alloc, &instance, &log, tally).ok()
+}
+
 #[test]
 fn watches_show_a_line_wherever_the_plain_look_up_does(rt: HostRuntime) {
-    let alloc = rt.alloc();
     let mut tally = Tally {
         found: 0,
         none: 0,
         differ: 0,
     };
-    for (seed, capacity) in REFUTED {
-        let instance = made(alloc, seed).expect(&rt, "sound buffers");
-        let log = refuted(alloc, &instance, capacity).expect(&rt, "memory");
-        let log = log.expect(&rt, "a refuted capacity");
-        tally = replayed(alloc, &instance, &log, tally).expect(&rt, "legal lines");
+    for &(seed, capacity) in &REFUTED {
+        tally = tally_of(rt.alloc(), seed, capacity, tally).expect(&rt, "a log of legal lines");
         assert_eq!(rt; tally.differ, 0, "with seed {seed}");
     }
     assert!(rt; tally.found >= 1_000 && tally.none >= 1_000);

@@ -5,8 +5,9 @@ ghost use Rattle.dsa_terms.specs.Logs.{IsAccepted};
 ghost use Rattle.min_capacity.specs.Brackets.{IsBracket};
 ghost use Rattle.search_tests.specs.Prepared.{AreRight, IsOfTwelve, twelve_from_twelve};
 
+use crate::instances::{FIVE, instance_of};
 use canonical_order::Claim;
-use dsa_model::{BUFFER_LIMIT, Buffer, BufferFault, Fail, Instance, NoMemory, height, judge};
+use dsa_model::{Instance, NoMemory, height, judge};
 use min_capacity::{Bracket, Least, least};
 use refute_log::{ClosedLog, Decided, Decider, Line, Log};
 use std::alloc::Global;
@@ -90,18 +91,6 @@ impl Decider for Prepared<'_> {
     }
 }
 
-/// Five buffers of size 4, of which three are live at once.
-fn make_five(alloc: Global) -> Result<Instance, Fail<BufferFault>> {
-    let mut five = Instance::new(alloc);
-    for (lower, upper) in [(0u32, 3u32), (3, 9), (0, 9), (9, 21), (0, 21)] {
-        let buffer = Buffer::new(alloc, lower as u64, upper as u64, 4, 1, &[], 0)?;
-        if five.len() < BUFFER_LIMIT {
-            five.push(buffer)?;
-        }
-    }
-    Ok(five)
-}
-
 /// The log of one line at the capacity: buffers 0, 2 and 4 are too large together.
 fn log_at(alloc: Global, five: &Instance, capacity: u64) -> Option<ClosedLog>
     requires { capacity ≤ 2 ^ 60 }
@@ -152,7 +141,7 @@ fn start_from(alloc: Global, five: &Instance, low: u64) -> Option<Bracket>
 fn found_from(alloc: Global, low: u64) -> Option<(Least, u64)>
     requires { low ≤ 12 }
 {
-    let five = make_five(alloc).ok()?;
+    let five = instance_of(alloc, FIVE).ok()?;
     let start = start_from(alloc, &five, low)?;
     let layout = [0u64, 0, 4, 0, 8].to_vec(alloc).ok()?;
     if !is_of_twelve(&five, &layout) {
@@ -165,24 +154,20 @@ fn found_from(alloc: Global, low: u64) -> Option<(Least, u64)>
 }
 
 /// Whether the ends have met, the ends, and how often the decider is spent.
-fn told(found: &(Least, u64)) -> (bool, u64, u64, u64) {
-    match &found.0 {
-        Least::Exact(bracket) => (true, bracket.low, bracket.high, found.1),
-        Least::Open(bracket) => (false, bracket.low, bracket.high, found.1),
+fn told_from(alloc: Global, low: u64) -> Option<(bool, u64, u64, u64)>
+    requires { low ≤ 12 }
+{
+    let (found, spends) = found_from(alloc, low)?;
+    match found {
+        Least::Exact(bracket) => Some((true, bracket.low, bracket.high, spends)),
+        Least::Open(bracket) => Some((false, bracket.low, bracket.high, spends)),
     }
 }
 
 #[test]
 fn the_least_of_five_buffers_is_decided_once_or_stays_open(rt: HostRuntime) {
-    let cases = [
-        (12u32, (true, 12, 12, 0)),
-        (11, (true, 12, 12, 0)),
-        (0, (false, 0, 12, 1)),
-    ];
-    for (low, wanted) in cases {
-        match found_from(rt.alloc(), low as u64) {
-            Some(found) => assert_eq!(rt; told(&found), wanted),
-            None => assert!(rt; false, "nothing from {low}"),
-        }
-    }
+    let alloc = rt.alloc();
+    assert_eq!(rt; told_from(alloc, 12), Some((true, 12, 12, 0)));
+    assert_eq!(rt; told_from(alloc, 11), Some((true, 12, 12, 0)));
+    assert_eq!(rt; told_from(alloc, 0), Some((false, 0, 12, 1)));
 }

@@ -1,23 +1,15 @@
 //! Instances that are laid out lower by another order than that of the file.
 
-use dsa_model::{BUFFER_LIMIT, Buffer, Instance, NoMemory, height};
+use crate::instances::{FOURS, Row, TWO, instance_of};
+use dsa_model::{BufferFault, Fail, height};
 use first_fit::{Start, first_fit};
 use placing_search::{Improved, improve};
 use row_orders::{Order, in_order};
 use std::alloc::Global;
 
-/// A buffer without gaps: lower, upper, size and alignment.
-type Row = (u16, u16, u16, u16);
-
-/// A buffer that is large, and a small one of large alignment that is best put below it.
-const SMALL_BELOW: [Row; 2] = [(0, 1, 3, 1), (0, 1, 1, 4)];
-
-/// Two buffers of size 3 aligned to four, of which one stands on the other.
-const TWO_OF_FOUR: [Row; 2] = [(0, 1, 3, 4), (0, 1, 3, 4)];
-
 /// A rectangle of height 12 over ten moments, cut into ten buffers, so that 12 is the least
 /// capacity. The best of the six starts is 16 high.
-const CUT: [Row; 10] = [
+const CUT: &[Row] = &[
     (0, 10, 1, 1),
     (0, 8, 4, 1),
     (0, 7, 2, 1),
@@ -32,7 +24,7 @@ const CUT: [Row; 10] = [
 
 /// Another such rectangle, cut into twelve buffers. Of the beginnings only snug ones stack it
 /// within 12.
-const CUT_FINER: [Row; 12] = [
+const CUT_FINER: &[Row] = &[
     (2, 8, 3, 1),
     (8, 10, 1, 1),
     (0, 9, 2, 1),
@@ -47,21 +39,83 @@ const CUT_FINER: [Row; 12] = [
     (0, 10, 2, 1),
 ];
 
-/// The buffers of the rows.
-fn instance_of(alloc: Global, rows: &[Row]) -> Result<Instance, NoMemory> {
-    let mut instance = Instance::new(alloc);
-    for &(lower, upper, size, alignment) in rows {
-        let (lower, upper) = (lower as u64, upper as u64);
-        let (size, alignment) = (size as u64, alignment as u64);
-        let Ok(buffer) = Buffer::new(alloc, lower, upper, size, alignment, &[], 0) else {
-            return Err(NoMemory);
-        };
-        if instance.len() < BUFFER_LIMIT {
-            instance.push(buffer)?;
-        }
-    }
-    Ok(instance)
+/// What is found from the first layout of some buffers.
+struct Case {
+    rows: &'static [Row],
+    /// The height at which no lower one is sought.
+    floor: u64,
+    passes: u64,
+    /// How high the layout by first-fit in the file's order is.
+    before: u64,
+    /// How high what is found is.
+    found: u64,
 }
+
+static CASES: [Case; 9] = [
+    Case {
+        rows: TWO,
+        floor: 4,
+        passes: 40,
+        before: 5,
+        found: 4,
+    },
+    Case {
+        rows: TWO,
+        floor: 4,
+        passes: 1,
+        before: 5,
+        found: 5,
+    },
+    Case {
+        rows: TWO,
+        floor: 5,
+        passes: 40,
+        before: 5,
+        found: 5,
+    },
+    Case {
+        rows: FOURS,
+        floor: 6,
+        passes: 40,
+        before: 7,
+        found: 7,
+    },
+    Case {
+        rows: CUT,
+        floor: 12,
+        passes: 40,
+        before: 18,
+        found: 12,
+    },
+    Case {
+        rows: CUT,
+        floor: 12,
+        passes: 0,
+        before: 18,
+        found: 18,
+    },
+    Case {
+        rows: CUT_FINER,
+        floor: 12,
+        passes: 2,
+        before: 14,
+        found: 12,
+    },
+    Case {
+        rows: CUT_FINER,
+        floor: 12,
+        passes: 400,
+        before: 14,
+        found: 12,
+    },
+    Case {
+        rows: &[],
+        floor: 0,
+        passes: 40,
+        before: 0,
+        found: 0,
+    },
+];
 
 /// What is found from the layout by first-fit in the file's order, and the height of that.
 fn found(
@@ -69,7 +123,7 @@ fn found(
     rows: &[Row],
     floor: u64,
     passes: u64,
-) -> Result<(u64, Improved), NoMemory> {
+) -> Result<(u64, Improved), Fail<BufferFault>> {
     let instance = instance_of(alloc, rows)?;
     let order = in_order(alloc, &instance, Order::File)?;
     let offsets = first_fit(alloc, &instance, &order)?;
@@ -83,23 +137,16 @@ fn found(
 
 #[test]
 fn other_orders_are_lower(rt: HostRuntime) {
-    let rows: [(&[Row], u64, u64, (u64, u64)); 9] = [
-        (&SMALL_BELOW, 4, 40, (5, 4)),
-        (&SMALL_BELOW, 4, 1, (5, 5)),
-        (&SMALL_BELOW, 5, 40, (5, 5)),
-        (&TWO_OF_FOUR, 6, 40, (7, 7)),
-        (&CUT, 12, 40, (18, 12)),
-        (&CUT, 12, 0, (18, 18)),
-        (&CUT_FINER, 12, 2, (14, 12)),
-        (&CUT_FINER, 12, 400, (14, 12)),
-        (&[], 0, 40, (0, 0)),
-    ];
-    for (instance, floor, passes, want) in rows {
-        let (before, improved) = found(rt.alloc(), instance, floor, passes).expect(&rt, "memory");
+    for case in &CASES {
+        let (before, improved) = found(rt.alloc(), case.rows, case.floor, case.passes).expect(
+            &rt, "memory",
+        );
         assert_eq!(rt;
             (before, improved.start.height),
-            want,
-            "down to {floor} by {passes}"
+            (case.before, case.found),
+            "down to {} by {}",
+            case.floor,
+            case.passes
         );
     }
 }
@@ -108,6 +155,6 @@ fn other_orders_are_lower(rt: HostRuntime) {
 /// and first-fit in its order.
 #[test]
 fn each_stack_and_each_first_fit_is_a_placing(rt: HostRuntime) {
-    let (_before, improved) = found(rt.alloc(), &SMALL_BELOW, 4, 40).expect(&rt, "memory");
+    let (_before, improved) = found(rt.alloc(), TWO, 4, 40).expect(&rt, "memory");
     assert_eq!(rt; improved.passes, 15);
 }

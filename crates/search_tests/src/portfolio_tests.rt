@@ -3,7 +3,8 @@
 ghost use Rattle.std.specs.Prelude.{◌+◌, ◌<◌, ◌≤◌, ◌^◌, IfOk};
 ghost use Rattle.min_capacity.specs.Brackets.{IsBracket};
 
-use dsa_model::{BUFFER_LIMIT, Buffer, BufferFault, Fail, Instance, NoMemory, height};
+use crate::instances::{THREE, TWO, instance_of};
+use dsa_model::{BufferFault, Fail, Instance, NoMemory, height};
 use first_fit::first_fit;
 use min_capacity::{Bracket, Least};
 use narrowing::{Tries, narrow, settle};
@@ -12,39 +13,23 @@ use refute_log::Decided;
 use row_orders::{Order, in_order};
 use std::alloc::Global;
 
-/// The size and the alignment of each buffer; all are live at one moment.
-type Rows = &'static [(u64, u64)];
-
-/// Two buffers at even offsets and a third one of their sizes together: 5 is the least capacity.
-const THREE: Rows = &[(1, 2), (1, 2), (2, 1)];
-
-/// A small one that is aligned has to stand below: 4 is the least capacity, and first-fit has 5.
-const TWO: Rows = &[(3, 1), (1, 4)];
-
-fn instance_of(alloc: Global, rows: Rows) -> Result<Instance, Fail<BufferFault>> {
-    let mut instance = Instance::new(alloc);
-    for row in rows {
-        let (size, alignment) = *row;
-        let buffer = Buffer::new(alloc, 0, 1, size, alignment, &[], 0)?;
-        if instance.len() < BUFFER_LIMIT {
-            instance.push(buffer)?;
-        }
-    }
-    Ok(instance)
+/// What is answered of the three buffers at 5, and how many units are used.
+fn answered(alloc: Global, limit: u32) -> Result<(Decided, u64), Fail<BufferFault>> {
+    let instance = instance_of(alloc, THREE)?;
+    let mut tries = Portfolio::new(alloc, &instance)?;
+    let answer = tries.attempt(alloc, 5, limit as u64)?;
+    Ok((answer, tries.used()))
 }
 
 #[test]
 fn a_layout_that_another_order_finds_is_carried_back(rt: HostRuntime) {
-    let alloc = rt.alloc();
-    let instance = instance_of(alloc, THREE).expect(&rt, "memory");
-    let mut tries = Portfolio::new(alloc, &instance).expect(&rt, "memory");
-    let answer = tries.attempt(alloc, 5, 12).expect(&rt, "memory");
+    let (answer, used) = answered(rt.alloc(), 12).expect(&rt, "memory");
     if let Decided::Layout(offsets) = answer {
         assert_eq!(rt; offsets.as_slice(), [2, 4, 0].as_slice());
     } else {
         assert!(rt; false, "no layout");
     }
-    assert_eq!(rt; tries.used(), 4);
+    assert_eq!(rt; used, 4);
 }
 
 /// Whether a log of the three buffers comes that refutes 4.
@@ -59,32 +44,37 @@ fn refutes_four(alloc: Global, tries: &mut Portfolio, limit: u64) -> Result<bool
     Ok(false)
 }
 
+/// Whether 4 is refuted within 5 units, within 15 more and within 5 more, each with the units that
+/// are used then.
+fn refutations(alloc: Global) -> Result<[(bool, u64); 3], Fail<BufferFault>> {
+    let instance = instance_of(alloc, THREE)?;
+    let mut tries = Portfolio::new(alloc, &instance)?;
+    let few = refutes_four(alloc, &mut tries, 5)?;
+    let few = (few, tries.used());
+    let more = refutes_four(alloc, &mut tries, 15)?;
+    let more = (more, tries.used());
+    let again = refutes_four(alloc, &mut tries, 5)?;
+    Ok([few, more, (again, tries.used())])
+}
+
 #[test]
 fn what_another_order_refutes_is_searched_in_the_instance_alone(rt: HostRuntime) {
-    let alloc = rt.alloc();
-    let instance = instance_of(alloc, THREE).expect(&rt, "memory");
-    let mut tries = Portfolio::new(alloc, &instance).expect(&rt, "memory");
-    let five = refutes_four(alloc, &mut tries, 5).expect(&rt, "memory");
+    let [few, more, again] = refutations(rt.alloc()).expect(&rt, "memory");
     assert_eq!(rt;
-        (five, tries.used()),
+        few,
         (false, 5),
         "five units are too few for three searches"
     );
-    let fifteen = refutes_four(alloc, &mut tries, 15).expect(&rt, "memory");
-    assert_eq!(rt; (fifteen, tries.used()), (true, 15));
-    let again = refutes_four(alloc, &mut tries, 5).expect(&rt, "memory");
-    assert_eq!(rt; (again, tries.used()), (true, 20), "and enough for one");
+    assert_eq!(rt; more, (true, 15));
+    assert_eq!(rt; again, (true, 20), "and enough for one");
 }
 
 #[test]
 fn units_that_are_too_few_are_all_used(rt: HostRuntime) {
-    let alloc = rt.alloc();
-    let instance = instance_of(alloc, THREE).expect(&rt, "memory");
     for limit in 0..10u32 {
-        let mut tries = Portfolio::new(alloc, &instance).expect(&rt, "memory");
-        let answer = tries.attempt(alloc, 5, limit as u64).expect(&rt, "memory");
+        let (answer, used) = answered(rt.alloc(), limit).expect(&rt, "memory");
         if let Decided::Spent = answer {
-            assert_eq!(rt; tries.used(), limit as u64);
+            assert_eq!(rt; used, limit as u64);
         } else {
             assert!(rt; false, "an answer within {limit} units");
         }
@@ -106,36 +96,51 @@ fn first_bracket(alloc: Global, instance: &Instance) -> Result<Bracket, NoMemory
     })
 }
 
-#[test]
-fn a_bracket_is_narrowed_to_the_least_capacity(rt: HostRuntime) {
-    let alloc = rt.alloc();
-    let instance = instance_of(alloc, TWO).expect(&rt, "memory");
-    let start = first_bracket(alloc, &instance).expect(&rt, "memory");
-    assert_eq!(rt; start.high, 5);
-    let mut tries = Portfolio::new(alloc, &instance).expect(&rt, "memory");
-    let found = narrow(alloc, &instance, start, 100, &mut tries).expect(&rt, "memory");
-    if let Least::Exact(bracket) = found {
-        assert_eq!(rt; bracket.high, 4);
-        assert_eq!(rt; bracket.layout.as_slice(), [1, 0].as_slice());
-        assert!(rt; bracket.log.is_some());
-    } else {
-        assert!(rt; false, "open");
+/// Whether the bracket from 0 to 5 is narrowed to 4, by a layout and by a log.
+fn is_narrowed_to_4(alloc: Global) -> Result<bool, Fail<BufferFault>> {
+    let instance = instance_of(alloc, TWO)?;
+    let start = first_bracket(alloc, &instance)?;
+    if start.high != 5 {
+        return Ok(false);
+    }
+    let mut tries = Portfolio::new(alloc, &instance)?;
+    match narrow(alloc, &instance, start, 100, &mut tries)? {
+        Least::Exact(bracket) => Ok(
+            bracket.high == 4
+                && bracket.layout.as_slice() == [1, 0].as_slice()
+                && bracket.log.is_some(),
+        ),
+        Least::Open(_) => Ok(false),
     }
 }
 
 #[test]
+fn a_bracket_is_narrowed_to_the_least_capacity(rt: HostRuntime) {
+    assert!(rt; is_narrowed_to_4(rt.alloc()).expect(&rt, "memory"));
+}
+
+/// The ends of the bracket from 0 to first-fit, once the capacity inside it is settled, and none
+/// where it is not inside.
+fn ends_settled(
+    alloc: Global,
+    capacity: u32,
+    steps: u32,
+) -> Result<Option<(u64, u64)>, Fail<BufferFault>> {
+    let capacity = capacity as u64;
+    let instance = instance_of(alloc, TWO)?;
+    let start = first_bracket(alloc, &instance)?;
+    if capacity < start.low || start.high <= capacity {
+        return Ok(None);
+    }
+    let mut tries = Portfolio::new(alloc, &instance)?;
+    let bracket = settle(alloc, &instance, start, capacity, steps as u64, &mut tries)?;
+    Ok(Some((bracket.low, bracket.high)))
+}
+
+#[test]
 fn one_capacity_is_settled_where_the_units_suffice(rt: HostRuntime) {
-    let alloc = rt.alloc();
-    let instance = instance_of(alloc, TWO).expect(&rt, "memory");
-    for (capacity, steps, low, high) in [(4, 0, 0, 5), (4, 100, 0, 4), (3, 100, 4, 5)] {
-        let start = first_bracket(alloc, &instance).expect(&rt, "memory");
-        let mut tries = Portfolio::new(alloc, &instance).expect(&rt, "memory");
-        if capacity < start.high && start.low <= capacity {
-            let tried = settle(alloc, &instance, start, capacity, steps, &mut tries);
-            let bracket = tried.expect(&rt, "memory");
-            assert_eq!(rt; (bracket.low, bracket.high), (low, high));
-        } else {
-            assert!(rt; false, "{capacity} is not inside the bracket");
-        }
+    for (capacity, steps, ends) in [(4, 0, (0, 5)), (4, 100, (0, 4)), (3, 100, (4, 5))] {
+        let settled = ends_settled(rt.alloc(), capacity, steps).expect(&rt, "memory");
+        assert_eq!(rt; settled, Some(ends), "at {capacity} within {steps}");
     }
 }

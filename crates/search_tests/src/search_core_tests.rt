@@ -1,80 +1,78 @@
 //! Worked instances at chosen capacities.
 
-use dsa_model::{BUFFER_LIMIT, Buffer, BufferFault, Fail, Instance};
-use lifetime::Sections;
-use refute_log::{ClosedLog, Decided, Decider};
-use search_core::{Budget, Search};
-use split_sections::parts;
+use crate::instances::{Row, THREE, TWO, add, instance_above, instance_of};
+use crate::searches::searched;
+use dsa_model::{Buffer, BufferFault, Fail, Instance};
+use refute_log::{ClosedLog, Decided};
+use search_core::Budget;
 use std::alloc::Global;
 
-/// Lower, upper, size, alignment and lowest of each buffer.
-type Rows = &'static [(u32, u32, u64, u64, u64)];
+/// The buffers of `THREE` after one that is a part of its own.
+const LATE: &[Row] = &[(0, 2, 1, 1), (2, 3, 1, 2), (2, 3, 1, 2), (2, 3, 2, 1)];
 
-/// Two buffers at even offsets and a third one of their sizes together.
-const THREE: Rows = &[(0, 1, 1, 2, 0), (0, 1, 1, 2, 0), (0, 1, 2, 1, 0)];
-
-/// The same after a buffer that is a part of its own.
-const LATE: Rows = &[
-    (0, 2, 1, 1, 0),
-    (2, 3, 1, 2, 0),
-    (2, 3, 1, 2, 0),
-    (2, 3, 2, 1, 0),
-];
-
-/// A small one that is aligned has to stand below.
-const TWO: Rows = &[(0, 1, 3, 1, 0), (0, 1, 1, 4, 0)];
-
-/// One that may start at 1 or above stands best on one that may start at 0.
-const LIFTED: Rows = &[(0, 1, 3, 1, 1), (0, 1, 2, 1, 0)];
-
-/// One that may start at 6 or above leaves room below it.
-const LOW: Rows = &[(0, 1, 4, 1, 6), (0, 1, 4, 1, 0)];
-
-fn instance_of(alloc: Global, rows: Rows) -> Result<Instance, Fail<BufferFault>> {
-    let mut instance = Instance::new(alloc);
-    for row in rows {
-        let (lower, upper, size, alignment, lowest) = *row;
-        let (lower, upper) = (lower as u64, upper as u64);
-        let buffer = Buffer::new(alloc, lower, upper, size, alignment, &[], lowest)?;
-        if instance.len() < BUFFER_LIMIT {
-            instance.push(buffer)?;
-        }
-    }
-    Ok(instance)
+/// Buffers with the least offsets that they may have, and their first layout at a capacity.
+struct Case {
+    rows: &'static [Row],
+    /// One for each buffer, or none where each is 0.
+    lowest: &'static [u64],
+    capacity: u32,
+    offsets: &'static [u64],
 }
 
-fn answer_at(
-    alloc: Global,
-    rows: Rows,
-    capacity: u32,
-    budget: Budget,
-) -> Result<Decided, Fail<BufferFault>> {
-    let instance = instance_of(alloc, rows)?;
-    let sections = Sections::build(alloc, &instance)?;
-    let parts = parts(alloc, &instance)?;
-    let mut search = Search::new(alloc, &instance, &sections, &parts, budget)?;
-    let decided = search.decide(capacity as u64)?;
-    Ok(decided)
+static LAID: [Case; 6] = [
+    Case {
+        rows: &[],
+        lowest: &[],
+        capacity: 0,
+        offsets: &[],
+    },
+    Case {
+        rows: THREE,
+        lowest: &[],
+        capacity: 5,
+        offsets: &[0, 4, 1],
+    },
+    Case {
+        rows: LATE,
+        lowest: &[],
+        capacity: 5,
+        offsets: &[0, 0, 4, 1],
+    },
+    Case {
+        rows: TWO,
+        lowest: &[],
+        capacity: 4,
+        offsets: &[1, 0],
+    },
+    // one that may start at 1 or above stands best on one that may start at 0
+    Case {
+        rows: &[(0, 1, 3, 1), (0, 1, 2, 1)],
+        lowest: &[1, 0],
+        capacity: 5,
+        offsets: &[2, 0],
+    },
+    // one that may start at 6 or above leaves room below it
+    Case {
+        rows: &[(0, 1, 4, 1), (0, 1, 4, 1)],
+        lowest: &[6, 0],
+        capacity: 10,
+        offsets: &[6, 0],
+    },
+];
+
+fn is_laid(alloc: Global, case: &Case) -> Result<bool, Fail<BufferFault>> {
+    let instance = instance_above(alloc, case.rows, case.lowest)?;
+    match searched(alloc, &instance, case.capacity, Budget::unlimited())? {
+        Decided::Layout(found) => Ok(found.as_slice() == case.offsets),
+        _ => Ok(false),
+    }
 }
 
 #[test]
 fn the_first_layout_of_each_part_is_found(rt: HostRuntime) {
-    let alloc = rt.alloc();
-    let cases: [(Rows, u32, &[u64]); 6] = [
-        (&[], 0, &[]),
-        (THREE, 5, &[0, 4, 1]),
-        (LATE, 5, &[0, 0, 4, 1]),
-        (TWO, 4, &[1, 0]),
-        (LIFTED, 5, &[2, 0]),
-        (LOW, 10, &[6, 0]),
-    ];
-    for (rows, capacity, offsets) in cases {
-        let answer = answer_at(alloc, rows, capacity, Budget::unlimited()).expect(&rt, "memory");
-        if let Decided::Layout(found) = answer {
-            assert_eq!(rt; found.as_slice(), offsets);
-        } else {
-            assert!(rt; false, "no layout at {capacity}");
-        }
+    for case in &LAID {
+        let laid = is_laid(rt.alloc(), case).expect(&rt, "memory");
+        assert!(rt; laid, "another answer at {}", case.capacity);
     }
 }
 
@@ -88,20 +86,29 @@ fn names(log: &ClosedLog, b: u32) -> bool {
     false
 }
 
+/// Whether the log is one at 4 of at most five lines, which name the second and the third buffer,
+/// and the first one just where it is of the same part.
+fn is_of_one_part(log: &ClosedLog, has_first: bool) -> bool {
+    log.capacity() == 4
+        && log.len() <= 5
+        && names(log, 0) == has_first
+        && names(log, 1)
+        && names(log, 2)
+}
+
+/// Whether 4 is refuted by such a log.
+fn is_refuted(alloc: Global, rows: &[Row], has_first: bool) -> Result<bool, Fail<BufferFault>> {
+    let instance = instance_of(alloc, rows)?;
+    match searched(alloc, &instance, 4, Budget::unlimited())? {
+        Decided::Refuted(log) => Ok(is_of_one_part(&log, has_first)),
+        _ => Ok(false),
+    }
+}
+
 #[test]
 fn a_refutation_names_buffers_of_one_part(rt: HostRuntime) {
-    let alloc = rt.alloc();
-    for rows in [THREE, LATE] {
-        let answer = answer_at(alloc, rows, 4, Budget::unlimited()).expect(&rt, "memory");
-        if let Decided::Refuted(log) = answer {
-            assert_eq!(rt; log.capacity(), 4);
-            assert!(rt; names(&log, 1) && names(&log, 2));
-            assert_eq!(rt; names(&log, 0), rows.len() == 3);
-            assert!(rt; log.len() <= 5);
-        } else {
-            assert!(rt; false, "not refuted");
-        }
-    }
+    assert!(rt; is_refuted(rt.alloc(), THREE, true).expect(&rt, "memory"));
+    assert!(rt; is_refuted(rt.alloc(), LATE, false).expect(&rt, "memory"));
 }
 
 /// How many buffers the tower has.
@@ -111,54 +118,56 @@ const STOREYS: u32 = 512;
 fn tower(alloc: Global) -> Result<Instance, Fail<BufferFault>> {
     let mut instance = Instance::new(alloc);
     for _ in 0..STOREYS {
-        let buffer = Buffer::new(alloc, 0, 1, 1, 1, &[], 0)?;
-        if instance.len() < BUFFER_LIMIT {
-            instance.push(buffer)?;
-        }
+        add(&mut instance, Buffer::new(alloc, 0, 1, 1, 1, &[], 0)?)?;
     }
     Ok(instance)
 }
 
-#[test]
-fn many_buffers_stand_one_on_another(rt: HostRuntime) {
-    let alloc = rt.alloc();
-    let instance = tower(alloc).expect(&rt, "memory");
-    let sections = Sections::build(alloc, &instance).expect(&rt, "memory");
-    let parts = parts(alloc, &instance).expect(&rt, "memory");
-    let search = Search::new(alloc, &instance, &sections, &parts, Budget::unlimited());
-    let answer = search.expect(&rt, "memory").decide(STOREYS as u64);
-    if let Decided::Layout(found) = answer.expect(&rt, "memory") {
-        assert_eq!(rt; found.len(), STOREYS as usize);
-        for b in 0..found.len() {
-            assert_eq!(rt; found[b], b as u64);
+/// Whether each of the buffers stands on the one before it.
+fn is_tower(offsets: &[u64]) -> bool {
+    for (b, offset) in offsets.iter().enumerate() {
+        if *offset != b as u64 {
+            return false;
         }
-    } else {
-        assert!(rt; false, "no layout");
+    }
+    offsets.len() == STOREYS as usize
+}
+
+fn tower_stands(alloc: Global) -> Result<bool, Fail<BufferFault>> {
+    let instance = tower(alloc)?;
+    match searched(alloc, &instance, STOREYS, Budget::unlimited())? {
+        Decided::Layout(found) => Ok(is_tower(&found)),
+        _ => Ok(false),
     }
 }
 
-fn is_spent(answer: &Decided) -> bool {
-    if let Decided::Spent = answer {
-        return true;
+#[test]
+fn many_buffers_stand_one_on_another(rt: HostRuntime) {
+    assert!(rt; tower_stands(rt.alloc()).expect(&rt, "memory"));
+}
+
+/// Whether so many units are enough at 4.
+fn suffice(alloc: Global, rows: &[Row], units: u64) -> Result<bool, Fail<BufferFault>> {
+    let instance = instance_of(alloc, rows)?;
+    match searched(alloc, &instance, 4, Budget::units(units))? {
+        Decided::Spent => Ok(false),
+        _ => Ok(true),
     }
-    false
 }
 
 #[test]
 fn a_budget_of_the_work_is_enough_and_one_unit_less_is_not(rt: HostRuntime) {
-    let alloc = rt.alloc();
     for (units, enough) in [(0, false), (3, false), (4, true)] {
-        let answer = answer_at(alloc, TWO, 4, Budget::units(units)).expect(&rt, "memory");
-        assert_eq!(rt; is_spent(&answer), !enough, "with {units} units");
+        let suffice = suffice(rt.alloc(), TWO, units).expect(&rt, "memory");
+        assert_eq!(rt; suffice, enough, "with {units} units");
     }
 }
 
 /// Six claims are met, and a line that was learned before covers the last of them.
 #[test]
 fn a_claim_that_a_line_covers_takes_no_unit(rt: HostRuntime) {
-    let alloc = rt.alloc();
     for (units, enough) in [(4, false), (5, true)] {
-        let answer = answer_at(alloc, THREE, 4, Budget::units(units)).expect(&rt, "memory");
-        assert_eq!(rt; is_spent(&answer), !enough, "with {units} units");
+        let suffice = suffice(rt.alloc(), THREE, units).expect(&rt, "memory");
+        assert_eq!(rt; suffice, enough, "with {units} units");
     }
 }

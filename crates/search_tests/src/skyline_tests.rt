@@ -2,13 +2,13 @@
 
 ghost use Rattle.lifetime.specs.SectionList.{AreSectionsOf};
 
+use crate::instances::{THREE, add, instance_of};
 use crate::numbers::numbers_below;
 use canonical_order::Lows;
-use dsa_model::{BUFFER_LIMIT, Buffer, BufferFault, Fail, Instance, NoMemory};
+use dsa_model::{Buffer, BufferFault, Fail, Instance, NoMemory};
 use lifetime::Sections;
 use skyline::Skyline;
 use std::alloc::{AllocError, Global};
-use std::test;
 
 /// What stands for no answer.
 const NONE: u64 = u64::MAX;
@@ -55,44 +55,83 @@ fn pop(sky: &mut Skyline) -> Option<u64> {
     None
 }
 
-/// Two buffers at even offsets and a third one of their sizes together.
-fn three(alloc: Global) -> Result<Instance, Fail<BufferFault>> {
-    let mut instance = Instance::new(alloc);
-    for alignment in [2u32, 2, 1] {
-        let buffer = Buffer::new(alloc, 0, 1, 3 - alignment as u64, alignment as u64, &[], 0)?;
-        if instance.len() < BUFFER_LIMIT {
-            instance.push(buffer)?;
+/// A push of a buffer or a pop, what a push answers, and the answers after it.
+struct Step {
+    pushed: Option<u32>,
+    answer: Option<u64>,
+    answers: [u64; 5],
+}
+
+const WHOLE: [u64; 5] = [0, 0, 0, NONE, NONE];
+
+static STEPS: [Step; 7] = [
+    Step {
+        pushed: Some(0),
+        answer: Some(0),
+        answers: [NONE, 2, 1, NONE, NONE],
+    },
+    Step {
+        pushed: Some(1),
+        answer: Some(2),
+        answers: [NONE, NONE, 3, 0, 3],
+    },
+    Step {
+        pushed: None,
+        answer: None,
+        answers: [NONE, 2, 1, NONE, NONE],
+    },
+    Step {
+        pushed: Some(2),
+        answer: Some(1),
+        answers: [NONE, 4, NONE, 0, 4],
+    },
+    Step {
+        pushed: None,
+        answer: None,
+        answers: [NONE, 2, 1, NONE, NONE],
+    },
+    Step {
+        pushed: None,
+        answer: None,
+        answers: WHOLE,
+    },
+    Step {
+        pushed: Some(2),
+        answer: Some(0),
+        answers: [2, 2, NONE, NONE, NONE],
+    },
+];
+
+/// Takes the step, and tells whether it is answered as it says.
+fn is_taken(alloc: Global, sky: &mut Skyline, step: &Step) -> Result<bool, AllocError> {
+    let answer = match step.pushed {
+        Some(b) => push(sky, b),
+        None => pop(sky),
+    };
+    let found = answers(alloc, sky, 4)?;
+    Ok(answer == step.answer && found.as_slice() == step.answers.as_slice())
+}
+
+/// The number of the first step that is answered otherwise, from 1; 0 is before them all.
+fn first_unlike(alloc: Global) -> Result<Option<usize>, Fail<BufferFault>> {
+    let instance = instance_of(alloc, THREE)?;
+    let sections = Sections::build(alloc, &instance)?;
+    let mut sky = whole(alloc, &instance, &sections)?;
+    if answers(alloc, &sky, 4)?.as_slice() != WHOLE.as_slice() {
+        return Ok(Some(0));
+    }
+    for (place, step) in STEPS.iter().enumerate() {
+        if !is_taken(alloc, &mut sky, step)? {
+            return Ok(Some(place + 1));
         }
     }
-    Ok(instance)
+    Ok(None)
 }
 
 #[test]
-fn pushes_and_pops_answer_by_the_last_claim(rt: HostRuntime) -> Result<(), test::Fail> {
-    let alloc = rt.alloc();
-    let instance = three(alloc)?;
-    let sections = Sections::build(alloc, &instance)?;
-    let mut sky = whole(alloc, &instance, &sections)?;
-    let whole = [0, 0, 0, NONE, NONE];
-    assert_eq!(rt; answers(alloc, &sky, 4)?.as_slice(), whole.as_slice());
-    let steps: [(Option<u32>, Option<u64>, [u64; 5]); 7] = [
-        (Some(0), Some(0), [NONE, 2, 1, NONE, NONE]),
-        (Some(1), Some(2), [NONE, NONE, 3, 0, 3]),
-        (None, None, [NONE, 2, 1, NONE, NONE]),
-        (Some(2), Some(1), [NONE, 4, NONE, 0, 4]),
-        (None, None, [NONE, 2, 1, NONE, NONE]),
-        (None, None, whole),
-        (Some(2), Some(0), [2, 2, NONE, NONE, NONE]),
-    ];
-    for (pushed, answer, wanted) in steps {
-        let got = match pushed {
-            Some(b) => push(&mut sky, b),
-            None => pop(&mut sky),
-        };
-        assert_eq!(rt; got, answer);
-        assert_eq!(rt; answers(alloc, &sky, 4)?.as_slice(), wanted.as_slice());
-    }
-    Ok(())
+fn pushes_and_pops_answer_by_the_last_claim(rt: HostRuntime) {
+    let unlike = first_unlike(rt.alloc()).expect(&rt, "memory");
+    assert_eq!(rt; unlike, None);
 }
 
 /// The next of a fixed row of numbers, below `count`.
@@ -115,39 +154,79 @@ fn sixty(alloc: Global, state: &mut u64) -> Result<Instance, Fail<BufferFault>> 
         let size = 1 + next(state, 9) as u64;
         let alignment = 1 + next(state, 4) as u64;
         let buffer = Buffer::new(alloc, lower, upper, size, alignment, &[], 0)?;
-        if instance.len() < BUFFER_LIMIT {
-            instance.push(buffer)?;
-        }
+        add(&mut instance, buffer)?;
     }
     Ok(instance)
 }
 
-#[test]
-fn a_thousand_pushes_and_pops_leave_no_trace(rt: HostRuntime) -> Result<(), test::Fail> {
-    let alloc = rt.alloc();
+/// What stands, and what was answered before each of it was pushed.
+#[derive(Drop)]
+struct Stack {
+    buffers: Vec<u32>,
+    before: Vec<Vec<u64>>,
+}
+
+/// Pushes the buffer or pops one, as the next number has it, and tells whether what a pop leaves is
+/// answered as before the push.
+fn is_restored(
+    alloc: Global,
+    sky: &mut Skyline,
+    stack: &mut Stack,
+    state: &mut u64,
+) -> Result<bool, NoMemory> {
+    let b = next(state, 60);
+    if sky.is_free(b) && next(state, 3) > 0 {
+        stack.before.push(answers(alloc, sky, 90)?)?;
+        stack.buffers.push(b)?;
+        push(sky, b);
+    } else if let Some(before) = stack.before.pop() {
+        stack.buffers.pop();
+        pop(sky);
+        return Ok(answers(alloc, sky, 90)?.as_slice() == before.as_slice());
+    }
+    Ok(true)
+}
+
+/// Whether the answers are those of a skyline onto which just the buffers that stand were pushed.
+fn is_as_afresh(
+    alloc: Global,
+    instance: &Instance,
+    sections: &Sections,
+    sky: &Skyline,
+    buffers: &[u32],
+) -> Result<bool, NoMemory>
+    requires { AreSectionsOf instance.now sections.now }
+{
+    let mut afresh = whole(alloc, instance, sections)?;
+    for b in buffers {
+        push(&mut afresh, *b);
+    }
+    let found = answers(alloc, sky, 90)?;
+    Ok(found.as_slice() == answers(alloc, &afresh, 90)?.as_slice())
+}
+
+/// How many of a thousand pushes and pops are answered as they are afresh, up to the first one that
+/// is not.
+fn steps_without_trace(alloc: Global) -> Result<u32, Fail<BufferFault>> {
     let mut state = 1;
     let instance = sixty(alloc, &mut state)?;
     let sections = Sections::build(alloc, &instance)?;
     let mut sky = whole(alloc, &instance, &sections)?;
-    let mut stack: Vec<u32> = Vec::new(alloc);
-    let mut before: Vec<Vec<u64>> = Vec::new(alloc);
-    for _ in 0..1000 {
-        let b = next(&mut state, 60);
-        if sky.is_free(b) && next(&mut state, 3) > 0 {
-            before.push(answers(alloc, &sky, 90)?)?;
-            stack.push(b)?;
-            push(&mut sky, b);
-        } else if let Some(was) = before.pop() {
-            stack.pop();
-            pop(&mut sky);
-            assert_eq!(rt; answers(alloc, &sky, 90)?.as_slice(), was.as_slice());
+    let mut stack = Stack {
+        buffers: Vec::new(alloc),
+        before: Vec::new(alloc),
+    };
+    for step in 0..1000 {
+        if !is_restored(alloc, &mut sky, &mut stack, &mut state)?
+            || !is_as_afresh(alloc, &instance, &sections, &sky, &stack.buffers)?
+        {
+            return Ok(step);
         }
-        let mut afresh = whole(alloc, &instance, &sections)?;
-        for b in &stack {
-            push(&mut afresh, *b);
-        }
-        let found = answers(alloc, &sky, 90)?;
-        assert_eq!(rt; found.as_slice(), answers(alloc, &afresh, 90)?.as_slice());
     }
-    Ok(())
+    Ok(1000)
+}
+
+#[test]
+fn a_thousand_pushes_and_pops_leave_no_trace(rt: HostRuntime) {
+    assert_eq!(rt; steps_without_trace(rt.alloc()).expect(&rt, "memory"), 1000);
 }
