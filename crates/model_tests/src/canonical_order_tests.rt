@@ -1,20 +1,12 @@
 //! Each call that takes memory, with memory.
 
+use crate::made::{THREE, instance_of};
 use canonical_order::{Claim, LowTable, Lows, View, child, step};
-use dsa_model::{BUFFER_LIMIT, Buffer, Instance};
 
 #[test]
 fn the_child_of_a_whole_claim_is_made(rt: HostRuntime) {
     let alloc = rt.alloc();
-    let mut three = Instance::new(alloc);
-    for alignment in [2, 2, 1] {
-        let buffer = Buffer::new(alloc, 0, 1, 3 - alignment, alignment, &[], 0).expect(
-            &rt, "memory",
-        );
-        if three.len() < BUFFER_LIMIT {
-            three.push(buffer).expect(&rt, "memory");
-        }
-    }
+    let three = instance_of(alloc, &THREE).expect(&rt, "memory");
     assert!(rt; three.len() == 3);
     let whole = Claim::whole(alloc, &three, &[0, 1, 2]).expect(&rt, "memory");
     assert_eq!(rt; whole.pairs(), [(0, 0), (1, 0), (2, 0)].as_slice());

@@ -98,41 +98,10 @@ fn options_come_in_any_order_and_their_values_may_look_like_options(
             "012",
         ],
     )?;
-    let found = read_words(words.as_slice()).ok().map(|request| {
-        (
-            request.verb(),
-            request.number(OptionName::Capacity),
-            request.word(OptionName::Input),
-            request.word(OptionName::Output),
-            request.word(OptionName::Log),
-        )
-    });
-    assert_eq!(rt; found, Some((Verb::Solve, 12, "i", "o", "--input")));
-    Ok(())
-}
-
-#[test]
-fn steps_may_be_left_out_or_given(rt: HostRuntime) -> Result<(), Fail> {
-    let cases: [(&[&str], Option<u64>); 2] = [
-        (
-            &["least", "--input", "i", "--output", "o", "--log", "l"],
-            None,
-        ),
-        (
-            &[
-                "least", "--steps", "0", "--input", "i", "--output", "o", "--log", "l",
-            ],
-            Some(0),
-        ),
-    ];
-    for (line, steps) in cases {
-        let words = owned(rt.alloc(), line)?;
-        let found = read_words(words.as_slice()).ok().map(|request| (
-            request.verb(),
-            request.number_given(OptionName::Steps),
-        ));
-        assert_eq!(rt; found, Some((Verb::Least, steps)), "{line:?}");
-    }
+    let request = read_words(words.as_slice()).expect(&rt, "a request");
+    assert_eq!(rt; request.verb(), Verb::Solve);
+    assert_eq!(rt; request.number(OptionName::Capacity), 12);
+    assert_eq!(rt; request.word(OptionName::Log), "--input");
     Ok(())
 }
 

@@ -5,7 +5,6 @@ ghost use Rattle.std.specs.Prelude.{◌≤◌, length};
 use cyclic_plan::unroll;
 use dsa_model::{Fail, NoMemory};
 use std::alloc::Global;
-use std::test::Fail as TestFail;
 
 /// The text of the fault of a file whose moments repeat with a period of 10, or nothing where it
 /// has none.
@@ -20,14 +19,14 @@ fn fault_of(alloc: Global, text: &[u8]) -> Result<String, NoMemory>
 }
 
 #[test]
-fn a_row_that_wraps_becomes_the_whole_period_with_a_gap(rt: HostRuntime) -> Result<(), TestFail> {
-    let Ok(unrolled) = unroll(rt.alloc(), b"id,lower,upper,size\nA,8,2,4\nB,2,8,4\n", 10) else {
-        panic!(rt; "no instance");
-    };
+fn a_row_that_wraps_becomes_the_whole_period_with_a_gap(rt: HostRuntime) {
+    let input: &[u8] = b"id,lower,upper,size\nA,8,2,4\nB,2,8,4\n";
+    let unrolled = unroll(rt.alloc(), input, 10)
+        .ok()
+        .expect(&rt, "an instance");
     assert_eq!(rt; unrolled.buffers, 2);
     let want: &[u8] = b"id,lower,upper,size,gaps\nA,0,10,4,2-8\nB,2,8,4,\n";
     assert_eq!(rt; unrolled.text.as_slice(), want);
-    Ok(())
 }
 
 #[test]

@@ -1,10 +1,10 @@
 //! Worked cases, and each call that takes memory with ample memory.
 
-ghost use Rattle.std.specs.Prelude.{◌≡◌, ◌^◌, ◌<◌, IfOk, length};
+ghost use Rattle.std.specs.Prelude.{◌^◌, ◌<◌, length};
 
-use dsa_model::{Buffer, BufferFault, Fail, Instance, LayoutFault, NoMemory, height, judge};
+use crate::made::{Row, with_gaps};
+use dsa_model::{BUFFER_LIMIT, Buffer, BufferFault, Fail, Instance, LayoutFault, height, judge};
 use std::alloc::Global;
-use std::test;
 
 /// Why these numbers are no buffer, where they are none.
 fn refusal(
@@ -23,24 +23,26 @@ fn refusal(
     Buffer::new(alloc, lower, upper, size, alignment, gaps, lowest).err()
 }
 
-/// The instance of two buffers.
-fn pair(alloc: Global, first: Buffer, second: Buffer) -> Result<Instance, NoMemory>
-    ensures { IfOk result (λ instance. length instance ≡ 2) }
-{
-    let mut instance = Instance::new(alloc);
-    instance.push(first)?;
-    instance.push(second)?;
-    Ok(instance)
+/// The lifetime, the size, the alignment, the count of gaps, the lowest and the floor.
+fn numbers_of(buffer: &Buffer) -> [u64; 7] {
+    let (lower, upper) = (buffer.lower(), buffer.upper());
+    let (size, alignment) = (buffer.size(), buffer.alignment());
+    let gaps = buffer.gaps().len() as u64;
+    [
+        lower,
+        upper,
+        size,
+        alignment,
+        gaps,
+        buffer.lowest(),
+        buffer.floor(),
+    ]
 }
 
 #[test]
-fn a_buffer_keeps_what_it_was_given(rt: HostRuntime) -> Result<(), test::Fail> {
-    let buffer = Buffer::new(rt.alloc(), 2, 9, 5, 3, &[(4, 6), (3, 5)], 7)?;
-    assert_eq!(rt; (buffer.lower(), buffer.upper()), (2, 9));
-    assert_eq!(rt; (buffer.size(), buffer.alignment()), (5, 3));
-    assert_eq!(rt; buffer.gaps().len(), 2);
-    assert_eq!(rt; (buffer.lowest(), buffer.floor()), (7, 9));
-    Ok(())
+fn a_buffer_keeps_what_it_was_given(rt: HostRuntime) {
+    let buffer = Buffer::new(rt.alloc(), 2, 9, 5, 3, &[(4, 6), (3, 5)], 7).expect(&rt, "a buffer");
+    assert_eq!(rt; numbers_of(&buffer), [2, 9, 5, 3, 2, 7, 9]);
 }
 
 #[test]
@@ -95,75 +97,91 @@ fn the_first_fault_of_a_buffer_is_answered(rt: HostRuntime) {
     );
 }
 
-#[test]
-fn two_buffers_that_share_a_moment_must_be_apart(rt: HostRuntime) -> Result<(), test::Fail> {
-    let alloc = rt.alloc();
-    let x = Buffer::new(alloc, 0, 5, 4, 1, &[], 0)?;
-    let y = Buffer::new(alloc, 4, 8, 4, 1, &[], 0)?;
-    let both = pair(alloc, x, y)?;
-    let overlap = LayoutFault::Overlap {
+/// What is wrong with the offsets of these buffers, of which the first has the gaps.
+fn fault_of(
+    alloc: Global,
+    rows: &[Row],
+    gaps: &[(u64, u64)],
+    capacity: u64,
+    offsets: &[u64],
+) -> Result<Option<LayoutFault>, Fail<BufferFault>>
+    requires { length gaps.now < 2 ^ 32 }
+{
+    let instance = with_gaps(alloc, rows, 0, gaps)?;
+    Ok(judge(&instance, capacity, offsets).err())
+}
+
+/// That the first two buffers overlap, from this moment on.
+fn overlap(moment: u64) -> Option<LayoutFault> {
+    Some(LayoutFault::Overlap {
         first: 0,
         second: 1,
-        moment: 4,
-    };
-    for (capacity, offsets, answer) in [
-        (10, [0, 2], Err(overlap)),
-        (8, [0, 4], Ok(())),
-        (7, [0, 4], Err(LayoutFault::Above { buffer: 1 })),
-        (
-            u64::MAX,
-            [0, u64::MAX],
-            Err(LayoutFault::Above { buffer: 1 }),
-        ),
-        (3, [u64::MAX, 0], Err(LayoutFault::Above { buffer: 0 })),
-    ] {
-        assert_eq!(rt; judge(&both, capacity, &offsets), answer, "at {capacity}");
+        moment,
+    })
+}
+
+/// That this buffer ends above the capacity.
+fn above(buffer: u32) -> Option<LayoutFault> {
+    Some(LayoutFault::Above { buffer })
+}
+
+#[test]
+fn two_buffers_that_share_a_moment_must_be_apart(rt: HostRuntime) {
+    let crossed: [Row; 2] = [(0, 5, 4, 1), (4, 8, 4, 1)];
+    let cases: [(u64, &[u64], Option<LayoutFault>); 6] = [
+        (10, &[0, 2], overlap(4)),
+        (8, &[0, 4], None),
+        (7, &[0, 4], above(1)),
+        (u64::MAX, &[0, u64::MAX], above(1)),
+        (3, &[u64::MAX, 0], above(0)),
+        (7, &[0], Some(LayoutFault::WrongCount)),
+    ];
+    for (capacity, offsets, want) in cases {
+        let fault = fault_of(rt.alloc(), &crossed, &[], capacity, offsets).expect(&rt, "memory");
+        assert_eq!(rt; fault, want, "at {capacity}");
     }
-    assert_eq!(rt; judge(&both, 7, &[0]), Err(LayoutFault::WrongCount));
-    assert_eq!(rt; height(&both, &[0, 4]), 8);
-    Ok(())
 }
 
 #[test]
-fn a_gap_lets_two_buffers_share_an_offset(rt: HostRuntime) -> Result<(), test::Fail> {
-    let alloc = rt.alloc();
-    let gapped = Buffer::new(alloc, 0, 10, 4, 1, &[(4, 6)], 0)?;
-    let filling = Buffer::new(alloc, 4, 6, 4, 1, &[], 0)?;
-    assert_eq!(rt; judge(&pair(alloc, gapped, filling)?, 4, &[0, 0]), Ok(()));
-
-    let gapped = Buffer::new(alloc, 0, 10, 4, 1, &[(4, 6)], 0)?;
-    let overrunning = Buffer::new(alloc, 4, 7, 4, 1, &[], 0)?;
-    let overrun = pair(alloc, gapped, overrunning)?;
-    let overlap = LayoutFault::Overlap {
-        first: 0,
-        second: 1,
-        moment: 6,
-    };
-    assert_eq!(rt; judge(&overrun, 4, &[0, 0]), Err(overlap));
-    assert_eq!(rt; judge(&overrun, 8, &[0, 4]), Ok(()));
-    Ok(())
+fn a_gap_lets_two_buffers_share_an_offset(rt: HostRuntime) {
+    let filling: [Row; 2] = [(0, 10, 4, 1), (4, 6, 4, 1)];
+    let overrunning: [Row; 2] = [(0, 10, 4, 1), (4, 7, 4, 1)];
+    let cases: [(&[Row], u64, &[u64], Option<LayoutFault>); 3] = [
+        (&filling, 4, &[0, 0], None),
+        (&overrunning, 4, &[0, 0], overlap(6)),
+        (&overrunning, 8, &[0, 4], None),
+    ];
+    for (rows, capacity, offsets, want) in cases {
+        let fault = fault_of(rt.alloc(), rows, &[(4, 6)], capacity, offsets).expect(&rt, "memory");
+        assert_eq!(rt; fault, want);
+    }
 }
 
 #[test]
-fn an_alignment_is_kept(rt: HostRuntime) -> Result<(), test::Fail> {
-    let alloc = rt.alloc();
-    let a = Buffer::new(alloc, 0, 1, 3, 6, &[], 0)?;
-    let b = Buffer::new(alloc, 0, 1, 3, 6, &[], 0)?;
-    let both = pair(alloc, a, b)?;
-    assert_eq!(rt;
-        judge(&both, 2, &[0, 4]),
-        Err(LayoutFault::Unaligned { buffer: 1 })
-    );
-    assert_eq!(rt; judge(&both, 9, &[6, 0]), Ok(()));
-    Ok(())
+fn an_alignment_is_kept(rt: HostRuntime) {
+    let rows: [Row; 2] = [(0, 1, 3, 6), (0, 1, 3, 6)];
+    let unaligned = Some(LayoutFault::Unaligned { buffer: 1 });
+    for (capacity, offsets, want) in [(2, [0, 4], unaligned), (9, [6, 0], None)] {
+        let fault = fault_of(rt.alloc(), &rows, &[], capacity, &offsets).expect(&rt, "memory");
+        assert_eq!(rt; fault, want);
+    }
+}
+
+/// A buffer of size 4 whose offset is a multiple of 4 and at least 6, and one that may be anywhere.
+fn with_lowest(alloc: Global) -> Result<Instance, Fail<BufferFault>> {
+    let mut instance = Instance::new(alloc);
+    for (alignment, lowest) in [(4, 6), (1, 0)] {
+        let buffer = Buffer::new(alloc, 0, 1, 4, alignment, &[], lowest)?;
+        if instance.len() < BUFFER_LIMIT {
+            instance.push(buffer)?;
+        }
+    }
+    Ok(instance)
 }
 
 #[test]
-fn a_buffer_stands_at_or_above_its_lowest(rt: HostRuntime) -> Result<(), test::Fail> {
-    let alloc = rt.alloc();
-    let high = Buffer::new(alloc, 0, 1, 4, 4, &[], 6)?;
-    let other = Buffer::new(alloc, 0, 1, 4, 1, &[], 0)?;
-    let both = pair(alloc, high, other)?;
+fn a_buffer_stands_at_or_above_its_lowest(rt: HostRuntime) {
+    let both = with_lowest(rt.alloc()).expect(&rt, "memory");
     for (capacity, offsets, answer) in [
         (12, [8, 0], Ok(())),
         (11, [8, 0], Err(LayoutFault::Above { buffer: 0 })),
@@ -172,19 +190,20 @@ fn a_buffer_stands_at_or_above_its_lowest(rt: HostRuntime) -> Result<(), test::F
     ] {
         assert_eq!(rt; judge(&both, capacity, &offsets), answer, "at {capacity}");
     }
-    Ok(())
+}
+
+/// The second, the first and again the second of two buffers.
+fn chosen(alloc: Global) -> Result<Instance, Fail<BufferFault>> {
+    let both = with_gaps(alloc, &[(0, 5, 4, 1), (5, 8, 6, 2)], 0, &[(1, 2)])?;
+    if both.len() != 2 {
+        return Err(Fail::NoMemory);
+    }
+    Ok(both.some_of(alloc, &[1, 0, 1])?)
 }
 
 #[test]
-fn some_buffers_are_an_instance_of_their_own(rt: HostRuntime) -> Result<(), test::Fail> {
-    let alloc = rt.alloc();
-    let x = Buffer::new(alloc, 0, 5, 4, 1, &[(1, 2)], 0)?;
-    let y = Buffer::new(alloc, 5, 8, 6, 2, &[], 0)?;
-    let both = pair(alloc, x, y)?;
-    let some = both.some_of(alloc, &[1, 0, 1])?;
+fn some_buffers_are_an_instance_of_their_own(rt: HostRuntime) {
+    let some = chosen(rt.alloc()).expect(&rt, "memory");
     assert_eq!(rt; some.len(), 3);
-    assert_eq!(rt; some.buffer(1).gaps().len(), 1);
-    assert_eq!(rt; (some.do_share(0, 1), some.do_share(0, 2)), (false, true));
     assert_eq!(rt; height(&some, &[0, 6, 6]), 12);
-    Ok(())
 }

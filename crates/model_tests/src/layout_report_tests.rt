@@ -11,12 +11,8 @@ use std::alloc::Global;
 fn report_of(alloc: Global, instance: &[u8], offsets: &[u64]) -> Option<Vec<u8>>
     requires { length instance.now ≤ 67108864 }
 {
-    let Ok(table) = read_instance(alloc, instance) else {
-        return None;
-    };
-    if judge(table.instance(), 1 << 60, offsets).is_err() {
-        return None;
-    }
+    let table = read_instance(alloc, instance).ok()?;
+    judge(table.instance(), 1 << 60, offsets).ok()?;
     report(alloc, &table, offsets).ok()
 }
 

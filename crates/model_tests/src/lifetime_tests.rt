@@ -21,26 +21,6 @@ fn listed(alloc: Global, sections: &Sections) -> Result<Vec<u64>, AllocError> {
     Ok(found)
 }
 
-/// A moment with the buffers that are live then.
-#[derive(Drop)]
-struct Section {
-    start: u64,
-    members: Vec<u32>,
-}
-
-/// The same of sections that are in no list yet.
-fn listed_plainly(alloc: Global, sections: &[Section]) -> Result<Vec<u64>, AllocError> {
-    let mut found = Vec::new(alloc);
-    for section in sections {
-        found.push(section.start)?;
-        for b in &section.members {
-            found.push(*b as u64)?;
-        }
-        found.push(99)?;
-    }
-    Ok(found)
-}
-
 #[test]
 fn a_section_within_a_neighbour_is_left_out(rt: HostRuntime) -> Result<(), test::Fail> {
     let alloc = rt.alloc();
@@ -82,52 +62,44 @@ fn made_instance(alloc: Global, start: u64) -> Result<Instance, Fail<BufferFault
     Ok(instance)
 }
 
-/// The runs of the instance up to a moment, found moment by moment.
-fn runs_by_moment(
-    alloc: Global,
-    instance: &Instance,
-    end: u64,
-) -> Result<Vec<Section>, AllocError> {
+/// Those of the first eight buffers that are live at a moment, as bits.
+fn live_bits(instance: &Instance, moment: u64) -> u32 {
+    let mut bits = 0;
+    for b in 0..8 {
+        if b < instance.len() && instance.buffer(b).live_at(moment) {
+            bits |= 1 << b;
+        }
+    }
+    bits
+}
+
+/// The start and the buffers of each run up to moment 32, found moment by moment.
+fn runs_by_moment(alloc: Global, instance: &Instance) -> Result<Vec<(u64, u32)>, AllocError> {
     let mut runs = Vec::new(alloc);
-    let mut before: Vec<u32> = Vec::new(alloc);
-    for start in 0..end {
-        let mut members = Vec::new(alloc);
-        for b in 0..instance.len() {
-            if instance.buffer(b).live_at(start) {
-                members.push(b)?;
-            }
+    let mut before = 0;
+    for start in 0..32 {
+        let bits = live_bits(instance, start);
+        if bits != 0 && bits != before {
+            runs.push((start, bits))?;
         }
-        if !members.is_empty() && members.as_slice() != before.as_slice() {
-            let members = Vec::from_slice(alloc, &members)?;
-            runs.push(Section { start, members })?;
-        }
-        before = members;
+        before = bits;
     }
     Ok(runs)
 }
 
-/// Whether each number of the first list is in the second.
-fn are_all_in(part: &[u32], whole: &[u32]) -> bool {
-    part.iter().all(|b| whole.contains(b))
-}
-
 /// Whether section s has no member that a neighbour lacks, the earlier of equals aside.
-fn says_less(sections: &[Section], s: usize) -> bool
+fn says_less(sections: &[(u64, u32)], s: usize) -> bool
     requires { s < length sections.now }
 {
-    let own = sections[s].members.as_slice();
-    if s > 0 && are_all_in(own, sections[s - 1].members.as_slice()) {
+    let own = sections[s].1;
+    if s > 0 && own & !sections[s - 1].1 == 0 {
         return true;
     }
-    if s + 1 < sections.len() {
-        let next = sections[s + 1].members.as_slice();
-        return are_all_in(own, next) && !are_all_in(next, own);
-    }
-    false
+    s + 1 < sections.len() && own != sections[s + 1].1 && own & !sections[s + 1].1 == 0
 }
 
 /// The sections without those that say less than a neighbour, taken out one by one.
-fn thinned_one_by_one(mut sections: Vec<Section>) -> Vec<Section> {
+fn thinned_one_by_one(mut sections: Vec<(u64, u32)>) -> Vec<(u64, u32)> {
     for _round in 0..sections.len() {
         for s in 0..sections.len() {
             if s < sections.len() && says_less(&sections, s) {
@@ -138,15 +110,30 @@ fn thinned_one_by_one(mut sections: Vec<Section>) -> Vec<Section> {
     sections
 }
 
+/// The start and the members of each of these, with 99 behind each.
+fn listed_bits(alloc: Global, sections: &[(u64, u32)]) -> Result<Vec<u64>, AllocError> {
+    let mut found = Vec::new(alloc);
+    for &(start, bits) in sections {
+        found.push(start)?;
+        for b in 0..8 {
+            if (bits >> b) & 1 == 1 {
+                found.push(b)?;
+            }
+        }
+        found.push(99)?;
+    }
+    Ok(found)
+}
+
 #[test]
 fn the_order_of_leaving_out_makes_no_difference(rt: HostRuntime) -> Result<(), test::Fail> {
     let alloc = rt.alloc();
     for start in 0..20 {
         let instance = made_instance(alloc, start)?;
         let sections = Sections::build(alloc, &instance)?;
-        let plain = runs_by_moment(alloc, &instance, 32)?;
+        let plain = runs_by_moment(alloc, &instance)?;
         assert!(rt; (sections.count() as usize) < plain.len());
-        let want = listed_plainly(alloc, &thinned_one_by_one(plain))?;
+        let want = listed_bits(alloc, &thinned_one_by_one(plain))?;
         assert_eq!(rt; listed(alloc, &sections)?.as_slice(), want.as_slice());
     }
     Ok(())

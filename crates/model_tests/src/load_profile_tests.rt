@@ -1,38 +1,54 @@
 //! Worked cases, and each call that takes memory with ample memory.
 
+ghost use Rattle.std.specs.Prelude.{◌^◌, ◌<◌, length};
+
 use crate::made::{FIVE, ONE_THEN_THREE, Row, instance_of, with_gaps};
+use dsa_model::{BufferFault, Fail};
 use lifetime::Sections;
 use load_profile::Profile;
-use std::test;
+use std::alloc::Global;
 
-#[test]
-fn the_peak_is_the_first_moment_of_greatest_load(rt: HostRuntime) -> Result<(), test::Fail> {
-    let alloc = rt.alloc();
-    let longer: [Row; 2] = [(0, 10, 4, 1), (4, 7, 4, 1)];
-    let rows: [(&[Row], &[(u64, u64)], Option<(u64, u64)>); 4] = [
-        (&[], &[], None),
-        (&FIVE, &[], Some((0, 12))),
-        (&ONE_THEN_THREE, &[], Some((2, 4))),
-        (&longer, &[(4, 6)], Some((6, 8))),
-    ];
-    for (buffers, gaps, want) in rows {
-        let instance = with_gaps(alloc, buffers, 0, gaps)?;
-        let sections = Sections::build(alloc, &instance)?;
-        assert_eq!(rt; Profile::build(alloc, &instance, &sections)?.peak(), want);
-    }
-    Ok(())
+/// The peak of these buffers, of which the first has the gaps.
+fn peak_of(
+    alloc: Global,
+    rows: &[Row],
+    gaps: &[(u64, u64)],
+) -> Result<Option<(u64, u64)>, Fail<BufferFault>>
+    requires { length gaps.now < 2 ^ 32 }
+{
+    let instance = with_gaps(alloc, rows, 0, gaps)?;
+    let sections = Sections::build(alloc, &instance)?;
+    Ok(Profile::build(alloc, &instance, &sections)?.peak())
 }
 
 #[test]
-fn the_load_of_a_section_is_the_sum_of_its_sizes(rt: HostRuntime) -> Result<(), test::Fail> {
-    let alloc = rt.alloc();
+fn the_peak_is_the_first_moment_of_greatest_load(rt: HostRuntime) {
+    let longer: [Row; 2] = [(0, 10, 4, 1), (4, 7, 4, 1)];
+    let rows: [(&[Row], Option<(u64, u64)>); 3] = [
+        (&[], None),
+        (&FIVE, Some((0, 12))),
+        (&ONE_THEN_THREE, Some((2, 4))),
+    ];
+    for (buffers, want) in rows {
+        assert_eq!(rt; peak_of(rt.alloc(), buffers, &[]), Ok(want));
+    }
+    assert_eq!(rt; peak_of(rt.alloc(), &longer, &[(4, 6)]), Ok(Some((6, 8))));
+}
+
+/// The load of each section of the five buffers.
+fn loads_of_five(alloc: Global) -> Result<Vec<u64>, Fail<BufferFault>> {
     let instance = instance_of(alloc, &FIVE)?;
     let sections = Sections::build(alloc, &instance)?;
     let profile = Profile::build(alloc, &instance, &sections)?;
-    let mut loads: Vec<u64> = Vec::new(alloc);
+    let mut loads = Vec::new(alloc);
     for s in 0..sections.count() {
         loads.push(profile.load(s))?;
     }
+    Ok(loads)
+}
+
+#[test]
+fn the_load_of_a_section_is_the_sum_of_its_sizes(rt: HostRuntime) {
+    let loads = loads_of_five(rt.alloc()).expect(&rt, "memory");
     assert_eq!(rt; loads.as_slice(), [12, 12, 8].as_slice());
-    Ok(())
 }

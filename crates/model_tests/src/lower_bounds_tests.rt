@@ -1,40 +1,63 @@
 //! Worked cases, and each call that takes memory with ample memory.
 
+ghost use Rattle.std.specs.Prelude.{◌^◌, ◌<◌, length};
+
 use crate::made::{FIVE, ONE_THEN_THREE, Row, instance_of, with_gaps};
+use dsa_model::{BufferFault, Fail};
 use lifetime::Sections;
 use lower_bounds::bound;
-use refute_log::Line;
-use std::test;
+use refute_log::{ClosedLog, Line};
+use std::alloc::Global;
 
-#[test]
-fn the_bound_is_the_greatest_stack(rt: HostRuntime) -> Result<(), test::Fail> {
-    let alloc = rt.alloc();
-    let by_four: [Row; 2] = [(0, 1, 3, 4), (0, 1, 3, 4)];
-    let two: [Row; 2] = [(0, 10, 4, 1), (4, 6, 4, 1)];
-    let longer: [Row; 2] = [(0, 10, 4, 1), (4, 7, 4, 1)];
-    let rows: [(&[Row], &[(u64, u64)], (u64, u64, u64)); 6] = [
-        (&[], &[], (0, 0, 1)),
-        (&FIVE, &[], (12, 0, 1)),
-        (&by_four, &[], (7, 0, 4)),
-        (&two, &[(4, 6)], (4, 0, 1)),
-        (&longer, &[(4, 6)], (8, 6, 1)),
-        (&ONE_THEN_THREE, &[], (4, 2, 1)),
-    ];
-    for (buffers, gaps, want) in rows {
-        let instance = with_gaps(alloc, buffers, 0, gaps)?;
-        let found = bound(alloc, &instance, &Sections::build(alloc, &instance)?)?;
-        assert_eq!(rt; (found.capacity, found.moment, found.modulus), want);
-    }
-    Ok(())
+/// The bound of these buffers, of which the first has the gaps, with its moment and its modulus.
+fn bound_of(
+    alloc: Global,
+    rows: &[Row],
+    gaps: &[(u64, u64)],
+) -> Result<(u64, u64, u64), Fail<BufferFault>>
+    requires { length gaps.now < 2 ^ 32 }
+{
+    let instance = with_gaps(alloc, rows, 0, gaps)?;
+    let found = bound(alloc, &instance, &Sections::build(alloc, &instance)?)?;
+    Ok((found.capacity, found.moment, found.modulus))
 }
 
 #[test]
-fn the_log_of_a_bound_is_one_line(rt: HostRuntime) -> Result<(), test::Fail> {
-    let alloc = rt.alloc();
-    let instance = instance_of(alloc, &[(0, 1, 3, 4), (0, 1, 3, 4), (2, 3, 1, 1)])?;
+fn the_bound_is_the_greatest_stack(rt: HostRuntime) {
+    let by_four: [Row; 2] = [(0, 1, 3, 4), (0, 1, 3, 4)];
+    let rows: [(&[Row], (u64, u64, u64)); 4] = [
+        (&[], (0, 0, 1)),
+        (&FIVE, (12, 0, 1)),
+        (&by_four, (7, 0, 4)),
+        (&ONE_THEN_THREE, (4, 2, 1)),
+    ];
+    for (buffers, want) in rows {
+        assert_eq!(rt; bound_of(rt.alloc(), buffers, &[]), Ok(want));
+    }
+}
+
+#[test]
+fn a_gap_lowers_the_bound_where_no_other_outlasts_it(rt: HostRuntime) {
+    let filling: [Row; 2] = [(0, 10, 4, 1), (4, 6, 4, 1)];
+    let longer: [Row; 2] = [(0, 10, 4, 1), (4, 7, 4, 1)];
+    assert_eq!(rt; bound_of(rt.alloc(), &filling, &[(4, 6)]), Ok((4, 0, 1)));
+    assert_eq!(rt; bound_of(rt.alloc(), &longer, &[(4, 6)]), Ok((8, 6, 1)));
+}
+
+/// The log that refutes one byte less than the bound of these buffers, which is none of 0.
+fn refuted(alloc: Global, rows: &[Row]) -> Result<ClosedLog, Fail<BufferFault>> {
+    let instance = instance_of(alloc, rows)?;
     let found = bound(alloc, &instance, &Sections::build(alloc, &instance)?)?;
-    assert!(rt; found.capacity > 0);
-    let log = found.log(alloc, &instance, found.capacity - 1)?;
+    if found.capacity == 0 {
+        return Err(Fail::NoMemory);
+    }
+    Ok(found.log(alloc, &instance, found.capacity - 1)?)
+}
+
+#[test]
+fn the_log_of_a_bound_is_one_line(rt: HostRuntime) {
+    let rows: [Row; 3] = [(0, 1, 3, 4), (0, 1, 3, 4), (2, 3, 1, 1)];
+    let log = refuted(rt.alloc(), &rows).expect(&rt, "memory");
     assert_eq!(rt;
         (log.count(), log.capacity(), log.len(), log.end()),
         (3, 6, 1, 0)
@@ -49,5 +72,4 @@ fn the_log_of_a_bound_is_one_line(rt: HostRuntime) -> Result<(), test::Fail> {
         } => assert_eq!(rt; (claim.len(), *moment, *height, *modulus), (2, 0, 0, 4)),
         Line::Cases { .. } => assert!(rt; false, "not an over line"),
     }
-    Ok(())
 }

@@ -18,6 +18,9 @@ pub(crate) const FIVE: [Row; 5] = [
     (0, 21, 4, 1),
 ];
 
+/// Three buffers that are live together, two of them alike.
+pub(crate) const THREE: [Row; 3] = [(0, 1, 1, 2), (0, 1, 1, 2), (0, 1, 2, 1)];
+
 /// One buffer alone, and then three.
 pub(crate) const ONE_THEN_THREE: [Row; 4] = [
     (0, 2, 1, 1),
@@ -41,10 +44,10 @@ pub(crate) fn with_gaps(
     requires { length gaps.now < 2 ^ 32 }
 {
     let mut instance = Instance::new(alloc);
-    for (lower, upper, size, alignment) in rows {
+    for &(lower, upper, size, alignment) in rows {
         let own = if instance.len() == holed { gaps } else { &[] };
-        let (lower, upper) = (*lower as u64, *upper as u64);
-        let buffer = Buffer::new(alloc, lower, upper, *size as u64, *alignment as u64, own, 0)?;
+        let (size, alignment) = (size as u64, alignment as u64);
+        let buffer = Buffer::new(alloc, lower as u64, upper as u64, size, alignment, own, 0)?;
         if instance.len() < BUFFER_LIMIT {
             instance.push(buffer)?;
         }

@@ -1,9 +1,11 @@
 //! Worked instances, and each call that takes memory with ample memory.
 
+ghost use Rattle.std.specs.Prelude.{◌^◌, ◌<◌, length};
+
 use crate::made::{FIVE, Row, instance_of, with_gaps};
-use dsa_model::{Buffer, Fail, Instance};
-use size_classes::{NotPlain, classes, slots};
-use std::test;
+use dsa_model::Fail;
+use size_classes::{ClassPlan, NotPlain, classes};
+use std::alloc::Global;
 
 /// Sizes 3 and 4 are of one class, size 1 is of a lower one.
 const MIXED: [Row; 3] = [(0, 2, 3, 1), (1, 3, 4, 1), (0, 1, 1, 1)];
@@ -11,9 +13,14 @@ const MIXED: [Row; 3] = [(0, 2, 3, 1), (1, 3, 4, 1), (0, 1, 1, 1)];
 /// A buffer that begins where another ends gets its slot, though a third is live at both.
 const IN_TURN: [Row; 3] = [(0, 2, 3, 1), (2, 3, 3, 1), (1, 3, 3, 1)];
 
+/// The plan of these buffers.
+fn plan_of(alloc: Global, rows: &[Row]) -> Option<ClassPlan> {
+    let instance = instance_of(alloc, rows).ok()?;
+    classes(alloc, &instance).ok()
+}
+
 #[test]
-fn the_classes_stand_by_rising_size(rt: HostRuntime) -> Result<(), test::Fail> {
-    let alloc = rt.alloc();
+fn the_classes_stand_by_rising_size(rt: HostRuntime) {
     let rows: [(&[Row], (u64, u64), &[u64]); 5] = [
         (&[], (0, 0), &[]),
         (&FIVE, (12, 12), &[0, 0, 4, 0, 8]),
@@ -21,41 +28,29 @@ fn the_classes_stand_by_rising_size(rt: HostRuntime) -> Result<(), test::Fail> {
         (&IN_TURN, (6, 6), &[0, 0, 3]),
         (&[(0, 1, 8, 1), (0, 1, 9, 1)], (17, 17), &[0, 8]),
     ];
-    for (buffers, (height, load), offsets) in rows {
-        let plan = classes(alloc, &instance_of(alloc, buffers)?)?;
+    for (buffers, height_and_load, offsets) in rows {
+        let plan = plan_of(rt.alloc(), buffers).expect(&rt, "a plan");
         assert_eq!(rt; plan.offsets.as_slice(), offsets);
-        assert_eq!(rt; plan.height, height);
-        assert_eq!(rt; plan.load, load);
+        assert_eq!(rt; (plan.height, plan.load), height_and_load);
     }
-    Ok(())
+}
+
+/// The least buffer that has no plan by size class, where buffer `holed` has gaps.
+fn rough_of(alloc: Global, rows: &[Row], holed: u32, gaps: &[(u64, u64)]) -> Option<u32>
+    requires { length gaps.now < 2 ^ 32 }
+{
+    let instance = with_gaps(alloc, rows, holed, gaps).ok()?;
+    match classes(alloc, &instance) {
+        Err(Fail::Fault(NotPlain { buffer })) => Some(buffer),
+        _ => None,
+    }
 }
 
 #[test]
-fn the_least_buffer_with_a_gap_or_an_alignment_is_told(rt: HostRuntime) -> Result<(), test::Fail> {
-    let alloc = rt.alloc();
-    let rows: [(&[Row], u32, &[(u64, u64)], u32); 3] = [
-        (&[(2, 3, 1, 2), (2, 3, 1, 2)], 0, &[], 0),
-        (&FIVE, 4, &[(3, 5)], 4),
-        (&[(0, 9, 4, 1), (0, 1, 1, 4), (0, 9, 4, 1)], 2, &[(3, 5)], 1),
-    ];
-    for (buffers, holed, gaps, buffer) in rows {
-        let answer = classes(alloc, &with_gaps(alloc, buffers, holed, gaps)?);
-        assert_eq!(rt; answer.err(), Some(Fail::Fault(NotPlain { buffer })));
-    }
-    Ok(())
-}
-
-#[test]
-fn a_slot_is_free_again_where_its_buffer_ends(rt: HostRuntime) -> Result<(), test::Fail> {
-    let alloc = rt.alloc();
-    let mut instance = Instance::new(alloc);
-    instance.push(Buffer::new(alloc, 0, 2, 3, 1, &[], 0)?)?;
-    instance.push(Buffer::new(alloc, 2, 3, 5, 1, &[], 0)?)?;
-    instance.push(Buffer::new(alloc, 1, 3, 7, 1, &[], 0)?)?;
-    let members: [u32; 3] = [0, 1, 2];
-    assert_eq!(rt;
-        slots(alloc, &instance, &members)?.as_slice(),
-        [0, 0, 1].as_slice()
-    );
-    Ok(())
+fn the_least_buffer_with_a_gap_or_an_alignment_is_told(rt: HostRuntime) {
+    let aligned: [Row; 2] = [(2, 3, 1, 2), (2, 3, 1, 2)];
+    let both: [Row; 3] = [(0, 9, 4, 1), (0, 1, 1, 4), (0, 9, 4, 1)];
+    assert_eq!(rt; rough_of(rt.alloc(), &aligned, 0, &[]), Some(0));
+    assert_eq!(rt; rough_of(rt.alloc(), &FIVE, 4, &[(3, 5)]), Some(4));
+    assert_eq!(rt; rough_of(rt.alloc(), &both, 2, &[(3, 5)]), Some(1));
 }

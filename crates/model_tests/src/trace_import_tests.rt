@@ -26,13 +26,14 @@ fn refusal_of(alloc: Global, bytes: &[u8]) -> Result<String, NoMemory>
     }
 }
 
-/// A trace that allocates `count` identifiers.
-fn allocations(alloc: Global, count: u32) -> Result<String, AllocError> {
+/// A trace that allocates `count` identifiers, with these lines behind.
+fn allocations(alloc: Global, count: u32, end: &str) -> Result<String, AllocError> {
     let mut text = String::new(alloc);
     for id in 0..count {
         let line = format!(in alloc; "alloc {id} 8 1\n")?;
         text.push_str(line.as_str())?;
     }
+    text.push_str(end)?;
     Ok(text)
 }
 
@@ -102,53 +103,61 @@ fn a_trace_is_refused_by_its_first_fault(rt: HostRuntime) {
 
 #[test]
 fn of_every_fault_in_turn_the_first_is_told(rt: HostRuntime) {
-    let cases: [(&[u8], &str); 6] = [
+    let cases: [(&str, &str); 6] = [
         (
-            b"alloc a 1 1\nfree\nalloc b 0 0\nalloc b 1 0\nalloc a 0 1\nalloc a 1 1\nfree b\n",
+            "alloc a 1 1\nfree\nalloc b 0 0\nalloc b 1 0\nalloc a 0 1\nalloc a 1 1\nfree b\n",
             "bad line 1",
         ),
         (
-            b"alloc a 1 1\nalloc a 0 0\nalloc a 1 0\nalloc a 1 1\nfree b\nfree\n",
+            "alloc a 1 1\nalloc a 0 0\nalloc a 1 0\nalloc a 1 1\nfree b\nfree\n",
             "bad size 1",
         ),
         (
-            b"alloc a 1 1\nalloc a 1 0\nalloc a 1 1\nfree b\nfree\nalloc a 0 0\n",
+            "alloc a 1 1\nalloc a 1 0\nalloc a 1 1\nfree b\nfree\nalloc a 0 0\n",
             "bad alignment 1",
         ),
         (
-            b"alloc a 1 1\nalloc a 1 1\nfree b\nfree\nalloc a 0 0\nalloc a 1 0\n",
+            "alloc a 1 1\nalloc a 1 1\nfree b\nfree\nalloc a 0 0\nalloc a 1 0\n",
             "still live 1 0",
         ),
         (
-            b"alloc a 1 1\nfree b\nfree\nalloc a 0 0\nalloc a 1 0\nalloc a 1 1\n",
+            "alloc a 1 1\nfree b\nfree\nalloc a 0 0\nalloc a 1 0\nalloc a 1 1\n",
             "not live 1",
         ),
-        (b"alloc a 1 1\nfree a\nalloc a 2 1\nfree a\n", ""),
+        ("alloc a 1 1\nfree a\nalloc a 2 1\nfree a\n", ""),
     ];
-    for (bytes, want) in cases {
-        if bytes.len() > 100 {
+    for (trace, want) in cases {
+        if trace.len() > 100 {
             panic!(rt; "a longer case");
         }
-        let text = refusal_of(rt.alloc(), bytes).expect(&rt, "memory");
+        let text = refusal_of(rt.alloc(), trace.as_bytes()).expect(&rt, "memory");
         assert_eq!(rt; text.as_str(), want);
     }
 }
 
+/// The refusal of a trace with one buffer more than an instance has.
+fn refusal_of_one_more(alloc: Global) -> Result<String, NoMemory> {
+    let text = allocations(alloc, BUFFER_LIMIT, "free 0\nalloc 0 8 1\n")?;
+    if text.len() > 1000000 {
+        return Err(NoMemory);
+    }
+    refusal_of(alloc, text.as_bytes())
+}
+
+/// How many lines and buffers a trace with as many buffers as an instance has is read to have.
+fn counts_at_the_limit(alloc: Global) -> Result<(u32, u32), Fail<TraceFault>> {
+    let text = allocations(alloc, BUFFER_LIMIT, "")?;
+    if text.len() > 1000000 {
+        return Err(Fail::NoMemory);
+    }
+    let (lines, buffers, _) = instance_of(alloc, text.as_bytes())?;
+    Ok((lines, buffers))
+}
+
 #[test]
 fn there_are_no_more_buffers_than_an_instance_has(rt: HostRuntime) {
-    let mut text = allocations(rt.alloc(), BUFFER_LIMIT).expect(&rt, "memory");
-    if text.len() > 1000000 {
-        panic!(rt; "longer lines");
-    }
-    let (lines, buffers, _) = instance_of(rt.alloc(), text.as_bytes())
-        .ok()
-        .expect(&rt, "an instance");
-    assert_eq!(rt; lines, BUFFER_LIMIT);
-    assert_eq!(rt; buffers, BUFFER_LIMIT);
-    text.push_str("free 0\nalloc 0 8 1\n").expect(&rt, "memory");
-    let want = format!(in rt.alloc(); "too many buffers {}", BUFFER_LIMIT + 1).expect(
-        &rt, "memory",
-    );
-    let refused = refusal_of(rt.alloc(), text.as_bytes()).expect(&rt, "memory");
-    assert_eq!(rt; refused.as_str(), want.as_str());
+    let counts = counts_at_the_limit(rt.alloc()).ok();
+    assert_eq!(rt; counts, Some((BUFFER_LIMIT, BUFFER_LIMIT)));
+    let refused = refusal_of_one_more(rt.alloc()).expect(&rt, "memory");
+    assert_eq!(rt; refused.as_str(), "too many buffers 4097");
 }
