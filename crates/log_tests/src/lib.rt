@@ -9,4 +9,6 @@ mod log_text_tests;
 #[cfg(test)]
 mod log_trim_tests;
 #[cfg(test)]
+mod made;
+#[cfg(test)]
 mod refute_log_tests;

@@ -1,6 +1,7 @@
 //! Texts of logs, read and checked.
 
-use dsa_model::{BUFFER_LIMIT, Buffer, Fail, Instance};
+use crate::made::buffers;
+use dsa_model::{Fail, Instance};
 use log_check::{CheckFault, check};
 use log_text::read_log;
 use refute_log::Reason;
@@ -19,18 +20,6 @@ over 0 1 1 : 1=1\n\
 over 0 1 1 : 0=1\n\
 case : 0=0 1=0 : 0>0 1>1\n\
 end 2\n";
-
-/// Buffers of these sizes and alignments, all live at moment 0.
-fn buffers(alloc: Global, sizes: &[(u64, u64)]) -> Option<Instance> {
-    let mut instance = Instance::new(alloc);
-    for pair in sizes {
-        let buffer = Buffer::new(alloc, 0, 1, pair.0, pair.1, &[], 0).ok()?;
-        if instance.len() < BUFFER_LIMIT {
-            instance.push(buffer).ok()?;
-        }
-    }
-    Some(instance)
-}
 
 /// How many lines the log has, or its fault.
 fn checked(alloc: Global, instance: &Instance, text: &[u8]) -> Result<u64, Fail<CheckFault>> {

@@ -1,13 +1,14 @@
 //! Texts, and their first faults as a reader by hand finds them.
 
+ghost use Rattle.std.specs.Prelude.{IfSome};
 ghost use Rattle.refute_log.specs.Lines.{IsWithin, line_value};
 
+use crate::made::buffers;
 use canonical_order::Claim;
-use dsa_model::{BUFFER_LIMIT, Buffer, Fail, Instance};
+use dsa_model::Fail;
 use log_text::{RawLine, TextFault, read_log, write_log, write_log2};
-use refute_log::{Line, Log};
+use refute_log::{ClosedLog, Line, Log};
 use std::alloc::Global;
-use std::process::Abort;
 
 /// A log of three buffers at 4.
 const SAMPLE: &[u8] = b"dsalog 1 3 4\n\
@@ -18,51 +19,27 @@ over 0 2 2 : 0=2 1=2\n\
 case : 0=0 1=0 2=0 : 0>2 1~0 2>3\n\
 end 4\n";
 
+/// That the first line behind the header has no line's form.
+const NO_LINE: TextFault = TextFault::BadLine { line: 0 };
+
+/// That a number of that line is above its limit.
+const TOO_LARGE: TextFault = TextFault::NumberTooLarge { line: 0 };
+
 /// Texts with a header, each with its first fault.
 const ROW_FAULTS: [(&[u8], TextFault); 20] = [
-    (b"dsalog 1 3 4\nend 0", TextFault::BadLine { line: 0 }),
+    (b"dsalog 1 3 4\nend 0", NO_LINE),
     (b"dsalog 1 3 4\nend 0\n\n", TextFault::AfterEnd),
-    (b"dsalog 1 3 4\nend 00\n", TextFault::BadLine { line: 0 }),
-    (
-        b"dsalog 1 3 4\nend 1152921504606846977\n\n",
-        TextFault::NumberTooLarge { line: 0 },
-    ),
-    (
-        b"dsalog 1 3 4\nover 0 3 1 : \nend 0\n",
-        TextFault::BadLine { line: 0 },
-    ),
-    (
-        b"dsalog 1 3 4\nover 0 3 1 : 2=3 \nend 0\n",
-        TextFault::BadLine { line: 0 },
-    ),
-    (
-        b"dsalog 1 3 4\nover 0 3 1 : 2=3  3=4\nend 0\n",
-        TextFault::BadLine { line: 0 },
-    ),
-    (
-        b"dsalog 1 3 4\nover 0 3 1 : 2=03\nend 0\n",
-        TextFault::BadLine { line: 0 },
-    ),
-    (
-        b"dsalog 1 3 4\nover 0 3 1 : 2>3\nend 0\n",
-        TextFault::BadLine { line: 0 },
-    ),
-    (
-        b"dsalog 1 3 4\nover 0 3 : 2=3\nend 0\n",
-        TextFault::BadLine { line: 0 },
-    ),
-    (
-        b"dsalog 1 3 4\ncase : 1=0 : 1=0\nend 0\n",
-        TextFault::BadLine { line: 0 },
-    ),
-    (
-        b"dsalog 1 3 4\ncase : 1=0 : \nend 0\n",
-        TextFault::BadLine { line: 0 },
-    ),
-    (
-        b"dsalog 1 3 4\ncase : 1=0\nend 0\n",
-        TextFault::BadLine { line: 0 },
-    ),
+    (b"dsalog 1 3 4\nend 00\n", NO_LINE),
+    (b"dsalog 1 3 4\nend 1152921504606846977\n\n", TOO_LARGE),
+    (b"dsalog 1 3 4\nover 0 3 1 : \nend 0\n", NO_LINE),
+    (b"dsalog 1 3 4\nover 0 3 1 : 2=3 \nend 0\n", NO_LINE),
+    (b"dsalog 1 3 4\nover 0 3 1 : 2=3  3=4\nend 0\n", NO_LINE),
+    (b"dsalog 1 3 4\nover 0 3 1 : 2=03\nend 0\n", NO_LINE),
+    (b"dsalog 1 3 4\nover 0 3 1 : 2>3\nend 0\n", NO_LINE),
+    (b"dsalog 1 3 4\nover 0 3 : 2=3\nend 0\n", NO_LINE),
+    (b"dsalog 1 3 4\ncase : 1=0 : 1=0\nend 0\n", NO_LINE),
+    (b"dsalog 1 3 4\ncase : 1=0 : \nend 0\n", NO_LINE),
+    (b"dsalog 1 3 4\ncase : 1=0\nend 0\n", NO_LINE),
     (
         b"dsalog 1 3 4\nover 0 3 1 : 2=3 2=4\nend 0\n",
         TextFault::NotRising { line: 0 },
@@ -77,7 +54,7 @@ const ROW_FAULTS: [(&[u8], TextFault); 20] = [
     ),
     (
         b"dsalog 1 3 4\nover 4611686018427387904 0 1 : 1=1\n",
-        TextFault::NumberTooLarge { line: 0 },
+        TOO_LARGE,
     ),
     (
         b"dsalog 1 3 4\nover 0 0 1 : 1=1\nover 0 0 1 : 2=1 1=1152921504606846977\n",
@@ -85,7 +62,7 @@ const ROW_FAULTS: [(&[u8], TextFault); 20] = [
     ),
     (
         b"dsalog 1 3 4\ncase : 1=0 : 1~9999999999999999999999999999999999999999999999\n",
-        TextFault::NumberTooLarge { line: 0 },
+        TOO_LARGE,
     ),
     (
         b"dsalog 1 3 4\ncase : 1=0 : 1~2\nover 0 0 1 : 1=1 1=2\nx",
@@ -134,28 +111,16 @@ const SECOND_FAULTS: [(&[u8], TextFault); 14] = [
     ),
     (
         b"dsalog 2 5 11\nover 0 0 1 : @1152921504606846977\nend 0\n",
-        TextFault::NumberTooLarge { line: 0 },
+        TOO_LARGE,
     ),
     (
         b"dsalog 2 5 11\nover 0 0 1 : @0 -1152921504606846977\nend 0\n",
-        TextFault::NumberTooLarge { line: 0 },
+        TOO_LARGE,
     ),
-    (
-        b"dsalog 2 5 11\nover 0 0 1 : @\nend 0\n",
-        TextFault::BadLine { line: 0 },
-    ),
-    (
-        b"dsalog 2 5 11\nover 0 0 1 : @0 \nend 0\n",
-        TextFault::BadLine { line: 0 },
-    ),
-    (
-        b"dsalog 2 5 11\nover 0 0 1 : @0 -01\nend 0\n",
-        TextFault::BadLine { line: 0 },
-    ),
-    (
-        b"dsalog 2 5 11\nover 0 0 1 : 0=0 -2\nend 0\n",
-        TextFault::BadLine { line: 0 },
-    ),
+    (b"dsalog 2 5 11\nover 0 0 1 : @\nend 0\n", NO_LINE),
+    (b"dsalog 2 5 11\nover 0 0 1 : @0 \nend 0\n", NO_LINE),
+    (b"dsalog 2 5 11\nover 0 0 1 : @0 -01\nend 0\n", NO_LINE),
+    (b"dsalog 2 5 11\nover 0 0 1 : 0=0 -2\nend 0\n", NO_LINE),
     (
         b"dsalog 1 5 11\nover 0 0 1 : 0=0 2=0\nover 0 0 1 : @0\nend 1\n",
         TextFault::BadLine { line: 1 },
@@ -168,15 +133,27 @@ fn fault(alloc: Global, text: &[u8]) -> Option<Fail<TextFault>> {
 }
 
 /// The line that the three buffers together are too large for 3.
-fn whole_line(rt: &impl Abort, alloc: Global) -> Line
-    ensures { IsWithin (line_value result) }
+fn whole_line(alloc: Global) -> Option<Line>
+    ensures { IfSome result (λ line. IsWithin (line_value line)) }
 {
-    Line::Over {
-        claim: Claim::from_pairs(alloc, &[(0, 0), (1, 0), (2, 0)]).expect(rt, "memory"),
+    Some(Line::Over {
+        claim: Claim::from_pairs(alloc, &[(0, 0), (1, 0), (2, 0)]).ok()?,
         moment: 0,
         height: 0,
         modulus: 1,
+    })
+}
+
+/// The log of that line for three buffers, or of that line twice.
+fn whole_log(alloc: Global, is_twice: bool) -> Option<ClosedLog> {
+    let three = buffers(alloc, &[(1, 1), (1, 1), (2, 1)])?;
+    let mut log = Log::new(alloc, &three, 3);
+    let first = log.push(&three, whole_line(alloc)?).ok()?;
+    if !is_twice {
+        return log.close(&three, first).ok();
     }
+    let second = log.push(&three, whole_line(alloc)?).ok()?;
+    log.close(&three, second).ok()
 }
 
 /// How many pairs and cites a line has.
@@ -187,86 +164,59 @@ fn counts(line: &RawLine) -> (usize, usize) {
     }
 }
 
+/// The count, the capacity and the end of the log of a text.
+fn numbers_of(alloc: Global, text: &[u8]) -> Option<(u64, u64, u64)> {
+    let log = read_log(alloc, text).ok()?;
+    Some((log.count, log.capacity, log.end))
+}
+
+/// How many pairs and cites each line of the log of a text has.
+fn all_counts(alloc: Global, text: &[u8]) -> Option<Vec<(usize, usize)>> {
+    let log = read_log(alloc, text).ok()?;
+    let mut found = Vec::new(alloc);
+    for line in log.lines.as_slice() {
+        found.push(counts(line)).ok()?;
+    }
+    Some(found)
+}
+
 #[test]
 fn the_sample_log_is_read_as_it_stands(rt: HostRuntime) {
-    match read_log(rt.alloc(), SAMPLE) {
-        Err(_) => assert!(rt; false, "the sample log has no fault"),
-        Ok(log) => {
-            assert_eq!(rt; (log.count, log.capacity, log.end), (3, 4, 4));
-            let lines = log.lines.as_slice();
-            assert_eq!(rt; lines.len(), 5);
-            for (line, want) in lines.iter().zip([(1, 0), (1, 0), (2, 2), (2, 0), (3, 3)]) {
-                assert_eq!(rt; counts(line), want);
-            }
-        }
-    }
+    assert_eq!(rt; numbers_of(rt.alloc(), SAMPLE), Some((3, 4, 4)));
+    let found = all_counts(rt.alloc(), SAMPLE).expect(&rt, "a log");
+    let want = [(1, 0), (1, 0), (2, 2), (2, 0), (3, 3)];
+    assert_eq!(rt; found.as_slice(), want.as_slice());
 }
 
 #[test]
 fn a_log_is_written_byte_for_byte(rt: HostRuntime) {
-    let alloc = rt.alloc();
-    let mut three = Instance::new(alloc);
-    for size in [1, 1, 2] {
-        let buffer = Buffer::new(alloc, 0, 1, size, 1, &[], 0).expect(&rt, "memory");
-        if three.len() < BUFFER_LIMIT {
-            three.push(buffer).expect(&rt, "memory");
-        }
-    }
-    let mut log = Log::new(alloc, &three, 3);
-    let first = log.push(&three, whole_line(&rt, alloc));
-    assert_eq!(rt; first, Ok(0));
-    assert!(rt; log.len() == 1);
-    match log.close(&three, 0) {
-        Err(_) => assert!(rt; false, "open"),
-        Ok(closed) => {
-            let text = write_log(alloc, &closed).expect(&rt, "memory");
-            let want = b"dsalog 1 3 3\nover 0 0 1 : 0=0 1=0 2=0\nend 0\n";
-            assert_eq!(rt; text.as_slice(), want.as_slice());
-        }
+    let log = whole_log(rt.alloc(), false).expect(&rt, "a log");
+    let text = write_log(rt.alloc(), &log).expect(&rt, "memory");
+    let want = b"dsalog 1 3 3\nover 0 0 1 : 0=0 1=0 2=0\nend 0\n";
+    assert_eq!(rt; text.as_slice(), want.as_slice());
+}
+
+/// The pairs of the fourth line of a log, where it is an over line.
+fn fourth_claim(alloc: Global, text: &[u8]) -> Option<Vec<(u64, u64)>> {
+    let log = read_log(alloc, text).ok()?;
+    match log.lines.as_slice().get(3)? {
+        RawLine::Cases { .. } => None,
+        RawLine::Over { claim, .. } => claim.as_slice().to_vec(alloc).ok(),
     }
 }
 
 #[test]
 fn a_claim_that_is_a_difference_is_read_in_full(rt: HostRuntime) {
-    match read_log(rt.alloc(), SECOND_SAMPLE) {
-        Err(_) => assert!(rt; false, "the text has no fault"),
-        Ok(log) => {
-            let lines = log.lines.as_slice();
-            assert_eq!(rt; lines.len(), 5);
-            match &lines[3] {
-                RawLine::Cases { .. } => assert!(rt; false, "an over line"),
-                RawLine::Over { claim, .. } => {
-                    assert_eq!(rt; claim.as_slice(), [(0, 2), (1, 2)].as_slice());
-                }
-            }
-        }
-    }
+    let found = fourth_claim(rt.alloc(), SECOND_SAMPLE).expect(&rt, "an over line");
+    assert_eq!(rt; found.as_slice(), [(0, 2), (1, 2)].as_slice());
 }
 
 #[test]
 fn a_line_like_the_one_before_it_is_written_as_a_difference(rt: HostRuntime) {
-    let alloc = rt.alloc();
-    let mut three = Instance::new(alloc);
-    for size in [1, 1, 2] {
-        let buffer = Buffer::new(alloc, 0, 1, size, 1, &[], 0).expect(&rt, "memory");
-        if three.len() < BUFFER_LIMIT {
-            three.push(buffer).expect(&rt, "memory");
-        }
-    }
-    let mut log = Log::new(alloc, &three, 3);
-    let first = log.push(&three, whole_line(&rt, alloc));
-    assert_eq!(rt; first, Ok(0));
-    let second = log.push(&three, whole_line(&rt, alloc));
-    assert_eq!(rt; second, Ok(1));
-    assert!(rt; log.len() == 2);
-    match log.close(&three, 1) {
-        Err(_) => assert!(rt; false, "open"),
-        Ok(closed) => {
-            let text = write_log2(alloc, &closed).expect(&rt, "memory");
-            let want = b"dsalog 2 3 3\nover 0 0 1 : 0=0 1=0 2=0\nover 0 0 1 : @0\nend 1\n";
-            assert_eq!(rt; text.as_slice(), want.as_slice());
-        }
-    }
+    let log = whole_log(rt.alloc(), true).expect(&rt, "a log");
+    let text = write_log2(rt.alloc(), &log).expect(&rt, "memory");
+    let want = b"dsalog 2 3 3\nover 0 0 1 : 0=0 1=0 2=0\nover 0 0 1 : @0\nend 1\n";
+    assert_eq!(rt; text.as_slice(), want.as_slice());
 }
 
 #[test]

@@ -7,24 +7,12 @@ ghost use Rattle.canonical_order.specs.Claims.{IsBoundedBy};
 ghost use Rattle.refute_log.specs.Lines.{IsCiteWithin, cite_value};
 ghost use Rattle.refute_log.specs.Logs.{Belongs};
 
+use crate::made::buffers;
 use canonical_order::Claim;
-use dsa_model::{BUFFER_LIMIT, Buffer, Fail, Instance};
+use dsa_model::{Fail, Instance, NoMemory};
 use log_trim::trim;
 use refute_log::{Cite, Cites, ClosedLog, Line, Log, Reason};
 use std::alloc::{AllocError, Global};
-use std::test;
-
-/// Buffers of these sizes and alignments, all live at moment 0.
-fn buffers(alloc: Global, sizes: &[(u64, u64)]) -> Option<Instance> {
-    let mut instance = Instance::new(alloc);
-    for pair in sizes {
-        let buffer = Buffer::new(alloc, 0, 1, pair.0, pair.1, &[], 0).ok()?;
-        if instance.len() < BUFFER_LIMIT {
-            instance.push(buffer).ok()?;
-        }
-    }
-    Some(instance)
-}
 
 /// Appends an Over line at moment 0.
 fn push_over(
@@ -97,6 +85,21 @@ fn sample(alloc: Global, three: &Instance, with_extra: bool) -> Result<ClosedLog
     }
 }
 
+/// The log of three lines by which two buffers of size 1 do not fit within 1 byte.
+fn needed(alloc: Global, two: &Instance) -> Result<ClosedLog, Fail<Reason>>
+    ensures { IfOk result (λ log. IsAccepted two.now log) }
+{
+    let mut log = Log::new(alloc, two, 1);
+    push_over(alloc, two, &mut log, &[(1, 1)], 1, 1)?;
+    push_over(alloc, two, &mut log, &[(0, 1)], 1, 1)?;
+    let cites = [Cite::Line(0), Cite::Line(1)];
+    let end = push_cases(alloc, two, &mut log, &[(0, 0), (1, 0)], &cites)?;
+    match log.close(two, end) {
+        Ok(closed) => Ok(closed),
+        Err(_) => Err(Fail::NoMemory),
+    }
+}
+
 /// Of each line in order how many buffers its claim has, and 10 more than each line that it cites;
 /// the end last.
 fn outline(alloc: Global, log: &ClosedLog) -> Result<Vec<u64>, AllocError> {
@@ -116,37 +119,31 @@ fn outline(alloc: Global, log: &ClosedLog) -> Result<Vec<u64>, AllocError> {
     Ok(numbers)
 }
 
-const SAMPLE: [u64; 10] = [1, 1, 2, 10, 11, 2, 3, 12, 13, 4];
-
-#[test]
-fn a_line_that_nothing_cites_goes(rt: HostRuntime) -> Result<(), test::Fail> {
-    let alloc = rt.alloc();
-    let three = buffers(alloc, &[(1, 2), (1, 2), (2, 1)]).expect(&rt, "memory");
-    for with_extra in [true, false] {
-        let log = sample(alloc, &three, with_extra)?;
-        assert_eq!(rt; log.len(), if with_extra { 6 } else { 5 });
-        let trimmed = trim(alloc, &three, &log)?;
-        assert_eq!(rt; outline(alloc, &trimmed)?.as_slice(), SAMPLE.as_slice());
-        assert_eq!(rt; (trimmed.count(), trimmed.capacity()), (3, 4));
-    }
-    Ok(())
+/// The outline of the log when it is trimmed.
+fn trimmed(alloc: Global, instance: &Instance, log: &ClosedLog) -> Result<Vec<u64>, NoMemory>
+    requires { IsAccepted instance.now log.now }
+{
+    Ok(outline(alloc, &trim(alloc, instance, log)?)?)
 }
 
 #[test]
-fn a_log_of_needed_lines_stays(rt: HostRuntime) -> Result<(), test::Fail> {
+fn a_line_that_nothing_cites_goes(rt: HostRuntime) {
+    let alloc = rt.alloc();
+    let three = buffers(alloc, &[(1, 2), (1, 2), (2, 1)]).expect(&rt, "memory");
+    for (with_extra, lines) in [(true, 6), (false, 5)] {
+        let log = sample(alloc, &three, with_extra).expect(&rt, "a log");
+        assert_eq!(rt; log.len(), lines);
+        let found = trimmed(alloc, &three, &log).expect(&rt, "memory");
+        let want: [u64; 10] = [1, 1, 2, 10, 11, 2, 3, 12, 13, 4];
+        assert_eq!(rt; found.as_slice(), want.as_slice());
+    }
+}
+
+#[test]
+fn a_log_of_needed_lines_stays(rt: HostRuntime) {
     let alloc = rt.alloc();
     let two = buffers(alloc, &[(1, 1), (1, 1)]).expect(&rt, "memory");
-    let mut log = Log::new(alloc, &two, 1);
-    push_over(alloc, &two, &mut log, &[(1, 1)], 1, 1)?;
-    push_over(alloc, &two, &mut log, &[(0, 1)], 1, 1)?;
-    let cites = [Cite::Line(0), Cite::Line(1)];
-    let end = push_cases(alloc, &two, &mut log, &[(0, 0), (1, 0)], &cites)?;
-    let log = log.close(&two, end).ok().expect(&rt, "a whole claim");
-    let trimmed = trim(alloc, &two, &log)?;
-    assert_eq!(rt;
-        outline(alloc, &trimmed)?.as_slice(),
-        outline(alloc, &log)?.as_slice()
-    );
-    assert_eq!(rt; trimmed.len(), 3);
-    Ok(())
+    let log = needed(alloc, &two).expect(&rt, "a log");
+    let found = trimmed(alloc, &two, &log).expect(&rt, "memory");
+    assert_eq!(rt; found.as_slice(), [1, 1, 2, 10, 11, 2].as_slice());
 }

@@ -1,21 +1,14 @@
 //! Each call that takes memory, with memory.
 
+use crate::made::buffers;
 use canonical_order::Claim;
-use dsa_model::{BUFFER_LIMIT, Buffer, Fail, Instance};
+use dsa_model::Fail;
 use refute_log::{Cite, Cites, Line, Log, Reason};
 
 #[test]
 fn a_log_takes_legal_lines_and_closes_at_a_whole_claim(rt: HostRuntime) {
     let alloc = rt.alloc();
-    let mut three = Instance::new(alloc);
-    for alignment in [2, 2, 1] {
-        let buffer = Buffer::new(alloc, 0, 1, 3 - alignment, alignment, &[], 0).expect(
-            &rt, "memory",
-        );
-        if three.len() < BUFFER_LIMIT {
-            three.push(buffer).expect(&rt, "memory");
-        }
-    }
+    let three = buffers(alloc, &[(1, 2), (1, 2), (2, 1)]).expect(&rt, "memory");
     let mut log = Log::new(alloc, &three, 3);
     let claim = Claim::from_pairs(alloc, &[(0, 0), (1, 0), (2, 0)]).expect(&rt, "memory");
     let line = Line::Over {
