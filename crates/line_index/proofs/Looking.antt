@@ -1,11 +1,11 @@
 -- What is seen of one entry of a claim more.
-use Rattle.std.proofs.Common.{◌≡◌, ℕ, ◌+◌, ◌<◌, ◌⊎◌, inl, inr, [], ◌∷◌, length, slice_index_or, take, Option, Some, None, IfNone, is_some, false, IsTrue, ◌↔◌, nat_eq, sym, ap, ◌∙◌, subst, arith}
+use Rattle.std.proofs.Common.{◌≡◌, ℕ, ◌+◌, ◌<◌, ◌⊎◌, inl, inr, [], ◌∷◌, length, slice_index_or, take, Option, Some, None, IfNone, is_some, true, false, IsTrue, ◌↔◌, nat_eq, sym, ap, ◌∙◌, subst, arith}
 use Rattle.std.proofs.lemmas.List.{take_more}
 use Rattle.std.proofs.lemmas.Bool.Decides.{nat_tests}
 use Rattle.dsa_terms.specs.Claims.{Claim, Entry, IsIn, Rises, buffers_of}
 use Rattle.dsa_terms.proofs.Lists.{from_append}
 use Rattle.dsa_terms.proofs.Places.{in_at}
-use Rattle.canonical_order.specs.Claims.{bound_of}
+use Rattle.canonical_order.specs.Claims.{HasBuffer, bound_of}
 use Rattle.canonical_order.proofs.Entries.{bound_none, bound_some, entry_in, is_entry}
 use Rattle.dsa_search_laws.proofs.Placing.{in_buffers}
 
@@ -50,6 +50,10 @@ has_bound l pair bound r q =
 
 pub has_none : (l : Claim) (pair : Entry) → None ≡ bound_of l pair.0 → IsIn pair l → ⊥
 has_none l pair q i = bound_none l pair.0 q (in_buffers l pair i)
+
+pub some_in : (l : Claim) (b : ℕ) (o : Option ℕ) → o ≡ bound_of l b → is_some o ≡ true → HasBuffer l b
+some_in l b None q h = absurd cc
+some_in l b (Some bound) q h = (bound_some l b bound q).0
 
 pub from_none : {X : Type 0} {P : Type 0} (o : Option X) → is_some o ≡ false → IfNone o P → P
 from_none None h p = p

@@ -6,7 +6,7 @@ use Rattle.dsa_terms.proofs.Lists.{same_some}
 use Rattle.canonical_order.specs.Claims.{HasBuffer}
 use Rattle.line_index.specs.declared.look.Look.TheVariants.{Covers, Unmet, Lacks}
 use Rattle.line_index.specs.Looks.{IsLacked, IsLook, IsUnmet}
-use Rattle.line_index.specs.Watches.{AreNoted, AreRaised, AreTheRaised, AreWatched, Fails, HasLevels, LineWatches, RulesOut}
+use Rattle.line_index.specs.Watches.{AreNoted, AreRaised, AreTheRaised, AreWatched, Fails, HasBufferAt, HasLevels, LineWatches, RulesOut}
 
 -- the line has the bounds 2 of buffer 0 and 5 of buffer 1
 abbrev pub claim : Claim
@@ -131,12 +131,21 @@ no_entry_of_it r = go r.among
     go (inr (inr j)) = j
 
 -- ---- notes
-noted : (b : ℕ) → (b ≡ 0) ⊎ (b ≡ 1) → AreNoted lines (b ∷ []) 1
-noted b either zero lt line at = (b, refl, subst (λ (x : Line). HasBuffer (claim_of x) b) (same_some at) (has either))
+has_either : (b : ℕ) → (b ≡ 0) ⊎ (b ≡ 1) → HasBufferAt lines 0 b
+has_either b either line at = subst (λ (x : Line). HasBuffer (claim_of x) b) (same_some at) (has either)
   where
     has : (b ≡ 0) ⊎ (b ≡ 1) → HasBuffer claim b
     has (inl q) = inl q
     has (inr q) = inr (inl q)
+
+has_no_third : HasBufferAt lines 0 2 → ⊥
+has_no_third h = elim (h (Over claim 0 5 1) refl) [
+  | inl q ↦ absurd (omega (arith, q))
+  | inr i ↦ elim i [ inl q ↦ absurd (omega (arith, q)) | inr j ↦ j ]
+]
+
+noted : (b : ℕ) → (b ≡ 0) ⊎ (b ≡ 1) → AreNoted lines (b ∷ []) 1
+noted b either zero lt line at = (b, refl, has_either b either line at)
 noted b either (suc k) lt line at = absurd (omega arith)
 
 not_noted : AreNoted lines (2 ∷ []) 1 → ⊥

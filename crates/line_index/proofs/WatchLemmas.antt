@@ -184,7 +184,8 @@ module _ (lines : List Line) (levels : List ℕ) where
   }
     where
       unmet : (k : ℕ) (line : Line) (e : Entry) → slice_get lines k ≡ Some line →
-          slice_get new.entries k ≡ Some e → RulesOut before (claim_of line) e → HasLevels levels (claim_of line) → slice_index levels e.0 ≤ e.1
+          slice_get new.entries k ≡ Some e → RulesOut before (claim_of line) e → HasLevels levels (claim_of line) →
+          slice_index levels e.0 ≤ e.1
       unmet k line e at stands out has = elim (below_or_from e.1 (slice_index levels e.0)) [
         | inr from ↦ from
         | inl below ↦ elim (below_or_from e.0 n) [
@@ -197,7 +198,8 @@ module _ (lines : List Line) (levels : List ℕ) where
   -- what was asked before stays watched, and the lines from n on were asked now
   pub watched_from : (old now : LineWatches) (n : ℕ) → AreOwnMoved lines levels old.entries now.entries →
       ((k : ℕ) → n ≤ k → k < length lines → IsWatched lines now.entries levels k) →
-      AreNoted lines now.notes (length lines) → AreWatched lines old levels n → AreWatched lines now levels (length lines)
+      AreNoted lines now.notes (length lines) → AreWatched lines old levels n →
+      AreWatched lines now levels (length lines)
   watched_from old now n moved new noted w = record {
     within = omega arith;
     noted = noted;

@@ -1,11 +1,11 @@
--- Watches: for each line of a log one entry of its claim, which shows that the line does not cover a claim; and notes: one
--- buffer of its claim.
+-- Watches and notes: for each line of a log one entry of its claim, which shows that the line does not cover a claim,
+-- and one buffer of its claim.
 use Rattle.std.specs.Prelude.{◌≡◌, ℕ, ◌<◌, ◌≤◌, List, length, slice_get, slice_index, Some}
 use Rattle.dsa_terms.specs.Claims.{Claim, Entry, IsIn}
 use Rattle.dsa_terms.specs.Logs.{Line, claim_of}
 use Rattle.canonical_order.specs.Claims.{HasBuffer}
 
--- the watches and the notes by line
+-- the watches and the notes by line, each note the number of a buffer
 pub record LineWatches : Type 0 where
   pub entries : List Entry
   pub notes : List ℕ
@@ -22,6 +22,10 @@ Fails levels k e = HasLevels levels k → slice_index levels e.0 ≤ e.1
 pub record RulesOut (levels : List ℕ) (k : Claim) (e : Entry) : Type 0 where
   pub among : IsIn e k
   pub unmet : Fails levels k e
+
+-- the line of that number has the buffer in its claim
+abbrev pub HasBufferAt : List Line → ℕ → ℕ → Type 0
+HasBufferAt lines k b = (line : Line) → slice_get lines k ≡ Some line → HasBuffer (claim_of line) b
 
 -- the line of that number has a note, of a buffer of its claim
 abbrev pub IsNoted : List Line → List ℕ → ℕ → Type 0

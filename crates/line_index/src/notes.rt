@@ -6,9 +6,8 @@ use dsa_model::NoMemory;
 use std::alloc::Global;
 use std::marker::Model;
 
-/// For each line of a log the number of a buffer of its claim, the note. A claim that lacks the
-/// buffer is not covered by the line, so the line itself need not be read. Contracts see the notes
-/// by line.
+/// For each line of a log the number of a buffer, the note. Once it was set it is one of the line's
+/// claim, and a claim that lacks it is not covered. Contracts see the notes by line.
 #[derive(Drop)]
 pub(crate) struct Notes {
     buffers: Vec<u32>,

@@ -1,14 +1,15 @@
-//! One watched bound for each line of a log.
+//! One watched bound and one noted buffer for each line of a log.
 
 ghost use Rattle.std.specs.Prelude.{◌≡◌, ◌≤◌, ◌<◌, ◌↔◌, ℕ, [], List, Some, true, false, IfNone, IfOk, IfSome, IsTrue, OnOk, length, slice_get, slice_index, take};
 ghost use Rattle.dsa_terms.specs.Buffers.{Instance};
-ghost use Rattle.dsa_terms.specs.Claims.{Claim as ClaimTerm, Entry, IsIn};
+ghost use Rattle.dsa_terms.specs.Claims.{Claim as ClaimTerm, IsIn};
 ghost use Rattle.dsa_model.specs.Buffer.{buffer_limit};
+ghost use Rattle.canonical_order.specs.Claims.{HasBuffer};
 ghost use Rattle.canonical_order.specs.Levels.{AreLevels};
 ghost use Rattle.line_index.specs.declared.watch_row.Mark.{Mark as MarkTerm};
 ghost use Rattle.line_index.specs.Covered.{IsCoveredBy, NoneCovers};
 ghost use Rattle.line_index.specs.Looks.{IsUnmet};
-ghost use Rattle.line_index.specs.Watches.{AreNoted, AreRaised, AreTheRaised, AreWatched};
+ghost use Rattle.line_index.specs.Watches.{AreNoted, AreRaised, AreTheRaised, AreWatched, HasBufferAt};
 ghost use Rattle.line_index.specs.Watching.{AreMoved, AreOwnMoved, FailAt, FailsAtMark, IsWatched, row_at};
 
 use crate::levels::level_at;
@@ -43,15 +44,37 @@ fn is_unmet(k: &Claim, levels: &[u64], pair: (u32, u64)) -> bool
     has(k, pair)
 }
 
-/// Yes only where the line of that number covers the claim of the levels. If no, its watch is then
-/// one of its bounds, which the claim does not meet if it has all buffers of the line.
-fn covers(table: &mut WatchTable, log: &Log, levels: &[u64], k: u64) -> Result<bool, NoMemory>
+/// The note of the line of that number if it is one of the claim's buffers, else b.
+fn own_note(notes: &Notes, claim: &Claim, k: u64, b: u32) -> u32
+    ensures { HasBuffer claim.now b → HasBuffer claim.now result }
+{
+    if let Some(note) = notes.get(k) {
+        if claim.bound(note).is_some() {
+            return note;
+        }
+    }
+    b
+}
+
+/// The buffer to note for the line of that number at the claim of the levels: one of the line's
+/// that the claim is found to lack, else the one noted already, if it is one of the line's, else
+/// that of its watch. There is none only where the line covers the claim. If there is one, the
+/// watch is then one of the line's bounds, which the claim does not meet if it has all buffers of
+/// the line.
+fn note_at(
+    table: &mut WatchTable,
+    notes: &Notes,
+    log: &Log,
+    levels: &[u64],
+    k: u64,
+) -> Result<Option<u32>, NoMemory>
     requires in_log { k < length log.now.lines }
     requires in_table { k < length table.old.watches }
     ensures covered { (I : Instance) (l : ClaimTerm) → AreLevels I l levels.now →
-        IfOk result (λ covers. covers ≡ true → IsCoveredBy I log.now.lines l k) }
-    ensures watched { IfOk result (λ covers. covers ≡ false →
-        IsWatched log.now.lines table.new.watches levels.now k) }
+        IfOk result (λ note. IfNone note (IsCoveredBy I log.now.lines l k)) }
+    ensures watched { IfOk result (λ note. IfSome note (λ _.
+        IsWatched log.now.lines table.new.watches levels.now k)) }
+    ensures noted { IfOk result (λ note. IfSome note (HasBufferAt log.now.lines k)) }
     ensures moved { let lines = log.now.lines in
         OnOk result (AreOwnMoved lines levels.now table.old.watches table.new.watches) }
     ensures count { OnOk result (length table.new.watches ≡ length table.old.watches) }
@@ -60,18 +83,21 @@ fn covers(table: &mut WatchTable, log: &Log, levels: &[u64], k: u64) -> Result<b
     let claim = log.line(k).claim();
     let watch = table.watch(k);
     if is_unmet(claim, levels, watch) {
-        return Ok(false);
+        return Ok(Some(own_note(notes, claim, k, watch.0)));
     }
     match look_at(claim, levels) {
-        Look::Covers => return Ok(true),
-        Look::Unmet(b, bound) => table.file(k, (b, bound))?,
+        Look::Covers => Ok(None),
+        Look::Unmet(b, bound) => {
+            table.file(k, (b, bound))?;
+            Ok(Some(own_note(notes, claim, k, b)))
+        }
         Look::Lacks(b, bound) => {
             if !has(claim, watch) {
                 table.file(k, (b, bound))?;
             }
+            Ok(Some(b))
         }
     }
-    Ok(false)
 }
 
 /// Yes only where the line of that number has a note, of a buffer that has no level.
@@ -86,8 +112,8 @@ fn is_passed(notes: &Notes, k: u64, levels: &[u64]) -> bool
 }
 
 /// The line of the mark at a place of the row of b, if it covers the claim of the levels, which
-/// meets the bound of the mark. If not, either no line has the mark for its watch, or the watch
-/// fails at the levels. Marks at the places before stay.
+/// meets the bound of the mark. If not, and each note is a buffer of its line, then either no line
+/// has the mark for its watch, or the watch fails at the levels. Marks at the places before stay.
 fn try_mark(
     table: &mut WatchTable,
     notes: &mut Notes,
@@ -140,7 +166,8 @@ fn try_mark(
 }
 
 /// A line that covers the claim of the levels `now` and watches a bound of buffer b from `low` on
-/// and below the level. If there is none, such watches fail there.
+/// and below the level. If there is none, and each note is a buffer of its line, such watches fail
+/// there.
 fn find_in(
     table: &mut WatchTable,
     notes: &mut Notes,
@@ -181,9 +208,9 @@ fn find_in(
 /// cover it. So where a search goes down to a child, only the lines whose watch the child meets and
 /// the claim above does not are tried: such a line covers the child, gets another watch, or has a
 /// buffer that the child has not and keeps its watch. Going back up undoes nothing, since lows fall
-/// on the way. Each line also has a note, the buffer that a claim lacked when the line was looked
-/// at last: where the child lacks it too, the line is not read. Contracts see the watches and the
-/// notes by line.
+/// on the way. Each line that was asked also has a note, one of its buffers: the one that a claim
+/// was last found to lack, and any until then. A child without it is not covered, and the line is
+/// not read. Contracts see the watches and the notes by line.
 ///
 /// A claim is given by its levels: for each buffer of the instance one more than its low in bytes,
 /// and 0 where it is not in the claim.
@@ -231,10 +258,10 @@ impl Watches {
         self.table.extend(log.len())?;
         self.notes.extend(log.len())?;
         for k in (asked..log.len()).rev() {
-            if covers(&mut self.table, log, levels, k)? {
-                return Ok(Some(k));
+            match note_at(&mut self.table, &self.notes, log, levels, k)? {
+                Some(b) => self.notes.set(k, b),
+                None => return Ok(Some(k)),
             }
-            self.notes.set(k, self.table.watch(k).0);
         }
         Ok(None)
     }

@@ -7,12 +7,15 @@ use Rattle.line_index.proofs.WatchLemmas.{all_watched, kept_above, moved_refl, m
 use Rattle.line_index.proofs.watches.Watches.find.Goals as goal
 
 pub loop-number-init : goal.loop-number-init
-loop-number-init c = record {
-  moved = subst (λ (w : LineWatches). AreMoved c.args.log.now.lines c.args.now.now w.entries c.self.inside.table.watches)
-      c.self.view_is (moved_refl c.args.log.now.lines c.args.now.now c.self.inside.table.watches);
-  noted = λ n h. subst (λ (w : LineWatches). AreNoted c.args.log.now.lines w.notes n) (sym c.self.view_is) h;
-  fail = λ known b i. inl i;
-}
+loop-number-init c =
+    let lines = c.args.log.now.lines in
+    let new = c.self.inside.table.watches in
+    record {
+      moved = subst (λ (w : LineWatches). AreMoved lines c.args.now.now w.entries new) c.self.view_is
+          (moved_refl lines c.args.now.now new);
+      noted = λ n h. subst (λ (w : LineWatches). AreNoted c.args.log.now.lines w.notes n) (sym c.self.view_is) h;
+      fail = λ known b i. inl i;
+    }
 
 pub loop-number-preserved : goal.loop-number-preserved
 loop-number-preserved c =
