@@ -48,7 +48,8 @@ pub watched_to : (lines : List Line) (watches : LineWatches) (levels : List ℕ)
 watched_to lines watches levels n e w = subst (AreWatched lines watches levels) (sym e) w
 
 -- the claim above the last one asked all lines
-pub watched_above : (lines : List Line) (watches : LineWatches) (levels : List ℕ) (frames : List Tried) (above : Above) →
+pub watched_above : (lines : List Line) (watches : LineWatches) (levels : List ℕ) (frames : List Tried)
+    (above : Above) →
     IsAbove frames above → AreWatchedAt lines watches frames → AreRaisedFrom frames levels → HasAskedAll lines frames →
     AreRaised above.levels.now levels × AreWatched lines watches above.levels.now (length lines)
 watched_above lines watches levels frames above a h raised latest =

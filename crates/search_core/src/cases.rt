@@ -14,12 +14,12 @@ ghost use Rattle.search_core.specs.Logs.{Extends, IsSearchLog};
 
 use crate::cites::cites;
 use crate::found::Refuted;
-use crate::learned::Learned;
 use crate::leveled::Leveled;
 use crate::levels::Levels;
 use crate::lines::append;
 use crate::task::Task;
 use canonical_order::Claim;
+use conflicts::Lemmas;
 use dsa_model::NoMemory;
 use refute_log::Line;
 use std::alloc::Global;
@@ -28,7 +28,7 @@ use std::alloc::Global;
 pub(crate) fn refute(
     alloc: Global,
     task: &Task,
-    log: &mut Learned,
+    log: &mut Lemmas,
     claim: Claim,
     levels: &Levels,
     refuted: &[Refuted],

@@ -15,7 +15,6 @@ mod fresh;
 mod gather;
 mod grounds;
 mod kept;
-mod learned;
 mod left;
 mod leveled;
 mod levels;

@@ -8,10 +8,9 @@ ghost use Rattle.refute_log.specs.Lines.{IsWithin, line_value};
 ghost use Rattle.line_index.specs.Covered.{IsCoveredBy, NoneCovers};
 ghost use Rattle.search_core.specs.Logs.{Extends, IsSearchLog};
 
-use crate::learned::Learned;
 use crate::task::Task;
 use canonical_order::Claim;
-use conflicts::ease;
+use conflicts::{Lemmas, ease};
 use dsa_model::{Buffer, NoMemory};
 use refute_log::Line;
 use std::alloc::Global;
@@ -51,7 +50,7 @@ pub(crate) fn tall_line(alloc: Global, task: &Task, b: u32) -> Result<Line, NoMe
 pub(crate) fn append(
     alloc: Global,
     task: &Task,
-    log: &mut Learned,
+    log: &mut Lemmas,
     line: Line,
 ) -> Result<u64, NoMemory>
     requires log { IsSearchLog task.now.instance.now task.now.capacity log.old }
@@ -70,6 +69,6 @@ pub(crate) fn append(
     let _count = task.instance.len();
     let _number = log.log().len();
     let eased = ease(alloc, task.instance, log.log(), line)?;
-    let number = log.push(task.instance, eased)?;
+    let number = log.push_legal(task.instance, eased)?;
     Ok(number)
 }

@@ -12,7 +12,6 @@ ghost use Rattle.search_core.specs.Watches.{AreRaisedFrom, AreWatchedAt};
 ghost use Rattle.skyline.specs.Skies.{last_claim};
 
 use crate::fresh::Fresh;
-use crate::learned::Learned;
 use crate::levels::Levels;
 use crate::lines::append;
 use crate::meter::Meter;
@@ -20,6 +19,7 @@ use crate::over::over_line;
 use crate::path::Path;
 use crate::task::Task;
 use canonical_order::Lows;
+use conflicts::Lemmas;
 use dsa_model::{Instance, NoMemory};
 use line_index::Watches;
 use refute_log::Log;
@@ -95,7 +95,7 @@ fn enter(
 pub(crate) fn open(
     alloc: Global,
     task: &Task,
-    log: &mut Learned,
+    log: &mut Lemmas,
     meter: &mut Meter,
     watches: &mut Watches,
     path: &Path,

@@ -9,13 +9,13 @@ ghost use Rattle.search_core.specs.Meters.{AreMore, AreSpent};
 ghost use Rattle.search_core.specs.Pieces.{IfPieceSpent, IsPiece, PieceIsCounted, UnlessPieceSpent};
 
 use crate::found::Found;
-use crate::learned::Learned;
 use crate::meter::Meter;
 use crate::task::Task;
 use crate::turns::search;
+use conflicts::Lemmas;
 use dsa_model::NoMemory;
 use lifetime::Sections;
-use refute_log::ClosedLog;
+use refute_log::{ClosedLog, Log};
 use std::alloc::Global;
 
 /// What is found of one part.
@@ -52,7 +52,7 @@ pub(crate) fn search_part(
     ensures found { IfOk result (IsPiece task.now.instance.now task.now.capacity members.now) }
 {
     let _count = task.instance.len();
-    let mut log = Learned::new(alloc, task.instance, task.capacity);
+    let mut log = Lemmas::new(alloc, Log::new(alloc, task.instance, task.capacity));
     match search(alloc, task, &mut log, meter, sections, members)? {
         Found::Seats(seats) => Ok(Piece::Seats(seats)),
         Found::Line(end) => match log.into_log().close(task.instance, end) {

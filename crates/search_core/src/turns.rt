@@ -15,13 +15,13 @@ ghost use Rattle.search_core.specs.Walks.{HasWatches, due_lines, place_of, stage
 
 use crate::found::Found;
 use crate::gather::seats;
-use crate::learned::Learned;
 use crate::meter::Meter;
 use crate::opening::{Opened, open};
 use crate::path::Path;
 use crate::task::Task;
 use crate::walk::Walk;
 use canonical_order::Lows;
+use conflicts::Lemmas;
 use dsa_model::NoMemory;
 use lifetime::Sections;
 use line_index::{Recent, Watches};
@@ -44,7 +44,7 @@ impl<'a> Walk<'a> {
         &mut self,
         alloc: Global,
         task: &Task,
-        log: &mut Learned,
+        log: &mut Lemmas,
         meter: &mut Meter,
     ) -> Result<Turn, NoMemory>
         requires log { IsSearchLog task.now.instance.now task.now.capacity log.old }
@@ -104,7 +104,7 @@ impl<'a> Walk<'a> {
 pub(crate) fn search(
     alloc: Global,
     task: &Task,
-    log: &mut Learned,
+    log: &mut Lemmas,
     meter: &mut Meter,
     sections: &Sections,
     members: &[u32],

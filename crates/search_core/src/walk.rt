@@ -13,10 +13,10 @@ ghost use Rattle.search_core.specs.Walks.{GoesOn, HasWatches, place_of};
 use crate::cases::refute;
 use crate::frame::Frame;
 use crate::fresh::Fresh;
-use crate::learned::Learned;
 use crate::path::Path;
 use crate::task::Task;
 use canonical_order::Lows;
+use conflicts::Lemmas;
 use dsa_model::NoMemory;
 use line_index::{Recent, Watches};
 use std::alloc::Global;
@@ -38,7 +38,7 @@ impl<'a> Walk<'a> {
         &mut self,
         alloc: Global,
         task: &Task,
-        log: &mut Learned,
+        log: &mut Lemmas,
         frame: Frame,
     ) -> Result<(), NoMemory>
         requires log { IsSearchLog task.now.instance.now task.now.capacity log.old }
@@ -62,7 +62,7 @@ impl<'a> Walk<'a> {
     /// Notes lines for the next choices of the frame, as long as one is at hand that covers the
     /// child. So these children need not be made. The frame is that of the claim that the search is
     /// at.
-    fn pass_over(&self, task: &Task, log: &Learned, frame: &mut Frame) -> Result<(), NoMemory>
+    fn pass_over(&self, task: &Task, log: &Lemmas, frame: &mut Frame) -> Result<(), NoMemory>
         requires subject { self.now.path.sky.instance ≡ task.now.instance.now }
         requires log { IsSearchLog task.now.instance.now task.now.capacity log.now }
         requires trying { let l = claim_at (place_of self.now) in
@@ -95,7 +95,7 @@ impl<'a> Walk<'a> {
         &mut self,
         alloc: Global,
         task: &Task,
-        log: &mut Learned,
+        log: &mut Lemmas,
         mut frame: Frame,
     ) -> Result<(), NoMemory>
         requires log { IsSearchLog task.now.instance.now task.now.capacity log.old }
@@ -115,7 +115,7 @@ impl<'a> Walk<'a> {
         &mut self,
         alloc: Global,
         task: &Task,
-        log: &mut Learned,
+        log: &mut Lemmas,
         fresh: Fresh,
     ) -> Result<(), NoMemory>
         requires log { IsSearchLog task.now.instance.now task.now.capacity log.old }
@@ -148,7 +148,7 @@ impl<'a> Walk<'a> {
         &mut self,
         alloc: Global,
         task: &Task,
-        log: &mut Learned,
+        log: &mut Lemmas,
         mut frame: Frame,
     ) -> Result<(), NoMemory>
         requires log { IsSearchLog task.now.instance.now task.now.capacity log.old }
