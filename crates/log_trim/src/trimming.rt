@@ -1,11 +1,10 @@
 //! Trimming.
 
-ghost use Rattle.std.specs.Prelude.{◌≡◌, ◌++◌, ◌∷◌, [], ℕ, ◌+◌, ◌<◌, length, IfOk, OnOk};
+ghost use Rattle.std.specs.Prelude.{◌≡◌, ℕ, ◌+◌, ◌<◌, length, IfOk};
 ghost use Rattle.dsa_terms.specs.Claims.{Claim as ClaimTerm};
-ghost use Rattle.dsa_terms.specs.Logs.{IsAccepted, IsLegal};
+ghost use Rattle.dsa_terms.specs.Logs.{IsAccepted};
 ghost use Rattle.dsa_terms.specs.Trims.{IsCited, IsTrimOf};
 ghost use Rattle.dsa_trim_laws.specs.Trimmed.{kept_lines, needed, trimmed};
-ghost use Rattle.refute_log.specs.Lines.{IsWithin, line_value};
 ghost use Rattle.refute_log.specs.Logs.{Belongs};
 ghost use Rattle.log_trim.specs.Ends.{IsEndClaim};
 ghost use Rattle.log_trim.specs.Marks.{marks_of};
@@ -13,21 +12,8 @@ ghost use Rattle.log_trim.specs.Marks.{marks_of};
 use crate::marking::needed;
 use crate::moving::moved_line;
 use dsa_model::{Instance, NoMemory};
-use refute_log::{ClosedLog, Line, Log};
+use refute_log::{ClosedLog, Log};
 use std::alloc::Global;
-
-/// Appends a line that is legal after the others.
-fn append(instance: &Instance, log: &mut Log, line: Line) -> Result<(), NoMemory>
-    requires belongs { Belongs instance.now log.old }
-    requires within { IsWithin (line_value line) }
-    requires legal { IsLegal instance.now log.old.capacity log.old.lines (line_value line) }
-    ensures appended { let lines = log.old.lines ++ line_value line ∷ [] in
-        OnOk result (log.new ≡ record log.old { lines = lines }) }
-    ensures belongs { Belongs instance.now log.new }
-{
-    log.push_legal(instance, line)?;
-    Ok(())
-}
 
 /// The marked lines in order, on a log of their own, with their cites renumbered: the number of a
 /// line is how many marked ones come before it. The marks are those of the lines that the end
@@ -52,7 +38,7 @@ fn kept(
         numbers.push(kept.len())?;
         if marks[k as usize] {
             let line = moved_line(alloc, log.line(k), &numbers)?;
-            append(instance, &mut kept, line)?;
+            kept.push_legal(instance, line)?;
         }
     }
     Ok(kept)
