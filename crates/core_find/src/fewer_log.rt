@@ -1,12 +1,12 @@
 //! A log carried over to fewer buffers.
 
-ghost use Rattle.std.specs.Prelude.{◌≡◌, ◌==◌, ◌^◌, ◌++◌, ◌∷◌, [], ◌<◌, ◌≤◌, All, IfOk, OnOk, length, map, position, slice_index};
+ghost use Rattle.std.specs.Prelude.{◌≡◌, ◌==◌, ◌^◌, ◌<◌, ◌≤◌, All, IfOk, length, map, position, slice_index};
 ghost use Rattle.dsa_terms.specs.Claims.{Rises, buffers_of};
-ghost use Rattle.dsa_terms.specs.Logs.{IsAccepted, IsLegal, claim_of};
+ghost use Rattle.dsa_terms.specs.Logs.{IsAccepted, claim_of};
 ghost use Rattle.dsa_model.specs.Buffer.{buffer_limit};
 ghost use Rattle.dsa_model.specs.Chosen.{some_of};
 ghost use Rattle.canonical_order.specs.Claims.{IsBoundedBy};
-ghost use Rattle.refute_log.specs.Lines.{IsLineKept, IsWithin, cite_value, line_value};
+ghost use Rattle.refute_log.specs.Lines.{IsLineKept, cite_value, line_value};
 ghost use Rattle.refute_log.specs.Logs.{Belongs};
 ghost use Rattle.core_find.specs.Carried.{NeedsOnly, carried, place_among, places_among, renamed_cite, renamed_claim, renamed_line, renamed_log};
 
@@ -120,19 +120,6 @@ fn renamed_line(alloc: Global, line: &Line, numbers: &[u32]) -> Result<Line, NoM
     }
 }
 
-/// Appends a line that is legal after the others.
-fn append(instance: &Instance, log: &mut Log, line: Line) -> Result<(), NoMemory>
-    requires belongs { Belongs instance.now log.old }
-    requires within { IsWithin (line_value line) }
-    requires legal { IsLegal instance.now log.old.capacity log.old.lines (line_value line) }
-    ensures appended { let lines = log.old.lines ++ line_value line ∷ [] in
-        OnOk result (log.new ≡ record log.old { lines = lines }) }
-    ensures belongs { Belongs instance.now log.new }
-{
-    log.push_legal(instance, line)?;
-    Ok(())
-}
-
 /// The lines of the log with the new numbers of their buffers, on a log of the instance, for which
 /// they are legal.
 fn renamed_log(
@@ -151,7 +138,7 @@ fn renamed_log(
     let mut renamed = Log::new(alloc, instance, log.capacity());
     for k in 0..log.len() {
         let line = renamed_line(alloc, log.line(k), numbers)?;
-        append(instance, &mut renamed, line)?;
+        renamed.push_legal(instance, line)?;
     }
     Ok(renamed)
 }

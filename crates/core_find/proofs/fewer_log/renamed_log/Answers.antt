@@ -8,13 +8,13 @@ renamed_line-requires-clause-rises c =
     next_rises c.args.instance.now c.args.log.now (slice_index c.args.numbers.now) _ c.loop-k.k
     (line_value c.line.result.now) c.requires.belongs c.line.ensures.value
 
-pub append-requires-clause-within : goal.append-requires-clause-within
-append-requires-clause-within c =
+pub push_legal-requires-clause-within : goal.push_legal-requires-clause-within
+push_legal-requires-clause-within c =
     rw c.in_ok-line.ensures
     (renamed_within c.args.numbers.now (line_value c.line.result.now) c.requires.numbers c.line.ensures.kept.within)
 
-pub append-requires-clause-legal : goal.append-requires-clause-legal
-append-requires-clause-legal c =
+pub push_legal-requires-clause-legal : goal.push_legal-requires-clause-legal
+push_legal-requires-clause-legal c =
     rw c.in_ok-line.ensures
     (next_legal c.args.instance.now c.args.log.now (slice_index c.args.numbers.now) _ c.loop-k.k c.loop-k.renamed
     (line_value c.line.result.now) c.requires.belongs c.loop-k.invariant c.line.ensures.value)
@@ -22,8 +22,8 @@ append-requires-clause-legal c =
 pub loop-k-preserved : goal.loop-k-preserved
 loop-k-preserved c =
     one_renamed c.args.instance.now c.args.log.now (slice_index c.args.numbers.now) c.loop-k.k c.loop-k.renamed
-    c.append.new.log (line_value c.line.result.now) (line_value c.in_ok-line.line) c.loop-k.invariant
-    c.line.ensures.value c.in_ok-line.ensures c.in_ok-append.ensures.belongs c.in_ok-append.ensures.appended
+    c.push_legal.new.self (line_value c.line.result.now) (line_value c.in_ok-line.line) c.loop-k.invariant
+    c.line.ensures.value c.in_ok-line.ensures c.in_ok-push_legal.ensures.belongs c.in_ok-push_legal.ensures.appended
 
 pub returns-clause-value : goal.returns-clause-value
 returns-clause-value c =
