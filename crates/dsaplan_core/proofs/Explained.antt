@@ -24,11 +24,11 @@ module _ (words : List Word) (old new : FilesSeen) (pairs : List Pair) where
       IsInput old (word_at pairs option.Input) table I → (o : Outcome) → Plans (word_at pairs option.Output) table I o →
       Promises words old new (r verb.Classes) o
   plans is table I input o (inl (load, plan, written)) = subst (Promises words old new (r verb.Classes)) (sym written) (
-    λ files. ((asked words old (r verb.Classes) is table I input, refl, plan, refl, files), tt, tt, tt),
+    λ files. ((asked words old (r verb.Classes) is table I input, refl, plan, refl, files), tt, refl, tt),
     ((inl refl, refl), tt),
   )
   plans is table I input o (inr (b, rough, told)) = subst (Promises words old new (r verb.Classes)) (sym told) (
-    λ files. ((asked words old (r verb.Classes) is table I input, refl, rough, files), tt, tt, tt),
+    λ files. ((asked words old (r verb.Classes) is table I input, refl, rough, files), tt, refl, tt),
     tt,
   )
 
@@ -40,13 +40,13 @@ module _ (words : List Word) (old new : FilesSeen) (pairs : List Pair) where
         λ files. (
           (asked words old (r verb.Core) is table I input, refl, (members, log, refl, core, files)),
           tt,
-          tt,
+          refl,
           tt,
         ),
         ((inl refl, refl), ((inr (inl refl), refl), tt)),
       )
   explains is table I input o (inr (feasible, told)) = subst (Promises words old new (r verb.Core)) (sym told) (
-    λ files. ((asked words old (r verb.Core) is table I input, refl, refl, feasible, files), tt, tt, tt),
+    λ files. ((asked words old (r verb.Core) is table I input, refl, refl, feasible, files), tt, refl, tt),
     tt,
   )
 

@@ -7,11 +7,13 @@ use Rattle.command_words.specs.Requests.{Request, request_of}
 use Rattle.command_words.specs.declared.verb.Verb.{Verb}
 use Rattle.command_words.specs.declared.verb.Verb.TheVariants as verb
 use Rattle.command_words.specs.declared.fault.UsageFault.{UsageFault}
+use Rattle.run_status.specs.Lines.{line}
+use Rattle.run_status.specs.Spoken.{IsSpoken}
 use Rattle.run_status.specs.declared.status.Status.{Status}
 use Rattle.run_status.specs.declared.status.Status.TheVariants as status
 use Rattle.run_status.specs.declared.status.Role.{Role}
 use Rattle.run_course.specs.Course.{Comes, Outcome, Write}
-use Rattle.run_course.specs.Answers.{Answers, AreBroken, Leaves, as_told, with_writes}
+use Rattle.run_course.specs.Answers.{Answers, AreBroken, IsSaid, Leaves, as_told, with_writes}
 use Rattle.dsaplan_core.specs.Courses.{course, course_with}
 use Rattle.dsaplan_core.specs.Theorem.{Headline}
 use Rattle.dsaplan_core.specs.Judged.{Judged}
@@ -77,7 +79,7 @@ module _ (words : List Word) (old new : FilesSeen) where
       × Blames words old new o.status
 
   written : (o : Outcome) → Comes old new (course words) o → Holds o
-  written = words_give old new words Holds (λ fault is files. (tt, tt, tt, record { refused = is; files = files }))
+  written = words_give old new words Holds (λ fault is files. (tt, tt, refl, record { refused = is; files = files }))
       (λ r is o comes. (promised r.verb r.pairs is o comes).0)
 
   -- a write that fails is one of the command's
@@ -128,20 +130,30 @@ module _ (words : List Word) (old new : FilesSeen) where
     pub caused : (s : Status) → Answers (course words) old new before after s → IsCaused words old new s
     caused s answer = cause_of words old new s (blamed s answer)
 
-    pub shown : Answers (course words) old new before after status.Shown → Shows words old new before after
-    shown answer = go answer.tells.outcome answer.tells.lost answer.tells.comes answer.tells.files
+    printed : (s : Status) → IsSaid (course words) old new before after s → Shows words old new before after s
+    printed s answer = go answer.tells.outcome answer.tells.lost answer.tells.comes answer.tells.files
         answer.tells.its_status answer.tells.its_text
       where
         go : (o : Outcome) (lost : Option Role) → Comes old new (course words) o → Leaves old new o.writes lost →
-            status.Shown ≡ (as_told o lost).status → answer.text ≡ (as_told o lost).text →
-            Shows words old new before after
+            s ≡ (as_told o lost).status → answer.text ≡ (as_told o lost).text → Shows words old new before after s
         go o None comes left is same = record {
           text = answer.text;
-          tells = subst (λ t. Tells words old new status.Shown t) (sym same)
+          tells = subst (λ t. Tells words old new s t) (sym same)
               (subst (λ s. Tells words old new s o.text) (sym is) (written o comes left).2);
           printed = answer.printed;
         }
-        go o (Some role) comes left is same = absurd cc
+        go o (Some role) comes left is same = record {
+          text = answer.text;
+          tells = subst (λ t. Tells words old new s t) (sym same)
+              (subst (λ s. Tells words old new s (line (status.WriteFault role))) (sym is) refl);
+          printed = answer.printed;
+        }
+
+    pub shown : (s : Status) → IsSpoken s → Answers (course words) old new before after s →
+        Shows words old new before after s
+    shown status.PrintFault spoken answer = absurd spoken
+    shown status.NoMemory spoken answer = absurd spoken
+    shown s spoken answer = printed s answer
 
     -- words that are no command
     pub misused : (fault : UsageFault) → request_of words ≡ Err fault → (s : Status) →

@@ -126,6 +126,13 @@ tells_columns : Tells (codes "inspect" ∷ bounds_values) (told input_alone) (to
     ++ codes "size,size\nalignment,alignment\n")
 tells_columns = (refl, inl (inspected, sym two_told))
 
+-- the line of 'right' is told, and no other text
+tells_right : (words : List Word) (old new : FilesSeen) → Tells words old new status.Right (codes "right\n")
+tells_right words old new = refl
+
+tells_no_other : (words : List Word) (old new : FilesSeen) → Tells words old new status.Right (codes "right") → ⊥
+tells_no_other words old new is = cc
+
 -- ---- files that are missed, and inputs that are refused
 missed_input : MissesFile (codes "bounds" ∷ bounds_values) (told empty) (told empty) role.Input
 missed_input = record {

@@ -48,13 +48,13 @@ module _ (words : List Word) (old new : FilesSeen) (pairs : List Pair)
         },
       ),
       tt,
-      tt,
+      refl,
       tt,
     ),
     ((inl refl, refl), tt),
   )
   imported bytes whole (Err fault) refused = (
-    λ files. ((asked_of bytes whole, refused, files), tt, tt, tt),
+    λ files. ((asked_of bytes whole, refused, files), tt, refl, tt),
     tt,
   )
 

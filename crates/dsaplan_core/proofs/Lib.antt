@@ -2,6 +2,7 @@ mod Gives
 mod Answered
 mod Requests
 mod Held
+mod Holding
 mod ParsedInstances
 mod TrimmedTexts
 mod Promised

@@ -1,13 +1,9 @@
 -- What `pack` promises.
-use Rattle.std.proofs.Common.{◌≡◌, ◌-◌, ℕ, List, Option, Some, None, IsSome, Ok, refl, sym, subst, inl, inr, arith}
+use Rattle.std.proofs.Common.{◌≡◌, ◌-◌, ℕ, List, Option, Some, None, Ok, refl, sym, subst, inl, inr, arith}
 use Rattle.dsa_terms.specs.Buffers.{Instance}
 use Rattle.dsa_terms.specs.Logs.{Log}
-use Rattle.dsa_outside.specs.Held.{file_at}
 use Rattle.dsa_outside.specs.Seen.{FilesSeen}
-use Rattle.csv_instance.specs.Layout.{layout_text}
 use Rattle.csv_instance.specs.Records.{Record}
-use Rattle.log_text.specs.Text.{log_text}
-use Rattle.packer.specs.Packs.{RefutesWithin}
 use Rattle.command_words.specs.Options.{Word}
 use Rattle.command_words.specs.Pairs.{Pair, number_at, word_at}
 use Rattle.command_words.specs.Requests.{Request, request_of}
@@ -18,12 +14,11 @@ use Rattle.run_status.specs.declared.status.Status.TheVariants as status
 use Rattle.run_course.specs.Course.{Comes, Concludes, Outcome, writes}
 use Rattle.readings.specs.Opens.{IsInput}
 use Rattle.writings.specs.Answers.{AllReadBack, answer_files}
-use Rattle.writings.specs.Writings.{ReadsBack}
 use Rattle.dsaplan_core.specs.Courses.{ConcludesWith, IsAnswer, course_with, names_in}
-use Rattle.dsaplan_core.specs.Theorem.{Asked, HoldsRefutation}
+use Rattle.dsaplan_core.specs.Theorem.{Asked}
 use Rattle.dsaplan_core.proofs.Promises.{Promises, asked}
 use Rattle.dsaplan_core.proofs.Refusals.{opened_promises}
-use Rattle.dsaplan_core.proofs.Held.{last_held, first_held, second_held}
+use Rattle.dsaplan_core.proofs.Holding.{alone, first, lays_out, refutes_within, second}
 use Rattle.dsaplan_core.proofs.Requests.{pack_apart}
 
 module _ (words : List Word) (old new : FilesSeen) (pairs : List Pair)
@@ -31,110 +26,81 @@ module _ (words : List Word) (old new : FilesSeen) (pairs : List Pair)
   abbrev request : Request
   request = record { verb = verb.Pack; pairs = pairs }
 
-  abbrev output : Word
-  output = word_at pairs option.Output
-
-  abbrev log_name : Word
-  log_name = word_at pairs option.Log
+  abbrev steps : ℕ
+  steps = number_at pairs option.Steps
 
   module _ (table : List Record) (I : Instance) (input : IsInput old (word_at pairs option.Input) table I) where
     abbrev this : Asked words old
     this = asked words old request is table I input
 
-    -- a log that is written refutes its capacity
-    refutation : (C : ℕ) (log : Log) → RefutesWithin I C (number_at pairs option.Steps) log → ReadsBack log →
-        (IsSome old.held → file_at new.held log_name ≡ Some (log_text log)) → HoldsRefutation this new C
-    refutation C log within readable held = record {
-      refutation = log;
-      accepted = within.accepted;
-      its_capacity = within.its_capacity;
-      infeasible = within.infeasible;
-      readable = readable;
-      held = held;
-    }
-
     answered : (s : Status) (layout : Option (List ℕ)) (log : Option Log) →
         IsAnswer verb.Pack pairs I s layout log → AllReadBack log →
         Promises words old new request (writes (answer_files (names_in pairs) table layout log) s)
     answered (status.Feasible C) (Some offsets) None answer readable = (
-      λ files.
-          let held = last_held old.held new.held output (layout_text table offsets) files in (
-            (this, answer.0, record { offsets = offsets; layout = answer.1; held = held }),
-            (this, Some offsets, None, answer, files),
-            tt,
-            tt,
-          ),
+      λ files. (
+        (this, answer.0, lays_out this new C offsets answer.1 files),
+        (this, Some offsets, None, answer, files),
+        refl,
+        tt,
+      ),
       ((inl refl, refl), tt),
     )
     answered (status.Infeasible C) None (Some log) answer readable = (
       λ files. (
-        (
-          this,
-          answer.0,
-          refutation C log answer.1 readable (last_held old.held new.held log_name (log_text log) files),
-        ),
+        (this, answer.0, refutes_within this new C steps log answer.1 readable (alone this new log files)),
         (this, None, Some log, answer, files),
-        tt,
+        refl,
         tt,
       ),
       ((inr (inl refl), refl), tt),
     )
     answered (status.Least C) (Some offsets) None answer readable = (
-      λ files.
-          let held = last_held old.held new.held output (layout_text table offsets) files in (
-            (
-              this,
-              answer.0,
-              answer.1.is_least,
-              record { offsets = offsets; layout = answer.1.layout; held = held },
-              λ positive. absurd (let zero = answer.1.refuted in omega (arith, zero, positive)),
-            ),
-            (this, Some offsets, None, answer, files),
-            tt,
-            tt,
-          ),
-      ((inl refl, refl), tt),
-    )
-    answered (status.Least C) (Some offsets) (Some log) answer readable = (
       λ files. (
         (
           this,
           answer.0,
           answer.1.is_least,
-          record {
-            offsets = offsets;
-            layout = answer.1.layout;
-            held = first_held old.held new.held output log_name (layout_text table offsets) (log_text log)
-                (pack_apart words pairs is) files;
-          },
-          λ positive. refutation (C - 1) log answer.1.refuted.1 readable
-              (second_held old.held new.held output log_name (layout_text table offsets) (log_text log) files),
+          lays_out this new C offsets answer.1.layout files,
+          λ positive. absurd (let zero = answer.1.refuted in omega (arith, zero, positive)),
         ),
-        (this, Some offsets, Some log, answer, files),
-        tt,
+        (this, Some offsets, None, answer, files),
+        refl,
         tt,
       ),
+      ((inl refl, refl), tt),
+    )
+    answered (status.Least C) (Some offsets) (Some log) answer readable = (
+      λ files.
+          let apart = pack_apart words pairs is in (
+            (
+              this,
+              answer.0,
+              answer.1.is_least,
+              first this new offsets log apart files C answer.1.layout,
+              λ positive. refutes_within this new (C - 1) steps log answer.1.refuted.1 readable
+                  (second this new offsets log apart files),
+            ),
+            (this, Some offsets, Some log, answer, files),
+            refl,
+            tt,
+          ),
       ((inl refl, refl), ((inr (inl refl), refl), tt)),
     )
     answered (status.Open low high) (Some offsets) (Some log) answer readable = (
-      λ files. (
-        (
-          this,
-          answer.positive,
-          answer.ends_apart,
-          record {
-            offsets = offsets;
-            layout = answer.layout;
-            held = first_held old.held new.held output log_name (layout_text table offsets) (log_text log)
-                (pack_apart words pairs is) files;
-          },
-          refutation (low - 1) log answer.refuted readable
-              (second_held old.held new.held output log_name (layout_text table offsets) (log_text log) files),
-        ),
-        (this, Some offsets, Some log, answer, files),
-        tt,
-        tt,
-      ),
+      λ files.
+          let apart = pack_apart words pairs is in (
+            (
+              this,
+              answer.positive,
+              answer.ends_apart,
+              first this new offsets log apart files high answer.layout,
+              refutes_within this new (low - 1) steps log answer.refuted readable
+                  (second this new offsets log apart files),
+            ),
+            (this, Some offsets, Some log, answer, files),
+            refl,
+            tt,
+          ),
       ((inl refl, refl), ((inr (inl refl), refl), tt)),
     )
     answered s layout log answer readable = absurd answer

@@ -72,7 +72,7 @@ module _ (words : List Word) (old new : FilesSeen) where
         (λ offsets gives o comes. subst (Promises words old new (r verb.Verify)) (sym comes.1) (
           λ files.
               let a = asked words old (r verb.Verify) is table I input in
-              ((a, refl, gives_layout a capacity offsets gives, files), tt, tt, tt),
+              ((a, refl, gives_layout a capacity offsets gives, files), tt, refl, tt),
           tt,
         )))
 
@@ -123,7 +123,7 @@ module _ (words : List Word) (old new : FilesSeen) where
                   record { given = gives_layout a (2 ^ 60) offsets gives; its_count = refl; files = files },
                 ),
                 tt,
-                tt,
+                refl,
                 tt,
               ),
           ((inl refl, refl), tt),
@@ -140,7 +140,7 @@ module _ (words : List Word) (old new : FilesSeen) where
         (λ log holds o told. subst (Promises words old new (r verb.Refute)) (sym told) (
           λ files.
               let a = asked words old (r verb.Refute) is table I input in
-              ((a, refl, (log, gives_log a log holds, refl), files), tt, tt, tt),
+              ((a, refl, (log, gives_log a log holds, refl), files), tt, refl, tt),
           tt,
         )))
 
@@ -174,7 +174,7 @@ module _ (words : List Word) (old new : FilesSeen) where
                   ),
                 ),
                 tt,
-                tt,
+                refl,
                 tt,
               ),
           ((inl refl, refl), tt),
@@ -207,7 +207,7 @@ module _ (words : List Word) (old new : FilesSeen) where
                   ),
                 ),
                 tt,
-                tt,
+                refl,
                 tt,
               ),
           ((inl refl, refl), tt),

@@ -1,6 +1,6 @@
 -- A run that a reading ends blames its file, one that refuses what was read tells why, and neither promises anything
 -- else; what is promised stands on what is read.
-use Rattle.std.proofs.Common.{◌≡◌, ◌⊎◌, ℕ, List, Ok, inl, inr}
+use Rattle.std.proofs.Common.{◌≡◌, ◌⊎◌, ℕ, List, Ok, refl, inl, inr}
 use Rattle.dsa_terms.specs.Buffers.{Instance}
 use Rattle.dsa_terms.specs.Claims.{IsIn}
 use Rattle.dsa_terms.specs.Logs.{Log}
@@ -39,12 +39,12 @@ module _ (words : List Word) (old new : FilesSeen) (r : Request) (is : request_o
   unreadable role read = (
     λ unread. (
       λ files.
-          (tt, tt, tt, record { request = r; asked = is; read = read; cause = unread; files = files }),
+          (tt, tt, refl, record { request = r; asked = is; read = read; cause = unread; files = files }),
       tt,
     ),
     λ long. (
       λ files.
-          (tt, tt, tt, record { request = r; asked = is; read = read; long = long; files = files }),
+          (tt, tt, refl, record { request = r; asked = is; read = read; long = long; files = files }),
       tt,
     ),
   )
@@ -56,7 +56,7 @@ module _ (words : List Word) (old new : FilesSeen) (r : Request) (is : request_o
   opened_promises read next = opened_gives old new P (word_at r.pairs option.Input) next (unreadable role.Input read.0)
       (λ fault bad. (
         λ files.
-            (tt, tt, tt, record { request = r; words_ask = is; read = read; malformed = bad; files = files }),
+            (tt, tt, refl, record { request = r; words_ask = is; read = read; malformed = bad; files = files }),
         tt,
       ))
 
@@ -71,7 +71,7 @@ module _ (words : List Word) (old new : FilesSeen) (r : Request) (is : request_o
         λ files. (
           tt,
           tt,
-          tt,
+          refl,
           record {
             asked = asked words old r is table I input;
             capacity = C;
@@ -92,7 +92,7 @@ module _ (words : List Word) (old new : FilesSeen) (r : Request) (is : request_o
     λ files. (
       tt,
       tt,
-      tt,
+      refl,
       record {
         asked = asked words old r is table I input;
         checked = checks;

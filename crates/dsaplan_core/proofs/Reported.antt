@@ -36,7 +36,7 @@ module _ (words : List Word) (old new : FilesSeen) (pairs : List Pair) where
       (number_at pairs option.Count) (number_at pairs option.Steps)
       (λ many. (
         λ files.
-            (tt, tt, tt, record { pairs = pairs; words_ask = is; its_count = refl; many = many; files = files }),
+            (tt, tt, refl, record { pairs = pairs; words_ask = is; its_count = refl; many = many; files = files }),
         tt,
       ))
       (λ few o shows. subst (Promises words old new (r verb.Trial)) (sym shows.shown) (

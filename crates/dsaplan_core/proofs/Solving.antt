@@ -3,9 +3,7 @@ use Rattle.std.proofs.Common.{◌≡◌, ℕ, List, Option, Some, None, Ok, refl
 use Rattle.dsa_terms.specs.Buffers.{Instance}
 use Rattle.dsa_terms.specs.Logs.{Log}
 use Rattle.dsa_outside.specs.Seen.{FilesSeen}
-use Rattle.csv_instance.specs.Layout.{layout_text}
 use Rattle.csv_instance.specs.Records.{Record}
-use Rattle.log_text.specs.Text.{log_text}
 use Rattle.command_words.specs.Options.{Word}
 use Rattle.command_words.specs.Pairs.{Pair, word_at}
 use Rattle.command_words.specs.Requests.{Request, request_of}
@@ -20,19 +18,13 @@ use Rattle.dsaplan_core.specs.Courses.{ConcludesWith, IsAnswer, course_with, nam
 use Rattle.dsaplan_core.specs.Theorem.{Asked}
 use Rattle.dsaplan_core.proofs.Promises.{Promises, asked}
 use Rattle.dsaplan_core.proofs.Refusals.{opened_promises}
-use Rattle.dsaplan_core.proofs.Held.{last_held, first_held, second_held}
+use Rattle.dsaplan_core.proofs.Holding.{alone, lays_out, refutes, stays_open}
 use Rattle.dsaplan_core.proofs.Requests.{solve_apart}
 
 module _ (words : List Word) (old new : FilesSeen) (pairs : List Pair)
     (is : request_of words ≡ Ok (record { verb = verb.Solve; pairs = pairs })) where
   abbrev request : Request
   request = record { verb = verb.Solve; pairs = pairs }
-
-  abbrev output : Word
-  output = word_at pairs option.Output
-
-  abbrev log_name : Word
-  log_name = word_at pairs option.Log
 
   module _ (table : List Record) (I : Instance) (input : IsInput old (word_at pairs option.Input) table I) where
     abbrev this : Asked words old
@@ -42,61 +34,30 @@ module _ (words : List Word) (old new : FilesSeen) (pairs : List Pair)
         IsAnswer verb.Solve pairs I s layout log → AllReadBack log →
         Promises words old new request (writes (answer_files (names_in pairs) table layout log) s)
     answered (status.Feasible C) (Some offsets) None answer readable = (
-      λ files.
-          let held = last_held old.held new.held output (layout_text table offsets) files in (
-            (this, sym answer.0, record { offsets = offsets; layout = answer.1.layout; held = held }),
-            (this, Some offsets, None, answer, files),
-            tt,
-            tt,
-          ),
+      λ files. (
+        (this, sym answer.0, lays_out this new C offsets answer.1.layout files),
+        (this, Some offsets, None, answer, files),
+        refl,
+        tt,
+      ),
       ((inl refl, refl), tt),
     )
     answered (status.Infeasible C) None (Some log) answer readable = (
-      λ files.
-          let refuted = answer.1.refuted in (
-            (
-              this,
-              sym answer.0,
-              record {
-                refutation = log;
-                accepted = refuted.accepted;
-                its_capacity = refuted.its_capacity;
-                infeasible = refuted.infeasible;
-                readable = readable;
-                held = last_held old.held new.held log_name (log_text log) files;
-              },
-            ),
-            (this, None, Some log, answer, files),
-            tt,
-            tt,
-          ),
+      λ files. (
+        (this, sym answer.0, refutes this new C log answer.1.refuted readable (alone this new log files)),
+        (this, None, Some log, answer, files),
+        refl,
+        tt,
+      ),
       ((inr (inl refl), refl), tt),
     )
     answered (status.Open low high) (Some offsets) (Some log) answer readable = (
       λ files.
-          let opened = answer.stays_open in
-          let refuted = opened.refuted_below in (
-            (
-              this,
-              opened.positive,
-              opened.ends_apart,
-              record {
-                offsets = offsets;
-                layout = opened.layout;
-                held = first_held old.held new.held output log_name (layout_text table offsets) (log_text log)
-                    (solve_apart words pairs is) files;
-              },
-              record {
-                refutation = log;
-                accepted = refuted.accepted;
-                its_capacity = refuted.its_capacity;
-                infeasible = refuted.infeasible;
-                readable = readable;
-                held = second_held old.held new.held output log_name (layout_text table offsets) (log_text log) files;
-              },
-            ),
+          let apart = solve_apart words pairs is in
+          let left = stays_open this new offsets log apart files low high answer.stays_open readable in (
+            (this, left.0, left.1, left.2, left.3),
             (this, Some offsets, Some log, answer, files),
-            tt,
+            refl,
             tt,
           ),
       ((inl refl, refl), ((inr (inl refl), refl), tt)),

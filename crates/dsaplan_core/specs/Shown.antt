@@ -1,4 +1,4 @@
--- What a printed report says.
+-- What is printed.
 use Rattle.std.specs.Prelude.{◌≡◌, ◌≤◌, ◌⊎◌, ◌++◌, ◌^◌, ℕ, List, Ok}
 use Rattle.dsa_terms.specs.Buffers.{Instance}
 use Rattle.dsa_model.specs.Buffer.{buffer_limit}
@@ -42,16 +42,16 @@ pub record TellsTrial (words : List Word) (text : List ℕ) : Type 0 where
   pub true_verdict : IsVerdict instance (number_at pairs option.Steps) verdict
   pub its_text : text ≡ bounds_text facts ++ line verdict
 
--- what the text of the status says and what files then hold, where it is a report: what the command prints of the
--- input's instance alone, of the layout that the layout file gives, or of the made instance
+-- the text is the line of the status; a report is what the command prints of the input's instance alone, of the layout
+-- that the layout file gives, or of the made instance, and the files are as before
 abbrev pub Tells : List Word → FilesSeen → FilesSeen → Status → List ℕ → Type 0
 Tells words old new status.Shown text = (new.held ≡ old.held)
     × (((a : Asked words old) × IsReport a.verb a.table a.instance text)
     ⊎ ((a : Asked words old) × TellsLayout a text) ⊎ TellsTrial words text)
-Tells words old new status text = Unit {0}
+Tells words old new status text = text ≡ line status
 
--- a true report has been printed, and the files are as before
-pub record Shows (words : List Word) (old new : FilesSeen) (before after : SinkSeen) : Type 0 where
+-- the text of the status has been printed whole, after what stood in the sink
+pub record Shows (words : List Word) (old new : FilesSeen) (before after : SinkSeen) (status : Status) : Type 0 where
   pub text : List ℕ
-  pub tells : Tells words old new status.Shown text
+  pub tells : Tells words old new status text
   pub printed : after.content ≡ with_text before.content text

@@ -17,6 +17,7 @@ ghost use Rattle.command_words.specs.Requests.{Request, request_of};
 ghost use Rattle.command_words.specs.declared.option.OptionName.TheVariants as option;
 ghost use Rattle.command_words.specs.declared.verb.Verb.TheVariants as verb;
 ghost use Rattle.command_words.specs.declared.fault.UsageFault.{UsageFault};
+ghost use Rattle.run_status.specs.Spoken.{IsSpoken};
 ghost use Rattle.run_status.specs.declared.status.Status.{Status};
 ghost use Rattle.run_status.specs.declared.status.Status.TheVariants as status;
 ghost use Rattle.run_status.specs.declared.status.Role.{Role};
@@ -29,12 +30,12 @@ ghost use Rattle.dsaplan_core.specs.Lost.{HasLongFile, LosesFile, MissesFile};
 ghost use Rattle.dsaplan_core.specs.Refused.{IsMisuse};
 ghost use Rattle.dsaplan_core.specs.Shown.{Shows};
 
-/// A report that is shown is what its command prints of the input's instance, or true of its layout
-/// or of the made instance.
+/// What is printed is the line of the status. A report that is shown is what its command prints of
+/// the input's instance, or true of its layout or of the made instance.
 pub fn shown()
-    ensures { (words : List Word) (old new : FilesSeen) (before after : SinkSeen) →
-        Answers (course words) old new before after status.Shown →
-        Shows words old new before after }
+    ensures { (words : List Word) (old new : FilesSeen) (before after : SinkSeen) (s : Status) →
+        IsSpoken s → Answers (course words) old new before after s →
+        Shows words old new before after s }
 {}
 
 /// Where `refute` reads bytes that say an accepted log from a file within its limit, and nothing
