@@ -20,6 +20,11 @@ fn a_log_takes_legal_lines_and_closes_at_a_whole_claim(rt: HostRuntime) {
     let copied = line.copy(alloc).expect(&rt, "memory");
     let first = log.push(&three, copied);
     assert_eq!(rt; first, Ok(0));
+    let mut known = Log::new(alloc, &three, 3);
+    let number = known.push_legal(&three, line);
+    assert_eq!(rt; number, Ok(0));
+    assert!(rt; known.len() == 1);
+    assert!(rt; known.line(0).claim().len() == 3);
     let claim = Claim::from_pairs(alloc, &[(1, 1), (2, 1)]).expect(&rt, "memory");
     let cites = Cites::from_vec(
         [Cite::Line(0), Cite::Below(1)]
