@@ -11,7 +11,7 @@ use refute_log::{ClosedLog, Line, Log};
 use std::alloc::Global;
 
 /// A log of three buffers at 4.
-const SAMPLE: &[u8] = b"dsalog 1 3 4\n\
+static SAMPLE: &[u8] = b"dsalog 1 3 4\n\
 over 0 3 1 : 2=3\n\
 over 0 4 1 : 1=4\n\
 case : 1=1 2=1 : 1>0 2>1\n\
@@ -26,7 +26,7 @@ const NO_LINE: TextFault = TextFault::BadLine { line: 0 };
 const TOO_LARGE: TextFault = TextFault::NumberTooLarge { line: 0 };
 
 /// Texts with a header, each with its first fault.
-const ROW_FAULTS: [(&[u8], TextFault); 20] = [
+static ROW_FAULTS: [(&[u8], TextFault); 20] = [
     (b"dsalog 1 3 4\nend 0", NO_LINE),
     (b"dsalog 1 3 4\nend 0\n\n", TextFault::AfterEnd),
     (b"dsalog 1 3 4\nend 00\n", NO_LINE),
@@ -71,7 +71,7 @@ const ROW_FAULTS: [(&[u8], TextFault); 20] = [
 ];
 
 /// The sample log in version 2, one claim of it as a difference.
-const SECOND_SAMPLE: &[u8] = b"dsalog 2 3 4\n\
+static SECOND_SAMPLE: &[u8] = b"dsalog 2 3 4\n\
 over 0 3 1 : 2=3\n\
 over 0 4 1 : 1=4\n\
 case : 1=1 2=1 : 1>0 2>1\n\
@@ -80,7 +80,7 @@ case : 0=0 1=0 2=0 : 0>2 1~0 2>3\n\
 end 4\n";
 
 /// Texts of version 2, each with its first fault.
-const SECOND_FAULTS: [(&[u8], TextFault); 14] = [
+static SECOND_FAULTS: [(&[u8], TextFault); 14] = [
     (
         b"dsalog 2 5 11\nover 0 0 1 : @0\nend 0\n",
         TextFault::BadBase { line: 0 },
@@ -222,38 +222,40 @@ fn a_line_like_the_one_before_it_is_written_as_a_difference(rt: HostRuntime) {
 #[test]
 fn the_first_fault_of_version_2_is_answered(rt: HostRuntime) {
     let alloc = rt.alloc();
-    for (text, want) in SECOND_FAULTS {
+    for &(text, want) in &SECOND_FAULTS {
         assert_eq!(rt; fault(alloc, text), Some(Fail::Fault(want)));
     }
 }
 
+/// Texts without a whole header, or with nothing behind it, each with its first fault.
+static HEADER_FAULTS: [(&[u8], TextFault); 12] = [
+    (b"", TextFault::NotLog),
+    (b"dsalog 1 3 4", TextFault::NotLog),
+    (b"dsalog 1 3  4\n", TextFault::NotLog),
+    (b"dsalog 1 03 4\n", TextFault::NotLog),
+    (
+        b"dsalog 1 3 1152921504606846977\nend 0\n",
+        TextFault::NotLog,
+    ),
+    (b"dsalog 18446744073709551616 3 4\n", TextFault::NotLog),
+    (b"dsalog 2 1152921504606846977 4\n", TextFault::NotLog),
+    (b"dsalog 2 3 4\n", TextFault::NoEnd),
+    (
+        b"dsalog 18446744073709551615 3 4\n",
+        TextFault::BadVersion { version: u64::MAX },
+    ),
+    (
+        b"dsalog 3 3 4\nend 0\n",
+        TextFault::BadVersion { version: 3 },
+    ),
+    (b"dsalog 0 3 4\n", TextFault::BadVersion { version: 0 }),
+    (b"dsalog 1 1152921504606846976 0\n", TextFault::NoEnd),
+];
+
 #[test]
 fn the_first_fault_of_a_header_is_answered(rt: HostRuntime) {
     let alloc = rt.alloc();
-    let rows: [(&[u8], TextFault); 12] = [
-        (b"", TextFault::NotLog),
-        (b"dsalog 1 3 4", TextFault::NotLog),
-        (b"dsalog 1 3  4\n", TextFault::NotLog),
-        (b"dsalog 1 03 4\n", TextFault::NotLog),
-        (
-            b"dsalog 1 3 1152921504606846977\nend 0\n",
-            TextFault::NotLog,
-        ),
-        (b"dsalog 18446744073709551616 3 4\n", TextFault::NotLog),
-        (b"dsalog 2 1152921504606846977 4\n", TextFault::NotLog),
-        (b"dsalog 2 3 4\n", TextFault::NoEnd),
-        (
-            b"dsalog 18446744073709551615 3 4\n",
-            TextFault::BadVersion { version: u64::MAX },
-        ),
-        (
-            b"dsalog 3 3 4\nend 0\n",
-            TextFault::BadVersion { version: 3 },
-        ),
-        (b"dsalog 0 3 4\n", TextFault::BadVersion { version: 0 }),
-        (b"dsalog 1 1152921504606846976 0\n", TextFault::NoEnd),
-    ];
-    for (text, want) in rows {
+    for &(text, want) in &HEADER_FAULTS {
         assert_eq!(rt; fault(alloc, text), Some(Fail::Fault(want)));
     }
 }
@@ -261,7 +263,7 @@ fn the_first_fault_of_a_header_is_answered(rt: HostRuntime) {
 #[test]
 fn the_first_fault_of_a_row_is_answered(rt: HostRuntime) {
     let alloc = rt.alloc();
-    for (text, want) in ROW_FAULTS {
+    for &(text, want) in &ROW_FAULTS {
         assert_eq!(rt; fault(alloc, text), Some(Fail::Fault(want)));
     }
 }
