@@ -1,4 +1,4 @@
-//! One buffer of each line of a log.
+//! A number of a buffer for each line of a log.
 
 ghost use Rattle.std.specs.Prelude.{◌≡◌, ◌≤◌, ℕ, [], OnOk, Some, length, slice_get, slice_set};
 
@@ -6,8 +6,8 @@ use dsa_model::NoMemory;
 use std::alloc::Global;
 use std::marker::Model;
 
-/// For each line of a log the number of a buffer, the note. Once it was set it is one of the line's
-/// claim, and a claim that lacks it is not covered. Contracts see the notes by line.
+/// For each line of a log the number of a buffer, the note. Where it is one of the line's, the line
+/// does not cover a claim that lacks it. Contracts see the notes by line.
 #[derive(Drop)]
 pub(crate) struct Notes {
     buffers: Vec<u32>,

@@ -58,9 +58,9 @@ fn own_note(notes: &Notes, claim: &Claim, k: u64, b: u32) -> u32
 
 /// The buffer to note for the line of that number at the claim of the levels: one of the line's
 /// that the claim is found to lack, else the one noted already, if it is one of the line's, else
-/// that of its watch. There is none only where the line covers the claim. If there is one, the
-/// watch is then one of the line's bounds, which the claim does not meet if it has all buffers of
-/// the line.
+/// that of its watch, as it then is. There is none only where the line covers the claim. If there is
+/// one, the watch is then one of the line's bounds, which the claim does not meet if it has all
+/// buffers of the line.
 fn note_at(
     table: &mut WatchTable,
     notes: &Notes,
@@ -208,9 +208,9 @@ fn find_in(
 /// cover it. So where a search goes down to a child, only the lines whose watch the child meets and
 /// the claim above does not are tried: such a line covers the child, gets another watch, or has a
 /// buffer that the child has not and keeps its watch. Going back up undoes nothing, since lows fall
-/// on the way. Each line that was asked also has a note, one of its buffers: the one that a claim
-/// was last found to lack, and any until then. A child without it is not covered, and the line is
-/// not read. Contracts see the watches and the notes by line.
+/// on the way. Each line that was asked and did not cover also has a note, one of its buffers: the
+/// one that a claim was last found to lack, and any until then. A child without it is not covered by
+/// the line, which is not read. Contracts see the watches and the notes by line.
 ///
 /// A claim is given by its levels: for each buffer of the instance one more than its low in bytes,
 /// and 0 where it is not in the claim.
