@@ -36,7 +36,8 @@ fn needed_lines<'a>(
     output: &'a str,
 ) -> Result<Prepared<'a>, NoMemory>
     requires { IsAccepted instance.now original.now }
-    ensures { IfOk result (λ p. Trims output.entry.now original.now (outcome_of p)) }
+    ensures { IfOk result (λ p. Trims output.entry.now instance.now original.now
+        (outcome_of p)) }
 {
     let trimmed = log_trim::trim(alloc, instance, original)?;
     let status = Status::Trimmed {
@@ -59,7 +60,8 @@ fn trim_checked<'a, F: Files>(
     instance: &Instance,
 ) -> Result<Prepared<'a>, NoMemory>
     ensures comes { IfOk result (λ p. Comes (F.seen files.old) (F.seen files.new)
-        (checked words.now.log.now instance.now (Trims words.now.output.now)) (outcome_of p)) }
+        (checked words.now.log.now instance.now (Trims words.now.output.now instance.now))
+        (outcome_of p)) }
     ensures files { (F.seen files.new).held ≡ (F.seen files.old).held }
     ensures counts { NoneFell (F.seen files.old).faults (F.seen files.new).faults }
 {
@@ -70,7 +72,7 @@ fn trim_checked<'a, F: Files>(
 }
 
 impl<'a> TableCommand<'a> for Trim<'a> {
-    ghost after = { λ t _ I. checked t.log.now I (Trims t.output.now) };
+    ghost after = { λ t _ I. checked t.log.now I (Trims t.output.now I) };
 
     fn conclude_table<F: Files>(
         &self,

@@ -5,7 +5,7 @@ ghost use Rattle.dsa_outside.specs.Faults.{NoneFell};
 ghost use Rattle.run_course.specs.Course.{Comes};
 ghost use Rattle.run_course.specs.Prepares.{outcome_of};
 ghost use Rattle.readings.specs.Checking.{checked};
-ghost use Rattle.checking.specs.Checking.{upgrade, upgrading};
+ghost use Rattle.checking.specs.Checking.{Upgrades, upgrade};
 
 use csv_instance::Table;
 use dsa_model::{Instance, NoMemory};
@@ -32,7 +32,7 @@ fn second_version<'a>(
     original: &ClosedLog,
     output: &'a str,
 ) -> Result<Prepared<'a>, NoMemory>
-    ensures { IfOk result (λ p. outcome_of p ≡ upgrading output.entry.now original.now) }
+    ensures { IfOk result (λ p. Upgrades output.entry.now original.now (outcome_of p)) }
 {
     let status = Status::Upgraded {
         lines: original.len(),
@@ -53,7 +53,7 @@ fn upgrade_checked<'a, F: Files>(
     instance: &Instance,
 ) -> Result<Prepared<'a>, NoMemory>
     ensures comes { IfOk result (λ p. Comes (F.seen files.old) (F.seen files.new)
-        (checked words.now.log.now instance.now (λ log o. o ≡ upgrading words.now.output.now log))
+        (checked words.now.log.now instance.now (Upgrades words.now.output.now))
         (outcome_of p)) }
     ensures files { (F.seen files.new).held ≡ (F.seen files.old).held }
     ensures counts { NoneFell (F.seen files.old).faults (F.seen files.new).faults }
@@ -65,7 +65,7 @@ fn upgrade_checked<'a, F: Files>(
 }
 
 impl<'a> TableCommand<'a> for Upgrade<'a> {
-    ghost after = { λ u _ I. checked u.log.now I (λ log o. o ≡ upgrading u.output.now log) };
+    ghost after = { λ u _ I. checked u.log.now I (Upgrades u.output.now) };
 
     fn conclude_table<F: Files>(
         &self,

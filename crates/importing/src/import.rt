@@ -1,9 +1,9 @@
 //! `import`: the instance of a recorded run of allocations.
 
-ghost use Rattle.std.specs.Prelude.{◌≡◌, ◌≤◌, IfOk, length};
+ghost use Rattle.std.specs.Prelude.{◌≤◌, IfOk, length};
 ghost use Rattle.trace_import.specs.Faults.{trace_of};
 ghost use Rattle.run_course.specs.Prepares.{outcome_of};
-ghost use Rattle.importing.specs.Importing.{import_course, imports};
+ghost use Rattle.importing.specs.Importing.{Imports, import_course};
 
 use dsa_model::{Fail, NoMemory};
 use dsa_outside::Files;
@@ -25,7 +25,7 @@ pub struct Import<'a> {
 fn imported<'a>(alloc: Global, words: &Import<'a>, bytes: &[u8]) -> Result<Prepared<'a>, NoMemory>
     requires { length bytes.now ≤ 67108864 }
     ensures { IfOk result (λ p.
-        outcome_of p ≡ imports words.now.output.now (trace_of bytes.now)) }
+        Imports words.now.output.now (trace_of bytes.now) (outcome_of p)) }
 {
     let trace = match read_trace(alloc, bytes) {
         Ok(trace) => trace,

@@ -1,11 +1,11 @@
 //! `unroll`: the instance of one period of buffers whose moments repeat.
 
-ghost use Rattle.std.specs.Prelude.{◌≡◌, ◌≤◌, IfOk, length};
+ghost use Rattle.std.specs.Prelude.{◌≤◌, IfOk, length};
 ghost use Rattle.command_words.specs.Options.{number_limit};
 ghost use Rattle.csv_instance.specs.Records.{table_of};
 ghost use Rattle.cyclic_plan.specs.Unrolled.{unrolled_of};
 ghost use Rattle.run_course.specs.Prepares.{outcome_of};
-ghost use Rattle.importing.specs.Unrolling.{unroll_course, unrolls};
+ghost use Rattle.importing.specs.Unrolling.{Unrolls, unroll_course};
 
 use cyclic_plan::unroll;
 use dsa_model::{Fail, NoMemory};
@@ -29,7 +29,7 @@ fn unrolled<'a>(alloc: Global, words: &Unroll<'a>, bytes: &[u8]) -> Result<Prepa
     requires length { length bytes.now ≤ 67108864 }
     ensures { let table = table_of bytes.now in let period = words.now.period in
         IfOk result (λ p.
-        outcome_of p ≡ unrolls period words.now.output.now table (unrolled_of period table)) }
+        Unrolls period words.now.output.now table (unrolled_of period table) (outcome_of p)) }
 {
     let unrolled = match unroll(alloc, bytes, words.period) {
         Ok(unrolled) => unrolled,

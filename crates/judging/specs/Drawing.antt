@@ -1,6 +1,7 @@
 -- How the command goes that draws a layout.
-use Rattle.std.specs.Prelude.{◌^◌, ℕ, List, [], ◌∷◌, length}
+use Rattle.std.specs.Prelude.{◌≡◌, ◌^◌, ℕ, List, [], ◌∷◌, length}
 use Rattle.dsa_terms.specs.Buffers.{Instance}
+use Rattle.dsa_terms.specs.Layouts.{IsLayout}
 use Rattle.csv_instance.specs.Records.{Record}
 use Rattle.csv_instance.specs.Offsets.{ids_of}
 use Rattle.layout_picture.specs.Rectangles.{rectangles}
@@ -8,11 +9,11 @@ use Rattle.layout_picture.specs.Texts.{picture_text}
 use Rattle.command_words.specs.Options.{Word}
 use Rattle.run_status.specs.declared.status.Status.TheVariants.{Drawn}
 use Rattle.run_status.specs.declared.status.Role.TheVariants as role
-use Rattle.run_course.specs.Course.{Course, Ends, Outcome, writes}
+use Rattle.run_course.specs.Course.{Concludes, Course, Outcome, writes}
 use Rattle.readings.specs.Input.{opened}
 use Rattle.readings.specs.Judging.{judged}
 
--- the picture of the layout is written to the output, and the number of its rectangles is told
+-- the picture of the offsets is written to the output, and the number of its rectangles is told
 abbrev pub drawing : Word → List Record → Instance → List ℕ → Outcome
 drawing output table I offsets = writes (record {
   role = role.Output;
@@ -20,7 +21,11 @@ drawing output table I offsets = writes (record {
   bytes = picture_text I (ids_of table) offsets;
 } ∷ []) (Drawn (length (rectangles I offsets)))
 
+-- the offsets are a layout at the greatest capacity, and their picture is written
+abbrev pub Draws : Word → List Record → Instance → List ℕ → Outcome → Type 0
+Draws output table I offsets o = IsLayout I (2 ^ 60) offsets × (o ≡ drawing output table I offsets)
+
 -- how `draw` goes: the layout is judged at the greatest capacity
 abbrev pub draw : (input layout output : Word) → Course
 draw input layout output =
-    opened input (λ table I. judged layout table I (2 ^ 60) (λ offsets. Ends (drawing output table I offsets)))
+    opened input (λ table I. judged layout table I (2 ^ 60) (λ offsets. Concludes (Draws output table I offsets)))

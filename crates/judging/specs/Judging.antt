@@ -1,18 +1,23 @@
 -- How the commands go that judge a layout file.
 use Rattle.std.specs.Prelude.{◌≡◌, ◌^◌, ℕ, List}
 use Rattle.dsa_terms.specs.Buffers.{Instance}
+use Rattle.dsa_terms.specs.Layouts.{IsLayout}
 use Rattle.csv_instance.specs.Records.{Record}
 use Rattle.layout_report.specs.Report.{IsReportOf}
 use Rattle.command_words.specs.Options.{Word}
 use Rattle.run_status.specs.declared.status.Status.TheVariants.{Right}
-use Rattle.run_course.specs.Course.{Course, Outcome, Concludes, Ends, says, shows}
+use Rattle.run_course.specs.Course.{Course, Outcome, Concludes, says, shows}
 use Rattle.readings.specs.Input.{opened}
 use Rattle.readings.specs.Judging.{judged}
+
+-- the offsets are a layout at the capacity, and this is told
+abbrev pub TellsRight : Instance → (capacity : ℕ) → List ℕ → Outcome → Type 0
+TellsRight I capacity offsets o = IsLayout I capacity offsets × (o ≡ says Right)
 
 -- how `verify` goes: the layout is judged at the capacity, in bytes
 abbrev pub verify : (capacity : ℕ) (input layout : Word) → Course
 verify capacity input layout =
-    opened input (λ table I. judged layout table I capacity (λ offsets. Ends (says Right)))
+    opened input (λ table I. judged layout table I capacity (λ offsets. Concludes (TellsRight I capacity offsets)))
 
 -- the tightest moment of the layout is shown
 pub record ShowsLayout (table : List Record) (I : Instance) (offsets : List ℕ) (o : Outcome) : Type 0 where

@@ -4,10 +4,10 @@ ghost use Rattle.std.specs.Prelude.{◌≡◌, ◌^◌, Ok, IfOk};
 ghost use Rattle.dsa_terms.specs.Buffers.{Instance};
 ghost use Rattle.csv_instance.specs.Parse.{parse};
 ghost use Rattle.layout_picture.specs.Rectangles.{EndsWithin};
-ghost use Rattle.run_course.specs.Course.{Ends};
+ghost use Rattle.run_course.specs.Course.{Concludes};
 ghost use Rattle.run_course.specs.Prepares.{outcome_of};
 ghost use Rattle.readings.specs.Judging.{judged};
-ghost use Rattle.judging.specs.Drawing.{draw, drawing};
+ghost use Rattle.judging.specs.Drawing.{Draws, draw, drawing};
 
 use csv_instance::Table;
 use dsa_model::NoMemory;
@@ -56,7 +56,7 @@ fn drawing<'a>(
 
 impl<'a> TableCommand<'a> for Draw<'a> {
     ghost after = { λ d table I. judged d.layout.now table I (2 ^ 60)
-        (λ offsets. Ends (drawing d.output.now table I offsets)) };
+        (λ offsets. Concludes (Draws d.output.now table I offsets)) };
 
     fn conclude_table<F: Files>(
         &self,

@@ -1,9 +1,8 @@
 //! `verify`: whether offsets are a layout at a capacity.
 
-ghost use Rattle.run_status.specs.declared.status.Status.TheVariants.{Right};
-ghost use Rattle.run_course.specs.Course.{Ends, says};
+ghost use Rattle.run_course.specs.Course.{Concludes};
 ghost use Rattle.readings.specs.Judging.{judged};
-ghost use Rattle.judging.specs.Judging.{verify};
+ghost use Rattle.judging.specs.Judging.{TellsRight, verify};
 
 use csv_instance::Table;
 use dsa_model::NoMemory;
@@ -23,7 +22,7 @@ pub struct Verify<'a> {
 
 impl<'a> TableCommand<'a> for Verify<'a> {
     ghost after = { λ v table I. judged v.layout.now table I v.capacity
-        (λ offsets. Ends (says Right)) };
+        (λ offsets. Concludes (TellsRight I v.capacity offsets)) };
 
     fn conclude_table<F: Files>(
         &self,

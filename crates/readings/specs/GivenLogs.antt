@@ -1,6 +1,7 @@
 -- What a log's file comes to: an accepted log, or a status that ends the run.
 use Rattle.std.specs.Prelude.{◌≡◌, ◌⊎◌, ℕ, List, Some}
 use Rattle.dsa_terms.specs.Buffers.{Instance}
+use Rattle.dsa_terms.specs.Layouts.{IsInfeasible}
 use Rattle.dsa_terms.specs.Logs.{Log, IsAccepted}
 use Rattle.log_text.specs.Text.{raw_log_of}
 use Rattle.log_text.specs.Faults.{IsFirstFault}
@@ -21,12 +22,13 @@ use Rattle.readings.specs.Checking.{log_limit}
 use Rattle.readings.specs.declared.log_file.Checked.{Checked}
 use Rattle.readings.specs.declared.log_file.Checked.TheVariants as checked
 
--- the file says a log that is accepted for the instance
+-- the file says a log that is accepted for the instance, so no layout fits within its capacity
 pub record HoldsAccepted (files : FilesSeen) (name : Word) (I : Instance) (log : Log) : Type 0 where
   pub bytes : List ℕ
   pub whole : IsWholeFile files name log_limit bytes
   pub says : Says bytes (raw_log_of log)
   pub accepted : IsAccepted I log
+  pub infeasible : IsInfeasible I log.capacity
 
 -- the file says no log, for its first fault
 pub record HoldsNoText (files : FilesSeen) (name : Word) (s : Status) : Type 0 where
