@@ -15,19 +15,19 @@ use Rattle.run_status.specs.declared.status.Status.{Status}
 use Rattle.run_status.specs.declared.status.Status.TheVariants as status
 use Rattle.run_status.specs.declared.status.Role.{Role}
 use Rattle.run_status.specs.declared.status.Role.TheVariants as role
-use Rattle.run_course.specs.Course.{Comes, Concludes, Ends, Outcome, says}
+use Rattle.run_course.specs.Course.{Comes, Concludes, Outcome, says}
 use Rattle.run_course.specs.Answers.{Answers, AreBroken}
 use Rattle.readings.specs.Judging.{judged}
 use Rattle.readings.specs.Checking.{checked}
-use Rattle.judging.specs.Judging.{ShowsLayout}
-use Rattle.judging.specs.Drawing.{drawing}
-use Rattle.checking.specs.Checking.{Trims, upgrading}
+use Rattle.judging.specs.Judging.{ShowsLayout, TellsRight}
+use Rattle.judging.specs.Drawing.{Draws}
+use Rattle.checking.specs.Checking.{Trims, Upgrades}
 use Rattle.fact_reports.specs.Reporting.{ShowsReport}
 use Rattle.trace_import.specs.Faults.{trace_of}
 use Rattle.trace_import.specs.Traces.{Trace}
 use Rattle.trace_import.specs.declared.fault.TraceFault.{TraceFault}
-use Rattle.importing.specs.Importing.{imports}
-use Rattle.importing.specs.Unrolling.{unrolls}
+use Rattle.importing.specs.Importing.{Imports}
+use Rattle.importing.specs.Unrolling.{Unrolls}
 use Rattle.cyclic_plan.specs.Unrolled.{unrolled_of}
 use Rattle.cyclic_plan.specs.declared.fault.CycleFault.{CycleFault}
 use Rattle.planning.specs.Planning.{Plans}
@@ -95,16 +95,20 @@ explained pairs table J o (inl core) =
 explained pairs table J o (inr fits) =
     subst (λ (o : Outcome). IsConclusion verb.Core pairs J o.status) (sym fits.1) (refl, fits.0)
 
-imports_conclude : (pairs : List Pair) (J : Instance) (r : Result Trace TraceFault) →
-    IsConclusion verb.Import pairs J (imports (word_at pairs option.Output) r).status
-imports_conclude pairs J (Ok trace) = tt
-imports_conclude pairs J (Err fault) = tt
+imports_conclude : (pairs : List Pair) (J : Instance) (r : Result Trace TraceFault) (o : Outcome) →
+    Imports (word_at pairs option.Output) r o → IsConclusion verb.Import pairs J o.status
+imports_conclude pairs J (Ok trace) o told =
+    subst (λ (o : Outcome). IsConclusion verb.Import pairs J o.status) (sym told.1) tt
+imports_conclude pairs J (Err fault) o told =
+    subst (λ (o : Outcome). IsConclusion verb.Import pairs J o.status) (sym told) tt
 
-unrolls_conclude : (pairs : List Pair) (table : List Record) (J : Instance) (r : Result Instance CycleFault) →
-    IsConclusion verb.Unroll pairs J
-    (unrolls (number_at pairs option.Period) (word_at pairs option.Output) table r).status
-unrolls_conclude pairs table J (Ok I) = tt
-unrolls_conclude pairs table J (Err fault) = tt
+unrolls_conclude : (pairs : List Pair) (table : List Record) (J : Instance) (r : Result Instance CycleFault)
+    (o : Outcome) → Unrolls (number_at pairs option.Period) (word_at pairs option.Output) table r o →
+    IsConclusion verb.Unroll pairs J o.status
+unrolls_conclude pairs table J (Ok I) o told =
+    subst (λ (o : Outcome). IsConclusion verb.Unroll pairs J o.status) (sym told.1) tt
+unrolls_conclude pairs table J (Err fault) o told =
+    subst (λ (o : Outcome). IsConclusion verb.Unroll pairs J o.status) (sym told) tt
 
 -- where nothing outside fails, no write does
 pub not_broken : (old new : FilesSeen) (before after : SinkSeen) (words : List Word) (r : Request) →
@@ -136,7 +140,7 @@ module _ (old new : FilesSeen) (before after : SinkSeen) (I : Instance) where
       (served old new before after I (record { verb = verb.Import; pairs = pairs }) ready calm
       (IsDone verb.Import pairs) role.Trace option.Trace (inl refl)) o failed.0 failed.1
   imported_done pairs (ready, calm) o (inr (bytes, whole, comes)) =
-      subst (IsDone verb.Import pairs) (sym comes.1) (imports_conclude pairs I (trace_of bytes))
+      imports_conclude pairs I (trace_of bytes) o comes.1
 
   unrolled_done : (pairs : List Pair) → IsLeftAlone (record { verb = verb.Unroll; pairs = pairs }) → (o : Outcome) →
       Comes old new (course_with verb.Unroll pairs) o → IsDone verb.Unroll pairs o
@@ -145,8 +149,7 @@ module _ (old new : FilesSeen) (before after : SinkSeen) (I : Instance) where
       (served old new before after I (record { verb = verb.Unroll; pairs = pairs }) ready calm
       (IsDone verb.Unroll pairs) role.Input option.Input (inl refl)) o failed.0 failed.1
   unrolled_done pairs (ready, calm) o (inr (bytes, whole, comes)) =
-      subst (IsDone verb.Unroll pairs) (sym comes.1)
-      (unrolls_conclude pairs (table_of bytes) I (unrolled_of (number_at pairs option.Period) (table_of bytes)))
+      unrolls_conclude pairs (table_of bytes) I (unrolled_of (number_at pairs option.Period) (table_of bytes)) o comes.1
 
   done : (v : Verb) (pairs : List Pair) → IsLeftAlone (record { verb = v; pairs = pairs }) → (o : Outcome) →
       Comes old new (course_with v pairs) o → IsDone v pairs o
@@ -172,10 +175,11 @@ module _ (old new : FilesSeen) (before after : SinkSeen) (I : Instance) where
       let r : Request = record { verb = verb.Verify; pairs = pairs } in
       let capacity = number_at pairs option.Capacity in
       opened_served old new before after I r ready calm (inl refl, refl) (IsDone verb.Verify pairs)
-      (λ table J. judged (word_at pairs option.Layout) table J capacity (λ offsets. Ends (says status.Right)))
+      (λ table J. judged (word_at pairs option.Layout) table J capacity
+      (λ offsets. Concludes (TellsRight J capacity offsets)))
       (λ table. judged_served old new before after I r ready calm (inr (inl refl)) (IsDone verb.Verify pairs)
-      table capacity (λ offsets. Ends (says status.Right)) (λ cause. tt)
-      (λ offsets o comes. subst (IsDone verb.Verify pairs) (sym comes.1) tt))
+      table capacity (λ offsets. Concludes (TellsRight I capacity offsets)) (λ cause. tt)
+      (λ offsets o comes. subst (IsDone verb.Verify pairs) (sym comes.1.1) tt))
   done verb.Refute pairs (ready, calm) =
       let r : Request = record { verb = verb.Refute; pairs = pairs } in
       opened_served old new before after I r ready calm (inl refl, refl) (IsDone verb.Refute pairs)
@@ -186,17 +190,17 @@ module _ (old new : FilesSeen) (before after : SinkSeen) (I : Instance) where
   done verb.Trim pairs (ready, calm) =
       let r : Request = record { verb = verb.Trim; pairs = pairs } in
       opened_served old new before after I r ready calm (inl refl, refl) (IsDone verb.Trim pairs)
-      (λ table J. checked (word_at pairs option.Log) J (Trims (word_at pairs option.Output)))
+      (λ table J. checked (word_at pairs option.Log) J (Trims (word_at pairs option.Output) J))
       (λ table. checked_served old new before after I r ready calm (inr (inl refl)) (IsDone verb.Trim pairs)
-      (Trims (word_at pairs option.Output)) (λ fault bad. tt) (λ fault bad. tt)
+      (Trims (word_at pairs option.Output) I) (λ fault bad. tt) (λ fault bad. tt)
       (λ log holds o done. subst (IsDone verb.Trim pairs) (sym done.outcome) tt))
   done verb.Upgrade pairs (ready, calm) =
       let r : Request = record { verb = verb.Upgrade; pairs = pairs } in
       opened_served old new before after I r ready calm (inl refl, refl) (IsDone verb.Upgrade pairs)
-      (λ table J. checked (word_at pairs option.Log) J (λ log o. o ≡ upgrading (word_at pairs option.Output) log))
+      (λ table J. checked (word_at pairs option.Log) J (Upgrades (word_at pairs option.Output)))
       (λ table. checked_served old new before after I r ready calm (inr (inl refl)) (IsDone verb.Upgrade pairs)
-      (λ log o. o ≡ upgrading (word_at pairs option.Output) log) (λ fault bad. tt) (λ fault bad. tt)
-      (λ log holds o told. subst (IsDone verb.Upgrade pairs) (sym told) tt))
+      (Upgrades (word_at pairs option.Output)) (λ fault bad. tt) (λ fault bad. tt)
+      (λ log holds o told. subst (IsDone verb.Upgrade pairs) (sym told.1) tt))
   done verb.Report pairs (ready, calm) =
       let r : Request = record { verb = verb.Report; pairs = pairs } in
       opened_served old new before after I r ready calm (inl refl, refl) (IsDone verb.Report pairs)
@@ -209,10 +213,10 @@ module _ (old new : FilesSeen) (before after : SinkSeen) (I : Instance) where
       let r : Request = record { verb = verb.Draw; pairs = pairs } in
       opened_served old new before after I r ready calm (inl refl, refl) (IsDone verb.Draw pairs)
       (λ table J. judged (word_at pairs option.Layout) table J (2 ^ 60)
-      (λ offsets. Ends (drawing (word_at pairs option.Output) table J offsets)))
+      (λ offsets. Concludes (Draws (word_at pairs option.Output) table J offsets)))
       (λ table. judged_served old new before after I r ready calm (inr (inl refl)) (IsDone verb.Draw pairs)
-      table (2 ^ 60) (λ offsets. Ends (drawing (word_at pairs option.Output) table I offsets)) (λ cause. tt)
-      (λ offsets o comes. subst (IsDone verb.Draw pairs) (sym comes.1) tt))
+      table (2 ^ 60) (λ offsets. Concludes (Draws (word_at pairs option.Output) table I offsets)) (λ cause. tt)
+      (λ offsets o comes. subst (IsDone verb.Draw pairs) (sym comes.1.1) tt))
   done verb.Import pairs served = imported_done pairs served
   done verb.Unroll pairs served = unrolled_done pairs served
   done verb.Classes pairs (ready, calm) =

@@ -120,8 +120,8 @@ module _ (old new : FilesSeen) (P : Outcome → Type 0) where
         says = said;
         refused = first;
       }))
-      told (is_accepted log said accepted is) =
-          given log (record { bytes = bytes; whole = whole; says = said; accepted = accepted }) o is
+      told (is_accepted log said accepted none is) = given log
+          (record { bytes = bytes; whole = whole; says = said; accepted = accepted; infeasible = none }) o is
 
   -- a trial
   pub trial_gives : (seed count steps : ℕ) → (buffer_limit < count → P (says (status.TooMany count))) →

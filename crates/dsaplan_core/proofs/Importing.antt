@@ -32,18 +32,18 @@ module _ (words : List Word) (old new : FilesSeen) (pairs : List Pair)
   asked_of bytes whole = record { pairs = pairs; bytes = bytes; words_ask = is; whole = whole }
 
   imported : (bytes : List ℕ) → IsWholeFile old (word_at pairs option.Trace) file_limit bytes →
-      (r : Result Trace TraceFault) → trace_of bytes ≡ r →
-      Promises words old new request (imports (word_at pairs option.Output) r)
-  imported bytes whole (Ok trace) read = (
+      (r : Result Trace TraceFault) → trace_of bytes ≡ r → (o : Outcome) → Imports (word_at pairs option.Output) r o →
+      Promises words old new request o
+  imported bytes whole (Ok trace) read o told = subst (Promises words old new request) (sym told.1) (
     λ files. (
       (
         asked_of bytes whole,
         record {
           trace = trace;
           read = read;
-          its_count = imported_count trace;
-          parsed = accepted_parses bytes trace whole.short read;
-          traced = imported_traced trace;
+          its_count = refl;
+          parsed = told.0.parsed;
+          traced = told.0.traced;
           files = files;
         },
       ),
@@ -53,7 +53,7 @@ module _ (words : List Word) (old new : FilesSeen) (pairs : List Pair)
     ),
     ((inl refl, refl), tt),
   )
-  imported bytes whole (Err fault) refused = (
+  imported bytes whole (Err fault) refused o told = subst (Promises words old new request) (sym told) (
     λ files. ((asked_of bytes whole, refused, files), tt, refl, tt),
     tt,
   )
@@ -64,4 +64,4 @@ module _ (words : List Word) (old new : FilesSeen) (pairs : List Pair)
       (word_at pairs option.Trace) file_limit
       (unreadable words old new request is role.Trace (inl refl)) o failed.0 failed.1
   import_promises o (inr (bytes, whole, comes)) =
-      subst (Promises words old new request) (sym comes.1) (imported bytes whole (trace_of bytes) refl)
+      imported bytes whole (trace_of bytes) refl o comes.1

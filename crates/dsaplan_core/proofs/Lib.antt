@@ -3,8 +3,6 @@ mod Answered
 mod Requests
 mod Held
 mod Holding
-mod ParsedInstances
-mod TrimmedTexts
 mod Promised
 mod Promises
 mod Refusals

@@ -1,18 +1,14 @@
 -- What the commands promise that judge a layout file or check a log's file.
-use Rattle.std.proofs.Common.{◌≡◌, ◌≤◌, ◌^◌, ℕ, List, length, arith, Ok, refl, sym, subst, inl, inr}
+use Rattle.std.proofs.Common.{◌≡◌, ◌^◌, ℕ, List, Ok, refl, sym, subst, inl, inr}
 use Rattle.dsa_terms.specs.Logs.{Log}
-use Rattle.dsa_search_laws.proofs.Logs.{accepted_is_infeasible}
-use Rattle.dsa_trim_laws.proofs.Trims.{trim_is_accepted}
 use Rattle.dsa_model.proofs.LayoutFaults.{layout_exactly}
-use Rattle.log_text.specs.Text.{raw_log_of}
-use Rattle.log_text.proofs.SaidLogs.{says_again}
 use Rattle.readings.specs.GivenLayouts.{GivesLayout}
 use Rattle.readings.specs.GivenLogs.{HoldsAccepted}
 use Rattle.readings.specs.Judging.{judged}
 use Rattle.readings.specs.Checking.{checked}
-use Rattle.judging.specs.Judging.{ShowsLayout}
-use Rattle.judging.specs.Drawing.{drawing}
-use Rattle.checking.specs.Checking.{Trims, upgrading}
+use Rattle.judging.specs.Judging.{ShowsLayout, TellsRight}
+use Rattle.judging.specs.Drawing.{Draws}
+use Rattle.checking.specs.Checking.{Trims, Upgrades}
 use Rattle.dsa_outside.specs.Seen.{FilesSeen}
 use Rattle.command_words.specs.Options.{Word}
 use Rattle.command_words.specs.Pairs.{Pair, word_at, number_at}
@@ -21,18 +17,12 @@ use Rattle.command_words.specs.declared.option.OptionName.TheVariants as option
 use Rattle.command_words.specs.declared.verb.Verb.{Verb}
 use Rattle.command_words.specs.declared.verb.Verb.TheVariants as verb
 use Rattle.run_status.specs.declared.status.Status.TheVariants as status
-use Rattle.run_course.specs.Course.{Comes, Concludes, Ends, Outcome, says}
+use Rattle.run_course.specs.Course.{Comes, Concludes, Outcome, says}
 use Rattle.dsaplan_core.specs.Courses.{course_with}
 use Rattle.dsaplan_core.specs.Theorem.{Asked}
 use Rattle.dsaplan_core.proofs.Promises.{Promises, asked}
 use Rattle.dsaplan_core.proofs.Refusals.{checked_promises, judged_promises, opened_promises}
 use Rattle.dsaplan_core.specs.Judged.{GivesLayoutAt, GivesLog}
-use Rattle.dsaplan_core.proofs.ParsedInstances.{parsed_is_instance}
-use Rattle.dsaplan_core.proofs.TrimmedTexts.{trim_reads_back}
-
--- a log's file is short
-short_bytes : (bytes : List ℕ) → length bytes ≤ 2 ^ 40 → length bytes ≤ 2 ^ 60
-short_bytes bytes short = omega (arith, short)
 
 module _ (words : List Word) (old new : FilesSeen) where
   abbrev gives_layout : (a : Asked words old) (C : ℕ) (offsets : List ℕ) →
@@ -52,8 +42,7 @@ module _ (words : List Word) (old new : FilesSeen) where
     whole = holds.whole;
     says = holds.says;
     accepted = holds.accepted;
-    infeasible = accepted_is_infeasible a.instance log (parsed_is_instance a.table a.instance a.input.parsed)
-        holds.accepted;
+    infeasible = holds.infeasible;
   }
 
   module _ (pairs : List Pair) where
@@ -66,10 +55,10 @@ module _ (words : List Word) (old new : FilesSeen) where
         let layout = word_at pairs option.Layout in
         let capacity = number_at pairs option.Capacity in
         opened_promises words old new (r verb.Verify) is (inl refl, refl)
-        (λ table I. judged layout table I capacity (λ offsets. Ends (says status.Right)))
+        (λ table I. judged layout table I capacity (λ offsets. Concludes (TellsRight I capacity offsets)))
         (λ table I input. judged_promises words old new (r verb.Verify) is (inr (inl refl)) table I capacity
-        (λ offsets. Ends (says status.Right)) input refl
-        (λ offsets gives o comes. subst (Promises words old new (r verb.Verify)) (sym comes.1) (
+        (λ offsets. Concludes (TellsRight I capacity offsets)) input refl
+        (λ offsets gives o comes. subst (Promises words old new (r verb.Verify)) (sym comes.1.1) (
           λ files.
               let a = asked words old (r verb.Verify) is table I input in
               ((a, refl, gives_layout a capacity offsets gives, files), tt, refl, tt),
@@ -111,10 +100,10 @@ module _ (words : List Word) (old new : FilesSeen) where
         let layout = word_at pairs option.Layout in
         let output = word_at pairs option.Output in
         opened_promises words old new (r verb.Draw) is (inl refl, refl)
-        (λ table I. judged layout table I (2 ^ 60) (λ offsets. Ends (drawing output table I offsets)))
+        (λ table I. judged layout table I (2 ^ 60) (λ offsets. Concludes (Draws output table I offsets)))
         (λ table I input. judged_promises words old new (r verb.Draw) is (inr (inl refl)) table I (2 ^ 60)
-        (λ offsets. Ends (drawing output table I offsets)) input refl
-        (λ offsets gives o comes. subst (Promises words old new (r verb.Draw)) (sym comes.1) (
+        (λ offsets. Concludes (Draws output table I offsets)) input refl
+        (λ offsets gives o comes. subst (Promises words old new (r verb.Draw)) (sym comes.1.1) (
           λ files.
               let a = asked words old (r verb.Draw) is table I input in (
                 (
@@ -150,9 +139,9 @@ module _ (words : List Word) (old new : FilesSeen) where
         let name = word_at pairs option.Log in
         let output = word_at pairs option.Output in
         opened_promises words old new (r verb.Trim) is (inl refl, refl)
-        (λ table I. checked name I (Trims output))
+        (λ table I. checked name I (Trims output I))
         (λ table I input. checked_promises words old new (r verb.Trim) is (inr (inl refl)) table I
-        (Trims output) input tt
+        (Trims output I) input tt
         (λ log holds o done. subst (Promises words old new (r verb.Trim)) (sym done.outcome) (
           λ files.
               let a = asked words old (r verb.Trim) is table I input in (
@@ -167,8 +156,8 @@ module _ (words : List Word) (old new : FilesSeen) where
                       trim = done.trim;
                       is_trim = done.is_trim;
                       count = refl;
-                      accepted = trim_is_accepted I log done.trim holds.accepted done.is_trim;
-                      readable = trim_reads_back I log done.trim holds.bytes holds.accepted holds.says done.is_trim;
+                      accepted = done.accepted;
+                      readable = done.readable;
                       files = files;
                     },
                   ),
@@ -186,10 +175,10 @@ module _ (words : List Word) (old new : FilesSeen) where
         let name = word_at pairs option.Log in
         let output = word_at pairs option.Output in
         opened_promises words old new (r verb.Upgrade) is (inl refl, refl)
-        (λ table I. checked name I (λ log o. o ≡ upgrading output log))
+        (λ table I. checked name I (Upgrades output))
         (λ table I input. checked_promises words old new (r verb.Upgrade) is (inr (inl refl)) table I
-        (λ log o. o ≡ upgrading output log) input tt
-        (λ log holds o told. subst (Promises words old new (r verb.Upgrade)) (sym told) (
+        (Upgrades output) input tt
+        (λ log holds o told. subst (Promises words old new (r verb.Upgrade)) (sym told.1) (
           λ files.
               let a = asked words old (r verb.Upgrade) is table I input in (
                 (
@@ -199,11 +188,7 @@ module _ (words : List Word) (old new : FilesSeen) where
                     log,
                     gives_log a log holds,
                     refl,
-                    record {
-                      readable = says_again holds.bytes (raw_log_of log) holds.says
-                          (short_bytes holds.bytes holds.whole.short);
-                      files = files;
-                    },
+                    record { readable = told.0; files = files },
                   ),
                 ),
                 tt,

@@ -22,16 +22,16 @@ use Rattle.command_words.specs.declared.verb.Verb.{Verb}
 use Rattle.command_words.specs.declared.verb.Verb.TheVariants as verb
 use Rattle.run_status.specs.declared.status.Status.{Status}
 use Rattle.run_status.specs.declared.status.Status.TheVariants as status
-use Rattle.run_course.specs.Course.{Comes, Concludes, Course, Ends, Outcome, says}
+use Rattle.run_course.specs.Course.{Comes, Concludes, Course, Outcome, says}
 use Rattle.run_course.specs.Complete.{ConcludesOn, IsCalm}
 use Rattle.run_course.specs.Answers.{Answers}
 use Rattle.run_course.proofs.Concluding.{IsServed, concludes_on}
 use Rattle.readings.specs.Input.{instance_or_fault, opened}
 use Rattle.readings.specs.Judging.{judged, layout_or_fault, offsets_or_fault}
 use Rattle.readings.specs.Checking.{checked}
-use Rattle.judging.specs.Judging.{ShowsLayout}
-use Rattle.judging.specs.Drawing.{drawing}
-use Rattle.checking.specs.Checking.{Trims, upgrading}
+use Rattle.judging.specs.Judging.{ShowsLayout, TellsRight}
+use Rattle.judging.specs.Drawing.{Draws}
+use Rattle.checking.specs.Checking.{Trims, Upgrades}
 use Rattle.fact_reports.specs.Reporting.{ShowsTrial, unless_many}
 use Rattle.dsaplan_core.specs.Courses.{ConcludesWith, course, course_with}
 use Rattle.dsaplan_core.specs.Complete.{IsConcluded, IsUndisturbed}
@@ -97,8 +97,9 @@ module _ (old new : FilesSeen) (before after : SinkSeen) where
       let r : Request = record { verb = verb.Verify; pairs = pairs } in
       let C = number_at pairs option.Capacity in
       opened_is r calm (inl refl)
-      (λ table I. judged (word_at pairs option.Layout) table I C (λ offsets. Ends (says status.Right)))
-      (judged_is r calm (inr (inl refl)) C (λ table I offsets. Ends (says status.Right)) (λ table I offsets. tt))
+      (λ table I. judged (word_at pairs option.Layout) table I C (λ offsets. Concludes (TellsRight I C offsets)))
+      (judged_is r calm (inr (inl refl)) C (λ table I offsets. Concludes (TellsRight I C offsets))
+      (λ table I offsets. tt))
   course_is verb.Refute pairs calm =
       let r : Request = record { verb = verb.Refute; pairs = pairs } in
       opened_is r calm (inl refl)
@@ -107,13 +108,13 @@ module _ (old new : FilesSeen) (before after : SinkSeen) where
   course_is verb.Trim pairs calm =
       let r : Request = record { verb = verb.Trim; pairs = pairs } in
       opened_is r calm (inl refl)
-      (λ table I. checked (word_at pairs option.Log) I (Trims (word_at pairs option.Output)))
-      (checked_is r calm (inr (inl refl)) (Trims (word_at pairs option.Output)))
+      (λ table I. checked (word_at pairs option.Log) I (Trims (word_at pairs option.Output) I))
+      (λ table I. checked_is r calm (inr (inl refl)) (Trims (word_at pairs option.Output) I) table I)
   course_is verb.Upgrade pairs calm =
       let r : Request = record { verb = verb.Upgrade; pairs = pairs } in
       opened_is r calm (inl refl)
-      (λ table I. checked (word_at pairs option.Log) I (λ log o. o ≡ upgrading (word_at pairs option.Output) log))
-      (checked_is r calm (inr (inl refl)) (λ log o. o ≡ upgrading (word_at pairs option.Output) log))
+      (λ table I. checked (word_at pairs option.Log) I (Upgrades (word_at pairs option.Output)))
+      (checked_is r calm (inr (inl refl)) (Upgrades (word_at pairs option.Output)))
   course_is verb.Report pairs calm =
       let r : Request = record { verb = verb.Report; pairs = pairs } in
       opened_is r calm (inl refl)
@@ -125,9 +126,9 @@ module _ (old new : FilesSeen) (before after : SinkSeen) where
       let r : Request = record { verb = verb.Draw; pairs = pairs } in
       opened_is r calm (inl refl)
       (λ table I. judged (word_at pairs option.Layout) table I (2 ^ 60)
-      (λ offsets. Ends (drawing (word_at pairs option.Output) table I offsets)))
+      (λ offsets. Concludes (Draws (word_at pairs option.Output) table I offsets)))
       (judged_is r calm (inr (inl refl)) (2 ^ 60)
-      (λ table I offsets. Ends (drawing (word_at pairs option.Output) table I offsets)) (λ table I offsets. tt))
+      (λ table I offsets. Concludes (Draws (word_at pairs option.Output) table I offsets)) (λ table I offsets. tt))
   course_is verb.Trial pairs calm =
       trial_is (nat_lt buffer_limit (number_at pairs option.Count)) (number_at pairs option.Count)
       (ShowsTrial (number_at pairs option.Seed) (number_at pairs option.Count) (number_at pairs option.Steps))

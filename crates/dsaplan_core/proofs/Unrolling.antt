@@ -25,22 +25,6 @@ use Rattle.dsaplan_core.proofs.Gives as gives
 use Rattle.dsaplan_core.proofs.Promises.{Promises}
 use Rattle.dsaplan_core.proofs.Refusals.{unreadable}
 
--- ---- the number of a word is within its limit
-and_last : (a b : Bool) → (a && b) ≡ true → b ≡ true
-and_last true b is = is
-and_last false b is = absurd cc
-
-number_within : (word : Word) → unwrap_or (written_number number_limit word) 0 ≤ number_limit
-number_within word = go (is_number number_limit word) refl
-  where
-    go : (b : Bool) → is_number number_limit word ≡ b →
-        unwrap_or (if b then Some (digits_value 10 word) else None) 0 ≤ number_limit
-    go true is =
-        let last = and_last (nat_le 1 (length word) && nat_le (length word) 20 && all_ascii_digits word)
-        (nat_le (digits_value 10 word) number_limit) is in
-        grind (arith, nat_tests, last)
-    go false is = omega arith
-
 module _ (words : List Word) (old new : FilesSeen) (pairs : List Pair)
     (is : request_of words ≡ Ok (record { verb = verb.Unroll; pairs = pairs })) where
   abbrev request : Request
@@ -52,20 +36,13 @@ module _ (words : List Word) (old new : FilesSeen) (pairs : List Pair)
 
   unrolled : (bytes : List ℕ) → IsWholeFile old (word_at pairs option.Input) file_limit bytes →
       (r : Result Instance CycleFault) → unrolled_of (number_at pairs option.Period) (table_of bytes) ≡ r →
-      Promises words old new request
-      (unrolls (number_at pairs option.Period) (word_at pairs option.Output) (table_of bytes) r)
-  unrolled bytes whole (Ok I) read = (
+      (o : Outcome) → Unrolls (number_at pairs option.Period) (word_at pairs option.Output) (table_of bytes) r o →
+      Promises words old new request o
+  unrolled bytes whole (Ok I) read o told = subst (Promises words old new request) (sym told.1) (
     λ files. (
       (
         asked_of bytes whole,
-        record {
-          instance = I;
-          given = read;
-          its_count = refl;
-          unrolled = unrolled_gives (number_at pairs option.Period) (table_of bytes) I
-              (number_within (word_at pairs option.Period)) read;
-          files = files;
-        },
+        record { instance = I; given = read; its_count = refl; unrolled = told.0; files = files },
       ),
       tt,
       refl,
@@ -73,7 +50,7 @@ module _ (words : List Word) (old new : FilesSeen) (pairs : List Pair)
     ),
     ((inl refl, refl), tt),
   )
-  unrolled bytes whole (Err fault) refused = (
+  unrolled bytes whole (Err fault) refused o told = subst (Promises words old new request) (sym told) (
     λ files. ((asked_of bytes whole, refused, files), tt, refl, tt),
     tt,
   )
@@ -84,5 +61,4 @@ module _ (words : List Word) (old new : FilesSeen) (pairs : List Pair)
       (word_at pairs option.Input) file_limit
       (unreadable words old new request is role.Input (inl refl)) o failed.0 failed.1
   unroll_promises o (inr (bytes, whole, comes)) =
-      subst (Promises words old new request) (sym comes.1)
-      (unrolled bytes whole (unrolled_of (number_at pairs option.Period) (table_of bytes)) refl)
+      unrolled bytes whole (unrolled_of (number_at pairs option.Period) (table_of bytes)) refl o comes.1

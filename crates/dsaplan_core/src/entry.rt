@@ -5,8 +5,6 @@ ghost use Rattle.command_words.specs.Requests.{Request as RequestTerm, request_o
 ghost use Rattle.run_course.specs.Answers.{Answers};
 ghost use Rattle.dsaplan_core.specs.Courses.{course, course_with};
 ghost use Rattle.dsaplan_core.specs.Theorem.{Headline};
-ghost use Rattle.dsaplan_core.specs.Judged.{Judged};
-ghost use Rattle.dsaplan_core.specs.Derived.{Derived};
 ghost use Rattle.dsaplan_core.specs.Choice.{Choice};
 ghost use Rattle.dsaplan_core.specs.Complete.{IsConcluded, IsUndisturbed};
 
@@ -149,18 +147,6 @@ pub fn run<F: Files, S: Sink>(alloc: Global, words: &[String], files: &mut F, ou
     // written log, at C - 1 unless C is zero, or at L - 1, is accepted, and an accepted log means
     // that no layout fits.
     ensures headline { Headline (map string_bytes words.now)
-        (F.seen files.old) (F.seen files.new) result }
-
-    // 'right' and 'accepted' say the same of the layout and of the log that were read, and so do
-    // 'drawn', at the greatest capacity, 'trimmed' and 'upgraded'. These write a picture of that
-    // layout, the lines of that log that its end needs, and that log in the second version of its
-    // text.
-    ensures judged { Judged (map string_bytes words.now)
-        (F.seen files.old) (F.seen files.new) result }
-
-    // 'classes' writes a plan by size class, 'core' an irreducible set of buffers that do not fit,
-    // 'imported' the instance of the trace, and 'unrolled' that of one period.
-    ensures derived { Derived (map string_bytes words.now)
         (F.seen files.old) (F.seen files.new) result }
 
     // With `solve` and `least` the layout is the plan, the log is without waste, and steps bound

@@ -26,9 +26,27 @@ ghost use Rattle.dsaplan_core.specs.Courses.{course};
 ghost use Rattle.dsaplan_core.specs.Complete.{HoldsLog, IsAcceptedAt, IsReady, IsUndisturbed};
 ghost use Rattle.dsaplan_core.specs.Conclusions.{IsConclusion};
 ghost use Rattle.dsaplan_core.specs.Causes.{IsCaused};
+ghost use Rattle.dsaplan_core.specs.Derived.{Derived};
+ghost use Rattle.dsaplan_core.specs.Judged.{Judged};
 ghost use Rattle.dsaplan_core.specs.Lost.{HasLongFile, LosesFile, MissesFile};
 ghost use Rattle.dsaplan_core.specs.Refused.{IsMisuse};
 ghost use Rattle.dsaplan_core.specs.Shown.{Shows};
+
+/// 'right' and 'accepted' say of the layout and of the log that were read what 'feasible' and
+/// 'infeasible' say of those that are written, and so do 'drawn', at the greatest capacity,
+/// 'trimmed' and 'upgraded'. These write a picture of that layout, the lines of that log that its
+/// end needs, and that log in the second version of its text.
+pub fn judged()
+    ensures { (words : List Word) (old new : FilesSeen) (before after : SinkSeen) (s : Status) →
+        Answers (course words) old new before after s → Judged words old new s }
+{}
+
+/// 'classes' writes a plan by size class, 'core' an irreducible set of buffers that do not fit,
+/// 'imported' the instance of the trace, and 'unrolled' that of one period.
+pub fn derived()
+    ensures { (words : List Word) (old new : FilesSeen) (before after : SinkSeen) (s : Status) →
+        Answers (course words) old new before after s → Derived words old new s }
+{}
 
 /// What is printed is the line of the status. A report that is shown is what its command prints of
 /// the input's instance, or true of its layout or of the made instance.

@@ -1,20 +1,10 @@
 use Rattle.std.proofs.Common.{map, string_bytes}
-use Rattle.dsaplan_core.proofs.Headline.{choice, derived, headline, judged}
+use Rattle.dsaplan_core.proofs.Headline.{choice, headline}
 use Rattle.dsaplan_core.proofs.Serving.{concluded}
 use Rattle.dsaplan_core.proofs.entry.run.Goals as goal
 
 pub returns-clause-headline : goal.returns-clause-headline
 returns-clause-headline g c = headline (map string_bytes c.args.words.now) (g.F.Files.seen c.args.files.now)
-    (g.F.Files.seen c.execute.new.files) (g.S.Sink.seen c.args.out.now) (g.S.Sink.seen c.execute.new.out)
-    c.execute.result c.execute.ensures
-
-pub returns-clause-judged : goal.returns-clause-judged
-returns-clause-judged g c = judged (map string_bytes c.args.words.now) (g.F.Files.seen c.args.files.now)
-    (g.F.Files.seen c.execute.new.files) (g.S.Sink.seen c.args.out.now) (g.S.Sink.seen c.execute.new.out)
-    c.execute.result c.execute.ensures
-
-pub returns-clause-derived : goal.returns-clause-derived
-returns-clause-derived g c = derived (map string_bytes c.args.words.now) (g.F.Files.seen c.args.files.now)
     (g.F.Files.seen c.execute.new.files) (g.S.Sink.seen c.args.out.now) (g.S.Sink.seen c.execute.new.out)
     c.execute.result c.execute.ensures
 
