@@ -5,8 +5,6 @@ use Rattle.csv_instance.specs.Records.{file_limit}
 use Rattle.trace_import.specs.Faults.{trace_of}
 use Rattle.trace_import.specs.Traces.{Trace}
 use Rattle.trace_import.specs.declared.fault.TraceFault.{TraceFault}
-use Rattle.trace_import.proofs.Accepted.{accepted_parses, imported_count}
-use Rattle.trace_import.proofs.Imported.{imported_traced}
 use Rattle.command_words.specs.Options.{Word}
 use Rattle.command_words.specs.Pairs.{Pair, word_at}
 use Rattle.command_words.specs.Requests.{Request, request_of}
@@ -15,7 +13,7 @@ use Rattle.command_words.specs.declared.verb.Verb.TheVariants as verb
 use Rattle.run_status.specs.declared.status.Role.TheVariants as role
 use Rattle.run_course.specs.Readings.{IsWholeFile}
 use Rattle.run_course.specs.Course.{Comes, Outcome}
-use Rattle.importing.specs.Importing.{imports}
+use Rattle.importing.specs.Importing.{Imports}
 use Rattle.dsaplan_core.specs.Courses.{course_with}
 use Rattle.dsaplan_core.specs.Derived.{AskedOf}
 use Rattle.dsaplan_core.proofs.Gives as gives

@@ -1,16 +1,11 @@
 -- What `unroll` promises.
-use Rattle.std.proofs.Common.{◌≡◌, ◌≤◌, ◌&&◌, ℕ, Bool, true, false, nat_le, if◌then◌else◌, List, length, Some, None, Result, Ok, Err, unwrap_or, refl, sym, subst, inl, inr, arith}
-use Rattle.std.proofs.lemmas.Bool.Decides.{nat_tests}
-use Rattle.std.specs.Str.{all_ascii_digits}
-use Rattle.std.specs.Str.Parse.{digits_value}
+use Rattle.std.proofs.Common.{◌≡◌, ℕ, List, Result, Ok, Err, refl, sym, subst, inl, inr}
 use Rattle.dsa_terms.specs.Buffers.{Instance}
 use Rattle.dsa_outside.specs.Seen.{FilesSeen}
 use Rattle.csv_instance.specs.Records.{file_limit, table_of}
 use Rattle.cyclic_plan.specs.Unrolled.{unrolled_of}
 use Rattle.cyclic_plan.specs.declared.fault.CycleFault.{CycleFault}
-use Rattle.cyclic_plan.proofs.Tables.{unrolled_gives}
-use Rattle.dsa_model.specs.Numbers.{is_number, written_number}
-use Rattle.command_words.specs.Options.{Word, number_limit}
+use Rattle.command_words.specs.Options.{Word}
 use Rattle.command_words.specs.Pairs.{Pair, number_at, word_at}
 use Rattle.command_words.specs.Requests.{Request, request_of}
 use Rattle.command_words.specs.declared.option.OptionName.TheVariants as option
@@ -18,7 +13,7 @@ use Rattle.command_words.specs.declared.verb.Verb.TheVariants as verb
 use Rattle.run_status.specs.declared.status.Role.TheVariants as role
 use Rattle.run_course.specs.Readings.{IsWholeFile}
 use Rattle.run_course.specs.Course.{Comes, Outcome}
-use Rattle.importing.specs.Unrolling.{unrolls}
+use Rattle.importing.specs.Unrolling.{Unrolls}
 use Rattle.dsaplan_core.specs.Courses.{course_with}
 use Rattle.dsaplan_core.specs.Derived.{AskedOf}
 use Rattle.dsaplan_core.proofs.Gives as gives

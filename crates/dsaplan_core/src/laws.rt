@@ -48,8 +48,9 @@ pub fn derived()
         Answers (course words) old new before after s → Derived words old new s }
 {}
 
-/// What is printed is the line of the status. A report that is shown is what its command prints of
-/// the input's instance, or true of its layout or of the made instance.
+/// Unless printing fails or memory runs out, what is printed is the line of the status, whole, or a
+/// report: what its command prints of the input's instance, or what is true of its layout or of the
+/// made instance. The files are then as before.
 pub fn shown()
     ensures { (words : List Word) (old new : FilesSeen) (before after : SinkSeen) (s : Status) →
         IsSpoken s → Answers (course words) old new before after s →
