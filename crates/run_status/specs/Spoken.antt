@@ -2,7 +2,7 @@
 use Rattle.run_status.specs.declared.status.Status.{Status}
 use Rattle.run_status.specs.declared.status.Status.TheVariants.{PrintFault, NoMemory}
 
--- the status is printed by a text of its own: it is no text that could not be printed, and no want of memory
+-- a text is printed for the status: printing did not fail, and memory did not run out
 abbrev pub IsSpoken : Status → Type 0
 IsSpoken PrintFault = ⊥
 IsSpoken NoMemory = ⊥
