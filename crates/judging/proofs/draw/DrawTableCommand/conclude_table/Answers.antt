@@ -1,11 +1,11 @@
 use Rattle.std.proofs.Common.{◌≡◌, ◌^◌, refl}
 use Rattle.dsa_terms.specs.Buffers.{Instance}
 use Rattle.dsa_model.proofs.LayoutFaults.{layout_exactly}
-use Rattle.run_course.specs.Course.{Ends, says}
+use Rattle.run_course.specs.Course.{Concludes, says}
 use Rattle.readings.specs.Judging.{judged}
 use Rattle.readings.proofs.AfterInput.{prepared_for}
 use Rattle.readings.proofs.JudgedLayouts.{no_layout, with_layout}
-use Rattle.judging.specs.Drawing.{drawing}
+use Rattle.judging.specs.Drawing.{Draws, drawing}
 use Rattle.judging.proofs.Drawn.{ends_within_of, told}
 use Rattle.judging.proofs.draw.DrawTableCommand.conclude_table.Goals as goal
 
@@ -24,15 +24,17 @@ returns-in-Layout-clause-comes g c =
     let table = c.args.table.now in
     let before = g.F.Files.seen c.args.files.now in
     let after = g.F.Files.seen c.read_judged_layout.new.files in
+    let offsets = c.in-Layout.offsets.items in
     prepared_for before after table found.instance
     (λ t I. judged words.layout.now t I (2 ^ 60)
-    (λ offsets. Ends (drawing words.output.now t I offsets)))
-    (drawing words.output.now table found.instance c.in-Layout.offsets.items) c.drawing.result found.parsed
-    (told table found.instance (λ (I : Instance). drawing words.output.now table I c.in-Layout.offsets.items)
+    (λ offsets. Concludes (Draws words.output.now t I offsets)))
+    (drawing words.output.now table found.instance offsets) c.drawing.result found.parsed
+    (told table found.instance (λ (I : Instance). drawing words.output.now table I offsets)
     c.drawing.result found.parsed (rw c.as_slice.ensures.value at c.drawing.ensures))
-    (with_layout before after words.layout.now table found.instance
-    (2 ^ 60) c.in-Layout.offsets.items (λ offsets. Ends (drawing words.output.now table found.instance offsets))
-    found.judged (drawing words.output.now table found.instance c.in-Layout.offsets.items) (tt, refl))
+    (with_layout before after words.layout.now table found.instance (2 ^ 60) offsets
+    (λ offsets. Concludes (Draws words.output.now table found.instance offsets)) found.judged
+    (drawing words.output.now table found.instance offsets)
+    (tt, ((layout_exactly found.instance (2 ^ 60) offsets).0 found.judged.legal, refl)))
 
 pub returns-in-NoLayout-clause-comes : goal.returns-in-NoLayout-clause-comes
 returns-in-NoLayout-clause-comes g c =
@@ -43,7 +45,7 @@ returns-in-NoLayout-clause-comes g c =
     let after = g.F.Files.seen c.read_judged_layout.new.files in
     prepared_for before after table found.instance
     (λ t I. judged words.layout.now t I (2 ^ 60)
-    (λ offsets. Ends (drawing words.output.now t I offsets))) (says c.in-NoLayout.status) c.silent.result
+    (λ offsets. Concludes (Draws words.output.now t I offsets))) (says c.in-NoLayout.status) c.silent.result
     found.parsed c.silent.ensures
-    (no_layout before after words.layout.now table found.instance (2 ^ 60)
-    c.in-NoLayout.status (λ offsets. Ends (drawing words.output.now table found.instance offsets)) found.judged)
+    (no_layout before after words.layout.now table found.instance (2 ^ 60) c.in-NoLayout.status
+    (λ offsets. Concludes (Draws words.output.now table found.instance offsets)) found.judged)

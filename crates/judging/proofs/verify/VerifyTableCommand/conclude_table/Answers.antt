@@ -1,9 +1,11 @@
 use Rattle.std.proofs.Common.{refl}
+use Rattle.dsa_model.proofs.LayoutFaults.{layout_exactly}
 use Rattle.run_status.specs.declared.status.Status.TheVariants as status
-use Rattle.run_course.specs.Course.{Ends, says}
+use Rattle.run_course.specs.Course.{Concludes, says}
 use Rattle.readings.specs.Judging.{judged}
 use Rattle.readings.proofs.AfterInput.{prepared_for}
 use Rattle.readings.proofs.JudgedLayouts.{no_layout, with_layout}
+use Rattle.judging.specs.Judging.{TellsRight}
 use Rattle.judging.proofs.verify.VerifyTableCommand.conclude_table.Goals as goal
 
 pub returns-clause-comes : goal.returns-clause-comes
@@ -13,12 +15,14 @@ returns-clause-comes g c =
     let table = c.args.table.now in
     let before = g.F.Files.seen c.args.files.now in
     let after = g.F.Files.seen c.read_judged_layout.new.files in
+    let offsets = c.in-Layout.offsets.items in
     prepared_for before after table found.instance
     (λ t I. judged words.layout.now t I words.capacity
-    (λ offsets. Ends (says status.Right))) (says status.Right) c.silent-2.result found.parsed c.silent-2.ensures
-    (with_layout before after words.layout.now table found.instance
-    words.capacity c.in-Layout.offsets.items (λ offsets. Ends (says status.Right)) found.judged (says status.Right)
-    (tt, refl))
+    (λ offsets. Concludes (TellsRight I words.capacity offsets))) (says status.Right) c.silent-2.result found.parsed
+    c.silent-2.ensures
+    (with_layout before after words.layout.now table found.instance words.capacity offsets
+    (λ offsets. Concludes (TellsRight found.instance words.capacity offsets)) found.judged (says status.Right)
+    (tt, ((layout_exactly found.instance words.capacity offsets).0 found.judged.legal, refl)))
 
 pub returns-in-NoLayout-clause-comes : goal.returns-in-NoLayout-clause-comes
 returns-in-NoLayout-clause-comes g c =
@@ -29,7 +33,7 @@ returns-in-NoLayout-clause-comes g c =
     let after = g.F.Files.seen c.read_judged_layout.new.files in
     prepared_for before after table found.instance
     (λ t I. judged words.layout.now t I words.capacity
-    (λ offsets. Ends (says status.Right))) (says c.in-NoLayout.status) c.silent.result found.parsed
-    c.silent.ensures
-    (no_layout before after words.layout.now table found.instance words.capacity
-    c.in-NoLayout.status (λ offsets. Ends (says status.Right)) found.judged)
+    (λ offsets. Concludes (TellsRight I words.capacity offsets))) (says c.in-NoLayout.status) c.silent.result
+    found.parsed c.silent.ensures
+    (no_layout before after words.layout.now table found.instance words.capacity c.in-NoLayout.status
+    (λ offsets. Concludes (TellsRight found.instance words.capacity offsets)) found.judged)
