@@ -50,7 +50,7 @@ pub with_log : (old new : FilesSeen) (name : Word) (I : Instance) (g : Log) (acc
     HoldsAccepted old name I g → (o : Outcome) → IsSpoken o.status → accepted g o →
     Comes old new (checked name I accepted) o
 with_log old new name I g accepted holds o spoken is =
-    inr (holds.bytes, holds.whole, (spoken, is_accepted g holds.says holds.accepted is))
+    inr (holds.bytes, holds.whole, (spoken, is_accepted g holds.says holds.accepted holds.infeasible is))
 
 -- the input gives an instance, and then the log's file is checked
 module _ (old mid new : FilesSeen) (input log : Word) (accepted : Log → Outcome → Type 0)

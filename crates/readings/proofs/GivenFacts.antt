@@ -1,5 +1,6 @@
 -- What reading the files of the two buffers comes to, and of logs.
 use Rattle.std.proofs.Common.{◌≡◌, ℕ, List, [], ◌∷◌, Some, inl, inr, refl, sym, lit≤}
+use Rattle.dsa_terms.specs.Layouts.{IsInfeasible}
 use Rattle.dsa_terms.specs.Logs.{IsAccepted}
 use Rattle.dsa_terms.proofs.Examples.{evens, sample}
 use Rattle.dsa_model.specs.declared.layout.LayoutFault.TheVariants as layout
@@ -92,9 +93,10 @@ module _ (files : FilesSeen) (name : Word) where
 
   -- ---- files of logs
   module _ (bytes : List ℕ) (whole : IsWholeFile files name log_limit bytes) where
-    accepts_sample : IsAccepted evens sample → Says bytes (raw_log_of sample) →
+    accepts_sample : IsAccepted evens sample → IsInfeasible evens 4 → Says bytes (raw_log_of sample) →
         ChecksLog files files name evens (checked.Accepted sample)
-    accepts_sample legal is = record { bytes = bytes; whole = whole; says = is; accepted = legal }
+    accepts_sample legal none is =
+        record { bytes = bytes; whole = whole; says = is; accepted = legal; infeasible = none }
 
     refuses_forged : Says bytes forged → ChecksLog files files name evens
         (checked.Unaccepted (status.LogRefused (cause.Check (check.Illegal 0 reason.NotOver))))

@@ -2,6 +2,7 @@
 use Rattle.std.proofs.Common.{◌≡◌, ℕ, List, [], ◌∷◌, Some, refl}
 use Rattle.dsa_terms.specs.Buffers.{buffer, is_live}
 use Rattle.dsa_terms.specs.Claims.{up}
+use Rattle.dsa_terms.specs.Layouts.{IsInfeasible}
 use Rattle.dsa_terms.specs.Logs.{IsAccepted, Log, is_stacked, rounded, rounding}
 use Rattle.dsa_terms.proofs.Examples.{evens, sample}
 use Rattle.log_check.specs.Faults.{check_fault}
@@ -34,9 +35,9 @@ no_header = fault.no_header (λ version count capacity rest h. none h.text)
     none e = cc
 
 module _ (bytes : List ℕ) (accepted : Log → Outcome → Type 0) where
-  sample_goes_on : (o : Outcome) → IsAccepted evens sample → Says bytes (raw_log_of sample) → accepted sample o →
-      Checks evens bytes accepted o
-  sample_goes_on o legal is has = is_accepted sample is legal has
+  sample_goes_on : (o : Outcome) → IsAccepted evens sample → IsInfeasible evens 4 → Says bytes (raw_log_of sample) →
+      accepted sample o → Checks evens bytes accepted o
+  sample_goes_on o legal none is has = is_accepted sample is legal none has
 
   forged_is_refused : Says bytes forged →
       Checks evens bytes accepted (says (status.LogRefused (cause.Check (check.Illegal 0 reason.NotOver))))
