@@ -1,9 +1,11 @@
 -- What the sample log is told as, and what trimming makes of the sample log after a line that nothing cites.
 use Rattle.std.proofs.Common.{◌≡◌, List, ℕ, [], ◌∷◌, codes, refl}
+use Rattle.dsa_terms.specs.Layouts.{IsInfeasible}
 use Rattle.dsa_terms.specs.Logs.{IsAccepted, Log, Over}
 use Rattle.dsa_trim_laws.proofs.ExampleFacts.{sample_is_trim, with_extra}
 use Rattle.dsa_terms.proofs.Examples.{evens, sample}
 use Rattle.log_text.specs.Numerals.{numeral}
+use Rattle.log_text.specs.RawTexts.{IsTextOf}
 use Rattle.log_text.specs.Says.{Says}
 use Rattle.log_text.specs.Text.{log_text, raw_log_of}
 use Rattle.run_status.specs.declared.status.Role.TheVariants as role
@@ -13,14 +15,22 @@ use Rattle.readings.specs.Checking.{Checks, is_accepted}
 use Rattle.checking.specs.Checking.{Trims, upgrading}
 
 -- `refute` accepts the sample log at 4
-accepted_at_4 : (bytes : List ℕ) → IsAccepted evens sample → Says bytes (raw_log_of sample) →
+accepted_at_4 : (bytes : List ℕ) → IsAccepted evens sample → IsInfeasible evens 4 →
+    Says bytes (raw_log_of sample) →
     Checks evens bytes (λ log o. o ≡ says (status.Accepted log.capacity)) (says (status.Accepted 4))
-accepted_at_4 bytes legal is = is_accepted sample is legal refl
+accepted_at_4 bytes legal none is = is_accepted sample is legal none refl
 
 -- ---- `trim`
-six_lines_become_five : Trims (codes "o") with_extra (writes
+six_lines_become_five : IsAccepted evens sample → IsTextOf (log_text sample) (raw_log_of sample) →
+    Trims (codes "o") evens with_extra (writes
     (record { role = role.Output; name = codes "o"; bytes = log_text sample } ∷ []) (status.Trimmed 6 5))
-six_lines_become_five = record { trim = sample; is_trim = sample_is_trim; outcome = refl }
+six_lines_become_five legal reads = record {
+  trim = sample;
+  is_trim = sample_is_trim;
+  accepted = legal;
+  readable = reads;
+  outcome = refl;
+}
 
 -- ---- `upgrade`
 -- a log that has one line twice

@@ -1,3 +1,4 @@
+mod LogOutcomes
 mod TrimmedLogs
 mod UpgradedLogs
 mod ExampleFacts

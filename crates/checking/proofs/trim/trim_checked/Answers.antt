@@ -2,22 +2,26 @@ use Rattle.run_course.proofs.Silently.{silently}
 use Rattle.readings.specs.Checking.{checked}
 use Rattle.readings.proofs.CheckedLogs.{no_log}
 use Rattle.checking.specs.Checking.{Trims}
-use Rattle.checking.proofs.TrimmedLogs.{trims_come}
+use Rattle.checking.proofs.LogOutcomes.{log_comes}
+use Rattle.checking.proofs.TrimmedLogs.{trims_spoken}
 use Rattle.checking.proofs.trim.trim_checked.Goals as goal
 
 pub returns-in-Accepted-clause-comes : goal.returns-in-Accepted-clause-comes
 returns-in-Accepted-clause-comes g c =
     let found = rw c.in-Accepted.is at c.in_ok-original.ensures.checked in
-    trims_come (g.F.Files.seen c.args.files.now) (g.F.Files.seen c.read_checked_log.new.files)
-    c.args.words.now.log.now c.args.words.now.output.now c.args.instance.now c.in-Accepted.original
-    c.needed_lines.result found c.needed_lines.ensures
+    log_comes (g.F.Files.seen c.args.files.now) (g.F.Files.seen c.read_checked_log.new.files)
+    c.args.words.now.log.now c.args.instance.now c.in-Accepted.original
+    (Trims c.args.words.now.output.now c.args.instance.now) c.needed_lines.result
+    (trims_spoken c.args.words.now.output.now c.args.instance.now c.in-Accepted.original) found
+    c.needed_lines.ensures
 
 pub returns-in-Unaccepted-clause-comes : goal.returns-in-Unaccepted-clause-comes
 returns-in-Unaccepted-clause-comes g c =
     let found = rw c.in-Unaccepted.is at c.in_ok-original.ensures.checked in
     silently (g.F.Files.seen c.args.files.now) (g.F.Files.seen c.read_checked_log.new.files)
-    (checked c.args.words.now.log.now c.args.instance.now (Trims c.args.words.now.output.now))
+    (checked c.args.words.now.log.now c.args.instance.now (Trims c.args.words.now.output.now c.args.instance.now))
     c.in-Unaccepted.status
     c.silent.result c.silent.ensures
     (no_log (g.F.Files.seen c.args.files.now) (g.F.Files.seen c.read_checked_log.new.files)
-    c.args.words.now.log.now c.args.instance.now c.in-Unaccepted.status (Trims c.args.words.now.output.now) found)
+    c.args.words.now.log.now c.args.instance.now c.in-Unaccepted.status
+    (Trims c.args.words.now.output.now c.args.instance.now) found)

@@ -6,5 +6,5 @@ use Rattle.checking.proofs.trim.TrimTableCommand.conclude_table.Goals as goal
 pub returns-clause-comes : goal.returns-clause-comes
 returns-clause-comes g c =
     told_by (g.F.Files.seen c.args.files.now) (g.F.Files.seen c.trim_checked.new.files) c.args.table.now
-    c.instance.result.now (λ t I. checked c.args.self.now.log.now I (Trims c.args.self.now.output.now))
+    c.instance.result.now (λ t I. checked c.args.self.now.log.now I (Trims c.args.self.now.output.now I))
     c.trim_checked.result c.instance.ensures.parsed c.trim_checked.ensures.comes
