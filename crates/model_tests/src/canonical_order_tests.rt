@@ -6,7 +6,7 @@ use canonical_order::{Claim, LowTable, Lows, View, child, step};
 #[test]
 fn the_child_of_a_whole_claim_is_made(rt: HostRuntime) {
     let alloc = rt.alloc();
-    let three = instance_of(alloc, &THREE).expect(&rt, "memory");
+    let three = instance_of(alloc, THREE).expect(&rt, "memory");
     assert!(rt; three.len() == 3);
     let whole = Claim::whole(alloc, &three, &[0, 1, 2]).expect(&rt, "memory");
     assert_eq!(rt; whole.pairs(), [(0, 0), (1, 0), (2, 0)].as_slice());

@@ -14,68 +14,75 @@ fn owned(alloc: Global, words: &[&str]) -> Result<Vec<String>, AllocError> {
     Ok(all)
 }
 
+/// The fault of the words, where they have one.
+fn fault_of(alloc: Global, words: &[&str]) -> Result<Option<UsageFault>, AllocError> {
+    let words = owned(alloc, words)?;
+    Ok(read_words(words.as_slice()).err())
+}
+
+/// Command lines, each with its first fault.
+static WRONG_LINES: [(&[&str], UsageFault); 15] = [
+    (&[], UsageFault::NoCommand),
+    (&["plan"], UsageFault::UnknownCommand),
+    (&["Bounds", "--input", "i"], UsageFault::UnknownCommand),
+    (
+        &["bounds", "--log", "l"],
+        UsageFault::UnknownOption { word: 1 },
+    ),
+    (&["bounds", "--input"], UsageFault::MissingValue { word: 1 }),
+    (
+        &["bounds", "--input", "i", "--input", "i"],
+        UsageFault::RepeatedOption { word: 3 },
+    ),
+    (
+        &["solve", "--capacity", "1152921504606846977", "--input", "i"],
+        UsageFault::BadValue { word: 1 },
+    ),
+    (
+        &[
+            "verify",
+            "--input",
+            "i",
+            "--capacity",
+            "000000000000000000001",
+        ],
+        UsageFault::BadValue { word: 3 },
+    ),
+    (&["bounds", "--input", ""], UsageFault::BadValue { word: 1 }),
+    (
+        &["refute", "--input", "i"],
+        UsageFault::MissingOption {
+            option: OptionName::Log,
+        },
+    ),
+    (
+        &["refute", "--log", "i", "--input", "i"],
+        UsageFault::SameName,
+    ),
+    (
+        &["least", "--steps", "1", "--steps", "1"],
+        UsageFault::RepeatedOption { word: 3 },
+    ),
+    (
+        &["trial", "--seed", "1", "--count", "2"],
+        UsageFault::MissingOption {
+            option: OptionName::Steps,
+        },
+    ),
+    (
+        &["trim", "--input", "i", "--log", "l", "--output", "l"],
+        UsageFault::SameName,
+    ),
+    (
+        &["report", "--input", "i", "--layout", "i"],
+        UsageFault::SameName,
+    ),
+];
+
 #[test]
 fn each_wrong_line_has_its_first_fault(rt: HostRuntime) -> Result<(), Fail> {
-    let cases: [(&[&str], UsageFault); 15] = [
-        (&[], UsageFault::NoCommand),
-        (&["plan"], UsageFault::UnknownCommand),
-        (&["Bounds", "--input", "i"], UsageFault::UnknownCommand),
-        (
-            &["bounds", "--log", "l"],
-            UsageFault::UnknownOption { word: 1 },
-        ),
-        (&["bounds", "--input"], UsageFault::MissingValue { word: 1 }),
-        (
-            &["bounds", "--input", "i", "--input", "i"],
-            UsageFault::RepeatedOption { word: 3 },
-        ),
-        (
-            &["solve", "--capacity", "1152921504606846977", "--input", "i"],
-            UsageFault::BadValue { word: 1 },
-        ),
-        (
-            &[
-                "verify",
-                "--input",
-                "i",
-                "--capacity",
-                "000000000000000000001",
-            ],
-            UsageFault::BadValue { word: 3 },
-        ),
-        (&["bounds", "--input", ""], UsageFault::BadValue { word: 1 }),
-        (
-            &["refute", "--input", "i"],
-            UsageFault::MissingOption {
-                option: OptionName::Log,
-            },
-        ),
-        (
-            &["refute", "--log", "i", "--input", "i"],
-            UsageFault::SameName,
-        ),
-        (
-            &["least", "--steps", "1", "--steps", "1"],
-            UsageFault::RepeatedOption { word: 3 },
-        ),
-        (
-            &["trial", "--seed", "1", "--count", "2"],
-            UsageFault::MissingOption {
-                option: OptionName::Steps,
-            },
-        ),
-        (
-            &["trim", "--input", "i", "--log", "l", "--output", "l"],
-            UsageFault::SameName,
-        ),
-        (
-            &["report", "--input", "i", "--layout", "i"],
-            UsageFault::SameName,
-        ),
-    ];
-    for (line, want) in cases {
-        let words = owned(rt.alloc(), line)?;
-        assert_eq!(rt; read_words(words.as_slice()).err(), Some(want), "{line:?}");
+    for &(line, want) in &WRONG_LINES {
+        assert_eq!(rt; fault_of(rt.alloc(), line)?, Some(want));
     }
     Ok(())
 }

@@ -8,7 +8,8 @@ use csv_instance::{
 use dsa_model::{Fail, NoMemory};
 use std::alloc::Global;
 
-const EXAMPLE: &[u8] = b"id,lower,upper,size\nb1,0,3,4\nb2,3,9,4\nb3,0,9,4\n";
+/// An instance file of three buffers.
+static EXAMPLE: &[u8] = b"id,lower,upper,size\nb1,0,3,4\nb2,3,9,4\nb3,0,9,4\n";
 
 /// The text of an instance file's fault, or nothing where it has none.
 fn fault_of(alloc: Global, text: &[u8]) -> Result<String, NoMemory>
@@ -107,108 +108,116 @@ fn rows_are_written_with_other_moments(rt: HostRuntime) {
     assert_eq!(rt; text.as_slice(), want);
 }
 
+/// Instance files, each with the text of its header's fault.
+static HEADERS: [(&[u8], &str); 7] = [
+    (b"", "no header"),
+    (
+        b"\"\xEF\xBB\xBFnote\",id,lower,upper,size\n",
+        "marked header",
+    ),
+    (b"\xEF\xBB\xBFid,lower,upper,size\n", ""),
+    (b"size,id,lower,upper,size,id\n", "duplicate column id"),
+    (b"id,lower,upper,size,offset\nb1,0,3,4,0\n", "offset column"),
+    (b"id,lower,size\n", "missing column upper"),
+    (b"id,lower,upper,size,note,note\n", ""),
+];
+
 #[test]
 fn a_bad_header_is_named(rt: HostRuntime) {
-    let table: [(&[u8], &str); 7] = [
-        (b"", "no header"),
-        (
-            b"\"\xEF\xBB\xBFnote\",id,lower,upper,size\n",
-            "marked header",
-        ),
-        (b"\xEF\xBB\xBFid,lower,upper,size\n", ""),
-        (b"size,id,lower,upper,size,id\n", "duplicate column id"),
-        (b"id,lower,upper,size,offset\nb1,0,3,4,0\n", "offset column"),
-        (b"id,lower,size\n", "missing column upper"),
-        (b"id,lower,upper,size,note,note\n", ""),
-    ];
-    for (text, want) in table {
+    for &(text, want) in &HEADERS {
         assert!(rt; text.len() <= 67108864);
         let fault = fault_of(rt.alloc(), text).expect(&rt, "memory");
         assert_eq!(rt; fault.as_str(), want);
     }
 }
+
+/// Instance files, each with the text of its first record's fault.
+static RECORDS: [(&[u8], &str); 11] = [
+    (
+        b"id,lower,upper,size\nA,0,1,1099511627777",
+        "row 0 too large",
+    ),
+    (
+        b"id,lower,upper,size\nA,0,1,000000000000000000001",
+        "row 0 bad number size",
+    ),
+    (b"id,lower,upper,size\nA,0,1,00000000000000000001", ""),
+    (b"id,lower,upper,size\nA,0,1,0", "row 0 zero size"),
+    (b"id,lower,upper,size\nA,1,1,4", "row 0 empty lifetime"),
+    (
+        b"id,lower,upper,size\nA,0,4611686018427387904,4",
+        "row 0 bad number upper",
+    ),
+    (
+        b"id,lower,upper,size,alignment\nA,0,1,4,0",
+        "row 0 zero alignment",
+    ),
+    (b"id,lower,upper,size\n,0,1,4", "row 0 empty id"),
+    (
+        b"id,lower,upper,size,alignment\nA,0,1,4",
+        "row 0 field count",
+    ),
+    (b"id,lower,upper,size,alignment\nA,0,1,4,", ""),
+    (
+        b"id,lower,upper,size,alignment\nA,0,1,4,1\nA,0,1,4,1",
+        "row 1 duplicate id 0",
+    ),
+];
 
 #[test]
 fn a_bad_record_is_named(rt: HostRuntime) {
-    let table: [(&[u8], &str); 11] = [
-        (
-            b"id,lower,upper,size\nA,0,1,1099511627777",
-            "row 0 too large",
-        ),
-        (
-            b"id,lower,upper,size\nA,0,1,000000000000000000001",
-            "row 0 bad number size",
-        ),
-        (b"id,lower,upper,size\nA,0,1,00000000000000000001", ""),
-        (b"id,lower,upper,size\nA,0,1,0", "row 0 zero size"),
-        (b"id,lower,upper,size\nA,1,1,4", "row 0 empty lifetime"),
-        (
-            b"id,lower,upper,size\nA,0,4611686018427387904,4",
-            "row 0 bad number upper",
-        ),
-        (
-            b"id,lower,upper,size,alignment\nA,0,1,4,0",
-            "row 0 zero alignment",
-        ),
-        (b"id,lower,upper,size\n,0,1,4", "row 0 empty id"),
-        (
-            b"id,lower,upper,size,alignment\nA,0,1,4",
-            "row 0 field count",
-        ),
-        (b"id,lower,upper,size,alignment\nA,0,1,4,", ""),
-        (
-            b"id,lower,upper,size,alignment\nA,0,1,4,1\nA,0,1,4,1",
-            "row 1 duplicate id 0",
-        ),
-    ];
-    for (text, want) in table {
+    for &(text, want) in &RECORDS {
         assert!(rt; text.len() <= 67108864);
         let fault = fault_of(rt.alloc(), text).expect(&rt, "memory");
         assert_eq!(rt; fault.as_str(), want);
     }
 }
 
+/// Instance files, each with the text of its gaps' fault.
+static GAPS: [(&[u8], &str); 4] = [
+    (b"id,lower,upper,size,gaps\nA,0,10,4,4-6 1-2\n", ""),
+    (
+        b"id,lower,upper,size,gaps\nA,0,10,4,1-2  4-6\n",
+        "row 0 bad gap",
+    ),
+    (
+        b"id,lower,upper,size,gaps\nA,0,10,4,0-6 4-10\n",
+        "row 0 never live",
+    ),
+    (
+        b"id,lower,upper,size,gaps\nA,0,10,4,1-2 6-6\n",
+        "row 0 gap 1 empty",
+    ),
+];
+
 #[test]
 fn gaps_are_pieces_between_spaces(rt: HostRuntime) {
-    let table: [(&[u8], &str); 4] = [
-        (b"id,lower,upper,size,gaps\nA,0,10,4,4-6 1-2\n", ""),
-        (
-            b"id,lower,upper,size,gaps\nA,0,10,4,1-2  4-6\n",
-            "row 0 bad gap",
-        ),
-        (
-            b"id,lower,upper,size,gaps\nA,0,10,4,0-6 4-10\n",
-            "row 0 never live",
-        ),
-        (
-            b"id,lower,upper,size,gaps\nA,0,10,4,1-2 6-6\n",
-            "row 0 gap 1 empty",
-        ),
-    ];
-    for (text, want) in table {
+    for &(text, want) in &GAPS {
         assert!(rt; text.len() <= 67108864);
         let fault = fault_of(rt.alloc(), text).expect(&rt, "memory");
         assert_eq!(rt; fault.as_str(), want);
     }
 }
+
+/// Layout files for the example, each with the text of its fault.
+static LAYOUTS: [(&[u8], &str); 8] = [
+    (b"\n\n", "no header"),
+    (b"offset,offset,id,id\n", "duplicate column id"),
+    (b"id,size,size\n", "missing column offset"),
+    (b"id,offset\nb3,0\nb1\n", "row 1 field count"),
+    (b"id,offset\nb4,x\n", "row 0 unknown id"),
+    (b"id,offset\nb3,1\nb2,0\nb3,x\n", "row 2 duplicate id 0"),
+    (
+        b"id,offset\nb3,1152921504606846977\n",
+        "row 0 bad number offset",
+    ),
+    (b"offset,id\n1152921504606846976,b3\n0,b1\n", "missing id 1"),
+];
 
 #[test]
 fn a_layout_file_has_a_row_for_each_buffer(rt: HostRuntime) {
     let table = example(rt.alloc()).expect(&rt, "a table");
-    let rows: [(&[u8], &str); 8] = [
-        (b"\n\n", "no header"),
-        (b"offset,offset,id,id\n", "duplicate column id"),
-        (b"id,size,size\n", "missing column offset"),
-        (b"id,offset\nb3,0\nb1\n", "row 1 field count"),
-        (b"id,offset\nb4,x\n", "row 0 unknown id"),
-        (b"id,offset\nb3,1\nb2,0\nb3,x\n", "row 2 duplicate id 0"),
-        (
-            b"id,offset\nb3,1152921504606846977\n",
-            "row 0 bad number offset",
-        ),
-        (b"offset,id\n1152921504606846976,b3\n0,b1\n", "missing id 1"),
-    ];
-    for (text, want) in rows {
+    for &(text, want) in &LAYOUTS {
         assert!(rt; text.len() <= 67108864);
         let fault = offsets_fault(rt.alloc(), &table, text).expect(&rt, "memory");
         assert_eq!(rt; fault.as_str(), want);

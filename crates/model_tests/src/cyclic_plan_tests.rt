@@ -29,22 +29,24 @@ fn a_row_that_wraps_becomes_the_whole_period_with_a_gap(rt: HostRuntime) {
     assert_eq!(rt; unrolled.text.as_slice(), want);
 }
 
+/// Files of circles, each with the text of its fault.
+static CIRCLES: [(&[u8], &str); 5] = [
+    (b"id,lower,upper,size\nA,8,10,4\n", ""),
+    (b"id,lower,upper,size\nA,10,2,4\n", "row 0 outside"),
+    (b"id,lower,upper,size\nA,2,11,4\n", "row 0 outside"),
+    (
+        b"id,lower,upper,size\nA,8,2,4\nB,3,3,4\n",
+        "row 1 empty lifetime",
+    ),
+    (
+        b"id,lower,upper,size\nA,3,3,4\nA,8,2,4\n",
+        "row 1 duplicate id 0",
+    ),
+];
+
 #[test]
 fn a_bad_circle_is_named(rt: HostRuntime) {
-    let table: [(&[u8], &str); 5] = [
-        (b"id,lower,upper,size\nA,8,10,4\n", ""),
-        (b"id,lower,upper,size\nA,10,2,4\n", "row 0 outside"),
-        (b"id,lower,upper,size\nA,2,11,4\n", "row 0 outside"),
-        (
-            b"id,lower,upper,size\nA,8,2,4\nB,3,3,4\n",
-            "row 1 empty lifetime",
-        ),
-        (
-            b"id,lower,upper,size\nA,3,3,4\nA,8,2,4\n",
-            "row 1 duplicate id 0",
-        ),
-    ];
-    for (text, want) in table {
+    for &(text, want) in &CIRCLES {
         assert!(rt; text.len() <= 67108864);
         let fault = fault_of(rt.alloc(), text).expect(&rt, "memory");
         assert_eq!(rt; fault.as_str(), want);

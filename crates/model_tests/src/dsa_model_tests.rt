@@ -1,26 +1,37 @@
 //! Worked cases, and each call that takes memory with ample memory.
 
-ghost use Rattle.std.specs.Prelude.{◌^◌, ◌<◌, length};
-
 use crate::made::{Row, with_gaps};
 use dsa_model::{BUFFER_LIMIT, Buffer, BufferFault, Fail, Instance, LayoutFault, height, judge};
 use std::alloc::Global;
 
-/// Why these numbers are no buffer, where they are none.
-fn refusal(
-    alloc: Global,
-    lower: u64,
-    upper: u64,
+/// The numbers of a buffer, or of none.
+#[derive(Clone, Copy)]
+struct Numbers {
+    lower: u32,
+    upper: u32,
     size: u64,
     alignment: u64,
-    gaps: &[(u64, u64)],
+    gaps: &'static [(u64, u64)],
     lowest: u64,
-) -> Option<Fail<BufferFault>>
-    requires lower_limit { lower < 2 ^ 62 }
-    requires upper_limit { upper < 2 ^ 62 }
-    requires gap_count { length gaps.now < 2 ^ 32 }
-{
-    Buffer::new(alloc, lower, upper, size, alignment, gaps, lowest).err()
+}
+
+/// Why these numbers are no buffer, where they are none.
+fn refusal(alloc: Global, numbers: &Numbers) -> Option<Fail<BufferFault>> {
+    if numbers.gaps.len() > 65 {
+        return Some(Fail::NoMemory);
+    }
+    let (lower, upper) = (numbers.lower as u64, numbers.upper as u64);
+    let (size, alignment) = (numbers.size, numbers.alignment);
+    Buffer::new(
+        alloc,
+        lower,
+        upper,
+        size,
+        alignment,
+        numbers.gaps,
+        numbers.lowest,
+    )
+    .err()
 }
 
 /// The lifetime, the size, the alignment, the count of gaps, the lowest and the floor.
@@ -45,56 +56,115 @@ fn a_buffer_keeps_what_it_was_given(rt: HostRuntime) {
     assert_eq!(rt; numbers_of(&buffer), [2, 9, 5, 3, 2, 7, 9]);
 }
 
+/// The numbers of a buffer.
+const PLAIN: Numbers = Numbers {
+    lower: 0,
+    upper: 1,
+    size: 4,
+    alignment: 1,
+    gaps: &[],
+    lowest: 0,
+};
+
+/// Numbers, each with the first fault of them as a buffer.
+static REFUSED: [(Numbers, BufferFault); 10] = [
+    (
+        Numbers {
+            lower: 1,
+            upper: 1,
+            size: 0,
+            alignment: 0,
+            ..PLAIN
+        },
+        BufferFault::EmptyLifetime,
+    ),
+    (
+        Numbers {
+            size: 0,
+            alignment: 0,
+            ..PLAIN
+        },
+        BufferFault::ZeroSize,
+    ),
+    (
+        Numbers {
+            size: 1099511627777,
+            alignment: 0,
+            ..PLAIN
+        },
+        BufferFault::TooLarge,
+    ),
+    (
+        Numbers {
+            alignment: 0,
+            gaps: &[(1, 1)],
+            ..PLAIN
+        },
+        BufferFault::ZeroAlignment,
+    ),
+    (
+        Numbers {
+            alignment: 4294967297,
+            ..PLAIN
+        },
+        BufferFault::AlignmentTooLarge,
+    ),
+    (
+        Numbers {
+            lower: 2,
+            upper: 9,
+            gaps: &[(1, 3), (5, 5)],
+            ..PLAIN
+        },
+        BufferFault::GapEmpty { gap: 1 },
+    ),
+    (
+        Numbers {
+            lower: 2,
+            upper: 9,
+            gaps: &[(3, 4), (8, 10)],
+            ..PLAIN
+        },
+        BufferFault::GapOutside { gap: 1 },
+    ),
+    (
+        Numbers {
+            gaps: &[(0, 1); 65],
+            ..PLAIN
+        },
+        BufferFault::TooManyGaps,
+    ),
+    (
+        Numbers {
+            upper: 10,
+            gaps: &[(0, 6), (4, 10)],
+            ..PLAIN
+        },
+        BufferFault::NeverLive,
+    ),
+    (
+        Numbers {
+            lowest: 1099511627777,
+            ..PLAIN
+        },
+        BufferFault::LowestTooLarge,
+    ),
+];
+
+/// The greatest size, alignment and lowest offset.
+static GREATEST: Numbers = Numbers {
+    size: 1099511627776,
+    alignment: 4294967296,
+    lowest: 1099511627776,
+    ..PLAIN
+};
+
 #[test]
 fn the_first_fault_of_a_buffer_is_answered(rt: HostRuntime) {
-    let alloc = rt.alloc();
-    let too_many = [(0, 1); 65];
-    let rows = [
-        (
-            refusal(alloc, 1, 1, 0, 0, &[], 0),
-            BufferFault::EmptyLifetime,
-        ),
-        (refusal(alloc, 0, 1, 0, 0, &[], 0), BufferFault::ZeroSize),
-        (
-            refusal(alloc, 0, 1, 1099511627777, 0, &[], 0),
-            BufferFault::TooLarge,
-        ),
-        (
-            refusal(alloc, 0, 1, 4, 0, &[(1, 1)], 0),
-            BufferFault::ZeroAlignment,
-        ),
-        (
-            refusal(alloc, 0, 1, 4, 4294967297, &[], 0),
-            BufferFault::AlignmentTooLarge,
-        ),
-        (
-            refusal(alloc, 2, 9, 4, 1, &[(1, 3), (5, 5)], 0),
-            BufferFault::GapEmpty { gap: 1 },
-        ),
-        (
-            refusal(alloc, 2, 9, 4, 1, &[(3, 4), (8, 10)], 0),
-            BufferFault::GapOutside { gap: 1 },
-        ),
-        (
-            refusal(alloc, 0, 1, 4, 1, &too_many, 0),
-            BufferFault::TooManyGaps,
-        ),
-        (
-            refusal(alloc, 0, 10, 4, 1, &[(0, 6), (4, 10)], 0),
-            BufferFault::NeverLive,
-        ),
-        (
-            refusal(alloc, 0, 1, 4, 1, &[], 1099511627777),
-            BufferFault::LowestTooLarge,
-        ),
-    ];
-    for (answer, fault) in rows {
-        assert_eq!(rt; answer, Some(Fail::Fault(fault)));
+    for (numbers, fault) in &REFUSED {
+        assert_eq!(rt; refusal(rt.alloc(), numbers), Some(Fail::Fault(*fault)));
     }
-    assert_eq!(rt;
-        refusal(alloc, 0, 1, 1099511627776, 4294967296, &[], 1099511627776),
-        None
-    );
+    assert_eq!(rt; refusal(rt.alloc(), &GREATEST), None);
 }
 
 /// What is wrong with the offsets of these buffers, of which the first has the gaps.
@@ -104,65 +174,84 @@ fn fault_of(
     gaps: &[(u64, u64)],
     capacity: u64,
     offsets: &[u64],
-) -> Result<Option<LayoutFault>, Fail<BufferFault>>
-    requires { length gaps.now < 2 ^ 32 }
-{
+) -> Result<Option<LayoutFault>, Fail<BufferFault>> {
     let instance = with_gaps(alloc, rows, 0, gaps)?;
     Ok(judge(&instance, capacity, offsets).err())
 }
 
-/// That the first two buffers overlap, from this moment on.
-fn overlap(moment: u64) -> Option<LayoutFault> {
-    Some(LayoutFault::Overlap {
-        first: 0,
-        second: 1,
-        moment,
-    })
-}
+/// That the first two buffers overlap from moment 4 on.
+const OVERLAP_AT_4: LayoutFault = LayoutFault::Overlap {
+    first: 0,
+    second: 1,
+    moment: 4,
+};
 
-/// That this buffer ends above the capacity.
-fn above(buffer: u32) -> Option<LayoutFault> {
-    Some(LayoutFault::Above { buffer })
-}
+/// That the first two buffers overlap from moment 6 on.
+const OVERLAP_AT_6: LayoutFault = LayoutFault::Overlap {
+    first: 0,
+    second: 1,
+    moment: 6,
+};
+
+/// Two buffers that are live together at moment 4.
+static CROSSED: [Row; 2] = [(0, 5, 4, 1), (4, 8, 4, 1)];
+
+/// Capacities and offsets for them, each with what is wrong.
+static CROSSED_OFFSETS: [(u64, &[u64], Option<LayoutFault>); 6] = [
+    (10, &[0, 2], Some(OVERLAP_AT_4)),
+    (8, &[0, 4], None),
+    (7, &[0, 4], Some(LayoutFault::Above { buffer: 1 })),
+    (
+        u64::MAX,
+        &[0, u64::MAX],
+        Some(LayoutFault::Above { buffer: 1 }),
+    ),
+    (3, &[u64::MAX, 0], Some(LayoutFault::Above { buffer: 0 })),
+    (7, &[0], Some(LayoutFault::WrongCount)),
+];
 
 #[test]
 fn two_buffers_that_share_a_moment_must_be_apart(rt: HostRuntime) {
-    let crossed: [Row; 2] = [(0, 5, 4, 1), (4, 8, 4, 1)];
-    let cases: [(u64, &[u64], Option<LayoutFault>); 6] = [
-        (10, &[0, 2], overlap(4)),
-        (8, &[0, 4], None),
-        (7, &[0, 4], above(1)),
-        (u64::MAX, &[0, u64::MAX], above(1)),
-        (3, &[u64::MAX, 0], above(0)),
-        (7, &[0], Some(LayoutFault::WrongCount)),
-    ];
-    for (capacity, offsets, want) in cases {
-        let fault = fault_of(rt.alloc(), &crossed, &[], capacity, offsets).expect(&rt, "memory");
+    for &(capacity, offsets, want) in &CROSSED_OFFSETS {
+        let fault = fault_of(rt.alloc(), &CROSSED, &[], capacity, offsets).expect(&rt, "memory");
         assert_eq!(rt; fault, want, "at {capacity}");
     }
 }
 
+/// The second buffer is live in a gap of the first from 4 to 6.
+const FILLING: &[Row] = &[(0, 10, 4, 1), (4, 6, 4, 1)];
+
+/// The second buffer is still live after that gap.
+const OVERRUNNING: &[Row] = &[(0, 10, 4, 1), (4, 7, 4, 1)];
+
+/// Buffers with a capacity and offsets, each with what is wrong.
+static GAP_OFFSETS: [(&[Row], u64, &[u64], Option<LayoutFault>); 3] = [
+    (FILLING, 4, &[0, 0], None),
+    (OVERRUNNING, 4, &[0, 0], Some(OVERLAP_AT_6)),
+    (OVERRUNNING, 8, &[0, 4], None),
+];
+
 #[test]
 fn a_gap_lets_two_buffers_share_an_offset(rt: HostRuntime) {
-    let filling: [Row; 2] = [(0, 10, 4, 1), (4, 6, 4, 1)];
-    let overrunning: [Row; 2] = [(0, 10, 4, 1), (4, 7, 4, 1)];
-    let cases: [(&[Row], u64, &[u64], Option<LayoutFault>); 3] = [
-        (&filling, 4, &[0, 0], None),
-        (&overrunning, 4, &[0, 0], overlap(6)),
-        (&overrunning, 8, &[0, 4], None),
-    ];
-    for (rows, capacity, offsets, want) in cases {
+    for &(rows, capacity, offsets, want) in &GAP_OFFSETS {
         let fault = fault_of(rt.alloc(), rows, &[(4, 6)], capacity, offsets).expect(&rt, "memory");
         assert_eq!(rt; fault, want);
     }
 }
 
+/// Two buffers at multiples of six.
+static SIXES: [Row; 2] = [(0, 1, 3, 6), (0, 1, 3, 6)];
+
+/// Capacities and offsets for them, each with what is wrong.
+static SIXES_OFFSETS: [(u64, &[u64], Option<LayoutFault>); 2] = [
+    (2, &[0, 4], Some(LayoutFault::Unaligned { buffer: 1 })),
+    (9, &[6, 0], None),
+];
+
 #[test]
 fn an_alignment_is_kept(rt: HostRuntime) {
-    let rows: [Row; 2] = [(0, 1, 3, 6), (0, 1, 3, 6)];
-    let unaligned = Some(LayoutFault::Unaligned { buffer: 1 });
-    for (capacity, offsets, want) in [(2, [0, 4], unaligned), (9, [6, 0], None)] {
-        let fault = fault_of(rt.alloc(), &rows, &[], capacity, &offsets).expect(&rt, "memory");
+    for &(capacity, offsets, want) in &SIXES_OFFSETS {
+        let fault = fault_of(rt.alloc(), &SIXES, &[], capacity, offsets).expect(&rt, "memory");
         assert_eq!(rt; fault, want);
     }
 }
@@ -179,16 +268,23 @@ fn with_lowest(alloc: Global) -> Result<Instance, Fail<BufferFault>> {
     Ok(instance)
 }
 
+/// Capacities and offsets for these two, each with what is wrong.
+static LOWEST_OFFSETS: [(u64, &[u64], Option<LayoutFault>); 4] = [
+    (12, &[8, 0], None),
+    (11, &[8, 0], Some(LayoutFault::Above { buffer: 0 })),
+    (7, &[4, 8], Some(LayoutFault::TooLow { buffer: 0 })),
+    (12, &[6, 0], Some(LayoutFault::Unaligned { buffer: 0 })),
+];
+
 #[test]
 fn a_buffer_stands_at_or_above_its_lowest(rt: HostRuntime) {
     let both = with_lowest(rt.alloc()).expect(&rt, "memory");
-    for (capacity, offsets, answer) in [
-        (12, [8, 0], Ok(())),
-        (11, [8, 0], Err(LayoutFault::Above { buffer: 0 })),
-        (7, [4, 8], Err(LayoutFault::TooLow { buffer: 0 })),
-        (12, [6, 0], Err(LayoutFault::Unaligned { buffer: 0 })),
-    ] {
-        assert_eq!(rt; judge(&both, capacity, &offsets), answer, "at {capacity}");
+    for &(capacity, offsets, want) in &LOWEST_OFFSETS {
+        assert_eq!(rt;
+            judge(&both, capacity, offsets).err(),
+            want,
+            "at {capacity}"
+        );
     }
 }
 

@@ -16,55 +16,63 @@ fn report_of(alloc: Global, instance: &[u8], offsets: &[u64]) -> Option<Vec<u8>>
     report(alloc, &table, offsets).ok()
 }
 
+/// Instance files, each with offsets and the report of them.
+static REPORTS: [(&[u8], &[u64], &str); 3] = [
+    (
+        b"id,lower,upper,size,alignment\nA,0,1,1,2\nB,0,1,1,2\nC,0,1,2,1\n",
+        &[2, 4, 0],
+        "moment 0 load 4 height 5\nplace,size,id\n0,2,C\n2,1,A\n3,1,\n4,1,B\n",
+    ),
+    (
+        b"id,lower,upper,size\n",
+        &[],
+        "moment none load 0 height 0\nplace,size,id\n",
+    ),
+    (
+        b"id,lower,upper,size\n\"A,1\",1,3,3\nB,2,4,2\nC,5,6,1\n",
+        &[1, 6, 9],
+        "moment 2 load 5 height 10\nplace,size,id\n0,1,\n1,3,\"A,1\"\n4,2,\n6,2,B\n8,2,\n",
+    ),
+];
+
 #[test]
 fn a_report_shows_the_peak_with_its_free_ranges(rt: HostRuntime) {
-    let cases: [(&[u8], &[u64], &str); 3] = [
-        (
-            b"id,lower,upper,size,alignment\nA,0,1,1,2\nB,0,1,1,2\nC,0,1,2,1\n",
-            &[2, 4, 0],
-            "moment 0 load 4 height 5\nplace,size,id\n0,2,C\n2,1,A\n3,1,\n4,1,B\n",
-        ),
-        (
-            b"id,lower,upper,size\n",
-            &[],
-            "moment none load 0 height 0\nplace,size,id\n",
-        ),
-        (
-            b"id,lower,upper,size\n\"A,1\",1,3,3\nB,2,4,2\nC,5,6,1\n",
-            &[1, 6, 9],
-            "moment 2 load 5 height 10\nplace,size,id\n0,1,\n1,3,\"A,1\"\n4,2,\n6,2,B\n8,2,\n",
-        ),
-    ];
-    for (instance, offsets, text) in cases {
+    for &(instance, offsets, text) in &REPORTS {
         let report = report_of(rt.alloc(), instance, offsets).expect(&rt, "a report");
         assert_eq!(rt; report.as_slice(), text.as_bytes());
     }
 }
 
+/// Facts, each with their report.
+static FACTS: [(Facts, &str); 2] = [
+    (
+        Facts {
+            buffers: 4,
+            peak: Some((2, 4)),
+            parts: 2,
+            bound: 4,
+            modulus: 1,
+            best: 5,
+        },
+        "buffers 4\npeak 2 4\nparts 2\nbound 4 1\nbest 5\n",
+    ),
+    (
+        Facts {
+            buffers: 0,
+            peak: None,
+            parts: 0,
+            bound: 0,
+            modulus: 1,
+            best: 0,
+        },
+        "buffers 0\npeak none\nparts 0\nbound 0 1\nbest 0\n",
+    ),
+];
+
 #[test]
 fn a_report_has_a_line_for_each_fact(rt: HostRuntime) {
-    let four = Facts {
-        buffers: 4,
-        peak: Some((2, 4)),
-        parts: 2,
-        bound: 4,
-        modulus: 1,
-        best: 5,
-    };
-    let none = Facts {
-        buffers: 0,
-        peak: None,
-        parts: 0,
-        bound: 0,
-        modulus: 1,
-        best: 0,
-    };
-    let cases = [
-        (four, "buffers 4\npeak 2 4\nparts 2\nbound 4 1\nbest 5\n"),
-        (none, "buffers 0\npeak none\nparts 0\nbound 0 1\nbest 0\n"),
-    ];
-    for (facts, text) in cases {
-        let report = bounds_report(rt.alloc(), &facts).expect(&rt, "memory");
+    for (facts, text) in &FACTS {
+        let report = bounds_report(rt.alloc(), facts).expect(&rt, "memory");
         assert_eq!(rt; report.as_slice(), text.as_bytes());
     }
 }

@@ -21,21 +21,24 @@ fn listed(alloc: Global, sections: &Sections) -> Result<Vec<u64>, AllocError> {
     Ok(found)
 }
 
+/// Buffers, the gaps of the first one, and their sections as `listed` has them.
+static SECTIONS: [(&[Row], &[(u64, u64)], &[u64]); 6] = [
+    (&[], &[], &[]),
+    (FIVE, &[], &[0, 0, 2, 4, 99, 3, 1, 2, 4, 99, 9, 3, 4, 99]),
+    (
+        &[(0, 10, 4, 1), (4, 6, 4, 1)],
+        &[(4, 6)],
+        &[0, 0, 99, 4, 1, 99, 6, 0, 99],
+    ),
+    (&[(0, 10, 4, 1), (4, 7, 4, 1)], &[(4, 6)], &[6, 0, 1, 99]),
+    (&[(0, 10, 4, 1), (0, 10, 4, 1)], &[(4, 6)], &[0, 0, 1, 99]),
+    (&[(1, 9, 1, 1)], &[(2, 5), (3, 6)], &[1, 0, 99]),
+];
+
 #[test]
 fn a_section_within_a_neighbour_is_left_out(rt: HostRuntime) -> Result<(), test::Fail> {
     let alloc = rt.alloc();
-    let two: [Row; 2] = [(0, 10, 4, 1), (4, 6, 4, 1)];
-    let longer: [Row; 2] = [(0, 10, 4, 1), (4, 7, 4, 1)];
-    let equal: [Row; 2] = [(0, 10, 4, 1), (0, 10, 4, 1)];
-    let rows: [(&[Row], &[(u64, u64)], &[u64]); 6] = [
-        (&[], &[], &[]),
-        (&FIVE, &[], &[0, 0, 2, 4, 99, 3, 1, 2, 4, 99, 9, 3, 4, 99]),
-        (&two, &[(4, 6)], &[0, 0, 99, 4, 1, 99, 6, 0, 99]),
-        (&longer, &[(4, 6)], &[6, 0, 1, 99]),
-        (&equal, &[(4, 6)], &[0, 0, 1, 99]),
-        (&[(1, 9, 1, 1)], &[(2, 5), (3, 6)], &[1, 0, 99]),
-    ];
-    for (buffers, gaps, want) in rows {
+    for &(buffers, gaps, want) in &SECTIONS {
         let sections = Sections::build(alloc, &with_gaps(alloc, buffers, 0, gaps)?)?;
         assert_eq!(rt; listed(alloc, &sections)?.as_slice(), want);
     }
@@ -142,7 +145,7 @@ fn the_order_of_leaving_out_makes_no_difference(rt: HostRuntime) -> Result<(), t
 #[test]
 fn the_sections_of_a_buffer_are_those_that_have_it(rt: HostRuntime) -> Result<(), test::Fail> {
     let alloc = rt.alloc();
-    let instance = instance_of(alloc, &FIVE)?;
+    let instance = instance_of(alloc, FIVE)?;
     let sections = Sections::build(alloc, &instance)?;
     let mut found: Vec<u32> = Vec::new(alloc);
     for b in 0..instance.len() {

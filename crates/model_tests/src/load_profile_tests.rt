@@ -1,7 +1,5 @@
 //! Worked cases, and each call that takes memory with ample memory.
 
-ghost use Rattle.std.specs.Prelude.{◌^◌, ◌<◌, length};
-
 use crate::made::{FIVE, ONE_THEN_THREE, Row, instance_of, with_gaps};
 use dsa_model::{BufferFault, Fail};
 use lifetime::Sections;
@@ -13,23 +11,23 @@ fn peak_of(
     alloc: Global,
     rows: &[Row],
     gaps: &[(u64, u64)],
-) -> Result<Option<(u64, u64)>, Fail<BufferFault>>
-    requires { length gaps.now < 2 ^ 32 }
-{
+) -> Result<Option<(u64, u64)>, Fail<BufferFault>> {
     let instance = with_gaps(alloc, rows, 0, gaps)?;
     let sections = Sections::build(alloc, &instance)?;
     Ok(Profile::build(alloc, &instance, &sections)?.peak())
 }
 
+/// Buffers, each with the moment of their peak and its load.
+static PEAKS: [(&[Row], Option<(u64, u64)>); 3] = [
+    (&[], None),
+    (FIVE, Some((0, 12))),
+    (ONE_THEN_THREE, Some((2, 4))),
+];
+
 #[test]
 fn the_peak_is_the_first_moment_of_greatest_load(rt: HostRuntime) {
     let longer: [Row; 2] = [(0, 10, 4, 1), (4, 7, 4, 1)];
-    let rows: [(&[Row], Option<(u64, u64)>); 3] = [
-        (&[], None),
-        (&FIVE, Some((0, 12))),
-        (&ONE_THEN_THREE, Some((2, 4))),
-    ];
-    for (buffers, want) in rows {
+    for &(buffers, want) in &PEAKS {
         assert_eq!(rt; peak_of(rt.alloc(), buffers, &[]), Ok(want));
     }
     assert_eq!(rt; peak_of(rt.alloc(), &longer, &[(4, 6)]), Ok(Some((6, 8))));
@@ -37,7 +35,7 @@ fn the_peak_is_the_first_moment_of_greatest_load(rt: HostRuntime) {
 
 /// The load of each section of the five buffers.
 fn loads_of_five(alloc: Global) -> Result<Vec<u64>, Fail<BufferFault>> {
-    let instance = instance_of(alloc, &FIVE)?;
+    let instance = instance_of(alloc, FIVE)?;
     let sections = Sections::build(alloc, &instance)?;
     let profile = Profile::build(alloc, &instance, &sections)?;
     let mut loads = Vec::new(alloc);

@@ -1,7 +1,5 @@
 //! Worked cases, and each call that takes memory with ample memory.
 
-ghost use Rattle.std.specs.Prelude.{◌^◌, ◌<◌, length};
-
 use crate::made::{FIVE, ONE_THEN_THREE, Row, instance_of, with_gaps};
 use dsa_model::{BufferFault, Fail};
 use lifetime::Sections;
@@ -14,34 +12,38 @@ fn bound_of(
     alloc: Global,
     rows: &[Row],
     gaps: &[(u64, u64)],
-) -> Result<(u64, u64, u64), Fail<BufferFault>>
-    requires { length gaps.now < 2 ^ 32 }
-{
+) -> Result<(u64, u64, u64), Fail<BufferFault>> {
     let instance = with_gaps(alloc, rows, 0, gaps)?;
     let found = bound(alloc, &instance, &Sections::build(alloc, &instance)?)?;
     Ok((found.capacity, found.moment, found.modulus))
 }
 
+/// Buffers with their bound, its moment and its modulus.
+static BOUNDS: [(&[Row], (u64, u64, u64)); 4] = [
+    (&[], (0, 0, 1)),
+    (FIVE, (12, 0, 1)),
+    (&[(0, 1, 3, 4), (0, 1, 3, 4)], (7, 0, 4)),
+    (ONE_THEN_THREE, (4, 2, 1)),
+];
+
 #[test]
 fn the_bound_is_the_greatest_stack(rt: HostRuntime) {
-    let by_four: [Row; 2] = [(0, 1, 3, 4), (0, 1, 3, 4)];
-    let rows: [(&[Row], (u64, u64, u64)); 4] = [
-        (&[], (0, 0, 1)),
-        (&FIVE, (12, 0, 1)),
-        (&by_four, (7, 0, 4)),
-        (&ONE_THEN_THREE, (4, 2, 1)),
-    ];
-    for (buffers, want) in rows {
+    for &(buffers, want) in &BOUNDS {
         assert_eq!(rt; bound_of(rt.alloc(), buffers, &[]), Ok(want));
     }
 }
 
+/// Two buffers of which the first has a gap from 4 to 6, with the same of their bound.
+static WITH_A_GAP: [(&[Row], (u64, u64, u64)); 2] = [
+    (&[(0, 10, 4, 1), (4, 6, 4, 1)], (4, 0, 1)),
+    (&[(0, 10, 4, 1), (4, 7, 4, 1)], (8, 6, 1)),
+];
+
 #[test]
 fn a_gap_lowers_the_bound_where_no_other_outlasts_it(rt: HostRuntime) {
-    let filling: [Row; 2] = [(0, 10, 4, 1), (4, 6, 4, 1)];
-    let longer: [Row; 2] = [(0, 10, 4, 1), (4, 7, 4, 1)];
-    assert_eq!(rt; bound_of(rt.alloc(), &filling, &[(4, 6)]), Ok((4, 0, 1)));
-    assert_eq!(rt; bound_of(rt.alloc(), &longer, &[(4, 6)]), Ok((8, 6, 1)));
+    for &(buffers, want) in &WITH_A_GAP {
+        assert_eq!(rt; bound_of(rt.alloc(), buffers, &[(4, 6)]), Ok(want));
+    }
 }
 
 /// The log that refutes one byte less than the bound of these buffers, which is none of 0.

@@ -1,7 +1,5 @@
 //! Instances for tests.
 
-ghost use Rattle.std.specs.Prelude.{◌<◌, ◌^◌, length};
-
 use dsa_model::{BUFFER_LIMIT, Buffer, BufferFault, Fail, Instance};
 use std::alloc::Global;
 
@@ -10,7 +8,7 @@ pub(crate) type Row = (u32, u32, u32, u32);
 
 /// The five buffers of the first example, of one size: three of them up to moment 9, and two after
 /// it.
-pub(crate) const FIVE: [Row; 5] = [
+pub(crate) const FIVE: &[Row] = &[
     (0, 3, 4, 1),
     (3, 9, 4, 1),
     (0, 9, 4, 1),
@@ -19,30 +17,26 @@ pub(crate) const FIVE: [Row; 5] = [
 ];
 
 /// Three buffers that are live together, two of them alike.
-pub(crate) const THREE: [Row; 3] = [(0, 1, 1, 2), (0, 1, 1, 2), (0, 1, 2, 1)];
+pub(crate) const THREE: &[Row] = &[(0, 1, 1, 2), (0, 1, 1, 2), (0, 1, 2, 1)];
 
 /// One buffer alone, and then three.
-pub(crate) const ONE_THEN_THREE: [Row; 4] = [
-    (0, 2, 1, 1),
-    (2, 3, 1, 2),
-    (2, 3, 1, 2),
-    (2, 3, 2, 1),
-];
+pub(crate) const ONE_THEN_THREE: &[Row] = &[(0, 2, 1, 1), (2, 3, 1, 2), (2, 3, 1, 2), (2, 3, 2, 1)];
 
 /// The instance of these buffers.
 pub(crate) fn instance_of(alloc: Global, rows: &[Row]) -> Result<Instance, Fail<BufferFault>> {
     with_gaps(alloc, rows, 0, &[])
 }
 
-/// The same, in which buffer `holed` has gaps.
+/// The same, in which buffer `holed` has gaps, 64 at most.
 pub(crate) fn with_gaps(
     alloc: Global,
     rows: &[Row],
     holed: u32,
     gaps: &[(u64, u64)],
-) -> Result<Instance, Fail<BufferFault>>
-    requires { length gaps.now < 2 ^ 32 }
-{
+) -> Result<Instance, Fail<BufferFault>> {
+    if gaps.len() > 64 {
+        return Err(Fail::NoMemory);
+    }
     let mut instance = Instance::new(alloc);
     for &(lower, upper, size, alignment) in rows {
         let own = if instance.len() == holed { gaps } else { &[] };

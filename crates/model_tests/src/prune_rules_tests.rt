@@ -7,7 +7,7 @@ use prune_rules::{are_alike, dominated, is_below, is_twin, twin_before};
 #[test]
 fn a_twin_stands_before_the_second_of_two_alike(rt: HostRuntime) {
     let alloc = rt.alloc();
-    let three = instance_of(alloc, &THREE).expect(&rt, "memory");
+    let three = instance_of(alloc, THREE).expect(&rt, "memory");
     let claim = Claim::from_pairs(alloc, &[(0, 1), (1, 2), (2, 3)]).expect(&rt, "memory");
     assert!(rt; three.len() == 3);
     assert!(rt; claim.out_of_range(3).is_none());
@@ -23,7 +23,7 @@ fn a_twin_stands_before_the_second_of_two_alike(rt: HostRuntime) {
 
 #[test]
 fn buffers_that_differ_in_nothing_are_alike(rt: HostRuntime) {
-    let three = instance_of(rt.alloc(), &THREE).expect(&rt, "memory");
+    let three = instance_of(rt.alloc(), THREE).expect(&rt, "memory");
     assert!(rt; three.len() == 3);
     assert!(rt; are_alike(three.buffer(0), three.buffer(1)));
 }

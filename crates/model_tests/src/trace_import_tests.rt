@@ -37,30 +37,32 @@ fn allocations(alloc: Global, count: u32, end: &str) -> Result<String, AllocErro
     Ok(text)
 }
 
+/// Traces, each with its lines, its buffers and its instance's text.
+static TRACES: [(&[u8], u32, u32, &[u8]); 4] = [
+    (
+        b"alloc a 4 1\nalloc b 8 4\nfree a\nalloc a 2 1\n",
+        4,
+        3,
+        b"id,lower,upper,size,alignment,name\na0,0,2,4,1,a\na1,1,4,8,4,b\na3,3,4,2,1,a\n",
+    ),
+    (b"", 0, 0, b"id,lower,upper,size,alignment,name\n"),
+    (
+        b"alloc \"x,y\" 007 01\nfree \"x,y\"\n",
+        2,
+        1,
+        b"id,lower,upper,size,alignment,name\na0,0,1,7,1,\"\"\"x,y\"\"\"\n",
+    ),
+    (
+        b"alloc a 1099511627776 4294967296\n",
+        1,
+        1,
+        b"id,lower,upper,size,alignment,name\na0,0,1,1099511627776,4294967296,a\n",
+    ),
+];
+
 #[test]
 fn a_trace_is_written_as_its_instance(rt: HostRuntime) {
-    let cases: [(&[u8], u32, u32, &[u8]); 4] = [
-        (
-            b"alloc a 4 1\nalloc b 8 4\nfree a\nalloc a 2 1\n",
-            4,
-            3,
-            b"id,lower,upper,size,alignment,name\na0,0,2,4,1,a\na1,1,4,8,4,b\na3,3,4,2,1,a\n",
-        ),
-        (b"", 0, 0, b"id,lower,upper,size,alignment,name\n"),
-        (
-            b"alloc \"x,y\" 007 01\nfree \"x,y\"\n",
-            2,
-            1,
-            b"id,lower,upper,size,alignment,name\na0,0,1,7,1,\"\"\"x,y\"\"\"\n",
-        ),
-        (
-            b"alloc a 1099511627776 4294967296\n",
-            1,
-            1,
-            b"id,lower,upper,size,alignment,name\na0,0,1,1099511627776,4294967296,a\n",
-        ),
-    ];
-    for (bytes, lines, buffers, want) in cases {
+    for &(bytes, lines, buffers, want) in &TRACES {
         if bytes.len() > 100 {
             panic!(rt; "a longer case");
         }
@@ -73,26 +75,28 @@ fn a_trace_is_written_as_its_instance(rt: HostRuntime) {
     }
 }
 
+/// Traces, each with the text of its fault.
+static REFUSED: [(&[u8], &str); 12] = [
+    (b"free b\n", "not live 0"),
+    (b"alloc a 4 1\nfree a\nfree a\n", "not live 2"),
+    (b"alloc a 4 1\nalloc b 8 4\nalloc a 2 1\n", "still live 2 0"),
+    (
+        b"alloc a 4 1\nfree a\nalloc a 2 1\nalloc a 3 1\n",
+        "still live 3 2",
+    ),
+    (b"alloc a 4 1\nfree a", "bad line 1"),
+    (b"\n", "bad line 0"),
+    (b"free  a\n", "bad line 0"),
+    (b"alloc a 000000000000000000001 1\n", "bad line 0"),
+    (b"alloc a 99999999999999999999 1\n", "bad size 0"),
+    (b"alloc a 0 1\n", "bad size 0"),
+    (b"alloc a 1099511627777 1\n", "bad size 0"),
+    (b"alloc a 1 4294967297\n", "bad alignment 0"),
+];
+
 #[test]
 fn a_trace_is_refused_by_its_first_fault(rt: HostRuntime) {
-    let cases: [(&[u8], &str); 12] = [
-        (b"free b\n", "not live 0"),
-        (b"alloc a 4 1\nfree a\nfree a\n", "not live 2"),
-        (b"alloc a 4 1\nalloc b 8 4\nalloc a 2 1\n", "still live 2 0"),
-        (
-            b"alloc a 4 1\nfree a\nalloc a 2 1\nalloc a 3 1\n",
-            "still live 3 2",
-        ),
-        (b"alloc a 4 1\nfree a", "bad line 1"),
-        (b"\n", "bad line 0"),
-        (b"free  a\n", "bad line 0"),
-        (b"alloc a 000000000000000000001 1\n", "bad line 0"),
-        (b"alloc a 99999999999999999999 1\n", "bad size 0"),
-        (b"alloc a 0 1\n", "bad size 0"),
-        (b"alloc a 1099511627777 1\n", "bad size 0"),
-        (b"alloc a 1 4294967297\n", "bad alignment 0"),
-    ];
-    for (bytes, want) in cases {
+    for &(bytes, want) in &REFUSED {
         if bytes.len() > 100 {
             panic!(rt; "a longer case");
         }
@@ -101,32 +105,34 @@ fn a_trace_is_refused_by_its_first_fault(rt: HostRuntime) {
     }
 }
 
+/// Traces of many faults, each with the text of the first.
+static FAULTS: [(&str, &str); 6] = [
+    (
+        "alloc a 1 1\nfree\nalloc b 0 0\nalloc b 1 0\nalloc a 0 1\nalloc a 1 1\nfree b\n",
+        "bad line 1",
+    ),
+    (
+        "alloc a 1 1\nalloc a 0 0\nalloc a 1 0\nalloc a 1 1\nfree b\nfree\n",
+        "bad size 1",
+    ),
+    (
+        "alloc a 1 1\nalloc a 1 0\nalloc a 1 1\nfree b\nfree\nalloc a 0 0\n",
+        "bad alignment 1",
+    ),
+    (
+        "alloc a 1 1\nalloc a 1 1\nfree b\nfree\nalloc a 0 0\nalloc a 1 0\n",
+        "still live 1 0",
+    ),
+    (
+        "alloc a 1 1\nfree b\nfree\nalloc a 0 0\nalloc a 1 0\nalloc a 1 1\n",
+        "not live 1",
+    ),
+    ("alloc a 1 1\nfree a\nalloc a 2 1\nfree a\n", ""),
+];
+
 #[test]
 fn of_every_fault_in_turn_the_first_is_told(rt: HostRuntime) {
-    let cases: [(&str, &str); 6] = [
-        (
-            "alloc a 1 1\nfree\nalloc b 0 0\nalloc b 1 0\nalloc a 0 1\nalloc a 1 1\nfree b\n",
-            "bad line 1",
-        ),
-        (
-            "alloc a 1 1\nalloc a 0 0\nalloc a 1 0\nalloc a 1 1\nfree b\nfree\n",
-            "bad size 1",
-        ),
-        (
-            "alloc a 1 1\nalloc a 1 0\nalloc a 1 1\nfree b\nfree\nalloc a 0 0\n",
-            "bad alignment 1",
-        ),
-        (
-            "alloc a 1 1\nalloc a 1 1\nfree b\nfree\nalloc a 0 0\nalloc a 1 0\n",
-            "still live 1 0",
-        ),
-        (
-            "alloc a 1 1\nfree b\nfree\nalloc a 0 0\nalloc a 1 0\nalloc a 1 1\n",
-            "not live 1",
-        ),
-        ("alloc a 1 1\nfree a\nalloc a 2 1\nfree a\n", ""),
-    ];
-    for (trace, want) in cases {
+    for &(trace, want) in &FAULTS {
         if trace.len() > 100 {
             panic!(rt; "a longer case");
         }
