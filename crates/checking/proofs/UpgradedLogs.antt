@@ -19,8 +19,8 @@ upgraded_file output lines bytes =
 pub its_outcome : (output : Word) (g : Log) (lines : ℕ) (bytes : List ℕ) → lines ≡ length g.lines →
     bytes ≡ log_text2 g → Says bytes (raw_log_of g) → Upgrades output g (upgraded_file output lines bytes)
 its_outcome output g lines bytes count its says =
-    (subst (λ (b : List ℕ). Says b (raw_log_of g)) its says, rw (count, its) refl)
+    record { readable = subst (λ (b : List ℕ). Says b (raw_log_of g)) its says; outcome = rw (count, its) refl }
 
 -- such an outcome is spoken
 pub upgrades_spoken : (output : Word) (g : Log) (o : Outcome) → Upgrades output g o → IsSpoken o.status
-upgrades_spoken output g o holds = subst (λ (o : Outcome). IsSpoken o.status) (sym holds.1) tt
+upgrades_spoken output g o holds = subst (λ (o : Outcome). IsSpoken o.status) (sym holds.outcome) tt

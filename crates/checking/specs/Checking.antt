@@ -36,9 +36,10 @@ abbrev pub upgrading : Word → Log → Outcome
 upgrading output log = writes (record { role = role.Output; name = output; bytes = log_text2 log } ∷ [])
     (Upgraded (length log.lines))
 
--- it is written so, and that text says it
-abbrev pub Upgrades : Word → Log → Outcome → Type 0
-Upgrades output log o = Says (log_text2 log) (raw_log_of log) × (o ≡ upgrading output log)
+-- the text of version 2 says the log, and is written
+pub record Upgrades (output : Word) (log : Log) (o : Outcome) : Type 0 where
+  pub readable : Says (log_text2 log) (raw_log_of log)
+  pub outcome : o ≡ upgrading output log
 
 -- how `upgrade` goes
 abbrev pub upgrade : (input log output : Word) → Course

@@ -179,7 +179,7 @@ module _ (old new : FilesSeen) (before after : SinkSeen) (I : Instance) where
       (λ offsets. Concludes (TellsRight J capacity offsets)))
       (λ table. judged_served old new before after I r ready calm (inr (inl refl)) (IsDone verb.Verify pairs)
       table capacity (λ offsets. Concludes (TellsRight I capacity offsets)) (λ cause. tt)
-      (λ offsets o comes. subst (IsDone verb.Verify pairs) (sym comes.1.1) tt))
+      (λ offsets o comes. subst (IsDone verb.Verify pairs) (sym comes.1.told) tt))
   done verb.Refute pairs (ready, calm) =
       let r : Request = record { verb = verb.Refute; pairs = pairs } in
       opened_served old new before after I r ready calm (inl refl, refl) (IsDone verb.Refute pairs)
@@ -200,7 +200,7 @@ module _ (old new : FilesSeen) (before after : SinkSeen) (I : Instance) where
       (λ table J. checked (word_at pairs option.Log) J (Upgrades (word_at pairs option.Output)))
       (λ table. checked_served old new before after I r ready calm (inr (inl refl)) (IsDone verb.Upgrade pairs)
       (Upgrades (word_at pairs option.Output)) (λ fault bad. tt) (λ fault bad. tt)
-      (λ log holds o told. subst (IsDone verb.Upgrade pairs) (sym told.1) tt))
+      (λ log holds o told. subst (IsDone verb.Upgrade pairs) (sym told.outcome) tt))
   done verb.Report pairs (ready, calm) =
       let r : Request = record { verb = verb.Report; pairs = pairs } in
       opened_served old new before after I r ready calm (inl refl, refl) (IsDone verb.Report pairs)
@@ -216,7 +216,7 @@ module _ (old new : FilesSeen) (before after : SinkSeen) (I : Instance) where
       (λ offsets. Concludes (Draws (word_at pairs option.Output) table J offsets)))
       (λ table. judged_served old new before after I r ready calm (inr (inl refl)) (IsDone verb.Draw pairs)
       table (2 ^ 60) (λ offsets. Concludes (Draws (word_at pairs option.Output) table I offsets)) (λ cause. tt)
-      (λ offsets o comes. subst (IsDone verb.Draw pairs) (sym comes.1.1) tt))
+      (λ offsets o comes. subst (IsDone verb.Draw pairs) (sym comes.1.drawn) tt))
   done verb.Import pairs served = imported_done pairs served
   done verb.Unroll pairs served = unrolled_done pairs served
   done verb.Classes pairs (ready, calm) =

@@ -1,7 +1,7 @@
 -- What the commands promise that judge a layout file or check a log's file.
 use Rattle.std.proofs.Common.{◌≡◌, ◌^◌, ℕ, List, Ok, refl, sym, subst, inl, inr}
+use Rattle.dsa_terms.specs.Layouts.{IsLayout}
 use Rattle.dsa_terms.specs.Logs.{Log}
-use Rattle.dsa_model.proofs.LayoutFaults.{layout_exactly}
 use Rattle.readings.specs.GivenLayouts.{GivesLayout}
 use Rattle.readings.specs.GivenLogs.{HoldsAccepted}
 use Rattle.readings.specs.Judging.{judged}
@@ -26,13 +26,14 @@ use Rattle.dsaplan_core.specs.Judged.{GivesLayoutAt, GivesLog}
 
 module _ (words : List Word) (old new : FilesSeen) where
   abbrev gives_layout : (a : Asked words old) (C : ℕ) (offsets : List ℕ) →
-      GivesLayout old (word_at a.pairs option.Layout) a.table a.instance C offsets → GivesLayoutAt a C
-  gives_layout a C offsets gives = record {
+      GivesLayout old (word_at a.pairs option.Layout) a.table a.instance C offsets → IsLayout a.instance C offsets →
+      GivesLayoutAt a C
+  gives_layout a C offsets gives layout = record {
     bytes = gives.bytes;
     offsets = offsets;
     whole = gives.whole;
     parsed = gives.parsed;
-    layout = (layout_exactly a.instance C offsets).0 gives.legal;
+    layout = layout;
   }
 
   gives_log : (a : Asked words old) (log : Log) → HoldsAccepted old (word_at a.pairs option.Log) a.instance log →
@@ -58,10 +59,10 @@ module _ (words : List Word) (old new : FilesSeen) where
         (λ table I. judged layout table I capacity (λ offsets. Concludes (TellsRight I capacity offsets)))
         (λ table I input. judged_promises words old new (r verb.Verify) is (inr (inl refl)) table I capacity
         (λ offsets. Concludes (TellsRight I capacity offsets)) input refl
-        (λ offsets gives o comes. subst (Promises words old new (r verb.Verify)) (sym comes.1.1) (
+        (λ offsets gives o comes. subst (Promises words old new (r verb.Verify)) (sym comes.1.told) (
           λ files.
               let a = asked words old (r verb.Verify) is table I input in
-              ((a, refl, gives_layout a capacity offsets gives, files), tt, refl, tt),
+              ((a, refl, gives_layout a capacity offsets gives comes.1.layout, files), tt, refl, tt),
           tt,
         )))
 
@@ -84,7 +85,7 @@ module _ (words : List Word) (old new : FilesSeen) where
                     a,
                     record {
                       command = refl;
-                      given = gives_layout a (2 ^ 60) offsets gives;
+                      given = gives_layout a (2 ^ 60) offsets gives comes.1.layout;
                       its_text = comes.1.its_text;
                     },
                   )),
@@ -103,13 +104,17 @@ module _ (words : List Word) (old new : FilesSeen) where
         (λ table I. judged layout table I (2 ^ 60) (λ offsets. Concludes (Draws output table I offsets)))
         (λ table I input. judged_promises words old new (r verb.Draw) is (inr (inl refl)) table I (2 ^ 60)
         (λ offsets. Concludes (Draws output table I offsets)) input refl
-        (λ offsets gives o comes. subst (Promises words old new (r verb.Draw)) (sym comes.1.1) (
+        (λ offsets gives o comes. subst (Promises words old new (r verb.Draw)) (sym comes.1.drawn) (
           λ files.
               let a = asked words old (r verb.Draw) is table I input in (
                 (
                   a,
                   refl,
-                  record { given = gives_layout a (2 ^ 60) offsets gives; its_count = refl; files = files },
+                  record {
+                    given = gives_layout a (2 ^ 60) offsets gives comes.1.layout;
+                    its_count = refl;
+                    files = files;
+                  },
                 ),
                 tt,
                 refl,
@@ -178,7 +183,7 @@ module _ (words : List Word) (old new : FilesSeen) where
         (λ table I. checked name I (Upgrades output))
         (λ table I input. checked_promises words old new (r verb.Upgrade) is (inr (inl refl)) table I
         (Upgrades output) input tt
-        (λ log holds o told. subst (Promises words old new (r verb.Upgrade)) (sym told.1) (
+        (λ log holds o told. subst (Promises words old new (r verb.Upgrade)) (sym told.outcome) (
           λ files.
               let a = asked words old (r verb.Upgrade) is table I input in (
                 (
@@ -188,7 +193,7 @@ module _ (words : List Word) (old new : FilesSeen) where
                     log,
                     gives_log a log holds,
                     refl,
-                    record { readable = told.0; files = files },
+                    record { readable = told.readable; files = files },
                   ),
                 ),
                 tt,

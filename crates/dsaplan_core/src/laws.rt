@@ -50,7 +50,7 @@ pub fn derived()
 
 /// Unless printing fails or memory runs out, what is printed is the line of the status, whole, or a
 /// report: what its command prints of the input's instance, or what is true of its layout or of the
-/// made instance. The files are then as before.
+/// made instance. With a report the files are as before.
 pub fn shown()
     ensures { (words : List Word) (old new : FilesSeen) (before after : SinkSeen) (s : Status) →
         IsSpoken s → Answers (course words) old new before after s →

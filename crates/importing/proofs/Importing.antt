@@ -7,7 +7,7 @@ use Rattle.trace_import.specs.Faults.{trace_of}
 use Rattle.trace_import.specs.ImportText.{import_text}
 use Rattle.trace_import.specs.Traces.{Trace, imported}
 use Rattle.trace_import.specs.declared.fault.TraceFault.{TraceFault}
-use Rattle.trace_import.proofs.Accepted.{accepted_parses}
+use Rattle.trace_import.proofs.Accepted.{accepted_parses, imported_count}
 use Rattle.trace_import.proofs.Imported.{imported_traced}
 use Rattle.command_words.specs.Options.{Word}
 use Rattle.run_status.specs.Spoken.{IsSpoken}
@@ -23,8 +23,11 @@ use Rattle.importing.specs.Importing.{Imports, IsImported, import_course}
 -- the trace of bytes that have no fault is imported
 pub is_imported : (bytes : List ℕ) (trace : Trace) → length bytes ≤ file_limit → trace_of bytes ≡ Ok trace →
     IsImported trace
-is_imported bytes trace short read =
-    record { parsed = accepted_parses bytes trace short read; traced = imported_traced trace }
+is_imported bytes trace short read = record {
+  parsed = accepted_parses bytes trace short read;
+  each = imported_count trace;
+  traced = imported_traced trace;
+}
 
 -- this text is written to the output, and the number of buffers is told
 abbrev pub imported_file : Word → ℕ → List ℕ → Outcome

@@ -1,20 +1,22 @@
 -- How the command goes that imports a recorded run of allocations.
 use Rattle.std.specs.Prelude.{◌≡◌, [], ◌∷◌, length, Result, Ok, Err}
+use Rattle.std.specs.List.{count_by}
 use Rattle.csv_instance.specs.Parse.{parse}
 use Rattle.csv_instance.specs.Records.{file_limit, table_of}
 use Rattle.trace_import.specs.Faults.{trace_of}
 use Rattle.trace_import.specs.ImportText.{import_text}
-use Rattle.trace_import.specs.Traces.{IsTraced, Trace, imported}
+use Rattle.trace_import.specs.Traces.{IsTraced, Trace, imported, is_alloc}
 use Rattle.trace_import.specs.declared.fault.TraceFault.{TraceFault}
 use Rattle.command_words.specs.Options.{Word}
 use Rattle.run_status.specs.declared.status.Status.TheVariants.{Imported, TraceRefused}
 use Rattle.run_status.specs.declared.status.Role.TheVariants as role
 use Rattle.run_course.specs.Course.{Concludes, Course, Outcome, Reads, says, writes}
 
--- the text of the trace's instance is read as that instance, which at each moment has just the buffers that the trace
--- holds after that line
+-- the text of the trace's instance is read as that instance, which has a buffer for each line that allocates, and at each
+-- moment just the buffers that the trace holds after that line
 pub record IsImported (trace : Trace) : Type 0 where
   pub parsed : parse (table_of (import_text trace)) ≡ Ok (imported trace)
+  pub each : length (imported trace) ≡ count_by is_alloc trace
   pub traced : IsTraced trace (imported trace)
 
 -- the text of the trace's instance is written, and how many buffers it has is told; or the first fault is

@@ -21,7 +21,6 @@ pub struct Import<'a> {
 }
 
 /// What is written and told of the trace's bytes.
-#[tactic(auto, using(crate::proofs::Importing::imports_accepted))]
 fn imported<'a>(alloc: Global, words: &Import<'a>, bytes: &[u8]) -> Result<Prepared<'a>, NoMemory>
     requires { length bytes.now ≤ 67108864 }
     ensures { IfOk result (λ p.

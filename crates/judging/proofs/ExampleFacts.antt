@@ -64,12 +64,12 @@ right_at_8 : (new : FilesSeen) → Comes (files high_file) new (verify 8 (codes 
 right_at_8 new =
     opens_two (files high_file) new (codes "i") (goes_on 8) (says status.Right) (reads_input high_file)
     (judges_layout (files high_file) new (codes "a") (tells 8 two) (says status.Right) (reads_layout high_file)
-    (tt, (layout_at_8, refl)))
+    (tt, record { layout = layout_at_8; told = refl }))
 
 -- offsets that overlap are never told right
 overlap_is_not_right : (o : Outcome) → TellsRight two 10 (0 ∷ 2 ∷ []) o → ⊥
 overlap_is_not_right o is =
-    let none = (layout_exactly two 10 (0 ∷ 2 ∷ [])).1 is.0 in
+    let none = (layout_exactly two 10 (0 ∷ 2 ∷ [])).1 is.layout in
     let some = overlap_at_4 in cc
 
 -- ---- drawing them
@@ -90,8 +90,11 @@ unfolding rectangles rectangles_of run_end columns_of turns_at was_live is_live 
 its_drawing = refl
 
 two_are_drawn : Draws (codes "o") two_rows two (0 ∷ 4 ∷ []) two_drawn
-two_are_drawn = ((layout_exactly two (2 ^ 60) (0 ∷ 4 ∷ [])).0 apart_at_most, sym its_drawing)
+two_are_drawn = record {
+  layout = (layout_exactly two (2 ^ 60) (0 ∷ 4 ∷ [])).0 apart_at_most;
+  drawn = sym its_drawing;
+}
 
 -- and nothing else may be
 nothing_else : (o : Outcome) → Draws (codes "o") two_rows two (0 ∷ 4 ∷ []) o → o ≡ two_drawn
-nothing_else o is = is.1 ∙ its_drawing
+nothing_else o is = is.drawn ∙ its_drawing

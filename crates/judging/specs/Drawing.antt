@@ -22,8 +22,9 @@ drawing output table I offsets = writes (record {
 } ∷ []) (Drawn (length (rectangles I offsets)))
 
 -- the offsets are a layout at the greatest capacity, and their picture is written
-abbrev pub Draws : Word → List Record → Instance → List ℕ → Outcome → Type 0
-Draws output table I offsets o = IsLayout I (2 ^ 60) offsets × (o ≡ drawing output table I offsets)
+pub record Draws (output : Word) (table : List Record) (I : Instance) (offsets : List ℕ) (o : Outcome) : Type 0 where
+  pub layout : IsLayout I (2 ^ 60) offsets
+  pub drawn : o ≡ drawing output table I offsets
 
 -- how `draw` goes: the layout is judged at the greatest capacity
 abbrev pub draw : (input layout output : Word) → Course

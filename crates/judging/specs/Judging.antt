@@ -11,16 +11,18 @@ use Rattle.readings.specs.Input.{opened}
 use Rattle.readings.specs.Judging.{judged}
 
 -- the offsets are a layout at the capacity, and this is told
-abbrev pub TellsRight : Instance → (capacity : ℕ) → List ℕ → Outcome → Type 0
-TellsRight I capacity offsets o = IsLayout I capacity offsets × (o ≡ says Right)
+pub record TellsRight (I : Instance) (capacity : ℕ) (offsets : List ℕ) (o : Outcome) : Type 0 where
+  pub layout : IsLayout I capacity offsets
+  pub told : o ≡ says Right
 
 -- how `verify` goes: the layout is judged at the capacity, in bytes
 abbrev pub verify : (capacity : ℕ) (input layout : Word) → Course
 verify capacity input layout =
     opened input (λ table I. judged layout table I capacity (λ offsets. Concludes (TellsRight I capacity offsets)))
 
--- the tightest moment of the layout is shown
+-- the offsets are a layout at the greatest capacity, and its tightest moment is shown
 pub record ShowsLayout (table : List Record) (I : Instance) (offsets : List ℕ) (o : Outcome) : Type 0 where
+  pub layout : IsLayout I (2 ^ 60) offsets
   pub text : List ℕ
   pub its_text : IsReportOf table I offsets text
   pub shown : o ≡ shows text

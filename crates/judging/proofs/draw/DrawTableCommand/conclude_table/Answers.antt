@@ -34,7 +34,7 @@ returns-in-Layout-clause-comes g c =
     (with_layout before after words.layout.now table found.instance (2 ^ 60) offsets
     (λ offsets. Concludes (Draws words.output.now table found.instance offsets)) found.judged
     (drawing words.output.now table found.instance offsets)
-    (tt, ((layout_exactly found.instance (2 ^ 60) offsets).0 found.judged.legal, refl)))
+    (tt, record { layout = (layout_exactly found.instance (2 ^ 60) offsets).0 found.judged.legal; drawn = refl }))
 
 pub returns-in-NoLayout-clause-comes : goal.returns-in-NoLayout-clause-comes
 returns-in-NoLayout-clause-comes g c =

@@ -36,6 +36,7 @@ returns-in_ok-text-in-Layout-clause-comes g c =
           found.judged (shows text) (
             tt,
             record {
+              layout = (layout_exactly found.instance (2 ^ 60) c.in-Layout.offsets.items).0 found.judged.legal;
               text = text;
               its_text = rw c.as_slice.ensures.value at
                   (c.in_ok-text-in-Layout.ensures.text found.instance found.parsed);

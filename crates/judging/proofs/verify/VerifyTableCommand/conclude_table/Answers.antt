@@ -22,7 +22,7 @@ returns-clause-comes g c =
     c.silent-2.ensures
     (with_layout before after words.layout.now table found.instance words.capacity offsets
     (λ offsets. Concludes (TellsRight found.instance words.capacity offsets)) found.judged (says status.Right)
-    (tt, ((layout_exactly found.instance words.capacity offsets).0 found.judged.legal, refl)))
+    (tt, record { layout = (layout_exactly found.instance words.capacity offsets).0 found.judged.legal; told = refl }))
 
 pub returns-in-NoLayout-clause-comes : goal.returns-in-NoLayout-clause-comes
 returns-in-NoLayout-clause-comes g c =
