@@ -138,7 +138,8 @@ fn execute<F: Files, S: Sink>(alloc: Global, words: &[String], files: &mut F, ou
 /// and Johnson.
 pub fn run<F: Files, S: Sink>(alloc: Global, words: &[String], files: &mut F, out: &mut S) -> Status
     // The words go as their command goes, or their first fault is told: what is read, concluded,
-    // written and printed, in that order, and what is left where one of these fails.
+    // written and printed, in that order, and what is left where one of these fails. What a verdict
+    // means is part of it: the laws `judged` and `derived` tell it.
     ensures answer { Answers (course (map string_bytes words.now))
         (F.seen files.old) (F.seen files.new) (S.seen out.old) (S.seen out.new) result }
 
