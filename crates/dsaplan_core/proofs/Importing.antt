@@ -40,6 +40,7 @@ module _ (words : List Word) (old new : FilesSeen) (pairs : List Pair)
           trace = trace;
           read = read;
           its_count = refl;
+          each = told.0.each;
           parsed = told.0.parsed;
           traced = told.0.traced;
           files = files;

@@ -1,6 +1,7 @@
 -- What is promised of the files that are derived: 'classes' writes a plan by size class, 'core' an irreducible set of
 -- buffers that do not fit, 'imported' the instance of the trace, and 'unrolled' that of one period.
 use Rattle.std.specs.Prelude.{◌≡◌, ℕ, List, [], ◌∷◌, length, Some, Ok, Err}
+use Rattle.std.specs.List.{count_by}
 use Rattle.dsa_terms.specs.Buffers.{Instance}
 use Rattle.dsa_terms.specs.Layouts.{IsFeasible}
 use Rattle.dsa_terms.specs.Logs.{Log}
@@ -14,7 +15,7 @@ use Rattle.size_classes.specs.Plans.{class_height, class_plan}
 use Rattle.cyclic_plan.specs.Unrolled.{IsUnrolled, unrolled_of, unrolled_text}
 use Rattle.trace_import.specs.Faults.{trace_of}
 use Rattle.trace_import.specs.ImportText.{import_text}
-use Rattle.trace_import.specs.Traces.{IsTraced, Trace, imported}
+use Rattle.trace_import.specs.Traces.{IsTraced, Trace, imported, is_alloc}
 use Rattle.command_words.specs.Options.{Word}
 use Rattle.command_words.specs.Pairs.{Pair, number_at, word_at}
 use Rattle.command_words.specs.Requests.{request_of}
@@ -38,13 +39,14 @@ pub record AskedOf (words : List Word) (old : FilesSeen) (command : Verb) (file 
   pub words_ask : request_of words ≡ Ok (record { verb = command; pairs = pairs })
   pub whole : IsWholeFile old (word_at pairs file) file_limit bytes
 
--- the bytes are this trace, and the output holds the text of its instance, which at each moment has just the buffers
--- that the trace holds after that line
+-- the bytes are this trace, and the output holds the text of its instance, which has a buffer for each line that
+-- allocates, and at each moment just the buffers that the trace holds after that line
 pub record HoldsImport {words : List Word} {old : FilesSeen} (a : AskedOf words old verb.Import option.Trace)
     (new : FilesSeen) (count : ℕ) : Type 0 where
   pub trace : Trace
   pub read : trace_of a.bytes ≡ Ok trace
   pub its_count : length (imported trace) ≡ count
+  pub each : length (imported trace) ≡ count_by is_alloc trace
   pub parsed : parse (table_of (import_text trace)) ≡ Ok (imported trace)
   pub traced : IsTraced trace (imported trace)
   pub files : new.held ≡ with_file old.held (word_at a.pairs option.Output) (import_text trace)

@@ -42,7 +42,8 @@ pub fn judged()
 {}
 
 /// 'classes' writes a plan by size class, 'core' an irreducible set of buffers that do not fit,
-/// 'imported' the instance of the trace, and 'unrolled' that of one period.
+/// 'imported' the instance of the trace, and 'unrolled' that of one period. 'not plain', 'no core',
+/// 'trace' and 'cycle' come only where they are true.
 pub fn derived()
     ensures { (words : List Word) (old new : FilesSeen) (before after : SinkSeen) (s : Status) →
         Answers (course words) old new before after s → Derived words old new s }
