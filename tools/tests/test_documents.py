@@ -1,4 +1,4 @@
-"""The documents name the commands that there are, and their links lead somewhere."""
+"""The documents name the commands that there are, their links lead somewhere, and edits fit the code."""
 
 import glob
 import os
@@ -65,6 +65,19 @@ class Documents(unittest.TestCase):
                 self.assertIsNotNone(read, "a heading, what it is for, a table of its calls, and nothing else")
                 self.assertEqual(read[1], os.path.basename(os.path.dirname(page)))
                 self.assertLessEqual(len(re.findall(r"[.?!]\s", read[2])), 5, "sentences")
+
+    def test_each_edit_fits_its_crate_and_has_a_row(self):
+        for name in found("crates/*/must-fail/*.edit") + found("bench/edits/*/*.edit"):
+            folder, edit = os.path.split(name)
+            crate = os.path.basename(folder.removesuffix("/must-fail"))
+            file, text = "", text_of(name)
+            for key, value in re.findall(r"(?m)^(file|old|new): ?(.*)$", text):
+                file = value if key == "file" else file
+                with self.subTest(edit=name, key=key, value=value):
+                    self.assertTrue(key != "old" or text_of(f"crates/{crate}/{file}").count(value) == 1)
+            with self.subTest(edit=name):
+                self.assertRegex(text, r"(?m)^file: .*\nold: .+\nnew:")
+                self.assertEqual(text_of(f"{folder}/README.md").count(f"| `{edit.removesuffix('.edit')}` |"), 1)
 
     def test_the_log_that_is_explained_is_the_one_of_the_row(self):
         log = text_of("rows/a_log_that_is_explained/before/l").splitlines()
