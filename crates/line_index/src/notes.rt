@@ -1,7 +1,8 @@
 //! A number of a buffer for each line of a log.
 
-ghost use Rattle.std.specs.Prelude.{◌≡◌, ◌≤◌, ℕ, [], OnOk, Some, length, slice_get, slice_set};
+ghost use Rattle.std.specs.Prelude.{◌≡◌, ◌≤◌, ℕ, [], OnOk, Some, true, length, slice_get, slice_index, slice_set};
 
+use crate::levels::level_at;
 use dsa_model::NoMemory;
 use std::alloc::Global;
 use std::marker::Model;
@@ -63,5 +64,16 @@ impl Notes {
         if k < self.buffers.len() {
             self.buffers[k] = b;
         }
+    }
+}
+
+/// Yes only where the line of that number has a note, of a buffer that has no level.
+pub(crate) fn is_passed(notes: &Notes, k: u64, levels: &[u64]) -> bool
+    ensures { result ≡ true →
+        (b : ℕ) × (slice_get notes.now k ≡ Some b) × (slice_index levels.now b ≡ 0) }
+{
+    match notes.get(k) {
+        Some(b) => level_at(levels, b as usize) == 0,
+        None => false,
     }
 }

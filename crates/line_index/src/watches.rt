@@ -14,7 +14,7 @@ ghost use Rattle.line_index.specs.Watching.{AreMoved, AreOwnMoved, FailAt, Fails
 
 use crate::levels::level_at;
 use crate::look::{Look, look_at};
-use crate::notes::Notes;
+use crate::notes::{Notes, is_passed};
 use crate::watch_table::WatchTable;
 use canonical_order::Claim;
 use dsa_model::NoMemory;
@@ -97,17 +97,6 @@ fn note_at(
             }
             Ok(Some(b))
         }
-    }
-}
-
-/// Yes only where the line of that number has a note, of a buffer that has no level.
-fn is_passed(notes: &Notes, k: u64, levels: &[u64]) -> bool
-    ensures { result ≡ true →
-        (b : ℕ) × (slice_get notes.now k ≡ Some b) × (slice_index levels.now b ≡ 0) }
-{
-    match notes.get(k) {
-        Some(b) => level_at(levels, b as usize) == 0,
-        None => false,
     }
 }
 
