@@ -21,8 +21,6 @@ mod sound_files;
 mod sound_sink;
 mod std_sink;
 mod store;
-#[cfg(test)]
-mod tests;
 mod transfer;
 
 pub use disk_files::DiskFiles;

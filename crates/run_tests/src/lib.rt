@@ -1,5 +1,5 @@
 //! Tests of `run` over files and sinks in memory: what is written, what is printed, and what fails
-//! outside.
+//! outside; and of those files and sinks, and the real ones.
 #![tactic(auto)]
 
 #[cfg(test)]
@@ -10,5 +10,7 @@ mod deciding_tests;
 mod fault_tests;
 #[cfg(test)]
 mod judging_tests;
+#[cfg(test)]
+mod outside_tests;
 #[cfg(test)]
 mod texts;
