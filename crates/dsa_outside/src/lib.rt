@@ -14,8 +14,6 @@ mod memory_files;
 mod memory_sink;
 mod part;
 mod paths;
-#[cfg(test)]
-mod replaced;
 mod sink;
 mod sound_files;
 mod sound_sink;

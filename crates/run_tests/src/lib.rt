@@ -13,4 +13,6 @@ mod judging_tests;
 #[cfg(test)]
 mod outside_tests;
 #[cfg(test)]
+mod replaced_tests;
+#[cfg(test)]
 mod texts;

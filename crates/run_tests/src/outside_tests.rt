@@ -15,7 +15,7 @@ const FOLDER: &str = "outside_tests";
 const PATH: &str = "outside_tests/file";
 
 /// Makes an empty folder, also where there is one by that name.
-fn make_anew(rt: &HostRuntime, folder: &str) -> io::Result<()> {
+pub(crate) fn make_anew(rt: &HostRuntime, folder: &str) -> io::Result<()> {
     let _ = fs::remove_dir_all(rt, folder);
     fs::create_dir(rt, folder)
 }
