@@ -10,8 +10,6 @@ mod leasts;
 mod lengths;
 mod packing;
 mod planning;
-#[cfg(test)]
-mod tests;
 mod writing;
 
 pub use answers::{Answer, LeastAnswer};

@@ -1,5 +1,5 @@
-//! Tests of the starts, of orders of rows, of the search and what it goes by, of the planner and
-//! the portfolio, and of cores.
+//! Tests of the starts, of orders of rows, of the search and what it goes by, of the planner, also
+//! over arrays, and the portfolio, and of cores.
 #![tactic(auto)]
 
 #[cfg(test)]
@@ -8,6 +8,8 @@ mod conflicts_tests;
 mod core_find_tests;
 #[cfg(test)]
 mod draws;
+#[cfg(test)]
+mod dsa_plan_tests;
 #[cfg(test)]
 mod first_fit_tests;
 #[cfg(test)]
