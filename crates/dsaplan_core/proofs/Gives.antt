@@ -4,6 +4,7 @@ use Rattle.dsa_terms.specs.Buffers.{Instance}
 use Rattle.dsa_terms.specs.Logs.{Log}
 use Rattle.dsa_model.specs.Buffer.{buffer_limit}
 use Rattle.dsa_model.specs.LayoutFaults.{layout_fault}
+use Rattle.dsa_model.proofs.LayoutFaults.{layout_exactly}
 use Rattle.dsa_model.specs.declared.layout.LayoutFault.{LayoutFault}
 use Rattle.dsa_outside.specs.Seen.{FilesSeen}
 use Rattle.csv_instance.specs.Records.{Record, file_limit, table_of}
@@ -77,7 +78,12 @@ module _ (old new : FilesSeen) (P : Outcome → Type 0) where
           (f : Option LayoutFault) → layout_fault I C offsets ≡ f →
           Comes old new (layout_or_fault f (next offsets)) o → P o
       legal offsets read None is comes =
-          given offsets (record { bytes = bytes; whole = whole; parsed = read; legal = is }) o comes
+          given offsets (record {
+            bytes = bytes;
+            whole = whole;
+            parsed = read;
+            layout = (layout_exactly I C offsets).0 is;
+          }) o comes
       legal offsets read (Some fault) is comes = subst P (sym comes.1)
           (wrongly (wrong.Layout fault) (inr (record {
             bytes = bytes;

@@ -1,6 +1,5 @@
 -- What the commands promise that judge a layout file or check a log's file.
 use Rattle.std.proofs.Common.{◌≡◌, ◌^◌, ℕ, List, Ok, refl, sym, subst, inl, inr}
-use Rattle.dsa_terms.specs.Layouts.{IsLayout}
 use Rattle.dsa_terms.specs.Logs.{Log}
 use Rattle.readings.specs.GivenLayouts.{GivesLayout}
 use Rattle.readings.specs.GivenLogs.{HoldsAccepted}
@@ -26,14 +25,13 @@ use Rattle.dsaplan_core.specs.Judged.{GivesLayoutAt, GivesLog}
 
 module _ (words : List Word) (old new : FilesSeen) where
   abbrev gives_layout : (a : Asked words old) (C : ℕ) (offsets : List ℕ) →
-      GivesLayout old (word_at a.pairs option.Layout) a.table a.instance C offsets → IsLayout a.instance C offsets →
-      GivesLayoutAt a C
-  gives_layout a C offsets gives layout = record {
+      GivesLayout old (word_at a.pairs option.Layout) a.table a.instance C offsets → GivesLayoutAt a C
+  gives_layout a C offsets gives = record {
     bytes = gives.bytes;
     offsets = offsets;
     whole = gives.whole;
     parsed = gives.parsed;
-    layout = layout;
+    layout = gives.layout;
   }
 
   gives_log : (a : Asked words old) (log : Log) → HoldsAccepted old (word_at a.pairs option.Log) a.instance log →
@@ -62,7 +60,7 @@ module _ (words : List Word) (old new : FilesSeen) where
         (λ offsets gives o comes. subst (Promises words old new (r verb.Verify)) (sym comes.1.told) (
           λ files.
               let a = asked words old (r verb.Verify) is table I input in
-              ((a, refl, gives_layout a capacity offsets gives comes.1.layout, files), tt, refl, tt),
+              ((a, refl, gives_layout a capacity offsets gives, files), tt, refl, tt),
           tt,
         )))
 
@@ -85,7 +83,7 @@ module _ (words : List Word) (old new : FilesSeen) where
                     a,
                     record {
                       command = refl;
-                      given = gives_layout a (2 ^ 60) offsets gives comes.1.layout;
+                      given = gives_layout a (2 ^ 60) offsets gives;
                       its_text = comes.1.its_text;
                     },
                   )),
@@ -111,7 +109,7 @@ module _ (words : List Word) (old new : FilesSeen) where
                   a,
                   refl,
                   record {
-                    given = gives_layout a (2 ^ 60) offsets gives comes.1.layout;
+                    given = gives_layout a (2 ^ 60) offsets gives;
                     its_count = refl;
                     files = files;
                   },

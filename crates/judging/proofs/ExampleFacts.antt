@@ -7,6 +7,7 @@ use Rattle.dsa_outside.proofs.Lookups.{file_at-with_file, file_at-with_other}
 use Rattle.dsa_terms.specs.Buffers.{Instance, buffer, is_live, some_before}
 use Rattle.dsa_terms.specs.Layouts.{IsLayout}
 use Rattle.lifetime.specs.Runs.{was_live}
+use Rattle.layout_report.specs.Report.{IsReportOf}
 use Rattle.layout_picture.specs.Columns.{columns_of, turns_at}
 use Rattle.layout_picture.specs.Rectangles.{rectangles, rectangles_of, run_end}
 use Rattle.layout_picture.specs.Texts.{picture_text}
@@ -20,11 +21,11 @@ use Rattle.csv_instance.specs.Offsets.{ids_of}
 use Rattle.csv_instance.proofs.FileFacts.{high_file, low_file, two, two_file, two_rows}
 use Rattle.run_status.specs.declared.status.Status.TheVariants as status
 use Rattle.run_status.specs.declared.status.WrongCause.TheVariants as wrong
-use Rattle.run_course.specs.Course.{Comes, Concludes, Course, Outcome, says, writes}
+use Rattle.run_course.specs.Course.{Comes, Concludes, Course, Outcome, says, shows, writes}
 use Rattle.run_status.specs.declared.status.Role.TheVariants as role
 use Rattle.readings.specs.Judging.{judged}
 use Rattle.readings.proofs.ExampleFacts.{apart_at_8, judges_layout, judges_overlap, opens_two, overlap_at_4, overlaps}
-use Rattle.judging.specs.Judging.{TellsRight, verify}
+use Rattle.judging.specs.Judging.{ShowsLayout, TellsRight, verify}
 use Rattle.judging.specs.Drawing.{Draws, drawing}
 
 -- the input stands in the file i, and the layout in the file a
@@ -72,11 +73,34 @@ overlap_is_not_right o is =
     let none = (layout_exactly two 10 (0 ∷ 2 ∷ [])).1 is.layout in
     let some = overlap_at_4 in cc
 
--- ---- drawing them
+-- ---- showing them
+-- the offsets have the same faults at the greatest capacity
+overlap_at_most : layout_fault two (2 ^ 60) (0 ∷ 2 ∷ []) ≡ Some (layout.Overlap 0 1 4)
+unfolding buffer is_live some_before faults.first_unaligned faults.first_too_low faults.first_above faults.first_overlap
+    faults.overlap_after faults.overlap first_common
+overlap_at_most = refl
+
 apart_at_most : layout_fault two (2 ^ 60) (0 ∷ 4 ∷ []) ≡ None
 unfolding buffer is_live some_before faults.first_unaligned faults.first_too_low faults.first_above faults.first_overlap
     faults.overlap_after faults.overlap first_common
 apart_at_most = refl
+
+a_report_is_shown : (text : List ℕ) → IsReportOf two_rows two (0 ∷ 4 ∷ []) text →
+    ShowsLayout two_rows two (0 ∷ 4 ∷ []) (shows text)
+a_report_is_shown text is = record {
+  layout = (layout_exactly two (2 ^ 60) (0 ∷ 4 ∷ [])).0 apart_at_most;
+  text = text;
+  its_text = is;
+  shown = refl;
+}
+
+-- of offsets that overlap none is
+overlap_is_not_shown : (o : Outcome) → ShowsLayout two_rows two (0 ∷ 2 ∷ []) o → ⊥
+overlap_is_not_shown o is =
+    let none = (layout_exactly two (2 ^ 60) (0 ∷ 2 ∷ [])).1 is.layout in
+    let some = overlap_at_most in cc
+
+-- ---- drawing them
 
 abbrev two_drawn : Outcome
 two_drawn = writes (record {

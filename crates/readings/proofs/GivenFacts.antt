@@ -1,9 +1,8 @@
 -- What reading the files of the two buffers comes to, and of logs.
 use Rattle.std.proofs.Common.{◌≡◌, ℕ, List, [], ◌∷◌, Some, inl, inr, refl, sym, lit≤}
-use Rattle.dsa_terms.specs.Layouts.{IsInfeasible}
-use Rattle.dsa_terms.specs.Logs.{IsAccepted}
 use Rattle.dsa_terms.proofs.Examples.{evens, sample}
 use Rattle.dsa_model.specs.declared.layout.LayoutFault.TheVariants as layout
+use Rattle.dsa_model.proofs.LayoutFaults.{layout_exactly}
 use Rattle.dsa_outside.specs.Held.{IsMissing, file_at}
 use Rattle.dsa_outside.specs.Seen.{FilesSeen}
 use Rattle.csv_instance.specs.declared.fault.InstanceFault.TheVariants as instance
@@ -29,6 +28,7 @@ use Rattle.readings.specs.declared.layout_file.Judged.TheVariants as judged
 use Rattle.readings.specs.declared.log_file.Checked.TheVariants as checked
 use Rattle.readings.proofs.ExampleFacts.{apart_at_8, overlap_at_4}
 use Rattle.readings.proofs.LogFacts.{forged, no_header, too_low}
+use Rattle.readings.proofs.SampleFacts.{none_at_4, sample_is_accepted}
 
 module _ (files : FilesSeen) (name : Word) where
   -- ---- inputs
@@ -61,7 +61,7 @@ module _ (files : FilesSeen) (name : Word) where
     bytes = high_file;
     whole = record { held = λ told. held; short = lit≤ tt };
     parsed = high_offsets;
-    legal = apart_at_8;
+    layout = (layout_exactly two 8 (0 ∷ 4 ∷ [])).0 apart_at_8;
   }
 
   gives_no_offsets : file_at files.held name ≡ Some short_file →
@@ -93,10 +93,14 @@ module _ (files : FilesSeen) (name : Word) where
 
   -- ---- files of logs
   module _ (bytes : List ℕ) (whole : IsWholeFile files name log_limit bytes) where
-    accepts_sample : IsAccepted evens sample → IsInfeasible evens 4 → Says bytes (raw_log_of sample) →
-        ChecksLog files files name evens (checked.Accepted sample)
-    accepts_sample legal none is =
-        record { bytes = bytes; whole = whole; says = is; accepted = legal; infeasible = none }
+    accepts_sample : Says bytes (raw_log_of sample) → ChecksLog files files name evens (checked.Accepted sample)
+    accepts_sample is = record {
+      bytes = bytes;
+      whole = whole;
+      says = is;
+      accepted = sample_is_accepted;
+      infeasible = none_at_4;
+    }
 
     refuses_forged : Says bytes forged → ChecksLog files files name evens
         (checked.Unaccepted (status.LogRefused (cause.Check (check.Illegal 0 reason.NotOver))))

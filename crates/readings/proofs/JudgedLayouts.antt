@@ -1,6 +1,7 @@
 -- From what a layout file comes to, to what a course comes to that judges it.
 use Rattle.std.proofs.Common.{◌≡◌, ◌⊎◌, ℕ, List, Ok, refl, sym, subst, inl, inr, ap}
 use Rattle.dsa_terms.specs.Buffers.{Instance}
+use Rattle.dsa_model.proofs.LayoutFaults.{layout_exactly}
 use Rattle.csv_instance.specs.Records.{Record, file_limit}
 use Rattle.command_words.specs.Options.{Word}
 use Rattle.csv_instance.specs.Parse.{parse}
@@ -50,7 +51,8 @@ with_layout old new name table I C offsets next gives o comes =
       gives.bytes,
       gives.whole,
       subst (λ r. Comes old new (offsets_or_fault r I C next) o) (sym gives.parsed)
-          (subst (λ f. Comes old new (layout_or_fault f (next offsets)) o) (sym gives.legal) comes),
+          (subst (λ f. Comes old new (layout_or_fault f (next offsets)) o)
+          (sym ((layout_exactly I C offsets).1 gives.layout)) comes),
     )
 
 -- the input gives an instance, and then the layout file is judged

@@ -4,5 +4,6 @@ pub mod JudgedLayouts
 pub mod CheckedLogs
 mod Faulty
 pub mod ExampleFacts
+pub mod SampleFacts
 pub mod LogFacts
 mod GivenFacts

@@ -2,8 +2,7 @@
 use Rattle.std.proofs.Common.{◌≡◌, ℕ, List, [], ◌∷◌, Some, refl}
 use Rattle.dsa_terms.specs.Buffers.{buffer, is_live}
 use Rattle.dsa_terms.specs.Claims.{up}
-use Rattle.dsa_terms.specs.Layouts.{IsInfeasible}
-use Rattle.dsa_terms.specs.Logs.{IsAccepted, Log, is_stacked, rounded, rounding}
+use Rattle.dsa_terms.specs.Logs.{Log, is_stacked, rounded, rounding}
 use Rattle.dsa_terms.proofs.Examples.{evens, sample}
 use Rattle.log_check.specs.Faults.{check_fault}
 use Rattle.log_check.specs.declared.fault.CheckFault.TheVariants as check
@@ -19,6 +18,7 @@ use Rattle.run_status.specs.declared.status.LogCause.TheVariants as cause
 use Rattle.run_status.specs.declared.status.Status.TheVariants as status
 use Rattle.run_course.specs.Course.{Outcome, says}
 use Rattle.readings.specs.Checking.{Checks, is_accepted, no_text, not_accepted}
+use Rattle.readings.proofs.SampleFacts.{none_at_4, sample_is_accepted}
 
 -- the first line of the sample log, one byte too low
 abbrev pub forged : RawLog
@@ -35,9 +35,8 @@ no_header = fault.no_header (λ version count capacity rest h. none h.text)
     none e = cc
 
 module _ (bytes : List ℕ) (accepted : Log → Outcome → Type 0) where
-  sample_goes_on : (o : Outcome) → IsAccepted evens sample → IsInfeasible evens 4 → Says bytes (raw_log_of sample) →
-      accepted sample o → Checks evens bytes accepted o
-  sample_goes_on o legal none is has = is_accepted sample is legal none has
+  sample_goes_on : (o : Outcome) → Says bytes (raw_log_of sample) → accepted sample o → Checks evens bytes accepted o
+  sample_goes_on o is has = is_accepted sample is sample_is_accepted none_at_4 has
 
   forged_is_refused : Says bytes forged →
       Checks evens bytes accepted (says (status.LogRefused (cause.Check (check.Illegal 0 reason.NotOver))))

@@ -1,6 +1,7 @@
 -- What a layout file comes to: a layout, or a status that ends the run.
-use Rattle.std.specs.Prelude.{◌≡◌, ◌⊎◌, ℕ, List, Some, None, Ok, Err}
+use Rattle.std.specs.Prelude.{◌≡◌, ◌⊎◌, ℕ, List, Some, Ok, Err}
 use Rattle.dsa_terms.specs.Buffers.{Instance}
+use Rattle.dsa_terms.specs.Layouts.{IsLayout}
 use Rattle.dsa_model.specs.LayoutFaults.{layout_fault}
 use Rattle.dsa_model.specs.declared.layout.LayoutFault.{LayoutFault}
 use Rattle.csv_instance.specs.Records.{Record, file_limit, table_of}
@@ -24,7 +25,7 @@ pub record GivesLayout (files : FilesSeen) (name : Word) (table : List Record) (
   pub bytes : List ℕ
   pub whole : IsWholeFile files name file_limit bytes
   pub parsed : parsed_offsets (ids_of table) (table_of bytes) ≡ Ok offsets
-  pub legal : layout_fault I C offsets ≡ None
+  pub layout : IsLayout I C offsets
 
 -- the file gives no offsets, for its first fault
 pub record GivesNoOffsets (files : FilesSeen) (name : Word) (table : List Record) (s : Status) : Type 0 where

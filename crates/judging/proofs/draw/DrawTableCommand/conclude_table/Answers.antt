@@ -1,6 +1,5 @@
 use Rattle.std.proofs.Common.{◌≡◌, ◌^◌, refl}
 use Rattle.dsa_terms.specs.Buffers.{Instance}
-use Rattle.dsa_model.proofs.LayoutFaults.{layout_exactly}
 use Rattle.run_course.specs.Course.{Concludes, says}
 use Rattle.readings.specs.Judging.{judged}
 use Rattle.readings.proofs.AfterInput.{prepared_for}
@@ -14,8 +13,7 @@ drawing-requires g c = λ J read.
     let found = rw c.in-Layout.is at c.in_ok-offsets.ensures.judged in
     let same : J ≡ found.instance = (let a = read in let b = found.parsed in cc) in
     rw c.as_slice.ensures.value
-    (ends_within_of J found.instance c.in-Layout.offsets.items same
-    ((layout_exactly found.instance (2 ^ 60) c.in-Layout.offsets.items).0 found.judged.legal))
+    (ends_within_of J found.instance c.in-Layout.offsets.items same found.judged.layout)
 
 pub returns-in-Layout-clause-comes : goal.returns-in-Layout-clause-comes
 returns-in-Layout-clause-comes g c =
@@ -34,7 +32,7 @@ returns-in-Layout-clause-comes g c =
     (with_layout before after words.layout.now table found.instance (2 ^ 60) offsets
     (λ offsets. Concludes (Draws words.output.now table found.instance offsets)) found.judged
     (drawing words.output.now table found.instance offsets)
-    (tt, record { layout = (layout_exactly found.instance (2 ^ 60) offsets).0 found.judged.legal; drawn = refl }))
+    (tt, record { layout = found.judged.layout; drawn = refl }))
 
 pub returns-in-NoLayout-clause-comes : goal.returns-in-NoLayout-clause-comes
 returns-in-NoLayout-clause-comes g c =

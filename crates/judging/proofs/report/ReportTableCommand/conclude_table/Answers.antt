@@ -1,5 +1,4 @@
 use Rattle.std.proofs.Common.{◌^◌, refl}
-use Rattle.dsa_model.proofs.LayoutFaults.{layout_exactly}
 use Rattle.run_course.specs.Course.{Concludes, says, shows}
 use Rattle.run_course.proofs.Silently.{comes_by}
 use Rattle.readings.specs.Judging.{judged}
@@ -10,12 +9,8 @@ use Rattle.judging.proofs.report.ReportTableCommand.conclude_table.Goals as goal
 
 pub report-requires : goal.report-requires
 report-requires g c =
-    let found = rw c.in-Layout.is at c.in_ok-offsets.ensures.judged in (
-      found.instance,
-      found.parsed,
-      rw c.as_slice.ensures.value
-          ((layout_exactly found.instance (2 ^ 60) c.in-Layout.offsets.items).0 found.judged.legal),
-    )
+    let found = rw c.in-Layout.is at c.in_ok-offsets.ensures.judged in
+    (found.instance, found.parsed, rw c.as_slice.ensures.value found.judged.layout)
 
 pub returns-in_ok-text-in-Layout-clause-comes : goal.returns-in_ok-text-in-Layout-clause-comes
 returns-in_ok-text-in-Layout-clause-comes g c =
@@ -36,7 +31,7 @@ returns-in_ok-text-in-Layout-clause-comes g c =
           found.judged (shows text) (
             tt,
             record {
-              layout = (layout_exactly found.instance (2 ^ 60) c.in-Layout.offsets.items).0 found.judged.legal;
+              layout = found.judged.layout;
               text = text;
               its_text = rw c.as_slice.ensures.value at
                   (c.in_ok-text-in-Layout.ensures.text found.instance found.parsed);

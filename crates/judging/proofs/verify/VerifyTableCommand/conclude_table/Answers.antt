@@ -1,5 +1,4 @@
 use Rattle.std.proofs.Common.{refl}
-use Rattle.dsa_model.proofs.LayoutFaults.{layout_exactly}
 use Rattle.run_status.specs.declared.status.Status.TheVariants as status
 use Rattle.run_course.specs.Course.{Concludes, says}
 use Rattle.readings.specs.Judging.{judged}
@@ -22,7 +21,7 @@ returns-clause-comes g c =
     c.silent-2.ensures
     (with_layout before after words.layout.now table found.instance words.capacity offsets
     (λ offsets. Concludes (TellsRight found.instance words.capacity offsets)) found.judged (says status.Right)
-    (tt, record { layout = (layout_exactly found.instance words.capacity offsets).0 found.judged.legal; told = refl }))
+    (tt, record { layout = found.judged.layout; told = refl }))
 
 pub returns-in-NoLayout-clause-comes : goal.returns-in-NoLayout-clause-comes
 returns-in-NoLayout-clause-comes g c =
