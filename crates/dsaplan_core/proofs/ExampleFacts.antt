@@ -1,7 +1,10 @@
 -- What words ask for, how they go, and which statuses conclude, accept or refuse.
-use Rattle.std.proofs.Common.{◌≡◌, ◌<◌, ℕ, List, [], ◌∷◌, Option, Some, None, Ok, codes, refl, inl, lit<, lit≤, arith}
+use Rattle.std.proofs.Common.{◌≡◌, ◌<◌, ℕ, List, [], ◌∷◌, length, Option, Some, None, Ok, ap, codes, refl, inl, lit<, lit≤, arith}
 use Rattle.dsa_terms.specs.Buffers.{Instance}
-use Rattle.dsa_terms.proofs.Examples.{small_below, two_of_four}
+use Rattle.dsa_terms.specs.Logs.{Log}
+use Rattle.dsa_terms.proofs.Examples.{sample, small_below, two_of_four}
+use Rattle.dsa_trim_laws.proofs.ExampleFacts.{sample_is_trim, with_extra}
+use Rattle.dsa_trim_laws.proofs.Trims.{one_trim}
 use Rattle.csv_instance.specs.declared.fault.InstanceFault.TheVariants as instance
 use Rattle.cyclic_plan.specs.declared.fault.CycleFault.TheVariants as cycle
 use Rattle.csv_instance.proofs.FileFacts.{two, two_rows}
@@ -14,6 +17,7 @@ use Rattle.size_classes.specs.Plain.{first_rough}
 use Rattle.command_words.specs.Pairs.{Pair, number_given, pairs_of}
 use Rattle.command_words.specs.Requests.{request_of}
 use Rattle.command_words.specs.declared.option.OptionName.TheVariants as option
+use Rattle.command_words.specs.declared.verb.Verb.{Verb}
 use Rattle.command_words.specs.declared.verb.Verb.TheVariants as verb
 use Rattle.command_words.specs.declared.fault.UsageFault.TheVariants as usage
 use Rattle.run_status.specs.declared.status.Status.TheVariants as status
@@ -32,7 +36,7 @@ use Rattle.packing.specs.Packing.{AreEnds, pack}
 use Rattle.explaining.proofs.ExampleFacts.{laid_at_8, none_at_7}
 use Rattle.planning.proofs.ExampleFacts.{one, one_plain}
 use Rattle.dsaplan_core.specs.Courses.{course}
-use Rattle.dsaplan_core.specs.Complete.{IsAcceptedAt, limit_of}
+use Rattle.dsaplan_core.specs.Complete.{IsAcceptance, limit_of}
 use Rattle.dsaplan_core.specs.Conclusions.{IsConclusion, MayStayOpen}
 use Rattle.dsaplan_core.specs.Causes.{IsChecking, IsJudgedAt}
 use Rattle.dsaplan_core.specs.Theorem.{Decides, ReadsInstance, SeeksLeast}
@@ -161,14 +165,34 @@ a_trace_is_named : option_of_role role.Trace ≡ option.Trace
 a_trace_is_named = refl
 
 -- ---- statuses
-accepted_at_its_own : IsAcceptedAt 3 (status.Accepted 3)
+accepted_at_its_own : IsAcceptance verb.Refute sample (status.Accepted 4)
 accepted_at_its_own = refl
 
-accepted_at_no_other : IsAcceptedAt 3 (status.Accepted 2) → ⊥
+accepted_at_no_other : IsAcceptance verb.Refute sample (status.Accepted 3) → ⊥
 accepted_at_no_other e = omega (arith, e)
 
-refused_is_not_accepted : IsAcceptedAt 3 (status.LogRefused (refused.Text text.NotLog)) → ⊥
-refused_is_not_accepted h = h
+refused_is_not_accepted : (v : Verb) → IsAcceptance v sample (status.LogRefused (refused.Text text.NotLog)) → ⊥
+refused_is_not_accepted verb.Refute h = h
+refused_is_not_accepted v h = h
+
+-- its sixth line is needless
+trimmed_to_five : IsAcceptance verb.Trim with_extra (status.Trimmed 6 5)
+trimmed_to_five = (refl, (sample, sample_is_trim, refl))
+
+not_trimmed_of_five : IsAcceptance verb.Trim with_extra (status.Trimmed 5 5) → ⊥
+not_trimmed_of_five h = let e : 5 ≡ 6 = h.0 in omega (arith, e)
+
+not_trimmed_to_six : IsAcceptance verb.Trim with_extra (status.Trimmed 6 6) → ⊥
+not_trimmed_to_six h =
+    let e : 6 ≡ length h.1.0.lines = h.1.2 in
+    let same = ap (λ (log : Log). length log.lines) (one_trim with_extra h.1.0 sample h.1.1 sample_is_trim) in
+    omega (arith, e, same)
+
+upgraded_whole : IsAcceptance verb.Upgrade sample (status.Upgraded 5)
+upgraded_whole = refl
+
+upgrade_accepts_with_no_capacity : IsAcceptance verb.Upgrade sample (status.Accepted 4) → ⊥
+upgrade_accepts_with_no_capacity h = h
 
 misused_for_its_fault : IsMisuse usage.NoCommand (status.Usage usage.NoCommand)
 misused_for_its_fault = refl

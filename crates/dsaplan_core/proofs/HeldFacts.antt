@@ -1,11 +1,14 @@
 -- What statuses promise of files, on an input of two buffers that are both live at 4.
-use Rattle.std.proofs.Common.{◌≡◌, ◌≤◌, ◌∙◌, ◌++◌, ℕ, List, [], ◌∷◌, length, None, Some, codes, Result, refl, sym, ap, subst, inl, inr, lit<, lit≤, arith}
+use Rattle.std.proofs.Common.{◌≡◌, ◌≤◌, ◌∙◌, ◌++◌, ℕ, List, [], ◌∷◌, length, None, Some, Ok, codes, Result, refl, sym, ap, subst, inl, inr, lit<, lit≤, arith}
 use Rattle.std.specs.FinMap.{empty, insert}
 use Rattle.dsa_terms.specs.Buffers.{Instance}
 use Rattle.dsa_terms.specs.Claims.{IsIn}
 use Rattle.column_report.specs.Report.{inspect_text}
 use Rattle.column_report.proofs.ExampleFacts.{two_told}
 use Rattle.dsa_terms.specs.Logs.{Log, Over}
+use Rattle.dsa_terms.proofs.Examples.{evens, sample}
+use Rattle.log_text.specs.Text.{log_text}
+use Rattle.readings.proofs.SampleFacts.{sample_is_accepted, sample_reads_back}
 use Rattle.csv_instance.specs.Layout.{layout_text}
 use Rattle.csv_instance.specs.Parse.{parse}
 use Rattle.csv_instance.specs.Records.{table_of}
@@ -35,7 +38,7 @@ use Rattle.dsaplan_core.specs.Causes.{AreNoCommand, AskTooMany, RefusesInput}
 use Rattle.dsaplan_core.specs.Choice.{Choice}
 use Rattle.dsaplan_core.specs.Courses.{ConcludesWith, IsAnswer}
 use Rattle.dsaplan_core.specs.Derived.{Derived}
-use Rattle.dsaplan_core.specs.Complete.{IsConcluded, IsReady, IsUndisturbed, limit_of}
+use Rattle.dsaplan_core.specs.Complete.{HoldsLog, HoldsNoInstance, IsConcluded, IsMalformedFor, IsReady, IsUndisturbed, limit_of}
 use Rattle.dsaplan_core.specs.Lost.{LosesFile, MissesFile}
 use Rattle.dsaplan_core.specs.Shown.{Tells}
 use Rattle.dsaplan_core.specs.Theorem.{Asked, Headline, HoldsLayout, HoldsRefutation}
@@ -168,6 +171,27 @@ refused_input = record {
   files = refl;
 }
 
+no_instance : HoldsNoInstance instance.NoHeader empty_input (codes "i")
+no_instance = record {
+  file = record { bytes = []; held = file_at-with_file (Some empty) (codes "i") [] refl; short = lit≤ tt };
+  refused = no_bytes;
+}
+
+the_two_are_one : (fault : InstanceFault) → HoldsNoInstance fault (told input_alone) (codes "i") → ⊥
+the_two_are_one fault h =
+    let held : file_at (Some input_alone) (codes "i") ≡ Some h.file.bytes = h.file.held in
+    let same : two_file ≡ h.file.bytes = (let a = reads_input in cc) in
+    let good : parse (table_of h.file.bytes) ≡ Ok two =
+    subst (λ (bytes : List ℕ). parse (table_of bytes) ≡ Ok two) same in_parse in
+    let bad = h.refused in
+    absurd cc
+
+malformed_for_its_fault : IsMalformedFor instance.NoHeader (status.Malformed instance.NoHeader)
+malformed_for_its_fault = refl
+
+malformed_for_no_other : IsMalformedFor instance.NoHeader (status.Malformed instance.MarkedHeader) → ⊥
+malformed_for_no_other e = absurd cc
+
 refused_count : (files : FilesSeen) → AskTooMany (codes "trial" ∷ trial_values (codes "4097")) files files 4097
 refused_count files = record {
   pairs = pairs_of (trial_values (codes "4097"));
@@ -207,6 +231,15 @@ quiet = record { content = Some []; faults = 0 }
 
 undisturbed : IsUndisturbed bounds_request (told input_alone) (told input_alone) quiet quiet
 undisturbed = record { files = λ name among rose. omega (arith, rose); sink = λ rose. omega (arith, rose) }
+
+-- ---- a log's file that says the sample log
+holds_sample : HoldsLog evens sample (told (insert empty (codes "l") (log_text sample))) (codes "l")
+holds_sample = record {
+  bytes = log_text sample;
+  held = file_at-with_file (Some empty) (codes "l") (log_text sample) refl;
+  says = inl sample_reads_back;
+  accepted = sample_is_accepted;
+}
 
 -- ---- what concludes a command
 abbrev inspect_request : Request

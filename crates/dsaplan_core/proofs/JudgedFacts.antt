@@ -8,11 +8,19 @@ use Rattle.dsa_outside.proofs.Lookups.{file_at-with_file, file_at-with_other}
 use Rattle.csv_instance.specs.Offsets.{ids_of, parsed_offsets}
 use Rattle.csv_instance.specs.Records.{table_of}
 use Rattle.csv_instance.proofs.FileFacts.{high_file, high_offsets, low_file, low_offsets, two, two_file, two_parse, two_reads, two_rows}
+use Rattle.lifetime.specs.Runs.{was_live}
+use Rattle.layout_picture.specs.Columns.{columns_of, turns_at}
+use Rattle.layout_picture.specs.Rectangles.{rectangles, rectangles_of, run_end}
+use Rattle.command_words.specs.Options.{Word}
 use Rattle.command_words.specs.Pairs.{pairs_of}
+use Rattle.command_words.specs.Requests.{Request}
+use Rattle.command_words.specs.declared.verb.Verb.{Verb}
 use Rattle.command_words.specs.declared.verb.Verb.TheVariants as verb
 use Rattle.run_status.specs.declared.status.Status.TheVariants as status
-use Rattle.explaining.proofs.ExampleFacts.{laid_at_8}
+use Rattle.run_status.specs.declared.status.WrongCause.{WrongCause}
+use Rattle.explaining.proofs.ExampleFacts.{laid_at_8, none_at_7}
 use Rattle.dsaplan_core.specs.Theorem.{Asked}
+use Rattle.dsaplan_core.specs.Complete.{HoldsGivenLayout, IsApproval}
 use Rattle.dsaplan_core.specs.Judged.{GivesLayoutAt, Judged}
 use Rattle.dsaplan_core.proofs.WorldFacts.{first_differs, input_alone, reads_input, told, verify_values}
 
@@ -71,3 +79,40 @@ not_right given =
       | inl le ↦ omega (arith, le, low, high)
       | inr le ↦ omega (arith, le, low, high)
     ]
+
+-- ---- a layout file that gives a layout
+abbrev verify_request : Word → Request
+verify_request capacity = record { verb = verb.Verify; pairs = pairs_of (verify_values capacity) }
+
+given_at_8 : HoldsGivenLayout (beside high_file) (verify_request (codes "8")) two 8 (0 ∷ 4 ∷ [])
+given_at_8 = record {
+  table = two_rows;
+  input = (verify_8 high_file).input;
+  bytes = high_file;
+  held = reads_layout high_file;
+  parsed = high_offsets;
+  layout = laid_at_8;
+}
+
+-- at 7 no file gives one
+none_given_at_7 : (file offsets : List ℕ) → HoldsGivenLayout (beside file) (verify_request (codes "7")) two 7 offsets → ⊥
+none_given_at_7 file offsets h = none_at_7 offsets h.layout
+
+-- the commands that judge it each have a status for that, and its picture has two rectangles
+approved_by_verify : IsApproval verb.Verify two (0 ∷ 4 ∷ []) status.Right
+approved_by_verify = tt
+
+approved_by_report : IsApproval verb.Report two (0 ∷ 4 ∷ []) status.Shown
+approved_by_report = tt
+
+approved_by_draw : IsApproval verb.Draw two (0 ∷ 4 ∷ []) (status.Drawn 2)
+unfolding rectangles rectangles_of run_end columns_of turns_at was_live is_live buffer
+approved_by_draw = refl
+
+not_drawn_with_three : IsApproval verb.Draw two (0 ∷ 4 ∷ []) (status.Drawn 3) → ⊥
+unfolding rectangles rectangles_of run_end columns_of turns_at was_live is_live buffer
+not_drawn_with_three e = let same : 3 ≡ 2 = e in omega (arith, same)
+
+wrong_is_no_approval : (v : Verb) (cause : WrongCause) → IsApproval v two (0 ∷ 4 ∷ []) (status.Wrong cause) → ⊥
+wrong_is_no_approval verb.Verify cause h = h
+wrong_is_no_approval v cause h = h

@@ -16,6 +16,8 @@ mod Served
 mod Concluded
 mod Serving
 mod Accepting
+mod Approving
+mod Inputs
 mod Explained
 mod Importing
 mod Unrolling

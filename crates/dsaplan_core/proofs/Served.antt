@@ -24,6 +24,7 @@ use Rattle.run_course.specs.Readings.{HoldsMore, IsUnread, IsWholeFile}
 use Rattle.run_course.specs.Course.{Course, Comes, Outcome, says}
 use Rattle.run_course.specs.Complete.{IsReadable}
 use Rattle.readings.specs.Input.{opened}
+use Rattle.readings.specs.Opens.{IsInput}
 use Rattle.readings.specs.Judging.{judged}
 use Rattle.readings.specs.Checking.{checked}
 use Rattle.readings.specs.GivenLogs.{HoldsAccepted, HoldsNoText, HoldsNoRefutation}
@@ -54,25 +55,27 @@ not_more files name most there more =
     let lengths = ap length same in
     omega (arith, lengths, long, short)
 
-module _ (old new : FilesSeen) (before after : SinkSeen) (I : Instance) (r : Request) (ready : IsReady old r I)
-    (calm : IsUndisturbed r old new before after) where
-  not_unread : (o : OptionName) → IsIn o (reads_of r.verb) → IsUnread old new (word_at r.pairs o) → ⊥
-  not_unread o among (inl rose) = calm.files (word_at r.pairs o) (read_named r o among) rose
-  not_unread o among (inr missing) =
-      let there = ready.files o among in
-      not_missing old.held (word_at r.pairs o) there.bytes there.held missing
+module _ (old new : FilesSeen) (before after : SinkSeen) (r : Request) (calm : IsUndisturbed r old new before after)
+    (o : OptionName) (among : IsIn o (reads_of r.verb)) (there : IsReadable old (word_at r.pairs o) (limit_of o)) where
+  not_unread : IsUnread old new (word_at r.pairs o) → ⊥
+  not_unread (inl rose) = calm.files (word_at r.pairs o) (read_named r o among) rose
+  not_unread (inr missing) = not_missing old.held (word_at r.pairs o) there.bytes there.held missing
 
-  not_long : (o : OptionName) → IsIn o (reads_of r.verb) →
-      (IsSome old.held → HoldsMore old (word_at r.pairs o) (limit_of o)) → ⊥
-  not_long o among long =
-      let there = ready.files o among in
-      not_more old (word_at r.pairs o) (limit_of o) there
+  not_long : (IsSome old.held → HoldsMore old (word_at r.pairs o) (limit_of o)) → ⊥
+  not_long long = not_more old (word_at r.pairs o) (limit_of o) there
       (long (is_told old.held (word_at r.pairs o) there.bytes there.held))
 
-  -- reading a file of the command whole does not fail
+  -- reading a file of the command whole does not fail, where it is readable
+  pub readable_served : (P : Outcome → Type 0) (role : Role) →
+      IfUnreadable old new P role (word_at r.pairs o) (limit_of o)
+  readable_served P role = (λ unread. absurd (not_unread unread), λ long. absurd (not_long long))
+
+module _ (old new : FilesSeen) (before after : SinkSeen) (I : Instance) (r : Request) (ready : IsReady old r I)
+    (calm : IsUndisturbed r old new before after) where
+  -- each file of the command is
   pub served : (P : Outcome → Type 0) (role : Role) (o : OptionName) → IsIn o (reads_of r.verb) →
       IfUnreadable old new P role (word_at r.pairs o) (limit_of o)
-  served P role o among = (λ unread. absurd (not_unread o among unread), λ long. absurd (not_long o among long))
+  served P role o among = readable_served old new before after r calm o among (ready.files o among) P role
 
   -- the bytes of the input are those that are held
   read_as : (among : ReadsInstance r.verb) (bytes : List ℕ) →
@@ -83,18 +86,25 @@ module _ (old new : FilesSeen) (before after : SinkSeen) (I : Instance) (r : Req
       in
       ap (λ b. parse (table_of b)) same ∙ there.parsed
 
-  -- a course that reads the input goes on with this instance
-  pub opened_served : ReadsInstance r.verb → (P : Outcome → Type 0)
-      (next : List Record → Instance → Course) →
-      ((table : List Record) → (o : Outcome) → Comes old new (next table I) o → P o) →
+  -- a course that reads the input goes on with its table and this instance
+  pub opened_read : ReadsInstance r.verb → (P : Outcome → Type 0) (next : List Record → Instance → Course) →
+      ((table : List Record) → IsInput old (word_at r.pairs option.Input) table I →
+      (o : Outcome) → Comes old new (next table I) o → P o) →
       (o : Outcome) → Comes old new (opened (word_at r.pairs option.Input) next) o → P o
-  opened_served among P next given = opened_gives old new P (word_at r.pairs option.Input) next
+  opened_read among P next given = opened_gives old new P (word_at r.pairs option.Input) next
       (served P role.Input option.Input among.0)
       (λ fault bad. absurd (let a = read_as among bad.bytes bad.whole in let b = bad.refused in cc))
       (λ table J input o comes.
       let mine : parse table ≡ Ok I = ap parse input.records ∙ read_as among input.bytes input.whole in
       let same : J ≡ I = (let a = input.parsed in cc) in
-      given table o (subst (λ (K : Instance). Comes old new (next table K) o) same comes))
+      given table (subst (IsInput old (word_at r.pairs option.Input) table) same input) o
+      (subst (λ (K : Instance). Comes old new (next table K) o) same comes))
+
+  -- the same, whatever the table
+  pub opened_served : ReadsInstance r.verb → (P : Outcome → Type 0) (next : List Record → Instance → Course) →
+      ((table : List Record) → (o : Outcome) → Comes old new (next table I) o → P o) →
+      (o : Outcome) → Comes old new (opened (word_at r.pairs option.Input) next) o → P o
+  opened_served among P next given = opened_read among P next (λ table input. given table)
 
   pub judged_served : IsIn option.Layout (reads_of r.verb) → (P : Outcome → Type 0) (table : List Record)
       (C : ℕ) (next : List ℕ → Course) → ((cause : WrongCause) → P (says (status.Wrong cause))) →

@@ -4,6 +4,7 @@ ghost use Rattle.std.specs.Prelude.{◌≡◌, ◌↔◌, ℕ, List, Some, None,
 ghost use Rattle.dsa_terms.specs.Buffers.{Instance};
 ghost use Rattle.dsa_terms.specs.Layouts.{IsLayout};
 ghost use Rattle.dsa_terms.specs.Logs.{Log, IsAccepted};
+ghost use Rattle.csv_instance.specs.declared.fault.InstanceFault.{InstanceFault};
 ghost use Rattle.dsa_outside.specs.Seen.{FilesSeen, SinkSeen};
 ghost use Rattle.dsa_model.specs.Counts.{Rose};
 ghost use Rattle.dsa_model.specs.LayoutFaults.{layout_fault};
@@ -12,10 +13,9 @@ ghost use Rattle.log_text.specs.declared.raw.RawLog.{RawLog};
 ghost use Rattle.log_check.specs.Faults.{check_fault};
 ghost use Rattle.log_check.specs.declared.fault.CheckFault.{CheckFault};
 ghost use Rattle.command_words.specs.Options.{Word};
-ghost use Rattle.command_words.specs.Pairs.{Pair, word_at};
+ghost use Rattle.command_words.specs.Pairs.{word_at};
 ghost use Rattle.command_words.specs.Requests.{Request, request_of};
 ghost use Rattle.command_words.specs.declared.option.OptionName.TheVariants as option;
-ghost use Rattle.command_words.specs.declared.verb.Verb.TheVariants as verb;
 ghost use Rattle.command_words.specs.declared.fault.UsageFault.{UsageFault};
 ghost use Rattle.run_status.specs.Spoken.{IsSpoken};
 ghost use Rattle.run_status.specs.declared.status.Status.{Status};
@@ -23,14 +23,24 @@ ghost use Rattle.run_status.specs.declared.status.Status.TheVariants as status;
 ghost use Rattle.run_status.specs.declared.status.Role.{Role};
 ghost use Rattle.run_course.specs.Answers.{Answers};
 ghost use Rattle.dsaplan_core.specs.Courses.{course};
-ghost use Rattle.dsaplan_core.specs.Complete.{HoldsLog, IsAcceptedAt, IsReady, IsUndisturbed};
+ghost use Rattle.dsaplan_core.specs.Complete.{
+  HoldsGivenLayout,
+  HoldsLog,
+  HoldsNoInstance,
+  IsAcceptance,
+  IsApproval,
+  IsMalformedFor,
+  IsReady,
+  IsUndisturbed,
+};
 ghost use Rattle.dsaplan_core.specs.Conclusions.{IsConclusion};
-ghost use Rattle.dsaplan_core.specs.Causes.{IsCaused};
+ghost use Rattle.dsaplan_core.specs.Causes.{IsCaused, IsChecking, IsJudgedAt};
 ghost use Rattle.dsaplan_core.specs.Derived.{Derived};
 ghost use Rattle.dsaplan_core.specs.Judged.{Judged};
 ghost use Rattle.dsaplan_core.specs.Lost.{HasLongFile, LosesFile, MissesFile};
 ghost use Rattle.dsaplan_core.specs.Refused.{IsMisuse};
 ghost use Rattle.dsaplan_core.specs.Shown.{Shows};
+ghost use Rattle.dsaplan_core.specs.Theorem.{ReadsInstance};
 
 /// 'right' and 'accepted' say of the layout and of the log that were read what 'feasible' and
 /// 'infeasible' say of those that are written, and so do 'drawn', at the greatest capacity,
@@ -58,16 +68,40 @@ pub fn shown()
         Shows words old new before after s }
 {}
 
-/// Where `refute` reads bytes that say an accepted log from a file within its limit, and nothing
-/// outside fails, the log is accepted, unless memory runs out.
+/// Where a command that checks a log's file reads bytes that say an accepted log, its files are
+/// within their limits, and nothing outside fails, the log is accepted, unless memory runs out:
+/// `refute` tells its capacity, `trim` how many lines it has and how many its end needs, and
+/// `upgrade` how many it has.
 pub fn checks()
     ensures { (words : List Word) (old new : FilesSeen) (before after : SinkSeen)
-        (pairs : List Pair) (I : Instance) (log : Log) (s : Status) →
-        request_of words ≡ Ok (record { verb = verb.Refute; pairs = pairs }) →
-        IsReady old (record { verb = verb.Refute; pairs = pairs }) I →
-        IsUndisturbed (record { verb = verb.Refute; pairs = pairs }) old new before after →
-        HoldsLog I log old (word_at pairs option.Log) →
-        Answers (course words) old new before after s → IsAcceptedAt log.capacity s }
+        (request : Request) (I : Instance) (log : Log) (s : Status) →
+        request_of words ≡ Ok request → IsChecking request.verb → IsReady old request I →
+        IsUndisturbed request old new before after →
+        HoldsLog I log old (word_at request.pairs option.Log) →
+        Answers (course words) old new before after s → IsAcceptance request.verb log s }
+{}
+
+/// Where a command that judges a layout file at a capacity reads one whose offsets are a layout at
+/// that capacity, its files are within their limits, and nothing outside fails, the layout is
+/// right, its report shown, or its picture written, unless memory runs out.
+pub fn judges()
+    ensures { (words : List Word) (old new : FilesSeen) (before after : SinkSeen)
+        (request : Request) (I : Instance) (C : ℕ) (offsets : List ℕ) (s : Status) →
+        request_of words ≡ Ok request → IsJudgedAt request.verb request.pairs C →
+        IsReady old request I → IsUndisturbed request old new before after →
+        HoldsGivenLayout old request I C offsets →
+        Answers (course words) old new before after s → IsApproval request.verb I offsets s }
+{}
+
+/// Where a command takes its input as an instance, a file within its limit holds none, and nothing
+/// outside fails, the input is malformed for its first fault, unless memory runs out.
+pub fn malformed()
+    ensures { (words : List Word) (old new : FilesSeen) (before after : SinkSeen)
+        (request : Request) (fault : InstanceFault) (s : Status) →
+        request_of words ≡ Ok request → ReadsInstance request.verb →
+        IsUndisturbed request old new before after →
+        HoldsNoInstance fault old (word_at request.pairs option.Input) →
+        Answers (course words) old new before after s → IsMalformedFor fault s }
 {}
 
 /// Where a command's files are readable, its input is an instance, and nothing outside fails, the

@@ -8,7 +8,7 @@ mod misuse;
 pub use command_words::{OptionName, UsageFault};
 pub use entry::run;
 pub use laws::{
-    causes, check_faults_are_exact, checks, conclusions, derived, judged, layout_faults_are_exact,
-    lost, missed, print_fault, refused, shown,
+    causes, check_faults_are_exact, checks, conclusions, derived, judged, judges,
+    layout_faults_are_exact, lost, malformed, missed, print_fault, refused, shown,
 };
 pub use run_status::{LogCause, Role, Status, WrongCause};

@@ -2,5 +2,5 @@ use Rattle.dsaplan_core.proofs.Accepting.{accepts}
 use Rattle.dsaplan_core.proofs.laws.checks.Goals as goal
 
 pub returns : goal.returns
-returns c = λ words old new before after pairs I log s is ready calm holds.
-    accepts words old new before after pairs I log is ready calm holds s
+returns c = λ words old new before after r I log s is checks ready calm holds.
+    accepts old new before after I log words r is checks ready calm holds s
