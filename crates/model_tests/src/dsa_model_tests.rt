@@ -1,7 +1,7 @@
 //! Worked cases, and each call that takes memory with ample memory.
 
-use crate::made::{Row, with_gaps};
-use dsa_model::{BUFFER_LIMIT, Buffer, BufferFault, Fail, Instance, LayoutFault, height, judge};
+use crate::made::{Row, add, with_gaps};
+use dsa_model::{Buffer, BufferFault, Fail, Instance, LayoutFault, height, judge};
 use std::alloc::Global;
 
 /// The numbers of a buffer, or of none.
@@ -32,28 +32,6 @@ fn refusal(alloc: Global, numbers: &Numbers) -> Option<Fail<BufferFault>> {
         numbers.lowest,
     )
     .err()
-}
-
-/// The lifetime, the size, the alignment, the count of gaps, the lowest and the floor.
-fn numbers_of(buffer: &Buffer) -> [u64; 7] {
-    let (lower, upper) = (buffer.lower(), buffer.upper());
-    let (size, alignment) = (buffer.size(), buffer.alignment());
-    let gaps = buffer.gaps().len() as u64;
-    [
-        lower,
-        upper,
-        size,
-        alignment,
-        gaps,
-        buffer.lowest(),
-        buffer.floor(),
-    ]
-}
-
-#[test]
-fn a_buffer_keeps_what_it_was_given(rt: HostRuntime) {
-    let buffer = Buffer::new(rt.alloc(), 2, 9, 5, 3, &[(4, 6), (3, 5)], 7).expect(&rt, "a buffer");
-    assert_eq!(rt; numbers_of(&buffer), [2, 9, 5, 3, 2, 7, 9]);
 }
 
 /// The numbers of a buffer.
@@ -162,21 +140,10 @@ static GREATEST: Numbers = Numbers {
 #[test]
 fn the_first_fault_of_a_buffer_is_answered(rt: HostRuntime) {
     for (numbers, fault) in &REFUSED {
-        assert_eq!(rt; refusal(rt.alloc(), numbers), Some(Fail::Fault(*fault)));
+        let refused = refusal(rt.alloc(), numbers) == Some(Fail::Fault(*fault));
+        assert!(rt; refused, "{fault:?}");
     }
-    assert_eq!(rt; refusal(rt.alloc(), &GREATEST), None);
-}
-
-/// What is wrong with the offsets of these buffers, of which the first has the gaps.
-fn fault_of(
-    alloc: Global,
-    rows: &[Row],
-    gaps: &[(u64, u64)],
-    capacity: u64,
-    offsets: &[u64],
-) -> Result<Option<LayoutFault>, Fail<BufferFault>> {
-    let instance = with_gaps(alloc, rows, 0, gaps)?;
-    Ok(judge(&instance, capacity, offsets).err())
+    assert!(rt; refusal(rt.alloc(), &GREATEST).is_none());
 }
 
 /// That the first two buffers overlap from moment 4 on.
@@ -193,11 +160,31 @@ const OVERLAP_AT_6: LayoutFault = LayoutFault::Overlap {
     moment: 6,
 };
 
+/// A capacity with offsets of some buffers, and what is wrong with these.
+type Judged = (u64, &'static [u64], Option<LayoutFault>);
+
+/// Whether the offsets of each case are judged so.
+fn are_judged(instance: &Instance, cases: &[Judged]) -> bool {
+    for &(capacity, offsets, want) in cases {
+        if judge(instance, capacity, offsets).err() != want {
+            return false;
+        }
+    }
+    true
+}
+
+/// The same of the buffers, of which the first one has the gaps.
+fn are_judged_of(alloc: Global, rows: &[Row], gaps: &[(u64, u64)], cases: &[Judged]) -> bool {
+    match with_gaps(alloc, rows, 0, gaps) {
+        Ok(instance) => are_judged(&instance, cases),
+        Err(_) => false,
+    }
+}
+
 /// Two buffers that are live together at moment 4.
 static CROSSED: [Row; 2] = [(0, 5, 4, 1), (4, 8, 4, 1)];
 
-/// Capacities and offsets for them, each with what is wrong.
-static CROSSED_OFFSETS: [(u64, &[u64], Option<LayoutFault>); 6] = [
+static CROSSED_OFFSETS: [Judged; 6] = [
     (10, &[0, 2], Some(OVERLAP_AT_4)),
     (8, &[0, 4], None),
     (7, &[0, 4], Some(LayoutFault::Above { buffer: 1 })),
@@ -212,64 +199,48 @@ static CROSSED_OFFSETS: [(u64, &[u64], Option<LayoutFault>); 6] = [
 
 #[test]
 fn two_buffers_that_share_a_moment_must_be_apart(rt: HostRuntime) {
-    for &(capacity, offsets, want) in &CROSSED_OFFSETS {
-        let fault = fault_of(rt.alloc(), &CROSSED, &[], capacity, offsets).expect(&rt, "memory");
-        assert_eq!(rt; fault, want, "at {capacity}");
-    }
+    assert!(rt; are_judged_of(rt.alloc(), &CROSSED, &[], &CROSSED_OFFSETS));
 }
 
 /// The second buffer is live in a gap of the first from 4 to 6.
-const FILLING: &[Row] = &[(0, 10, 4, 1), (4, 6, 4, 1)];
+static FILLING: [Row; 2] = [(0, 10, 4, 1), (4, 6, 4, 1)];
+
+static FILLING_OFFSETS: [Judged; 1] = [(4, &[0, 0], None)];
 
 /// The second buffer is still live after that gap.
-const OVERRUNNING: &[Row] = &[(0, 10, 4, 1), (4, 7, 4, 1)];
+static OVERRUNNING: [Row; 2] = [(0, 10, 4, 1), (4, 7, 4, 1)];
 
-/// Buffers with a capacity and offsets, each with what is wrong.
-static GAP_OFFSETS: [(&[Row], u64, &[u64], Option<LayoutFault>); 3] = [
-    (FILLING, 4, &[0, 0], None),
-    (OVERRUNNING, 4, &[0, 0], Some(OVERLAP_AT_6)),
-    (OVERRUNNING, 8, &[0, 4], None),
-];
+static OVERRUNNING_OFFSETS: [Judged; 2] = [(4, &[0, 0], Some(OVERLAP_AT_6)), (8, &[0, 4], None)];
 
 #[test]
 fn a_gap_lets_two_buffers_share_an_offset(rt: HostRuntime) {
-    for &(rows, capacity, offsets, want) in &GAP_OFFSETS {
-        let fault = fault_of(rt.alloc(), rows, &[(4, 6)], capacity, offsets).expect(&rt, "memory");
-        assert_eq!(rt; fault, want);
-    }
+    let gaps = [(4, 6)];
+    assert!(rt; are_judged_of(rt.alloc(), &FILLING, &gaps, &FILLING_OFFSETS));
+    assert!(rt; are_judged_of(rt.alloc(), &OVERRUNNING, &gaps, &OVERRUNNING_OFFSETS));
 }
 
 /// Two buffers at multiples of six.
 static SIXES: [Row; 2] = [(0, 1, 3, 6), (0, 1, 3, 6)];
 
-/// Capacities and offsets for them, each with what is wrong.
-static SIXES_OFFSETS: [(u64, &[u64], Option<LayoutFault>); 2] = [
+static SIXES_OFFSETS: [Judged; 2] = [
     (2, &[0, 4], Some(LayoutFault::Unaligned { buffer: 1 })),
     (9, &[6, 0], None),
 ];
 
 #[test]
 fn an_alignment_is_kept(rt: HostRuntime) {
-    for &(capacity, offsets, want) in &SIXES_OFFSETS {
-        let fault = fault_of(rt.alloc(), &SIXES, &[], capacity, offsets).expect(&rt, "memory");
-        assert_eq!(rt; fault, want);
-    }
+    assert!(rt; are_judged_of(rt.alloc(), &SIXES, &[], &SIXES_OFFSETS));
 }
 
 /// A buffer of size 4 whose offset is a multiple of 4 and at least 6, and one that may be anywhere.
 fn with_lowest(alloc: Global) -> Result<Instance, Fail<BufferFault>> {
     let mut instance = Instance::new(alloc);
-    for (alignment, lowest) in [(4, 6), (1, 0)] {
-        let buffer = Buffer::new(alloc, 0, 1, 4, alignment, &[], lowest)?;
-        if instance.len() < BUFFER_LIMIT {
-            instance.push(buffer)?;
-        }
-    }
+    add(alloc, &mut instance, (0, 1, 4, 4), &[], 6)?;
+    add(alloc, &mut instance, (0, 1, 4, 1), &[], 0)?;
     Ok(instance)
 }
 
-/// Capacities and offsets for these two, each with what is wrong.
-static LOWEST_OFFSETS: [(u64, &[u64], Option<LayoutFault>); 4] = [
+static LOWEST_OFFSETS: [Judged; 4] = [
     (12, &[8, 0], None),
     (11, &[8, 0], Some(LayoutFault::Above { buffer: 0 })),
     (7, &[4, 8], Some(LayoutFault::TooLow { buffer: 0 })),
@@ -279,27 +250,26 @@ static LOWEST_OFFSETS: [(u64, &[u64], Option<LayoutFault>); 4] = [
 #[test]
 fn a_buffer_stands_at_or_above_its_lowest(rt: HostRuntime) {
     let both = with_lowest(rt.alloc()).expect(&rt, "memory");
-    for &(capacity, offsets, want) in &LOWEST_OFFSETS {
-        assert_eq!(rt;
-            judge(&both, capacity, offsets).err(),
-            want,
-            "at {capacity}"
-        );
-    }
+    assert!(rt; are_judged(&both, &LOWEST_OFFSETS));
 }
 
-/// The second, the first and again the second of two buffers.
-fn chosen(alloc: Global) -> Result<Instance, Fail<BufferFault>> {
-    let both = with_gaps(alloc, &[(0, 5, 4, 1), (5, 8, 6, 2)], 0, &[(1, 2)])?;
+/// How high the second, the first and again the second of two buffers are at 0 and twice at 6.
+fn height_of_some(alloc: Global, both: &Instance) -> Option<u64> {
     if both.len() != 2 {
-        return Err(Fail::NoMemory);
+        return None;
     }
-    Ok(both.some_of(alloc, &[1, 0, 1])?)
+    let some = both.some_of(alloc, &[1, 0, 1]).ok()?;
+    if some.len() != 3 {
+        return None;
+    }
+    Some(height(&some, &[0, 6, 6]))
 }
+
+/// Two buffers, of sizes 4 and 6.
+static BOTH: [Row; 2] = [(0, 5, 4, 1), (5, 8, 6, 2)];
 
 #[test]
 fn some_buffers_are_an_instance_of_their_own(rt: HostRuntime) {
-    let some = chosen(rt.alloc()).expect(&rt, "memory");
-    assert_eq!(rt; some.len(), 3);
-    assert_eq!(rt; height(&some, &[0, 6, 6]), 12);
+    let both = with_gaps(rt.alloc(), &BOTH, 0, &[(1, 2)]).expect(&rt, "memory");
+    assert!(rt; height_of_some(rt.alloc(), &both) == Some(12));
 }

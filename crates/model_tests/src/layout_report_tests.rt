@@ -1,19 +1,28 @@
 //! Reports of worked layouts and of facts, byte for byte.
 
-ghost use Rattle.std.specs.Prelude.{◌≤◌, length};
-
-use csv_instance::read_instance;
+use crate::made::is_text;
+use csv_instance::{Table, read_instance};
 use dsa_model::judge;
 use layout_report::{Facts, bounds_report, report};
 use std::alloc::Global;
 
-/// The report of the offsets, where the text is an instance and they are a layout of it.
-fn report_of(alloc: Global, instance: &[u8], offsets: &[u64]) -> Option<Vec<u8>>
-    requires { length instance.now ≤ 67108864 }
-{
-    let table = read_instance(alloc, instance).ok()?;
-    judge(table.instance(), 1 << 60, offsets).ok()?;
-    report(alloc, &table, offsets).ok()
+/// The report of the offsets, where they are a layout of the table's instance.
+fn report_of(alloc: Global, table: &Table, offsets: &[u64]) -> Option<Vec<u8>> {
+    match judge(table.instance(), 1 << 60, offsets) {
+        Ok(()) => report(alloc, table, offsets).ok(),
+        Err(_) => None,
+    }
+}
+
+/// Whether this is the report of the offsets of the instance file.
+fn is_reported(alloc: Global, text: &[u8], offsets: &[u64], want: &str) -> bool {
+    if text.len() > 67108864 {
+        return false;
+    }
+    match read_instance(alloc, text) {
+        Ok(table) => is_text(report_of(alloc, &table, offsets), want.as_bytes()),
+        Err(_) => false,
+    }
 }
 
 /// Instance files, each with offsets and the report of them.
@@ -37,9 +46,8 @@ static REPORTS: [(&[u8], &[u64], &str); 3] = [
 
 #[test]
 fn a_report_shows_the_peak_with_its_free_ranges(rt: HostRuntime) {
-    for &(instance, offsets, text) in &REPORTS {
-        let report = report_of(rt.alloc(), instance, offsets).expect(&rt, "a report");
-        assert_eq!(rt; report.as_slice(), text.as_bytes());
+    for &(text, offsets, want) in &REPORTS {
+        assert!(rt; is_reported(rt.alloc(), text, offsets, want), "{want}");
     }
 }
 
@@ -71,8 +79,8 @@ static FACTS: [(Facts, &str); 2] = [
 
 #[test]
 fn a_report_has_a_line_for_each_fact(rt: HostRuntime) {
-    for (facts, text) in &FACTS {
-        let report = bounds_report(rt.alloc(), facts).expect(&rt, "memory");
-        assert_eq!(rt; report.as_slice(), text.as_bytes());
+    for (facts, want) in &FACTS {
+        let report = bounds_report(rt.alloc(), facts).ok();
+        assert!(rt; is_text(report, want.as_bytes()), "{want}");
     }
 }

@@ -2,11 +2,10 @@
 
 ghost use Rattle.std.specs.Prelude.{◌<◌, length};
 
-use crate::made::{FIVE, Row, instance_of, with_gaps};
-use dsa_model::{BUFFER_LIMIT, Buffer, BufferFault, Fail, Instance};
+use crate::made::{FIVE, Row, add, instance_of, is_list, with_gaps};
+use dsa_model::{BufferFault, Fail, Instance};
 use lifetime::Sections;
 use std::alloc::{AllocError, Global};
-use std::test;
 
 /// The start and the members of each section, with 99 behind each section.
 fn listed(alloc: Global, sections: &Sections) -> Result<Vec<u64>, AllocError> {
@@ -19,6 +18,22 @@ fn listed(alloc: Global, sections: &Sections) -> Result<Vec<u64>, AllocError> {
         found.push(99)?;
     }
     Ok(found)
+}
+
+/// The sections of the instance as `listed` has them.
+fn sections_listed(alloc: Global, instance: &Instance) -> Option<Vec<u64>> {
+    match Sections::build(alloc, instance) {
+        Ok(sections) => listed(alloc, &sections).ok(),
+        Err(_) => None,
+    }
+}
+
+/// Whether these are the sections of the buffers, of which the first one has the gaps.
+fn has_sections(alloc: Global, rows: &[Row], gaps: &[(u64, u64)], want: &[u64]) -> bool {
+    match with_gaps(alloc, rows, 0, gaps) {
+        Ok(instance) => is_list(sections_listed(alloc, &instance), want),
+        Err(_) => false,
+    }
 }
 
 /// Buffers, the gaps of the first one, and their sections as `listed` has them.
@@ -36,13 +51,10 @@ static SECTIONS: [(&[Row], &[(u64, u64)], &[u64]); 6] = [
 ];
 
 #[test]
-fn a_section_within_a_neighbour_is_left_out(rt: HostRuntime) -> Result<(), test::Fail> {
-    let alloc = rt.alloc();
-    for &(buffers, gaps, want) in &SECTIONS {
-        let sections = Sections::build(alloc, &with_gaps(alloc, buffers, 0, gaps)?)?;
-        assert_eq!(rt; listed(alloc, &sections)?.as_slice(), want);
+fn a_section_within_a_neighbour_is_left_out(rt: HostRuntime) {
+    for &(rows, gaps, want) in &SECTIONS {
+        assert!(rt; has_sections(rt.alloc(), rows, gaps, want), "{want:?}");
     }
-    Ok(())
 }
 
 /// Eight buffers with a gap each, from a made sequence of numbers.
@@ -57,10 +69,8 @@ fn made_instance(alloc: Global, start: u64) -> Result<Instance, Fail<BufferFault
         let from = lower + (seed >> 36) % 6;
         let to = from + 1 + (seed >> 42) % 4;
         let upper = to + 1 + (seed >> 48) % 6;
-        let buffer = Buffer::new(alloc, lower, upper, 1, 1, &[(from, to)], 0)?;
-        if instance.len() < BUFFER_LIMIT {
-            instance.push(buffer)?;
-        }
+        let row = (lower as u32, upper as u32, 1, 1);
+        add(alloc, &mut instance, row, &[(from, to)], 0)?;
     }
     Ok(instance)
 }
@@ -128,35 +138,58 @@ fn listed_bits(alloc: Global, sections: &[(u64, u32)]) -> Result<Vec<u64>, Alloc
     Ok(found)
 }
 
-#[test]
-fn the_order_of_leaving_out_makes_no_difference(rt: HostRuntime) -> Result<(), test::Fail> {
-    let alloc = rt.alloc();
-    for start in 0..20 {
-        let instance = made_instance(alloc, start)?;
-        let sections = Sections::build(alloc, &instance)?;
-        let plain = runs_by_moment(alloc, &instance)?;
-        assert!(rt; (sections.count() as usize) < plain.len());
-        let want = listed_bits(alloc, &thinned_one_by_one(plain))?;
-        assert_eq!(rt; listed(alloc, &sections)?.as_slice(), want.as_slice());
+/// The sections that are left of the runs of the instance, of which some are taken out.
+fn thinned_listed(alloc: Global, instance: &Instance) -> Option<Vec<u64>> {
+    let runs = runs_by_moment(alloc, instance).ok()?;
+    let count = runs.len();
+    let thinned = thinned_one_by_one(runs);
+    if thinned.len() == count {
+        return None;
     }
-    Ok(())
+    listed_bits(alloc, &thinned).ok()
+}
+
+/// Whether the sections of the instance are those that are left of its runs.
+fn has_thinned(alloc: Global, instance: &Instance) -> bool {
+    match thinned_listed(alloc, instance) {
+        Some(want) => is_list(sections_listed(alloc, instance), &want),
+        None => false,
+    }
+}
+
+/// The same of a made instance.
+fn has_thinned_runs(alloc: Global, start: u64) -> bool {
+    match made_instance(alloc, start) {
+        Ok(instance) => has_thinned(alloc, &instance),
+        Err(_) => false,
+    }
 }
 
 #[test]
-fn the_sections_of_a_buffer_are_those_that_have_it(rt: HostRuntime) -> Result<(), test::Fail> {
-    let alloc = rt.alloc();
-    let instance = instance_of(alloc, FIVE)?;
-    let sections = Sections::build(alloc, &instance)?;
-    let mut found: Vec<u32> = Vec::new(alloc);
+fn the_order_of_leaving_out_makes_no_difference(rt: HostRuntime) {
+    for start in 0..20 {
+        assert!(rt; has_thinned_runs(rt.alloc(), start), "from {start}");
+    }
+}
+
+/// The sections of each buffer of the instance, with 99 behind those of each.
+fn listed_by_buffer(alloc: Global, instance: &Instance) -> Option<Vec<u64>> {
+    let sections = Sections::build(alloc, instance).ok()?;
+    let mut found = Vec::new(alloc);
     for b in 0..instance.len() {
         for s in sections.sections_of(b) {
-            found.push(*s)?;
+            found.push(*s as u64).ok()?;
         }
-        found.push(99)?;
+        found.push(99).ok()?;
     }
-    assert_eq!(rt;
-        found.as_slice(),
-        [0, 99, 1, 99, 0, 1, 99, 2, 99, 0, 1, 2, 99].as_slice()
-    );
-    Ok(())
+    Some(found)
+}
+
+/// The sections of each of the five buffers.
+static OF_FIVE: [u64; 13] = [0, 99, 1, 99, 0, 1, 99, 2, 99, 0, 1, 2, 99];
+
+#[test]
+fn the_sections_of_a_buffer_are_those_that_have_it(rt: HostRuntime) {
+    let five = instance_of(rt.alloc(), FIVE).expect(&rt, "memory");
+    assert!(rt; is_list(listed_by_buffer(rt.alloc(), &five), &OF_FIVE));
 }

@@ -1,4 +1,6 @@
-//! Instances for tests.
+//! Instances for tests, and how tests look at what is made of them.
+
+ghost use Rattle.std.specs.Prelude.{◌≤◌, length};
 
 use dsa_model::{BUFFER_LIMIT, Buffer, BufferFault, Fail, Instance};
 use std::alloc::Global;
@@ -38,13 +40,54 @@ pub(crate) fn with_gaps(
         return Err(Fail::NoMemory);
     }
     let mut instance = Instance::new(alloc);
-    for &(lower, upper, size, alignment) in rows {
+    for row in rows {
         let own = if instance.len() == holed { gaps } else { &[] };
-        let (size, alignment) = (size as u64, alignment as u64);
-        let buffer = Buffer::new(alloc, lower as u64, upper as u64, size, alignment, own, 0)?;
-        if instance.len() < BUFFER_LIMIT {
-            instance.push(buffer)?;
-        }
+        add(alloc, &mut instance, *row, own, 0)?;
     }
     Ok(instance)
+}
+
+/// Puts the buffer of the row last, with these gaps and this lowest, where there is room for one
+/// more.
+pub(crate) fn add(
+    alloc: Global,
+    instance: &mut Instance,
+    row: Row,
+    gaps: &[(u64, u64)],
+    lowest: u64,
+) -> Result<(), Fail<BufferFault>>
+    requires { length gaps.now ≤ 64 }
+{
+    let (lower, upper, size, alignment) = row;
+    let (lower, upper) = (lower as u64, upper as u64);
+    let (size, alignment) = (size as u64, alignment as u64);
+    let buffer = Buffer::new(alloc, lower, upper, size, alignment, gaps, lowest)?;
+    if instance.len() < BUFFER_LIMIT {
+        instance.push(buffer)?;
+    }
+    Ok(())
+}
+
+/// Whether a list was made, and is this one.
+pub(crate) fn is_list(made: Option<Vec<u64>>, want: &[u64]) -> bool {
+    match made {
+        Some(list) => list.as_slice() == want,
+        None => false,
+    }
+}
+
+/// Whether a text was made, and is this one.
+pub(crate) fn is_text(made: Option<Vec<u8>>, want: &[u8]) -> bool {
+    match made {
+        Some(text) => text.as_slice() == want,
+        None => false,
+    }
+}
+
+/// Whether a fault's text was made, and is this one, which is empty where there is no fault.
+pub(crate) fn is_told(made: Option<String>, want: &str) -> bool {
+    match made {
+        Some(text) => text.as_str() == want,
+        None => false,
+    }
 }

@@ -2,28 +2,39 @@
 
 use crate::made::{THREE, instance_of};
 use canonical_order::{Claim, View};
+use dsa_model::Instance;
 use prune_rules::{are_alike, dominated, is_below, is_twin, twin_before};
+use std::alloc::Global;
 
-#[test]
-fn a_twin_stands_before_the_second_of_two_alike(rt: HostRuntime) {
-    let alloc = rt.alloc();
-    let three = instance_of(alloc, THREE).expect(&rt, "memory");
-    let claim = Claim::from_pairs(alloc, &[(0, 1), (1, 2), (2, 3)]).expect(&rt, "memory");
-    assert!(rt; three.len() == 3);
-    assert!(rt; claim.out_of_range(3).is_none());
+/// The least buffer that dominates the third, the least twin before the second, whether the second
+/// is below the third, and whether the second is a twin of the first, where the claim has all three.
+fn ruled(alloc: Global, three: &Instance) -> Option<(Option<u32>, Option<u32>, bool, bool)> {
+    let claim = Claim::from_pairs(alloc, &[(0, 1), (1, 2), (2, 3)]).ok()?;
+    if three.len() != 3 {
+        return None;
+    }
     let view = View {
-        instance: &three,
+        instance: three,
         claim: &claim,
     };
-    assert_eq!(rt; dominated(&view, 2), Some(0));
-    assert_eq!(rt; twin_before(&view, 1), Some(0));
-    assert!(rt; is_below(&view, 2, 1));
-    assert!(rt; !is_twin(&view, 0, 1));
+    let twin = twin_before(&view, 1);
+    Some((
+        dominated(&view, 2),
+        twin,
+        is_below(&view, 2, 1),
+        is_twin(&view, 0, 1),
+    ))
+}
+
+/// Whether the first two of three buffers are alike.
+fn has_alike(three: &Instance) -> bool {
+    three.len() == 3 && are_alike(three.buffer(0), three.buffer(1))
 }
 
 #[test]
-fn buffers_that_differ_in_nothing_are_alike(rt: HostRuntime) {
+fn a_twin_stands_before_the_second_of_two_alike(rt: HostRuntime) {
     let three = instance_of(rt.alloc(), THREE).expect(&rt, "memory");
-    assert!(rt; three.len() == 3);
-    assert!(rt; are_alike(three.buffer(0), three.buffer(1)));
+    let want = Some((Some(0), Some(0), true, false));
+    assert!(rt; ruled(rt.alloc(), &three) == want);
+    assert!(rt; has_alike(&three));
 }

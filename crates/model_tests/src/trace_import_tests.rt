@@ -1,28 +1,35 @@
 //! Traces, read, refused and written as instances.
 
-ghost use Rattle.std.specs.Prelude.{◌≤◌, length};
-
-use dsa_model::{BUFFER_LIMIT, Fail, NoMemory};
+use crate::made::{is_text, is_told};
+use dsa_model::{BUFFER_LIMIT, Fail};
 use std::alloc::{AllocError, Global};
-use trace_import::{TraceFault, import, read_trace};
+use trace_import::{Trace, import, read_trace};
 
-/// The count of lines, the count of buffers, and the instance's text.
-fn instance_of(alloc: Global, bytes: &[u8]) -> Result<(u32, u32, Vec<u8>), Fail<TraceFault>>
-    requires { length bytes.now ≤ 67108864 }
-{
-    let trace = read_trace(alloc, bytes)?;
-    let text = import(alloc, &trace)?;
-    Ok((trace.lines(), trace.buffers(), text))
+/// Whether the trace has so many lines and buffers, and is written so as an instance.
+fn is_imported(alloc: Global, trace: &Trace, lines: u32, buffers: u32, want: &[u8]) -> bool {
+    trace.lines() == lines && trace.buffers() == buffers && is_text(import(alloc, trace).ok(), want)
+}
+
+/// The same of a text.
+fn is_instance(alloc: Global, bytes: &[u8], lines: u32, buffers: u32, want: &[u8]) -> bool {
+    if bytes.len() > 67108864 {
+        return false;
+    }
+    match read_trace(alloc, bytes) {
+        Ok(trace) => is_imported(alloc, &trace, lines, buffers, want),
+        Err(_) => false,
+    }
 }
 
 /// The text of a trace's fault, or nothing where it has none.
-fn refusal_of(alloc: Global, bytes: &[u8]) -> Result<String, NoMemory>
-    requires { length bytes.now ≤ 67108864 }
-{
-    match read_trace(alloc, bytes) {
-        Ok(_) => Ok(String::new(alloc)),
-        Err(Fail::Fault(fault)) => fault.text(alloc),
-        Err(Fail::NoMemory) => Err(NoMemory),
+fn fault_of(alloc: Global, bytes: &[u8]) -> Option<String> {
+    if bytes.len() > 67108864 {
+        return None;
+    }
+    match read_trace(alloc, bytes).err() {
+        None => Some(String::new(alloc)),
+        Some(Fail::Fault(fault)) => fault.text(alloc).ok(),
+        Some(Fail::NoMemory) => None,
     }
 }
 
@@ -63,20 +70,13 @@ static TRACES: [(&[u8], u32, u32, &[u8]); 4] = [
 #[test]
 fn a_trace_is_written_as_its_instance(rt: HostRuntime) {
     for &(bytes, lines, buffers, want) in &TRACES {
-        if bytes.len() > 100 {
-            panic!(rt; "a longer case");
-        }
-        let (read, counted, text) = instance_of(rt.alloc(), bytes)
-            .ok()
-            .expect(&rt, "an instance");
-        assert_eq!(rt; read, lines);
-        assert_eq!(rt; counted, buffers);
-        assert_eq!(rt; text.as_slice(), want);
+        let met = is_instance(rt.alloc(), bytes, lines, buffers, want);
+        assert!(rt; met, "of {lines} lines");
     }
 }
 
-/// Traces, each with the text of its fault.
-static REFUSED: [(&[u8], &str); 12] = [
+/// Traces, each with the text of its first fault. The last ones have every fault in turn.
+static REFUSED: [(&[u8], &str); 18] = [
     (b"free b\n", "not live 0"),
     (b"alloc a 4 1\nfree a\nfree a\n", "not live 2"),
     (b"alloc a 4 1\nalloc b 8 4\nalloc a 2 1\n", "still live 2 0"),
@@ -92,78 +92,69 @@ static REFUSED: [(&[u8], &str); 12] = [
     (b"alloc a 0 1\n", "bad size 0"),
     (b"alloc a 1099511627777 1\n", "bad size 0"),
     (b"alloc a 1 4294967297\n", "bad alignment 0"),
+    (
+        b"alloc a 1 1\nfree\nalloc b 0 0\nalloc b 1 0\nalloc a 0 1\nalloc a 1 1\nfree b\n",
+        "bad line 1",
+    ),
+    (
+        b"alloc a 1 1\nalloc a 0 0\nalloc a 1 0\nalloc a 1 1\nfree b\nfree\n",
+        "bad size 1",
+    ),
+    (
+        b"alloc a 1 1\nalloc a 1 0\nalloc a 1 1\nfree b\nfree\nalloc a 0 0\n",
+        "bad alignment 1",
+    ),
+    (
+        b"alloc a 1 1\nalloc a 1 1\nfree b\nfree\nalloc a 0 0\nalloc a 1 0\n",
+        "still live 1 0",
+    ),
+    (
+        b"alloc a 1 1\nfree b\nfree\nalloc a 0 0\nalloc a 1 0\nalloc a 1 1\n",
+        "not live 1",
+    ),
+    (b"alloc a 1 1\nfree a\nalloc a 2 1\nfree a\n", ""),
 ];
 
 #[test]
 fn a_trace_is_refused_by_its_first_fault(rt: HostRuntime) {
     for &(bytes, want) in &REFUSED {
-        if bytes.len() > 100 {
-            panic!(rt; "a longer case");
+        assert!(rt; is_told(fault_of(rt.alloc(), bytes), want), "{want}");
+    }
+}
+
+/// The text of the fault of a trace with one buffer more than an instance has.
+fn fault_of_one_more(alloc: Global) -> Option<String> {
+    match allocations(alloc, BUFFER_LIMIT, "free 0\nalloc 0 8 1\n") {
+        Ok(text) => fault_of(alloc, text.as_bytes()),
+        Err(_) => None,
+    }
+}
+
+/// Whether the trace has as many lines and buffers as an instance may have, and is imported.
+fn is_whole(alloc: Global, bytes: &[u8]) -> bool {
+    if bytes.len() > 67108864 {
+        return false;
+    }
+    match read_trace(alloc, bytes) {
+        Ok(trace) => {
+            trace.lines() == BUFFER_LIMIT
+                && trace.buffers() == BUFFER_LIMIT
+                && import(alloc, &trace).is_ok()
         }
-        let text = refusal_of(rt.alloc(), bytes).expect(&rt, "memory");
-        assert_eq!(rt; text.as_str(), want);
+        Err(_) => false,
     }
 }
 
-/// Traces of many faults, each with the text of the first.
-static FAULTS: [(&str, &str); 6] = [
-    (
-        "alloc a 1 1\nfree\nalloc b 0 0\nalloc b 1 0\nalloc a 0 1\nalloc a 1 1\nfree b\n",
-        "bad line 1",
-    ),
-    (
-        "alloc a 1 1\nalloc a 0 0\nalloc a 1 0\nalloc a 1 1\nfree b\nfree\n",
-        "bad size 1",
-    ),
-    (
-        "alloc a 1 1\nalloc a 1 0\nalloc a 1 1\nfree b\nfree\nalloc a 0 0\n",
-        "bad alignment 1",
-    ),
-    (
-        "alloc a 1 1\nalloc a 1 1\nfree b\nfree\nalloc a 0 0\nalloc a 1 0\n",
-        "still live 1 0",
-    ),
-    (
-        "alloc a 1 1\nfree b\nfree\nalloc a 0 0\nalloc a 1 0\nalloc a 1 1\n",
-        "not live 1",
-    ),
-    ("alloc a 1 1\nfree a\nalloc a 2 1\nfree a\n", ""),
-];
-
-#[test]
-fn of_every_fault_in_turn_the_first_is_told(rt: HostRuntime) {
-    for &(trace, want) in &FAULTS {
-        if trace.len() > 100 {
-            panic!(rt; "a longer case");
-        }
-        let text = refusal_of(rt.alloc(), trace.as_bytes()).expect(&rt, "memory");
-        assert_eq!(rt; text.as_str(), want);
+/// The same of a trace that allocates so many.
+fn is_imported_at_the_limit(alloc: Global) -> bool {
+    match allocations(alloc, BUFFER_LIMIT, "") {
+        Ok(text) => is_whole(alloc, text.as_bytes()),
+        Err(_) => false,
     }
-}
-
-/// The refusal of a trace with one buffer more than an instance has.
-fn refusal_of_one_more(alloc: Global) -> Result<String, NoMemory> {
-    let text = allocations(alloc, BUFFER_LIMIT, "free 0\nalloc 0 8 1\n")?;
-    if text.len() > 1000000 {
-        return Err(NoMemory);
-    }
-    refusal_of(alloc, text.as_bytes())
-}
-
-/// How many lines and buffers a trace with as many buffers as an instance has is read to have.
-fn counts_at_the_limit(alloc: Global) -> Result<(u32, u32), Fail<TraceFault>> {
-    let text = allocations(alloc, BUFFER_LIMIT, "")?;
-    if text.len() > 1000000 {
-        return Err(Fail::NoMemory);
-    }
-    let (lines, buffers, _) = instance_of(alloc, text.as_bytes())?;
-    Ok((lines, buffers))
 }
 
 #[test]
 fn there_are_no_more_buffers_than_an_instance_has(rt: HostRuntime) {
-    let counts = counts_at_the_limit(rt.alloc()).ok();
-    assert_eq!(rt; counts, Some((BUFFER_LIMIT, BUFFER_LIMIT)));
-    let refused = refusal_of_one_more(rt.alloc()).expect(&rt, "memory");
-    assert_eq!(rt; refused.as_str(), "too many buffers 4097");
+    assert!(rt; is_imported_at_the_limit(rt.alloc()));
+    assert!(rt; is_told(fault_of_one_more(rt.alloc()), "too many buffers 4097"));
 }
