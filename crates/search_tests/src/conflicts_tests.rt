@@ -49,7 +49,8 @@ fn both(alloc: Global, bound: u64) -> Result<Line, NoMemory>
     })
 }
 
-/// The line of `both` with the fourth buffer beside, which comes first in vain by line 2.
+/// The line of `both` with the bound 1 and the fourth buffer beside, which comes first in vain by
+/// line 2.
 fn both_beside(alloc: Global) -> Result<Line, NoMemory>
     ensures { IfOk result (λ line. IsWithin (line_value line)) }
 {
@@ -77,22 +78,43 @@ fn eased(
     Ok(ease(alloc, instance, log, line)?)
 }
 
-/// The claim and the height of the line of all four at height 10, eased.
-fn eased_over(alloc: Global) -> Option<(Claim, u64)> {
-    let four = instance_of(alloc, FOUR).ok()?;
-    let mut log = Log::new(alloc, &four, 4);
+/// The line of all four at height 10, eased.
+fn eased_over(alloc: Global, four: &Instance) -> Option<Line> {
+    let mut log = Log::new(alloc, four, 4);
     let line = over(alloc, &[(0, 9), (1, 10), (2, 10), (3, 0)], 10, 2).ok()?;
-    match eased(alloc, &four, &mut log, line).ok()? {
-        Line::Over { claim, height, .. } => Some((claim, height)),
-        Line::Cases { .. } => None,
+    eased(alloc, four, &mut log, line).ok()
+}
+
+/// Whether it is a line of the same kind that has the first two from 2 on, at height 2.
+fn is_eased_over(alloc: Global, four: &Instance) -> bool {
+    match eased_over(alloc, four) {
+        Some(Line::Over { claim, height, .. }) => {
+            claim.pairs() == [(0, 2), (1, 2)].as_slice() && height == 2
+        }
+        _ => false,
     }
 }
 
 #[test]
 fn an_over_line_keeps_what_it_stacks_from_its_least_height_on(rt: HostRuntime) {
-    let (claim, height) = eased_over(rt.alloc()).expect(&rt, "a legal line of the same kind");
-    assert_eq!(rt; claim.pairs(), [(0, 2), (1, 2)].as_slice());
-    assert_eq!(rt; height, 2);
+    let four = instance_of(rt.alloc(), FOUR).expect(&rt, "memory");
+    assert!(rt; is_eased_over(rt.alloc(), &four));
+}
+
+/// Appends the line of one buffer from the height on at moment 0, too high for 4.
+fn push_over(
+    alloc: Global,
+    four: &Instance,
+    log: &mut Log,
+    b: u32,
+    height: u64,
+) -> Result<u64, Fail<Reason>>
+    requires height { height ≤ 2 ^ 60 }
+    requires belongs { Belongs four.now log.old }
+    ensures belongs { Belongs four.now log.new }
+{
+    let line = over(alloc, &[(b, height)], height, 1)?;
+    log.push(four, line)
 }
 
 /// The log of lines 0 and 1: the third buffer is too high from 3 on, the second one from 4 on.
@@ -100,48 +122,50 @@ fn log_of_two(alloc: Global, four: &Instance) -> Option<Log>
     ensures { IfSome result (Belongs four.now) }
 {
     let mut log = Log::new(alloc, four, 4);
-    log.push(four, over(alloc, &[(2, 3)], 3, 1).ok()?).ok()?;
-    log.push(four, over(alloc, &[(1, 4)], 4, 1).ok()?).ok()?;
+    push_over(alloc, four, &mut log, 2, 3).ok()?;
+    push_over(alloc, four, &mut log, 1, 4).ok()?;
     Some(log)
 }
 
-/// The line of `both` with the bound 1, and then that with the bound 2, eased.
-fn eased_twice(alloc: Global) -> Option<(Line, Line)> {
-    let four = instance_of(alloc, FOUR).ok()?;
-    let mut log = log_of_two(alloc, &four)?;
-    let least = eased(alloc, &four, &mut log, both(alloc, 1).ok()?).ok()?;
-    let higher = eased(alloc, &four, &mut log, both(alloc, 2).ok()?).ok()?;
-    Some((least, higher))
+/// Whether the line is made, and is eased to bounds of 1.
+fn is_eased(alloc: Global, four: &Instance, log: &mut Log, made: Result<Line, NoMemory>) -> bool
+    requires belongs { Belongs four.now log.old }
+    requires within { IfOk made (λ line. IsWithin (line_value line)) }
+    ensures belongs { Belongs four.now log.new }
+{
+    let Ok(line) = made else {
+        return false;
+    };
+    match eased(alloc, four, log, line) {
+        Ok(line) => line.claim().pairs() == [(1, 1), (2, 1)].as_slice(),
+        Err(_) => false,
+    }
+}
+
+/// Whether the line of `both` with the bound 1, that with the fourth buffer beside and that with
+/// the bound 2 are eased so after lines 0 and 1.
+fn are_eased(alloc: Global, four: &Instance) -> bool {
+    match log_of_two(alloc, four) {
+        Some(mut log) => {
+            is_eased(alloc, four, &mut log, both(alloc, 1))
+                && is_eased(alloc, four, &mut log, both_beside(alloc))
+                && is_eased(alloc, four, &mut log, both(alloc, 2))
+        }
+        None => false,
+    }
 }
 
 #[test]
-fn a_cases_line_has_no_higher_bounds_than_its_cites_need(rt: HostRuntime) {
-    let (least, higher) = eased_twice(rt.alloc()).expect(&rt, "legal lines");
-    assert_eq!(rt; least.claim().pairs(), [(1, 1), (2, 1)].as_slice());
-    assert_eq!(rt; higher.claim().pairs(), [(1, 1), (2, 1)].as_slice());
-}
-
-/// The line of `both_beside`, eased.
-fn eased_beside(alloc: Global) -> Option<Line> {
-    let four = instance_of(alloc, FOUR).ok()?;
-    let mut log = log_of_two(alloc, &four)?;
-    log.push(&four, both(alloc, 1).ok()?).ok()?;
-    eased(alloc, &four, &mut log, both_beside(alloc).ok()?).ok()
-}
-
-#[test]
-fn a_cases_line_drops_a_buffer_that_no_cite_needs(rt: HostRuntime) {
-    let line = eased_beside(rt.alloc()).expect(&rt, "a legal line");
-    assert_eq!(rt; line.claim().pairs(), [(1, 1), (2, 1)].as_slice());
+fn a_cases_line_keeps_no_bound_and_no_buffer_that_no_cite_needs(rt: HostRuntime) {
+    let four = instance_of(rt.alloc(), FOUR).expect(&rt, "memory");
+    assert!(rt; are_eased(rt.alloc(), &four));
 }
 
 /// Lines 0 and 1 of `log_of_two`, and the line of `both`.
 fn lemmas_of_three(alloc: Global, four: &Instance) -> Option<Lemmas>
     ensures { IfSome result (Belongs four.now) }
 {
-    let mut lemmas = Lemmas::new(alloc, Log::new(alloc, four, 4));
-    lemmas.push(four, over(alloc, &[(2, 3)], 3, 1).ok()?).ok()?;
-    lemmas.push(four, over(alloc, &[(1, 4)], 4, 1).ok()?).ok()?;
+    let mut lemmas = Lemmas::new(alloc, log_of_two(alloc, four)?);
     lemmas.push(four, both(alloc, 1).ok()?).ok()?;
     Some(lemmas)
 }
@@ -154,37 +178,34 @@ fn found(instance: &Instance, lemmas: &Lemmas, claim: &Claim) -> Option<u64> {
     }
 }
 
-/// The least line that covers the claim of these pairs.
-fn found_by(
+/// Whether it is this one for the second and the third buffer from these bounds on.
+fn is_found(
     alloc: Global,
     four: &Instance,
     lemmas: &Lemmas,
-    pairs: &[(u32, u64)],
-) -> Option<Option<u64>>
-    requires rises { Rises (buffers_of pairs.now) }
-    requires count { length pairs.now < 2 ^ 32 }
-    requires bounds { IsBoundedBy (2 ^ 60) pairs.now }
+    bounds: (u64, u64),
+    want: Option<u64>,
+) -> bool
+    requires second { bounds.0 ≤ 2 ^ 60 }
+    requires third { bounds.1 ≤ 2 ^ 60 }
 {
-    let claim = Claim::from_pairs(alloc, pairs).ok()?;
-    Some(found(four, lemmas, &claim))
+    match Claim::from_pairs(alloc, &[(1, bounds.0), (2, bounds.1)]) {
+        Ok(claim) => found(four, lemmas, &claim) == want,
+        Err(_) => false,
+    }
 }
 
-/// The least lines that cover four claims.
-fn all_found(alloc: Global, four: &Instance, lemmas: &Lemmas) -> Option<[Option<u64>; 4]> {
-    Some([
-        found_by(alloc, four, lemmas, &[(1, 2), (2, 3)])?,
-        found_by(alloc, four, lemmas, &[(1, 3), (2, 2)])?,
-        found_by(alloc, four, lemmas, &[(1, 1), (2, 1)])?,
-        found_by(alloc, four, lemmas, &[(0, 9), (1, 0), (2, 2)])?,
-    ])
+/// Whether it is so for four claims.
+fn are_found(alloc: Global, four: &Instance, lemmas: &Lemmas) -> bool {
+    is_found(alloc, four, lemmas, (2, 3), Some(0))
+        && is_found(alloc, four, lemmas, (3, 2), Some(1))
+        && is_found(alloc, four, lemmas, (1, 1), Some(2))
+        && is_found(alloc, four, lemmas, (0, 2), None)
 }
 
 #[test]
 fn the_least_covering_line_is_found(rt: HostRuntime) {
     let four = instance_of(rt.alloc(), FOUR).expect(&rt, "memory");
     let lemmas = lemmas_of_three(rt.alloc(), &four).expect(&rt, "legal lines");
-    let numbers = all_found(rt.alloc(), &four, &lemmas).expect(&rt, "memory");
-    assert_eq!(rt; numbers, [Some(0), Some(1), Some(2), None]);
-    assert_eq!(rt; lemmas.log().len(), 3);
-    assert!(rt; lemmas.into_log().close(&four, 0).is_err());
+    assert!(rt; are_found(rt.alloc(), &four, &lemmas));
 }

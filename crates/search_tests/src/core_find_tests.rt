@@ -8,7 +8,7 @@ use crate::instances::{Row, instance_of};
 use crate::numbers::numbers_below;
 use canonical_order::Claim;
 use core_find::{Ask, Asked, Found, find_core};
-use dsa_model::{BufferFault, Fail, Instance, NoMemory, judge};
+use dsa_model::{Instance, NoMemory, judge};
 use refute_log::{ClosedLog, Line, Log};
 use std::alloc::Global;
 
@@ -67,6 +67,16 @@ fn closed_by(
     }
 }
 
+/// What refutes the capacity, where the line of all buffers does.
+fn refuted(alloc: Global, instance: &Instance, capacity: u64) -> Result<ClosedLog, NoMemory>
+    requires limit { capacity ≤ 2 ^ 60 }
+    ensures accepted { IfOk result (IsAccepted instance.now) }
+    ensures at { IfOk result (λ closed. closed.capacity ≡ capacity) }
+{
+    let line = over_all(alloc, instance)?;
+    closed_by(alloc, instance, capacity, line)
+}
+
 impl Ask for Stacker {
     ghost asks = { λ s. s.asks };
 
@@ -81,9 +91,7 @@ impl Ask for Stacker {
         if judge(instance, capacity, &offsets).is_ok() {
             return Ok(Asked::Layout(offsets));
         }
-        let line = over_all(alloc, instance)?;
-        let log = closed_by(alloc, instance, capacity, line)?;
-        Ok(Asked::Refuted(log))
+        Ok(Asked::Refuted(refuted(alloc, instance, capacity)?))
     }
 }
 
@@ -122,21 +130,34 @@ static CASES: [Case; 4] = [
     },
 ];
 
-/// Whether the core has the members, and so often was asked.
-fn is_met(alloc: Global, case: &Case) -> Result<bool, Fail<BufferFault>> {
-    let instance = instance_of(alloc, case.rows)?;
+/// Whether the core has these members, or there is none and all buffers fit.
+fn has_members(found: &Found, members: &[u32]) -> bool {
+    match found {
+        Found::Fits(_offsets) => members.is_empty(),
+        Found::Core(core) => core.members.as_slice() == members,
+    }
+}
+
+/// Whether the core of the instance has the members of the case, and so often was asked.
+fn has_core(alloc: Global, instance: &Instance, case: &Case) -> bool {
     let mut stacker = Stacker { asks: 0 };
-    let met = match find_core(alloc, &instance, case.capacity as u64, &mut stacker)? {
-        Found::Fits(_offsets) => case.members.is_empty(),
-        Found::Core(core) => core.members.as_slice() == case.members,
-    };
-    Ok(met && stacker.asks == case.asks)
+    match find_core(alloc, instance, case.capacity as u64, &mut stacker) {
+        Ok(found) => has_members(&found, case.members) && stacker.asks == case.asks,
+        Err(_) => false,
+    }
+}
+
+/// The same of the buffers of the case.
+fn is_met(alloc: Global, case: &Case) -> bool {
+    match instance_of(alloc, case.rows) {
+        Ok(instance) => has_core(alloc, &instance, case),
+        Err(_) => false,
+    }
 }
 
 #[test]
 fn buffers_are_dropped_in_order_while_the_others_do_not_fit(rt: HostRuntime) {
     for case in &CASES {
-        let met = is_met(rt.alloc(), case).expect(&rt, "memory");
-        assert!(rt; met, "at {}", case.capacity);
+        assert!(rt; is_met(rt.alloc(), case), "at {}", case.capacity);
     }
 }

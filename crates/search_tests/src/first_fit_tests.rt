@@ -1,7 +1,7 @@
 //! Worked instances, and each call that takes memory with ample memory.
 
 use crate::instances::{FIVE, Row, THREE, TWO, instance_of};
-use dsa_model::{BufferFault, Fail};
+use dsa_model::{Instance, NoMemory};
 use first_fit::{Start, best_fit, best_start, first_fit, first_within, starts};
 use std::alloc::Global;
 
@@ -248,46 +248,65 @@ fn are_of(made: &[Start], case: &Case) -> bool {
     best_start(made) == case.best
 }
 
-/// Whether the starts of the buffers are those of the case.
-fn is_met(alloc: Global, case: &Case) -> Result<bool, Fail<BufferFault>> {
-    let instance = instance_of(alloc, case.rows)?;
-    let made = starts(alloc, &instance)?;
-    Ok(are_of(&made, case))
+/// Whether the starts of the instance are those of the case.
+fn has_starts(alloc: Global, instance: &Instance, case: &Case) -> bool {
+    match starts(alloc, instance) {
+        Ok(made) => are_of(&made, case),
+        Err(_) => false,
+    }
+}
+
+/// Whether the case is met.
+fn is_met(alloc: Global, case: &Case) -> bool {
+    match instance_of(alloc, case.rows) {
+        Ok(instance) => has_starts(alloc, &instance, case),
+        Err(_) => false,
+    }
 }
 
 #[test]
 fn the_starts_are_first_fit_and_best_fit_over_three_orders(rt: HostRuntime) {
     for (place, case) in CASES.iter().enumerate() {
-        let met = is_met(rt.alloc(), case).expect(&rt, "memory");
-        assert!(rt; met, "instance {place}");
+        assert!(rt; is_met(rt.alloc(), case), "instance {place}");
     }
+}
+
+/// Whether of starts of which the first is 15 high and the lowest, the fifth, 13, the first one
+/// within a capacity is found.
+fn are_found(made: &[Start]) -> bool {
+    first_within(made, 15) == Some(0)
+        && first_within(made, 14) == Some(4)
+        && first_within(made, 12).is_none()
 }
 
 #[test]
 fn the_first_start_within_a_capacity_is_found(rt: HostRuntime) {
     let instance = instance_of(rt.alloc(), UNLIKE).expect(&rt, "memory");
     let made = starts(rt.alloc(), &instance).expect(&rt, "memory");
-    assert_eq!(rt; first_within(&made, 15), Some(0));
-    assert_eq!(rt; first_within(&made, 14), Some(4));
-    assert_eq!(rt; first_within(&made, 12), None);
+    assert!(rt; are_found(&made));
 }
 
-/// Three buffers, of which the third one, the first one and the second one are placed in turn, by
-/// first-fit and by best-fit.
-fn placed(alloc: Global) -> Result<(Vec<u64>, Vec<u64>), Fail<BufferFault>> {
-    let instance = instance_of(alloc, &[(0, 1, 3, 1), (0, 1, 1, 1), (0, 1, 2, 2)])?;
-    if instance.len() != 3 {
-        return Ok((Vec::new(alloc), Vec::new(alloc)));
+/// Buffers of which the third one, the first one and the second one are placed in turn.
+static IN_TURN: [Row; 3] = [(0, 1, 3, 1), (0, 1, 1, 1), (0, 1, 2, 2)];
+
+/// Whether the offsets were found, and are those of the three in turn.
+fn are_in_turn(found: Result<Vec<u64>, NoMemory>) -> bool {
+    match found {
+        Ok(offsets) => offsets.as_slice() == [2, 5, 0].as_slice(),
+        Err(_) => false,
     }
+}
+
+/// Whether the three are so placed by first-fit and by best-fit.
+fn are_placed(alloc: Global, three: &Instance) -> bool {
     let order = [2, 0, 1];
-    let first = first_fit(alloc, &instance, &order)?;
-    let best = best_fit(alloc, &instance, &order)?;
-    Ok((first, best))
+    three.len() == 3
+        && are_in_turn(first_fit(alloc, three, &order))
+        && are_in_turn(best_fit(alloc, three, &order))
 }
 
 #[test]
 fn the_buffers_are_placed_in_the_given_order(rt: HostRuntime) {
-    let (first, best) = placed(rt.alloc()).expect(&rt, "memory");
-    assert_eq!(rt; first.as_slice(), [2, 5, 0].as_slice());
-    assert_eq!(rt; best.as_slice(), [2, 5, 0].as_slice());
+    let three = instance_of(rt.alloc(), &IN_TURN).expect(&rt, "memory");
+    assert!(rt; are_placed(rt.alloc(), &three));
 }

@@ -37,6 +37,20 @@ pub(crate) fn instance_of(alloc: Global, rows: &[Row]) -> Result<Instance, Fail<
     instance_above(alloc, rows, &[])
 }
 
+/// Puts the buffer of the row last, with this lowest.
+pub(crate) fn add_row(
+    alloc: Global,
+    instance: &mut Instance,
+    row: Row,
+    lowest: u64,
+) -> Result<(), Fail<BufferFault>> {
+    let (lower, upper, size, alignment) = row;
+    let (lower, upper) = (lower as u64, upper as u64);
+    let (size, alignment) = (size as u64, alignment as u64);
+    let buffer = Buffer::new(alloc, lower, upper, size, alignment, &[], lowest)?;
+    Ok(add(instance, buffer)?)
+}
+
 /// The instance of the rows, of which the first may have no offset below these.
 pub(crate) fn instance_above(
     alloc: Global,
@@ -44,23 +58,13 @@ pub(crate) fn instance_above(
     lowest: &[u64],
 ) -> Result<Instance, Fail<BufferFault>> {
     let mut instance = Instance::new(alloc);
-    for (place, &(lower, upper, size, alignment)) in rows.iter().enumerate() {
-        let (lower, upper) = (lower as u64, upper as u64);
-        let lowest = if place < lowest.len() {
+    for (place, row) in rows.iter().enumerate() {
+        let least = if place < lowest.len() {
             lowest[place]
         } else {
             0
         };
-        let buffer = Buffer::new(
-            alloc,
-            lower,
-            upper,
-            size as u64,
-            alignment as u64,
-            &[],
-            lowest,
-        )?;
-        add(&mut instance, buffer)?;
+        add_row(alloc, &mut instance, *row, least)?;
     }
     Ok(instance)
 }

@@ -115,15 +115,24 @@ fn is_of_twelve(instance: &Instance, layout: &[u64]) -> bool
     judge(instance, 12, layout).is_ok() && height(instance, layout) == 12
 }
 
+/// The layout at 12.
+fn laid(alloc: Global, five: &Instance) -> Option<Vec<u64>>
+    ensures { IfSome result (λ layout. IsOfTwelve five.now layout.items) }
+{
+    let layout = [0u64, 0, 4, 0, 8].to_vec(alloc).ok()?;
+    if is_of_twelve(five, &layout) {
+        Some(layout)
+    } else {
+        None
+    }
+}
+
 /// The bracket between the lower end and 12, with the log below the lower end.
 fn start_from(alloc: Global, five: &Instance, low: u64) -> Option<Bracket>
     requires { low ≤ 12 }
     ensures { IfSome result (IsBracket five.now) }
 {
-    let layout = [0u64, 0, 4, 0, 8].to_vec(alloc).ok()?;
-    if !is_of_twelve(five, &layout) {
-        return None;
-    }
+    let layout = laid(alloc, five)?;
     let log = if low == 0 {
         None
     } else {
@@ -137,37 +146,38 @@ fn start_from(alloc: Global, five: &Instance, low: u64) -> Option<Bracket>
     })
 }
 
-/// What is found from there, and how often the decider is spent.
-fn found_from(alloc: Global, low: u64) -> Option<(Least, u64)>
-    requires { low ≤ 12 }
+/// The prepared decider.
+fn decider_of<'a>(alloc: Global, five: &'a Instance) -> Option<Prepared<'a>>
+    ensures { IfSome result (λ decider. decider.subject ≡ five.now) }
 {
-    let five = instance_of(alloc, FIVE).ok()?;
-    let start = start_from(alloc, &five, low)?;
-    let layout = [0u64, 0, 4, 0, 8].to_vec(alloc).ok()?;
-    if !is_of_twelve(&five, &layout) {
-        return None;
-    }
-    let log = log_at(alloc, &five, 11)?;
-    let mut decider = Prepared::new(&five, Answers { layout, log });
-    let found = least(&five, start, &mut decider).ok()?;
-    Some((found, decider.spends()))
+    let layout = laid(alloc, five)?;
+    let log = log_at(alloc, five, 11)?;
+    Some(Prepared::new(five, Answers { layout, log }))
 }
 
-/// Whether the ends have met, the ends, and how often the decider is spent.
-fn told_from(alloc: Global, low: u64) -> Option<(bool, u64, u64, u64)>
+/// Whether the ends have met, and the ends.
+fn ends_of(found: &Least) -> (bool, u64, u64) {
+    match found {
+        Least::Exact(bracket) => (true, bracket.low, bracket.high),
+        Least::Open(bracket) => (false, bracket.low, bracket.high),
+    }
+}
+
+/// The same of what is found from the bracket, and how often the decider is spent.
+fn told_from(alloc: Global, five: &Instance, low: u64) -> Option<(bool, u64, u64, u64)>
     requires { low ≤ 12 }
 {
-    let (found, spends) = found_from(alloc, low)?;
-    match found {
-        Least::Exact(bracket) => Some((true, bracket.low, bracket.high, spends)),
-        Least::Open(bracket) => Some((false, bracket.low, bracket.high, spends)),
-    }
+    let start = start_from(alloc, five, low)?;
+    let mut decider = decider_of(alloc, five)?;
+    let found = least(five, start, &mut decider).ok()?;
+    let (exact, low, high) = ends_of(&found);
+    Some((exact, low, high, decider.spends()))
 }
 
 #[test]
 fn the_least_of_five_buffers_is_decided_once_or_stays_open(rt: HostRuntime) {
-    let alloc = rt.alloc();
-    assert_eq!(rt; told_from(alloc, 12), Some((true, 12, 12, 0)));
-    assert_eq!(rt; told_from(alloc, 11), Some((true, 12, 12, 0)));
-    assert_eq!(rt; told_from(alloc, 0), Some((false, 0, 12, 1)));
+    let five = instance_of(rt.alloc(), FIVE).expect(&rt, "memory");
+    assert!(rt; told_from(rt.alloc(), &five, 12) == Some((true, 12, 12, 0)));
+    assert!(rt; told_from(rt.alloc(), &five, 11) == Some((true, 12, 12, 0)));
+    assert!(rt; told_from(rt.alloc(), &five, 0) == Some((false, 0, 12, 1)));
 }

@@ -1,7 +1,7 @@
 //! Worked instances at chosen capacities, and their least capacities.
 
 use crate::instances::{FIVE, FOURS, Row, THREE, TWO, instance_of};
-use dsa_model::{BufferFault, Fail};
+use dsa_model::Instance;
 use layout_report::Facts;
 use min_capacity::{Bracket, Least};
 use planner::{Decision, facts_of, least_capacity, plan};
@@ -54,55 +54,56 @@ fn is_wanted(decision: &Decision, capacity: u32, want: Want) -> bool {
     }
 }
 
-/// Whether the plan of the buffers at the capacity within the steps is the one that is wanted.
-fn is_planned(
+/// Whether the plan of the instance at the capacity within the steps is the one that is wanted.
+fn has_plan(
     alloc: Global,
-    rows: &[Row],
+    instance: &Instance,
     capacity: u32,
     steps: Option<u64>,
     want: Want,
-) -> Result<bool, Fail<BufferFault>> {
-    let instance = instance_of(alloc, rows)?;
-    let decision = plan(alloc, &instance, capacity as u64, steps)?;
-    Ok(is_wanted(&decision, capacity, want))
+) -> bool {
+    match plan(alloc, instance, capacity as u64, steps) {
+        Ok(decision) => is_wanted(&decision, capacity, want),
+        Err(_) => false,
+    }
 }
 
-static PLANS: [(&[Row], u32, Want); 10] = [
-    (FIVE, 12, Want::Offsets(&[0, 0, 4, 0, 8])),
-    (FIVE, 11, Want::OneLine),
-    (FOURS, 7, Want::Offsets(&[0, 4])),
-    (FOURS, 6, Want::OneLine),
-    (THREE, 5, Want::Offsets(&[2, 4, 0])),
-    (THREE, 4, Want::MoreLines),
-    (TWO, 5, Want::Offsets(&[0, 4])),
-    (TWO, 4, Want::Offsets(&[1, 0])),
-    (TWO, 3, Want::OneLine),
-    (&[], 0, Want::Offsets(&[])),
+/// The same of the buffers.
+fn is_planned(alloc: Global, rows: &[Row], capacity: u32, steps: Option<u64>, want: Want) -> bool {
+    match instance_of(alloc, rows) {
+        Ok(instance) => has_plan(alloc, &instance, capacity, steps, want),
+        Err(_) => false,
+    }
+}
+
+/// Buffers with a capacity, the steps of a search and what is wanted.
+static PLANS: [(&[Row], u32, Option<u64>, Want); 14] = [
+    (FIVE, 12, None, Want::Offsets(&[0, 0, 4, 0, 8])),
+    (FIVE, 11, None, Want::OneLine),
+    (FOURS, 7, None, Want::Offsets(&[0, 4])),
+    (FOURS, 6, None, Want::OneLine),
+    (THREE, 5, None, Want::Offsets(&[2, 4, 0])),
+    (THREE, 4, None, Want::MoreLines),
+    (TWO, 5, None, Want::Offsets(&[0, 4])),
+    (TWO, 4, None, Want::Offsets(&[1, 0])),
+    (TWO, 3, None, Want::OneLine),
+    (&[], 0, None, Want::Offsets(&[])),
+    (TWO, 4, Some(4), Want::Offsets(&[1, 0])),
+    (TWO, 4, Some(0), Want::Open((4, 5, &[0, 4]))),
+    (TWO, 5, Some(0), Want::Offsets(&[0, 4])),
+    (TWO, 3, Some(0), Want::OneLine),
 ];
 
+/// A capacity that needs a search is open without steps.
 #[test]
 fn a_capacity_has_a_start_or_the_layout_of_the_search_or_a_log(rt: HostRuntime) {
-    for &(rows, capacity, want) in &PLANS {
-        let planned = is_planned(rt.alloc(), rows, capacity, None, want).expect(&rt, "memory");
-        assert!(rt; planned, "at {capacity}");
+    for (place, &(rows, capacity, steps, want)) in PLANS.iter().enumerate() {
+        let planned = is_planned(rt.alloc(), rows, capacity, steps, want);
+        assert!(rt; planned, "another plan at {place}");
     }
 }
 
-static WITH_STEPS: [(&[Row], u32, u64, Want); 4] = [
-    (TWO, 4, 4, Want::Offsets(&[1, 0])),
-    (TWO, 4, 0, Want::Open((4, 5, &[0, 4]))),
-    (TWO, 5, 0, Want::Offsets(&[0, 4])),
-    (TWO, 3, 0, Want::OneLine),
-];
-
-#[test]
-fn a_capacity_that_needs_a_search_is_open_without_steps(rt: HostRuntime) {
-    for &(rows, capacity, steps, want) in &WITH_STEPS {
-        let planned = is_planned(rt.alloc(), rows, capacity, Some(steps), want);
-        assert!(rt; planned.expect(&rt, "memory"), "at {capacity}");
-    }
-}
-
+/// Buffers with the steps of a search, and the bracket that it leaves.
 static LEASTS: [(&[Row], Option<u64>, Ends); 11] = [
     (FIVE, None, (12, 12, &[0, 0, 4, 0, 8])),
     (THREE, None, (5, 5, &[2, 4, 0])),
@@ -117,25 +118,35 @@ static LEASTS: [(&[Row], Option<u64>, Ends); 11] = [
     (EIGHTS, Some(8), (19, 20, &[8, 16, 0])),
 ];
 
-/// Whether the bracket of the least capacity within the steps has these ends, and is told to be
-/// open exactly where they differ.
-fn is_found(
-    alloc: Global,
-    rows: &[Row],
-    steps: Option<u64>,
-    ends: Ends,
-) -> Result<bool, Fail<BufferFault>> {
-    let instance = instance_of(alloc, rows)?;
-    match least_capacity(alloc, &instance, steps)? {
-        Least::Exact(bracket) => Ok(ends.0 == ends.1 && has_ends(&bracket, ends)),
-        Least::Open(bracket) => Ok(ends.0 != ends.1 && has_ends(&bracket, ends)),
+/// Whether the least capacity has a bracket with these ends, and is told to be open exactly where
+/// they differ.
+fn is_bracketed(found: &Least, ends: Ends) -> bool {
+    match found {
+        Least::Exact(bracket) => ends.0 == ends.1 && has_ends(bracket, ends),
+        Least::Open(bracket) => ends.0 != ends.1 && has_ends(bracket, ends),
+    }
+}
+
+/// Whether that of the instance within the steps is so.
+fn has_least(alloc: Global, instance: &Instance, steps: Option<u64>, ends: Ends) -> bool {
+    match least_capacity(alloc, instance, steps) {
+        Ok(found) => is_bracketed(&found, ends),
+        Err(_) => false,
+    }
+}
+
+/// The same of the buffers.
+fn is_found(alloc: Global, rows: &[Row], steps: Option<u64>, ends: Ends) -> bool {
+    match instance_of(alloc, rows) {
+        Ok(instance) => has_least(alloc, &instance, steps, ends),
+        Err(_) => false,
     }
 }
 
 #[test]
 fn the_least_capacity_is_found_or_stays_open(rt: HostRuntime) {
     for (place, &(rows, steps, ends)) in LEASTS.iter().enumerate() {
-        let found = is_found(rt.alloc(), rows, steps, ends).expect(&rt, "memory");
+        let found = is_found(rt.alloc(), rows, steps, ends);
         assert!(rt; found, "another least capacity at {place}");
     }
 }
@@ -165,15 +176,17 @@ static FACTS: [(&[Row], Facts); 2] = [
     ),
 ];
 
-fn facts_at(alloc: Global, rows: &[Row]) -> Result<Facts, Fail<BufferFault>> {
-    let instance = instance_of(alloc, rows)?;
-    Ok(facts_of(alloc, &instance)?)
+/// Whether these are the facts of the buffers.
+fn has_facts(alloc: Global, rows: &[Row], want: Facts) -> bool {
+    match instance_of(alloc, rows) {
+        Ok(instance) => facts_of(alloc, &instance) == Ok(want),
+        Err(_) => false,
+    }
 }
 
 #[test]
 fn the_facts_of_two_parts_and_of_no_buffers_are_told(rt: HostRuntime) {
-    for (rows, facts) in &FACTS {
-        let found = facts_at(rt.alloc(), rows).expect(&rt, "memory");
-        assert_eq!(rt; found, *facts);
+    for &(rows, facts) in &FACTS {
+        assert!(rt; has_facts(rt.alloc(), rows, facts), "{facts:?}");
     }
 }

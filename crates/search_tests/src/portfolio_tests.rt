@@ -4,7 +4,7 @@ ghost use Rattle.std.specs.Prelude.{◌+◌, ◌<◌, ◌≤◌, ◌^◌, IfOk};
 ghost use Rattle.min_capacity.specs.Brackets.{IsBracket};
 
 use crate::instances::{THREE, TWO, instance_of};
-use dsa_model::{BufferFault, Fail, Instance, NoMemory, height};
+use dsa_model::{Instance, NoMemory, height};
 use first_fit::first_fit;
 use min_capacity::{Bracket, Least};
 use narrowing::{Tries, narrow, settle};
@@ -13,23 +13,43 @@ use refute_log::Decided;
 use row_orders::{Order, in_order};
 use std::alloc::Global;
 
-/// What is answered of the three buffers at 5, and how many units are used.
-fn answered(alloc: Global, limit: u32) -> Result<(Decided, u64), Fail<BufferFault>> {
-    let instance = instance_of(alloc, THREE)?;
-    let mut tries = Portfolio::new(alloc, &instance)?;
-    let answer = tries.attempt(alloc, 5, limit as u64)?;
-    Ok((answer, tries.used()))
+/// Whether a layout of the three buffers at 5 is carried back from another order.
+fn is_carried(answer: &Decided) -> bool {
+    match answer {
+        Decided::Layout(offsets) => offsets.as_slice() == [2, 4, 0].as_slice(),
+        _ => false,
+    }
+}
+
+/// Whether within twelve units such a layout is found by four.
+fn is_found(alloc: Global, three: &Instance) -> Result<bool, NoMemory> {
+    let mut tries = Portfolio::new(alloc, three)?;
+    let answer = tries.attempt(alloc, 5, 12)?;
+    Ok(is_carried(&answer) && tries.used() == 4)
 }
 
 #[test]
 fn a_layout_that_another_order_finds_is_carried_back(rt: HostRuntime) {
-    let (answer, used) = answered(rt.alloc(), 12).expect(&rt, "memory");
-    if let Decided::Layout(offsets) = answer {
-        assert_eq!(rt; offsets.as_slice(), [2, 4, 0].as_slice());
-    } else {
-        assert!(rt; false, "no layout");
+    let three = instance_of(rt.alloc(), THREE).expect(&rt, "memory");
+    assert!(rt; is_found(rt.alloc(), &three) == Ok(true));
+}
+
+/// Whether 5 stays open within the limit, and all units are used.
+fn is_spent(alloc: Global, three: &Instance, limit: u32) -> Result<bool, NoMemory> {
+    let mut tries = Portfolio::new(alloc, three)?;
+    let answer = tries.attempt(alloc, 5, limit as u64)?;
+    Ok(matches!(answer, Decided::Spent) && tries.used() == limit as u64)
+}
+
+#[test]
+fn units_that_are_too_few_are_all_used(rt: HostRuntime) {
+    let three = instance_of(rt.alloc(), THREE).expect(&rt, "memory");
+    for limit in 0..10u32 {
+        assert!(rt;
+            is_spent(rt.alloc(), &three, limit) == Ok(true),
+            "within {limit}"
+        );
     }
-    assert_eq!(rt; used, 4);
 }
 
 /// Whether a log of the three buffers comes that refutes 4.
@@ -37,48 +57,28 @@ fn refutes_four(alloc: Global, tries: &mut Portfolio, limit: u64) -> Result<bool
     requires { tries.old.units + limit < 2 ^ 64 }
     ensures { tries.new.units ≤ tries.old.units + limit }
 {
-    let answer = tries.attempt(alloc, 4, limit)?;
-    if let Decided::Refuted(log) = answer {
-        return Ok(log.capacity() == 4 && log.count() == 3);
+    match tries.attempt(alloc, 4, limit)? {
+        Decided::Refuted(log) => Ok(log.capacity() == 4 && log.count() == 3),
+        _ => Ok(false),
     }
-    Ok(false)
 }
 
 /// Whether 4 is refuted within 5 units, within 15 more and within 5 more, each with the units that
 /// are used then.
-fn refutations(alloc: Global) -> Result<[(bool, u64); 3], Fail<BufferFault>> {
-    let instance = instance_of(alloc, THREE)?;
-    let mut tries = Portfolio::new(alloc, &instance)?;
-    let few = refutes_four(alloc, &mut tries, 5)?;
-    let few = (few, tries.used());
-    let more = refutes_four(alloc, &mut tries, 15)?;
-    let more = (more, tries.used());
-    let again = refutes_four(alloc, &mut tries, 5)?;
-    Ok([few, more, (again, tries.used())])
+fn refutations(alloc: Global, three: &Instance) -> Result<[(bool, u64); 3], NoMemory> {
+    let mut tries = Portfolio::new(alloc, three)?;
+    let few = (refutes_four(alloc, &mut tries, 5)?, tries.used());
+    let more = (refutes_four(alloc, &mut tries, 15)?, tries.used());
+    let again = (refutes_four(alloc, &mut tries, 5)?, tries.used());
+    Ok([few, more, again])
 }
 
+/// Five units are too few for three searches, and enough for one.
 #[test]
 fn what_another_order_refutes_is_searched_in_the_instance_alone(rt: HostRuntime) {
-    let [few, more, again] = refutations(rt.alloc()).expect(&rt, "memory");
-    assert_eq!(rt;
-        few,
-        (false, 5),
-        "five units are too few for three searches"
-    );
-    assert_eq!(rt; more, (true, 15));
-    assert_eq!(rt; again, (true, 20), "and enough for one");
-}
-
-#[test]
-fn units_that_are_too_few_are_all_used(rt: HostRuntime) {
-    for limit in 0..10u32 {
-        let (answer, used) = answered(rt.alloc(), limit).expect(&rt, "memory");
-        if let Decided::Spent = answer {
-            assert_eq!(rt; used, limit as u64);
-        } else {
-            assert!(rt; false, "an answer within {limit} units");
-        }
-    }
+    let three = instance_of(rt.alloc(), THREE).expect(&rt, "memory");
+    let want = [(false, 5), (true, 15), (true, 20)];
+    assert!(rt; refutations(rt.alloc(), &three) == Ok(want));
 }
 
 /// The bracket from 0 to first-fit.
@@ -96,51 +96,69 @@ fn first_bracket(alloc: Global, instance: &Instance) -> Result<Bracket, NoMemory
     })
 }
 
-/// Whether the bracket from 0 to 5 is narrowed to 4, by a layout and by a log.
-fn is_narrowed_to_4(alloc: Global) -> Result<bool, Fail<BufferFault>> {
-    let instance = instance_of(alloc, TWO)?;
-    let start = first_bracket(alloc, &instance)?;
+/// Whether the bracket ends at 4, by a layout and by a log.
+fn is_of_4(found: &Least) -> bool {
+    match found {
+        Least::Exact(bracket) => {
+            bracket.high == 4
+                && bracket.layout.as_slice() == [1, 0].as_slice()
+                && bracket.log.is_some()
+        }
+        Least::Open(_) => false,
+    }
+}
+
+/// Whether the bracket from 0 to 5 is narrowed to such a one.
+fn is_narrowed_to_4(alloc: Global, two: &Instance) -> Result<bool, NoMemory> {
+    let start = first_bracket(alloc, two)?;
     if start.high != 5 {
         return Ok(false);
     }
-    let mut tries = Portfolio::new(alloc, &instance)?;
-    match narrow(alloc, &instance, start, 100, &mut tries)? {
-        Least::Exact(bracket) => Ok(
-            bracket.high == 4
-                && bracket.layout.as_slice() == [1, 0].as_slice()
-                && bracket.log.is_some(),
-        ),
-        Least::Open(_) => Ok(false),
-    }
+    let mut tries = Portfolio::new(alloc, two)?;
+    let found = narrow(alloc, two, start, 100, &mut tries)?;
+    Ok(is_of_4(&found))
 }
 
 #[test]
 fn a_bracket_is_narrowed_to_the_least_capacity(rt: HostRuntime) {
-    assert!(rt; is_narrowed_to_4(rt.alloc()).expect(&rt, "memory"));
+    let two = instance_of(rt.alloc(), TWO).expect(&rt, "memory");
+    assert!(rt; is_narrowed_to_4(rt.alloc(), &two) == Ok(true));
 }
 
-/// The ends of the bracket from 0 to first-fit, once the capacity inside it is settled, and none
-/// where it is not inside.
-fn ends_settled(
+/// The ends of the bracket once the capacity inside it is settled.
+fn settled(
     alloc: Global,
+    two: &Instance,
+    start: Bracket,
     capacity: u32,
     steps: u32,
-) -> Result<Option<(u64, u64)>, Fail<BufferFault>> {
-    let capacity = capacity as u64;
-    let instance = instance_of(alloc, TWO)?;
-    let start = first_bracket(alloc, &instance)?;
-    if capacity < start.low || start.high <= capacity {
-        return Ok(None);
-    }
-    let mut tries = Portfolio::new(alloc, &instance)?;
-    let bracket = settle(alloc, &instance, start, capacity, steps as u64, &mut tries)?;
-    Ok(Some((bracket.low, bracket.high)))
+) -> Result<(u64, u64), NoMemory>
+    requires bracket { IsBracket two.now start }
+    requires low { start.low ≤ capacity }
+    requires high { capacity < start.high }
+{
+    let mut tries = Portfolio::new(alloc, two)?;
+    let bracket = settle(alloc, two, start, capacity as u64, steps as u64, &mut tries)?;
+    Ok((bracket.low, bracket.high))
 }
+
+/// The same of the bracket from 0 to first-fit, and none where the capacity is not inside.
+fn ends_settled(alloc: Global, two: &Instance, capacity: u32, steps: u32) -> Option<(u64, u64)> {
+    let start = first_bracket(alloc, two).ok()?;
+    if (capacity as u64) < start.low || start.high <= capacity as u64 {
+        return None;
+    }
+    settled(alloc, two, start, capacity, steps).ok()
+}
+
+/// Capacities and units, each with the ends once the one is settled by the other.
+static SETTLED: [(u32, u32, (u64, u64)); 3] = [(4, 0, (0, 5)), (4, 100, (0, 4)), (3, 100, (4, 5))];
 
 #[test]
 fn one_capacity_is_settled_where_the_units_suffice(rt: HostRuntime) {
-    for (capacity, steps, ends) in [(4, 0, (0, 5)), (4, 100, (0, 4)), (3, 100, (4, 5))] {
-        let settled = ends_settled(rt.alloc(), capacity, steps).expect(&rt, "memory");
-        assert_eq!(rt; settled, Some(ends), "at {capacity} within {steps}");
+    let two = instance_of(rt.alloc(), TWO).expect(&rt, "memory");
+    for &(capacity, steps, ends) in &SETTLED {
+        let met = ends_settled(rt.alloc(), &two, capacity, steps) == Some(ends);
+        assert!(rt; met, "at {capacity} within {steps}");
     }
 }

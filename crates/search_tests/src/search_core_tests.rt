@@ -1,8 +1,8 @@
 //! Worked instances at chosen capacities.
 
-use crate::instances::{Row, THREE, TWO, add, instance_above, instance_of};
+use crate::instances::{Row, THREE, TWO, add_row, instance_above, instance_of};
 use crate::searches::searched;
-use dsa_model::{Buffer, BufferFault, Fail, Instance};
+use dsa_model::{BufferFault, Fail, Instance, NoMemory};
 use refute_log::{ClosedLog, Decided};
 use search_core::Budget;
 use std::alloc::Global;
@@ -60,19 +60,29 @@ static LAID: [Case; 6] = [
     },
 ];
 
-fn is_laid(alloc: Global, case: &Case) -> Result<bool, Fail<BufferFault>> {
-    let instance = instance_above(alloc, case.rows, case.lowest)?;
-    match searched(alloc, &instance, case.capacity, Budget::unlimited())? {
-        Decided::Layout(found) => Ok(found.as_slice() == case.offsets),
-        _ => Ok(false),
+/// Whether the answer is a layout of these offsets.
+fn is_layout(answer: Result<Decided, NoMemory>, offsets: &[u64]) -> bool {
+    match answer {
+        Ok(Decided::Layout(found)) => found.as_slice() == offsets,
+        _ => false,
+    }
+}
+
+/// Whether the first layout of the case is found.
+fn is_laid(alloc: Global, case: &Case) -> bool {
+    match instance_above(alloc, case.rows, case.lowest) {
+        Ok(instance) => {
+            let answer = searched(alloc, &instance, case.capacity, Budget::unlimited());
+            is_layout(answer, case.offsets)
+        }
+        Err(_) => false,
     }
 }
 
 #[test]
 fn the_first_layout_of_each_part_is_found(rt: HostRuntime) {
-    for case in &LAID {
-        let laid = is_laid(rt.alloc(), case).expect(&rt, "memory");
-        assert!(rt; laid, "another answer at {}", case.capacity);
+    for (place, case) in LAID.iter().enumerate() {
+        assert!(rt; is_laid(rt.alloc(), case), "another answer at {place}");
     }
 }
 
@@ -96,19 +106,20 @@ fn is_of_one_part(log: &ClosedLog, has_first: bool) -> bool {
         && names(log, 2)
 }
 
-/// Whether 4 is refuted by such a log.
-fn is_refuted(alloc: Global, rows: &[Row], has_first: bool) -> Result<bool, Fail<BufferFault>> {
-    let instance = instance_of(alloc, rows)?;
-    match searched(alloc, &instance, 4, Budget::unlimited())? {
-        Decided::Refuted(log) => Ok(is_of_one_part(&log, has_first)),
-        _ => Ok(false),
+/// Whether the answer is such a log.
+fn is_refuted(answer: Result<Decided, NoMemory>, has_first: bool) -> bool {
+    match answer {
+        Ok(Decided::Refuted(log)) => is_of_one_part(&log, has_first),
+        _ => false,
     }
 }
 
 #[test]
 fn a_refutation_names_buffers_of_one_part(rt: HostRuntime) {
-    assert!(rt; is_refuted(rt.alloc(), THREE, true).expect(&rt, "memory"));
-    assert!(rt; is_refuted(rt.alloc(), LATE, false).expect(&rt, "memory"));
+    let three = instance_of(rt.alloc(), THREE).expect(&rt, "memory");
+    let late = instance_of(rt.alloc(), LATE).expect(&rt, "memory");
+    assert!(rt; is_refuted(searched(rt.alloc(), &three, 4, Budget::unlimited()), true));
+    assert!(rt; is_refuted(searched(rt.alloc(), &late, 4, Budget::unlimited()), false));
 }
 
 /// How many buffers the tower has.
@@ -118,7 +129,7 @@ const STOREYS: u32 = 512;
 fn tower(alloc: Global) -> Result<Instance, Fail<BufferFault>> {
     let mut instance = Instance::new(alloc);
     for _ in 0..STOREYS {
-        add(&mut instance, Buffer::new(alloc, 0, 1, 1, 1, &[], 0)?)?;
+        add_row(alloc, &mut instance, (0, 1, 1, 1), 0)?;
     }
     Ok(instance)
 }
@@ -133,41 +144,41 @@ fn is_tower(offsets: &[u64]) -> bool {
     offsets.len() == STOREYS as usize
 }
 
-fn tower_stands(alloc: Global) -> Result<bool, Fail<BufferFault>> {
-    let instance = tower(alloc)?;
-    match searched(alloc, &instance, STOREYS, Budget::unlimited())? {
-        Decided::Layout(found) => Ok(is_tower(&found)),
-        _ => Ok(false),
+/// Whether the answer is a layout in which it is so.
+fn stands(answer: Result<Decided, NoMemory>) -> bool {
+    match answer {
+        Ok(Decided::Layout(found)) => is_tower(&found),
+        _ => false,
     }
 }
 
 #[test]
 fn many_buffers_stand_one_on_another(rt: HostRuntime) {
-    assert!(rt; tower_stands(rt.alloc()).expect(&rt, "memory"));
+    let tower = tower(rt.alloc()).expect(&rt, "memory");
+    assert!(rt; stands(searched(rt.alloc(), &tower, STOREYS, Budget::unlimited())));
 }
 
 /// Whether so many units are enough at 4.
-fn suffice(alloc: Global, rows: &[Row], units: u64) -> Result<bool, Fail<BufferFault>> {
-    let instance = instance_of(alloc, rows)?;
-    match searched(alloc, &instance, 4, Budget::units(units))? {
-        Decided::Spent => Ok(false),
-        _ => Ok(true),
+fn suffice(alloc: Global, instance: &Instance, units: u64) -> bool {
+    match searched(alloc, instance, 4, Budget::units(units)) {
+        Ok(Decided::Spent) => false,
+        Ok(_) => true,
+        Err(_) => false,
     }
 }
 
 #[test]
 fn a_budget_of_the_work_is_enough_and_one_unit_less_is_not(rt: HostRuntime) {
-    for (units, enough) in [(0, false), (3, false), (4, true)] {
-        let suffice = suffice(rt.alloc(), TWO, units).expect(&rt, "memory");
-        assert_eq!(rt; suffice, enough, "with {units} units");
-    }
+    let two = instance_of(rt.alloc(), TWO).expect(&rt, "memory");
+    assert!(rt; !suffice(rt.alloc(), &two, 0));
+    assert!(rt; !suffice(rt.alloc(), &two, 3));
+    assert!(rt; suffice(rt.alloc(), &two, 4));
 }
 
 /// Six claims are met, and a line that was learned before covers the last of them.
 #[test]
 fn a_claim_that_a_line_covers_takes_no_unit(rt: HostRuntime) {
-    for (units, enough) in [(4, false), (5, true)] {
-        let suffice = suffice(rt.alloc(), THREE, units).expect(&rt, "memory");
-        assert_eq!(rt; suffice, enough, "with {units} units");
-    }
+    let three = instance_of(rt.alloc(), THREE).expect(&rt, "memory");
+    assert!(rt; !suffice(rt.alloc(), &three, 4));
+    assert!(rt; suffice(rt.alloc(), &three, 5));
 }
