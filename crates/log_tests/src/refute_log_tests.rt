@@ -1,43 +1,66 @@
 //! Each call that takes memory, with memory.
 
-use crate::made::buffers;
-use canonical_order::Claim;
-use dsa_model::Fail;
-use refute_log::{Cite, Cites, Line, Log, Reason};
+ghost use Rattle.std.specs.Prelude.{IfSome};
+ghost use Rattle.refute_log.specs.Lines.{IsWithin, line_value};
 
-#[test]
-fn a_log_takes_legal_lines_and_closes_at_a_whole_claim(rt: HostRuntime) {
-    let alloc = rt.alloc();
-    let three = buffers(alloc, &[(1, 2), (1, 2), (2, 1)]).expect(&rt, "memory");
-    let mut log = Log::new(alloc, &three, 3);
-    let claim = Claim::from_pairs(alloc, &[(0, 0), (1, 0), (2, 0)]).expect(&rt, "memory");
-    let line = Line::Over {
-        claim,
+use crate::made::{THREE, buffers};
+use canonical_order::Claim;
+use dsa_model::{Fail, Instance};
+use refute_log::{Cite, Cites, Line, Log, Reason};
+use std::alloc::Global;
+
+/// The line that the three buffers together are too large for 3.
+fn whole_line(alloc: Global) -> Option<Line>
+    ensures { IfSome result (λ line. IsWithin (line_value line)) }
+{
+    Some(Line::Over {
+        claim: Claim::from_pairs(alloc, &[(0, 0), (1, 0), (2, 0)]).ok()?,
         moment: 0,
         height: 0,
         modulus: 1,
-    };
-    let copied = line.copy(alloc).expect(&rt, "memory");
-    let first = log.push(&three, copied);
-    assert_eq!(rt; first, Ok(0));
-    let mut known = Log::new(alloc, &three, 3);
-    let number = known.push_legal(&three, line);
-    assert_eq!(rt; number, Ok(0));
-    assert!(rt; known.len() == 1);
-    assert!(rt; known.line(0).claim().len() == 3);
-    let claim = Claim::from_pairs(alloc, &[(1, 1), (2, 1)]).expect(&rt, "memory");
-    let cites = Cites::from_vec(
-        [Cite::Line(0), Cite::Below(1)]
-            .to_vec(alloc)
-            .expect(&rt, "memory"),
-    );
-    let line = Line::Cases { claim, cites };
-    let copied = line.copy(alloc).expect(&rt, "memory");
-    let refused = log.push(&three, copied);
-    assert_eq!(rt; refused, Err(Fail::Fault(Reason::NotCovered { buffer: 1 })));
-    assert!(rt; log.len() == 1);
-    match log.close(&three, 0) {
-        Ok(closed) => assert_eq!(rt; closed.len(), 1),
-        Err(_) => assert!(rt; false, "open"),
+    })
+}
+
+/// The line that two of them do not fit, by the line before it and by the below rule.
+fn cases_line(alloc: Global) -> Option<Line>
+    ensures { IfSome result (λ line. IsWithin (line_value line)) }
+{
+    let claim = Claim::from_pairs(alloc, &[(1, 1), (2, 1)]).ok()?;
+    let cites = [Cite::Line(0), Cite::Below(1)].to_vec(alloc).ok()?;
+    let cites = Cites::from_vec(cites);
+    Some(Line::Cases { claim, cites })
+}
+
+/// The number of a line that is pushed onto one log, and how many lines another one has that takes
+/// it as a legal one and is closed.
+fn numbers(alloc: Global, three: &Instance) -> Option<(u64, u64)> {
+    let line = whole_line(alloc)?;
+    let mut log = Log::new(alloc, three, 3);
+    match log.push(three, line.copy(alloc).ok()?) {
+        Ok(number) => {
+            let mut known = Log::new(alloc, three, 3);
+            let end = known.push_legal(three, line).ok()?;
+            Some((number, known.close(three, end).ok()?.len()))
+        }
+        Err(_) => None,
     }
+}
+
+/// Why the second line is refused behind the first.
+fn refusal(alloc: Global, three: &Instance) -> Option<Reason> {
+    let mut log = Log::new(alloc, three, 3);
+    log.push(three, whole_line(alloc)?).ok()?;
+    let line = cases_line(alloc)?;
+    match log.push(three, line.copy(alloc).ok()?) {
+        Err(Fail::Fault(reason)) => Some(reason),
+        _ => None,
+    }
+}
+
+#[test]
+fn a_log_takes_legal_lines_and_closes_at_a_whole_claim(rt: HostRuntime) {
+    let three = buffers(rt.alloc(), THREE).expect(&rt, "memory");
+    assert_eq!(rt; numbers(rt.alloc(), &three), Some((0, 1)));
+    let refused = Reason::NotCovered { buffer: 1 };
+    assert_eq!(rt; refusal(rt.alloc(), &three), Some(refused));
 }
