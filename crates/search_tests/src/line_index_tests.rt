@@ -1,8 +1,11 @@
 //! The fast look-up of a line beside the plain one, in searches of made instances.
 
-ghost use Rattle.std.specs.Prelude.{◌≤◌, IfOk, length};
+ghost use Rattle.std.specs.Prelude.{◌<◌, ◌≤◌, IfOk, length};
+ghost use Rattle.std.specs.List.{All};
+ghost use Rattle.dsa_terms.specs.Claims.{Rises};
 ghost use Rattle.dsa_model.specs.Buffer.{buffer_limit};
 ghost use Rattle.canonical_order.specs.Claims.{HasBuffer};
+ghost use Rattle.lifetime.specs.SectionList.{AreSectionsOf};
 ghost use Rattle.skyline.specs.Skies.{last_claim};
 
 use crate::draws::{Draws, made};
@@ -222,31 +225,80 @@ impl<'a> Replay<'a> {
     }
 }
 
+/// Searches from the last claim on, where no line covers it.
+fn replay_from(alloc: Global, sky: &mut Skyline, replay: &mut Replay) -> Result<(), Fail<Reason>> {
+    let levels = levels_of(alloc, sky)?;
+    if !replay.ask(sky, &levels, 0)? {
+        replay.search(sky, &levels, DEPTH)?;
+    }
+    Ok(())
+}
+
+/// Searches the part of these members.
+fn replay_part(
+    alloc: Global,
+    instance: &Instance,
+    sections: &Sections,
+    members: &[u32],
+    replay: &mut Replay,
+) -> Result<(), Fail<Reason>>
+    requires sections { AreSectionsOf instance.now sections.now }
+    requires rises { Rises members.now }
+    requires in_range { All (λ b. b < length instance.now) members.now }
+{
+    let mut sky = Skyline::new(alloc, instance, sections, members)?;
+    replay_from(alloc, &mut sky, replay)
+}
+
+/// Searches each part.
+fn replay_parts(
+    alloc: Global,
+    instance: &Instance,
+    sections: &Sections,
+    replay: &mut Replay,
+) -> Result<(), Fail<Reason>>
+    requires sections { AreSectionsOf instance.now sections.now }
+{
+    let parts = parts(alloc, instance)?;
+    for p in 0..parts.count() {
+        replay_part(alloc, instance, sections, parts.members(p), replay)?;
+    }
+    Ok(())
+}
+
 /// The tally after a search of each part that learns the lines of the log.
 fn replayed(
     alloc: Global,
     instance: &Instance,
+    sections: &Sections,
     closed: &ClosedLog,
     tally: Tally,
-) -> Result<Tally, Fail<Reason>> {
-    let sections = Sections::build(alloc, instance)?;
-    let parts = parts(alloc, instance)?;
+) -> Result<Tally, Fail<Reason>>
+    requires sections { AreSectionsOf instance.now sections.now }
+{
     let mut replay = Replay::new(alloc, instance, closed, tally)?;
-    for p in 0..parts.count() {
-        let mut sky = Skyline::new(alloc, instance, &sections, parts.members(p))?;
-        let levels = levels_of(alloc, &sky)?;
-        if !replay.ask(&sky, &levels, 0)? {
-            replay.search(&mut sky, &levels, DEPTH)?;
-        }
-    }
+    replay_parts(alloc, instance, sections, &mut replay)?;
     Ok(replay.tally)
+}
+
+/// The same by the instance's sections, and none where memory runs out or a line is not legal.
+fn tally_with(
+    alloc: Global,
+    instance: &Instance,
+    closed: &ClosedLog,
+    tally: Tally,
+) -> Option<Tally> {
+    match Sections::build(alloc, instance) {
+        Ok(sections) => replayed(alloc, instance, &sections, closed, tally).ok(),
+        Err(_) => None,
+    }
 }
 
 /// The tally after the log by which the search refutes the capacity, and none where there is no
 /// log.
 fn tally_after(alloc: Global, instance: &Instance, capacity: u32, tally: Tally) -> Option<Tally> {
     match searched(alloc, instance, capacity, Budget::unlimited()) {
-        Ok(Decided::Refuted(log)) => replayed(alloc, instance, &log, tally).ok(),
+        Ok(Decided::Refuted(log)) => tally_with(alloc, instance, &log, tally),
         _ => None,
     }
 }

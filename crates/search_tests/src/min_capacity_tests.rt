@@ -164,14 +164,27 @@ fn ends_of(found: &Least) -> (bool, u64, u64) {
 }
 
 /// The same of what is found from the bracket, and how often the decider is spent.
+fn told(five: &Instance, start: Bracket, decider: &mut Prepared) -> Option<(bool, u64, u64, u64)>
+    requires subject { decider.old.subject ≡ five.now }
+    requires bracket { IsBracket five.now start }
+{
+    match least(five, start, decider) {
+        Ok(found) => {
+            let (exact, low, high) = ends_of(&found);
+            Some((exact, low, high, decider.spends()))
+        }
+        Err(_) => None,
+    }
+}
+
+/// The same from the bracket between the lower end and 12.
 fn told_from(alloc: Global, five: &Instance, low: u64) -> Option<(bool, u64, u64, u64)>
     requires { low ≤ 12 }
 {
-    let start = start_from(alloc, five, low)?;
-    let mut decider = decider_of(alloc, five)?;
-    let found = least(five, start, &mut decider).ok()?;
-    let (exact, low, high) = ends_of(&found);
-    Some((exact, low, high, decider.spends()))
+    match decider_of(alloc, five) {
+        Some(mut decider) => told(five, start_from(alloc, five, low)?, &mut decider),
+        None => None,
+    }
 }
 
 #[test]

@@ -108,21 +108,27 @@ fn is_of_4(found: &Least) -> bool {
     }
 }
 
-/// Whether the bracket from 0 to 5 is narrowed to such a one.
-fn is_narrowed_to_4(alloc: Global, two: &Instance) -> Result<bool, NoMemory> {
-    let start = first_bracket(alloc, two)?;
-    if start.high != 5 {
-        return Ok(false);
-    }
+/// Whether the bracket is narrowed to such a one.
+fn is_narrowed(alloc: Global, two: &Instance, start: Bracket) -> Result<bool, NoMemory>
+    requires { IsBracket two.now start }
+{
     let mut tries = Portfolio::new(alloc, two)?;
     let found = narrow(alloc, two, start, 100, &mut tries)?;
     Ok(is_of_4(&found))
 }
 
+/// Whether that from 0 to 5 is.
+fn is_narrowed_to_4(alloc: Global, two: &Instance) -> bool {
+    match first_bracket(alloc, two) {
+        Ok(start) => start.high == 5 && is_narrowed(alloc, two, start) == Ok(true),
+        Err(_) => false,
+    }
+}
+
 #[test]
 fn a_bracket_is_narrowed_to_the_least_capacity(rt: HostRuntime) {
     let two = instance_of(rt.alloc(), TWO).expect(&rt, "memory");
-    assert!(rt; is_narrowed_to_4(rt.alloc(), &two) == Ok(true));
+    assert!(rt; is_narrowed_to_4(rt.alloc(), &two));
 }
 
 /// The ends of the bracket once the capacity inside it is settled.

@@ -126,15 +126,24 @@ fn are_taken(alloc: Global, sky: &mut Skyline) -> Result<bool, AllocError> {
     Ok(true)
 }
 
-/// Whether it is so with three buffers.
-fn answers_by_last_claim(alloc: Global, three: &Instance) -> Result<bool, NoMemory> {
-    let sections = Sections::build(alloc, three)?;
-    let mut sky = whole(alloc, three, &sections)?;
+/// Whether it is so from the whole claim on.
+fn are_taken_of(alloc: Global, instance: &Instance, sections: &Sections) -> Result<bool, NoMemory>
+    requires { AreSectionsOf instance.now sections.now }
+{
+    let mut sky = whole(alloc, instance, sections)?;
     Ok(are_taken(alloc, &mut sky)?)
+}
+
+/// The same by the instance's sections.
+fn answers_by_last_claim(alloc: Global, instance: &Instance) -> bool {
+    match Sections::build(alloc, instance) {
+        Ok(sections) => are_taken_of(alloc, instance, &sections) == Ok(true),
+        Err(_) => false,
+    }
 }
 
 #[test]
 fn pushes_and_pops_answer_by_the_last_claim(rt: HostRuntime) {
     let three = instance_of(rt.alloc(), THREE).expect(&rt, "memory");
-    assert!(rt; answers_by_last_claim(rt.alloc(), &three) == Ok(true));
+    assert!(rt; answers_by_last_claim(rt.alloc(), &three));
 }
