@@ -34,7 +34,7 @@ pub record MissesFile (words : List Word) (old new : FilesSeen) (role : Role) : 
   pub cause : IsUnread old new (word_at request.pairs (option_of_role role))
   pub files : new.held ≡ old.held
 
--- the file of the role is one that the command reads, and it holds more bytes than it may
+-- the file of the role is one that the command reads, and where it is told what files hold, more bytes than it may
 pub record HasLongFile (words : List Word) (old new : FilesSeen) (role : Role) : Type 0 where
   pub request : Request
   pub asked : request_of words ≡ Ok request

@@ -68,10 +68,10 @@ pub fn shown()
         Shows words old new before after s }
 {}
 
-/// Where a command that checks a log's file reads bytes that say an accepted log, its files are
-/// within their limits, and nothing outside fails, the log is accepted, unless memory runs out:
-/// `refute` tells its capacity, `trim` how many lines it has and how many its end needs, and
-/// `upgrade` how many it has.
+/// Where a command that checks a log's file reads bytes that say a log accepted for the input's
+/// instance, its files are within their limits, and nothing outside fails, the log is accepted,
+/// unless memory runs out: `refute` tells its capacity, `trim` how many lines it has and how many
+/// its end needs, and `upgrade` how many it has.
 pub fn checks()
     ensures { (words : List Word) (old new : FilesSeen) (before after : SinkSeen)
         (request : Request) (I : Instance) (log : Log) (s : Status) →
@@ -82,8 +82,8 @@ pub fn checks()
 {}
 
 /// Where a command that judges a layout file at a capacity reads one whose offsets are a layout at
-/// that capacity, its files are within their limits, and nothing outside fails, the layout is
-/// right, its report shown, or its picture written, unless memory runs out.
+/// that capacity, its files are within their limits, and nothing outside fails, the answer is
+/// right, shown, or drawn with the number of the layout's rectangles, unless memory runs out.
 pub fn judges()
     ensures { (words : List Word) (old new : FilesSeen) (before after : SinkSeen)
         (request : Request) (I : Instance) (C : ℕ) (offsets : List ℕ) (s : Status) →
@@ -93,8 +93,8 @@ pub fn judges()
         Answers (course words) old new before after s → IsApproval request.verb I offsets s }
 {}
 
-/// Where a command takes its input as an instance, a file within its limit holds none, and nothing
-/// outside fails, the input is malformed for its first fault, unless memory runs out.
+/// Where a command takes its input as an instance, it is none, though within its limit, and nothing
+/// outside fails, the answer is malformed for its first fault, unless memory runs out.
 pub fn malformed()
     ensures { (words : List Word) (old new : FilesSeen) (before after : SinkSeen)
         (request : Request) (fault : InstanceFault) (s : Status) →
