@@ -17,10 +17,9 @@ fn ruled(alloc: Global, three: &Instance) -> Option<(Option<u32>, Option<u32>, b
         instance: three,
         claim: &claim,
     };
-    let twin = twin_before(&view, 1);
     Some((
         dominated(&view, 2),
-        twin,
+        twin_before(&view, 1),
         is_below(&view, 2, 1),
         is_twin(&view, 0, 1),
     ))
