@@ -49,12 +49,14 @@ fn is_met(alloc: Global, case: &Case) -> Option<bool> {
     let mut files = files_of(alloc, case)?;
     let mut out = MemorySink::new(alloc, vec![in alloc; case.puts].ok()?);
     let code = code_of(alloc, case.line, &mut files, &mut out)?;
-    Some(
-        code == case.code
-            && out.content() == case.printed.as_bytes()
-            && is_left(files.get("o"), case.output)
-            && is_left(files.get("l"), case.log),
-    )
+    Some(code == case.code && ends_so(case, &files, &out))
+}
+
+/// Whether what is printed and what is left is as the case says.
+fn ends_so(case: &Case, files: &MemoryFiles, out: &MemorySink) -> bool {
+    out.content() == case.printed.as_bytes()
+        && is_left(files.get("o"), case.output)
+        && is_left(files.get("l"), case.log)
 }
 
 /// The files of the case, of which one call more than it says fails.
