@@ -8,7 +8,7 @@ use std::io;
 
 /// A file that was begun beside the name that it is to take, and the steps by which it does. What
 /// the name holds changes with `rename` alone.
-pub(crate) trait Draft {
+pub trait Draft {
     /// What stands on the disk, where it is told.
     ghost state: { Self → Option DraftState };
 
@@ -42,7 +42,7 @@ pub(crate) trait Draft {
 
 /// Has a draft in which nothing is written take its name with these bytes. After an error the name
 /// holds what it held. The draft is gone in both cases.
-pub(crate) fn replace<D: Draft>(draft: &mut D, bytes: &[u8]) -> io::Result<()>
+pub fn replace<D: Draft>(draft: &mut D, bytes: &[u8]) -> io::Result<()>
     requires { IfSome (D.state draft.old) (λ s. s.text ≡ []) }
     ensures written { OnOk result
         (name_of (D.state draft.new) ≡ option_map (λ _. Some bytes.now) (D.state draft.old)) }

@@ -22,6 +22,7 @@ mod store;
 mod transfer;
 
 pub use disk_files::DiskFiles;
+pub use draft::{Draft, replace};
 pub use fault::{FileFault, SinkFault};
 pub use files::Files;
 pub use memory_files::MemoryFiles;

@@ -7,6 +7,8 @@ mod case;
 #[cfg(test)]
 mod deciding_tests;
 #[cfg(test)]
+mod draft_tests;
+#[cfg(test)]
 mod fault_tests;
 #[cfg(test)]
 mod judging_tests;

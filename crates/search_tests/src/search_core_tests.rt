@@ -159,26 +159,25 @@ fn many_buffers_stand_one_on_another(rt: HostRuntime) {
 }
 
 /// Whether so many units are enough at 4.
-fn suffice(alloc: Global, instance: &Instance, units: u64) -> bool {
-    match searched(alloc, instance, 4, Budget::units(units)) {
-        Ok(Decided::Spent) => false,
-        Ok(_) => true,
-        Err(_) => false,
+fn suffice(alloc: Global, instance: &Instance, units: u64) -> Result<bool, NoMemory> {
+    match searched(alloc, instance, 4, Budget::units(units))? {
+        Decided::Spent => Ok(false),
+        _ => Ok(true),
     }
 }
 
 #[test]
 fn a_budget_of_the_work_is_enough_and_one_unit_less_is_not(rt: HostRuntime) {
     let two = instance_of(rt.alloc(), TWO).expect(&rt, "memory");
-    assert!(rt; !suffice(rt.alloc(), &two, 0));
-    assert!(rt; !suffice(rt.alloc(), &two, 3));
-    assert!(rt; suffice(rt.alloc(), &two, 4));
+    assert!(rt; suffice(rt.alloc(), &two, 0) == Ok(false));
+    assert!(rt; suffice(rt.alloc(), &two, 3) == Ok(false));
+    assert!(rt; suffice(rt.alloc(), &two, 4) == Ok(true));
 }
 
 /// Six claims are met, and a line that was learned before covers the last of them.
 #[test]
 fn a_claim_that_a_line_covers_takes_no_unit(rt: HostRuntime) {
     let three = instance_of(rt.alloc(), THREE).expect(&rt, "memory");
-    assert!(rt; !suffice(rt.alloc(), &three, 4));
-    assert!(rt; suffice(rt.alloc(), &three, 5));
+    assert!(rt; suffice(rt.alloc(), &three, 4) == Ok(false));
+    assert!(rt; suffice(rt.alloc(), &three, 5) == Ok(true));
 }
