@@ -38,7 +38,7 @@ use Rattle.dsaplan_core.specs.Causes.{AreNoCommand, AskTooMany, RefusesInput}
 use Rattle.dsaplan_core.specs.Choice.{Choice}
 use Rattle.dsaplan_core.specs.Courses.{ConcludesWith, IsAnswer}
 use Rattle.dsaplan_core.specs.Derived.{Derived}
-use Rattle.dsaplan_core.specs.Complete.{HoldsLog, HoldsNoInstance, IsConcluded, IsMalformedFor, IsReady, IsUndisturbed, limit_of}
+use Rattle.dsaplan_core.specs.Complete.{HoldsLog, HoldsNoInstance, IsConcluded, IsMalformedFor, IsReady, IsTooLongFor, IsUndisturbed, limit_of}
 use Rattle.dsaplan_core.specs.Lost.{LosesFile, MissesFile}
 use Rattle.dsaplan_core.specs.Shown.{Tells}
 use Rattle.dsaplan_core.specs.Theorem.{Asked, Headline, HoldsLayout, HoldsRefutation}
@@ -191,6 +191,12 @@ malformed_for_its_fault = refl
 
 malformed_for_no_other : IsMalformedFor instance.NoHeader (status.Malformed instance.MarkedHeader) → ⊥
 malformed_for_no_other e = absurd cc
+
+too_long_for_its_role : IsTooLongFor role.Layout (status.TooLong role.Layout)
+too_long_for_its_role = refl
+
+too_long_for_no_other : IsTooLongFor role.Layout (status.TooLong role.Input) → ⊥
+too_long_for_no_other e = absurd cc
 
 refused_count : (files : FilesSeen) → AskTooMany (codes "trial" ∷ trial_values (codes "4097")) files files 4097
 refused_count files = record {

@@ -18,6 +18,7 @@ mod Serving
 mod Accepting
 mod Approving
 mod Inputs
+mod LongFiles
 mod Explained
 mod Importing
 mod Unrolling

@@ -28,7 +28,7 @@ use Rattle.readings.specs.Opens.{IsInput}
 use Rattle.readings.specs.Judging.{judged}
 use Rattle.readings.specs.Checking.{checked}
 use Rattle.readings.specs.GivenLogs.{HoldsAccepted, HoldsNoText, HoldsNoRefutation}
-use Rattle.dsaplan_core.specs.Complete.{IsReady, IsUndisturbed, limit_of}
+use Rattle.dsaplan_core.specs.Complete.{HoldsInstance, IsReady, IsUndisturbed, limit_of}
 use Rattle.dsaplan_core.specs.Theorem.{ReadsInstance}
 use Rattle.dsaplan_core.proofs.Gives.{IfUnreadable, checked_gives, judged_gives, opened_gives}
 use Rattle.dsaplan_core.proofs.Requests.{read_named}
@@ -37,7 +37,7 @@ is_told : (held : Option FileMap) (name bytes : List ℕ) → file_at held name 
 is_told None name bytes is = absurd cc
 is_told (Some m) name bytes is = refl
 
-not_missing : (held : Option FileMap) (name bytes : List ℕ) → file_at held name ≡ Some bytes → IsMissing held name → ⊥
+pub not_missing : (held : Option FileMap) (name bytes : List ℕ) → file_at held name ≡ Some bytes → IsMissing held name → ⊥
 not_missing None name bytes is missing = missing
 not_missing (Some m) name bytes is missing = cc
 
@@ -70,35 +70,44 @@ module _ (old new : FilesSeen) (before after : SinkSeen) (r : Request) (calm : I
       IfUnreadable old new P role (word_at r.pairs o) (limit_of o)
   readable_served P role = (λ unread. absurd (not_unread unread), λ long. absurd (not_long long))
 
-module _ (old new : FilesSeen) (before after : SinkSeen) (I : Instance) (r : Request) (ready : IsReady old r I)
-    (calm : IsUndisturbed r old new before after) where
-  -- each file of the command is
-  pub served : (P : Outcome → Type 0) (role : Role) (o : OptionName) → IsIn o (reads_of r.verb) →
-      IfUnreadable old new P role (word_at r.pairs o) (limit_of o)
-  served P role o among = readable_served old new before after r calm o among (ready.files o among) P role
-
+module _ (old new : FilesSeen) (before after : SinkSeen) (I : Instance) (r : Request)
+    (calm : IsUndisturbed r old new before after) (among : IsIn option.Input (reads_of r.verb))
+    (there : HoldsInstance I old (word_at r.pairs option.Input)) where
   -- the bytes of the input are those that are held
-  read_as : (among : ReadsInstance r.verb) (bytes : List ℕ) →
-      IsWholeFile old (word_at r.pairs option.Input) file_limit bytes → parse (table_of bytes) ≡ Ok I
-  read_as among bytes whole =
-      let there = ready.input among in
+  read_as : (bytes : List ℕ) → IsWholeFile old (word_at r.pairs option.Input) file_limit bytes →
+      parse (table_of bytes) ≡ Ok I
+  read_as bytes whole =
       let same = same_bytes old (word_at r.pairs option.Input) file_limit bytes there.file.bytes there.file.held whole
       in
       ap (λ b. parse (table_of b)) same ∙ there.parsed
 
   -- a course that reads the input goes on with its table and this instance
+  pub held_read : (P : Outcome → Type 0) (next : List Record → Instance → Course) →
+      ((table : List Record) → IsInput old (word_at r.pairs option.Input) table I →
+      (o : Outcome) → Comes old new (next table I) o → P o) →
+      (o : Outcome) → Comes old new (opened (word_at r.pairs option.Input) next) o → P o
+  held_read P next given = opened_gives old new P (word_at r.pairs option.Input) next
+      (readable_served old new before after r calm option.Input among there.file P role.Input)
+      (λ fault bad. absurd (let a = read_as bad.bytes bad.whole in let b = bad.refused in cc))
+      (λ table J input o comes.
+      let mine : parse table ≡ Ok I = ap parse input.records ∙ read_as input.bytes input.whole in
+      let same : J ≡ I = (let a = input.parsed in cc) in
+      given table (subst (IsInput old (word_at r.pairs option.Input) table) same input) o
+      (subst (λ (K : Instance). Comes old new (next table K) o) same comes))
+
+module _ (old new : FilesSeen) (before after : SinkSeen) (I : Instance) (r : Request) (ready : IsReady old r I)
+    (calm : IsUndisturbed r old new before after) where
+  -- each file of a command that is ready is
+  pub served : (P : Outcome → Type 0) (role : Role) (o : OptionName) → IsIn o (reads_of r.verb) →
+      IfUnreadable old new P role (word_at r.pairs o) (limit_of o)
+  served P role o among = readable_served old new before after r calm o among (ready.files o among) P role
+
+  -- a course that reads the input goes on with its table and the instance
   pub opened_read : ReadsInstance r.verb → (P : Outcome → Type 0) (next : List Record → Instance → Course) →
       ((table : List Record) → IsInput old (word_at r.pairs option.Input) table I →
       (o : Outcome) → Comes old new (next table I) o → P o) →
       (o : Outcome) → Comes old new (opened (word_at r.pairs option.Input) next) o → P o
-  opened_read among P next given = opened_gives old new P (word_at r.pairs option.Input) next
-      (served P role.Input option.Input among.0)
-      (λ fault bad. absurd (let a = read_as among bad.bytes bad.whole in let b = bad.refused in cc))
-      (λ table J input o comes.
-      let mine : parse table ≡ Ok I = ap parse input.records ∙ read_as among input.bytes input.whole in
-      let same : J ≡ I = (let a = input.parsed in cc) in
-      given table (subst (IsInput old (word_at r.pairs option.Input) table) same input) o
-      (subst (λ (K : Instance). Comes old new (next table K) o) same comes))
+  opened_read among = held_read old new before after I r calm among.0 (ready.input among)
 
   -- the same, whatever the table
   pub opened_served : ReadsInstance r.verb → (P : Outcome → Type 0) (next : List Record → Instance → Course) →

@@ -26,6 +26,7 @@ use Rattle.command_words.specs.declared.verb.Verb.TheVariants as verb
 use Rattle.run_course.specs.Complete.{ConcludesOn, IsCalm, IsReadable}
 use Rattle.readings.specs.Checking.{log_limit}
 use Rattle.readings.specs.Opens.{IsInput}
+use Rattle.run_status.specs.declared.status.Role.{Role}
 use Rattle.run_status.specs.declared.status.Status.{Status}
 use Rattle.run_status.specs.declared.status.Status.TheVariants as status
 use Rattle.dsaplan_core.specs.Courses.{course_with}
@@ -51,6 +52,12 @@ abbrev pub IsMalformedFor : InstanceFault → Status → Type 0
 IsMalformedFor fault (status.Malformed told) = told ≡ fault
 IsMalformedFor fault status.NoMemory = Unit {0}
 IsMalformedFor fault status = ⊥
+
+-- the status says that the file of the role is too long, or that memory ran out
+abbrev pub IsTooLongFor : Role → Status → Type 0
+IsTooLongFor role (status.TooLong told) = told ≡ role
+IsTooLongFor role status.NoMemory = Unit {0}
+IsTooLongFor role status = ⊥
 
 -- each file that the command reads is readable, and the instance, if it reads one, is this
 pub record IsReady (seen : FilesSeen) (r : Request) (I : Instance) : Type 0 where

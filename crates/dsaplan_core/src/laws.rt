@@ -1,6 +1,6 @@
 //! Laws of answers: what each says beside the clauses of `run`.
 
-ghost use Rattle.std.specs.Prelude.{◌≡◌, ◌↔◌, ℕ, List, Some, None, Ok, Err};
+ghost use Rattle.std.specs.Prelude.{◌≡◌, ◌↔◌, ◌∷◌, [], ℕ, List, Some, None, Ok, Err};
 ghost use Rattle.dsa_terms.specs.Buffers.{Instance};
 ghost use Rattle.dsa_terms.specs.Layouts.{IsLayout};
 ghost use Rattle.dsa_terms.specs.Logs.{Log, IsAccepted};
@@ -13,8 +13,10 @@ ghost use Rattle.log_text.specs.declared.raw.RawLog.{RawLog};
 ghost use Rattle.log_check.specs.Faults.{check_fault};
 ghost use Rattle.log_check.specs.declared.fault.CheckFault.{CheckFault};
 ghost use Rattle.command_words.specs.Options.{Word};
+ghost use Rattle.command_words.specs.Forms.{reads_of};
 ghost use Rattle.command_words.specs.Pairs.{word_at};
 ghost use Rattle.command_words.specs.Requests.{Request, request_of};
+ghost use Rattle.command_words.specs.declared.option.OptionName.{OptionName};
 ghost use Rattle.command_words.specs.declared.option.OptionName.TheVariants as option;
 ghost use Rattle.command_words.specs.declared.fault.UsageFault.{UsageFault};
 ghost use Rattle.run_status.specs.Spoken.{IsSpoken};
@@ -22,22 +24,26 @@ ghost use Rattle.run_status.specs.declared.status.Status.{Status};
 ghost use Rattle.run_status.specs.declared.status.Status.TheVariants as status;
 ghost use Rattle.run_status.specs.declared.status.Role.{Role};
 ghost use Rattle.run_course.specs.Answers.{Answers};
+ghost use Rattle.run_course.specs.Readings.{HoldsMore};
 ghost use Rattle.dsaplan_core.specs.Courses.{course};
 ghost use Rattle.dsaplan_core.specs.Complete.{
   HoldsGivenLayout,
+  HoldsInstance,
   HoldsLog,
   HoldsNoInstance,
   IsAcceptance,
   IsApproval,
   IsMalformedFor,
   IsReady,
+  IsTooLongFor,
   IsUndisturbed,
+  limit_of,
 };
 ghost use Rattle.dsaplan_core.specs.Conclusions.{IsConclusion};
 ghost use Rattle.dsaplan_core.specs.Causes.{IsCaused, IsChecking, IsJudgedAt};
 ghost use Rattle.dsaplan_core.specs.Derived.{Derived};
 ghost use Rattle.dsaplan_core.specs.Judged.{Judged};
-ghost use Rattle.dsaplan_core.specs.Lost.{HasLongFile, LosesFile, MissesFile};
+ghost use Rattle.dsaplan_core.specs.Lost.{HasLongFile, LosesFile, MissesFile, option_of_role};
 ghost use Rattle.dsaplan_core.specs.Refused.{IsMisuse};
 ghost use Rattle.dsaplan_core.specs.Shown.{Shows};
 ghost use Rattle.dsaplan_core.specs.Theorem.{ReadsInstance};
@@ -102,6 +108,28 @@ pub fn malformed()
         IsUndisturbed request old new before after →
         HoldsNoInstance fault old (word_at request.pairs option.Input) →
         Answers (course words) old new before after s → IsMalformedFor fault s }
+{}
+
+/// Where the first file that a command reads holds more bytes than it may, and nothing outside
+/// fails, the answer is that this file is too long, unless memory runs out; the same of the second
+/// file, where the input holds an instance.
+pub fn too_long()
+    ensures first { (words : List Word) (old new : FilesSeen) (before after : SinkSeen)
+        (request : Request) (role : Role) (rest : List OptionName) (s : Status) →
+        request_of words ≡ Ok request → reads_of request.verb ≡ option_of_role role ∷ rest →
+        IsUndisturbed request old new before after →
+        HoldsMore old (word_at request.pairs (option_of_role role))
+        (limit_of (option_of_role role)) →
+        Answers (course words) old new before after s → IsTooLongFor role s }
+    ensures second { (words : List Word) (old new : FilesSeen) (before after : SinkSeen)
+        (request : Request) (I : Instance) (role : Role) (s : Status) →
+        request_of words ≡ Ok request →
+        reads_of request.verb ≡ option.Input ∷ option_of_role role ∷ [] →
+        IsUndisturbed request old new before after →
+        HoldsInstance I old (word_at request.pairs option.Input) →
+        HoldsMore old (word_at request.pairs (option_of_role role))
+        (limit_of (option_of_role role)) →
+        Answers (course words) old new before after s → IsTooLongFor role s }
 {}
 
 /// Where a command's files are readable, its input is an instance, and nothing outside fails, the

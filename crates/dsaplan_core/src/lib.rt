@@ -9,6 +9,6 @@ pub use command_words::{OptionName, UsageFault};
 pub use entry::run;
 pub use laws::{
     causes, check_faults_are_exact, checks, conclusions, derived, judged, judges,
-    layout_faults_are_exact, lost, malformed, missed, print_fault, refused, shown,
+    layout_faults_are_exact, lost, malformed, missed, print_fault, refused, shown, too_long,
 };
 pub use run_status::{LogCause, Role, Status, WrongCause};
