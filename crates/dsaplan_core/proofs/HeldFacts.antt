@@ -102,7 +102,7 @@ verify_reads_more : (pairs : List Pair) (o : Outcome) → ConcludesWith verb.Ver
 verify_reads_more pairs o h = h.report
 
 -- ---- a log of one line has none that is needless, and nine steps are enough for it
-abbrev seven_log : Log
+abbrev pub seven_log : Log
 seven_log = record { count = 2; capacity = 7; lines = Over ((0, 0) ∷ (1, 0) ∷ []) 4 0 1 ∷ []; final = 0 }
 
 log_is_trimmed : IsTrimmed seven_log
@@ -155,7 +155,7 @@ not_missed_output : (old new : FilesSeen) (h : MissesFile (codes "bounds" ∷ bo
     h.request.verb ≡ verb.Bounds → ⊥
 not_missed_output old new h is = not_among (rw is at h.read)
 
-abbrev empty_input : FilesSeen
+abbrev pub empty_input : FilesSeen
 empty_input = told (insert empty (codes "i") [])
 
 refused_input : RefusesInput (codes "bounds" ∷ bounds_values) empty_input empty_input instance.NoHeader
@@ -171,7 +171,7 @@ refused_input = record {
   files = refl;
 }
 
-no_instance : HoldsNoInstance instance.NoHeader empty_input (codes "i")
+pub no_instance : HoldsNoInstance instance.NoHeader empty_input (codes "i")
 no_instance = record {
   file = record { bytes = []; held = file_at-with_file (Some empty) (codes "i") [] refl; short = lit≤ tt };
   refused = no_bytes;
@@ -217,7 +217,7 @@ no_other_fault : (old new : FilesSeen) → AreNoCommand [] old new usage.SameNam
 no_other_fault old new h = let e = h.refused in absurd cc
 
 -- ---- files that are ready, and nothing that disturbs
-abbrev bounds_request : Request
+abbrev pub bounds_request : Request
 bounds_request = record { verb = verb.Bounds; pairs = pairs_of bounds_values }
 
 abbrev input_is_readable : IsReadable (told input_alone) (codes "i") 67108864
@@ -232,7 +232,7 @@ ready = record { files = files; input = λ among. record { file = input_is_reada
         IsReadable (told input_alone) (word_at (pairs_of bounds_values) o) (limit_of o)) (sym is) input_is_readable
     files o (inr i) = absurd i
 
-abbrev quiet : SinkSeen
+abbrev pub quiet : SinkSeen
 quiet = record { content = Some []; faults = 0 }
 
 undisturbed : IsUndisturbed bounds_request (told input_alone) (told input_alone) quiet quiet

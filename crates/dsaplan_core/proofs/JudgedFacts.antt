@@ -25,10 +25,10 @@ use Rattle.dsaplan_core.specs.Judged.{GivesLayoutAt, Judged}
 use Rattle.dsaplan_core.proofs.WorldFacts.{first_differs, input_alone, reads_input, told, verify_values}
 
 -- the layout file stands in the file a, beside the input
-abbrev beside : List ℕ → FilesSeen
+abbrev pub beside : List ℕ → FilesSeen
 beside file = told (insert input_alone (codes "a") file)
 
-reads_layout : (file : List ℕ) → file_at (Some (insert input_alone (codes "a") file)) (codes "a") ≡ Some file
+pub reads_layout : (file : List ℕ) → file_at (Some (insert input_alone (codes "a") file)) (codes "a") ≡ Some file
 reads_layout file = file_at-with_file (Some input_alone) (codes "a") file refl
 
 abbrev verify_8 : (file : List ℕ) → Asked (codes "verify" ∷ verify_values (codes "8")) (beside file)
@@ -81,10 +81,10 @@ not_right given =
     ]
 
 -- ---- a layout file that gives a layout
-abbrev verify_request : Word → Request
+abbrev pub verify_request : Word → Request
 verify_request capacity = record { verb = verb.Verify; pairs = pairs_of (verify_values capacity) }
 
-given_at_8 : HoldsGivenLayout (beside high_file) (verify_request (codes "8")) two 8 (0 ∷ 4 ∷ [])
+pub given_at_8 : HoldsGivenLayout (beside high_file) (verify_request (codes "8")) two 8 (0 ∷ 4 ∷ [])
 given_at_8 = record {
   table = two_rows;
   input = (verify_8 high_file).input;

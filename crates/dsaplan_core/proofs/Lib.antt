@@ -27,4 +27,6 @@ mod WorldFacts
 mod ExampleFacts
 mod HeldFacts
 mod JudgedFacts
+mod RefutedFacts
+mod PremiseFacts
 mod ChoiceFacts

@@ -1,0 +1,68 @@
+-- A log by which 7 bytes are too few for two buffers that are both live at 4, and its text.
+use Rattle.std.proofs.Common.{◌≡◌, ◌<◌, ℕ, zero, suc, List, [], ◌∷◌, codes, refl, subst, inl, inr, lit<, lit≤, arith}
+use Rattle.std.proofs.lemmas.List.Elements.{All-cons, All-nil}
+use Rattle.dsa_terms.specs.Bounds.{counted, line_height, pile, rounded_size, stack, stack_line, stack_log}
+use Rattle.dsa_terms.specs.Buffers.{IsInstance, buffer, floor, is_live}
+use Rattle.dsa_terms.specs.Claims.{IsIn}
+use Rattle.planner.specs.Decides.{LeavesNoLayout}
+use Rattle.planner.proofs.ExampleLeastFacts.{line_refutes}
+use Rattle.log_text.specs.Numerals.{numeral}
+use Rattle.log_text.specs.RawLogs.{IsPairWithin, IsRawLineKept}
+use Rattle.log_text.specs.RawTexts.{HasCite, IsTextOf}
+use Rattle.log_text.specs.Text.{raw_log_of}
+use Rattle.log_text.specs.declared.raw.RawLine.{RawLine}
+use Rattle.log_text.specs.declared.raw.RawLine.TheVariants as raw_line
+use Rattle.csv_instance.proofs.FileFacts.{two}
+use Rattle.dsaplan_core.proofs.HeldFacts.{seven_log}
+
+two_sound : IsInstance two
+two_sound zero d lt = (lit≤ tt, lit≤ tt, lit< tt)
+two_sound (suc zero) d lt = (lit≤ tt, lit≤ tt, lit< tt)
+two_sound (suc (suc k)) d lt = absurd (omega arith)
+
+is_seven_log : stack_log two 4 0 1 7 ≡ seven_log
+unfolding stack_log stack_line line_height pile counted floor rounded_size is_live buffer
+is_seven_log = refl
+
+eight_stacked : stack two 4 0 1 ≡ 8
+unfolding stack pile counted floor rounded_size is_live buffer
+eight_stacked = refl
+
+pub refuted_at_7 : LeavesNoLayout two 7 seven_log
+refuted_at_7 = subst (LeavesNoLayout two 7) is_seven_log
+    (line_refutes two 4 0 1 7 two_sound (lit≤ tt) refl (let e = eight_stacked in omega arith))
+
+abbrev pub seven_file : List ℕ
+seven_file = codes "dsalog 1 2 7\nover 4 0 1 : 0=0 1=0\nend 0\n"
+
+abbrev seven_line : RawLine
+seven_line = raw_line.Over 4 0 1 ((0, 0) ∷ (1, 0) ∷ [])
+
+pub seven_reads : IsTextOf seven_file (raw_log_of seven_log)
+unfolding numeral
+seven_reads = record {
+  kept = record {
+    count_limit = lit≤ tt;
+    capacity_limit = lit≤ tt;
+    end_limit = lit≤ tt;
+    lines = All-cons IsRawLineKept seven_line []
+        (record {
+          not_empty = λ e. cc;
+          rising = (above, ((λ y i. absurd i), tt));
+          within = (
+            lit< tt,
+            lit≤ tt,
+            lit≤ tt,
+            All-cons IsPairWithin (0, 0) ((1, 0) ∷ []) (lit≤ tt, lit≤ tt)
+                (All-cons IsPairWithin (1, 0) [] (lit≤ tt, lit≤ tt) (All-nil IsPairWithin)),
+          );
+        })
+        (All-nil IsRawLineKept);
+  };
+  cited = All-cons HasCite seven_line [] tt (All-nil HasCite);
+  text = refl;
+}
+  where
+    above : (y : ℕ) → IsIn y (1 ∷ []) → 0 < y
+    above y (inl e) = omega (arith, e)
+    above y (inr i) = absurd i
