@@ -1,6 +1,6 @@
--- What each law of a single answer asks is met, all of it at once: on an input of two buffers that are both live at 4,
--- with a layout at 8 or with a log by which 7 bytes are too few, on an input of no bytes, and on files that are too
--- long.
+-- What the laws of what is accepted, malformed or too long ask is met, all of it at once: on an input of two buffers
+-- that are both live at 4, with a layout at 8 or with a log by which 7 bytes are too few, on an input of no bytes, and
+-- on files that are too long.
 use Rattle.std.proofs.Common.{◌≡◌, ◌≢◌, ◌<◌, ◌∙◌, ℕ, suc, List, [], ◌∷◌, length, replicate, Option, None, Some, Result, Ok, codes, refl, sym, ap, subst, inl, inr, lit<, lit≤, arith}
 use Rattle.std.specs.FinMap.{empty, insert}
 use Rattle.std.proofs.lemmas.List.{length-replicate}
