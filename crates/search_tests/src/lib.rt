@@ -27,6 +27,8 @@ mod planner_tests;
 #[cfg(test)]
 mod portfolio_tests;
 #[cfg(test)]
+mod replays;
+#[cfg(test)]
 mod row_orders_tests;
 #[cfg(test)]
 mod search_core_tests;

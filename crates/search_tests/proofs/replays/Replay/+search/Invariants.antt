@@ -1,4 +1,4 @@
-use Rattle.search_tests.proofs.line_index_tests.Replay.+search.Given as goal
+use Rattle.search_tests.proofs.replays.Replay.+search.Given as goal
 
 abbrev pub decreases-search : goal.decreases-search
 decreases-search l = l.depth
