@@ -1,108 +1,116 @@
 //! The texts of faults, as they are printed.
 
-ghost use Rattle.std.specs.Prelude.{◌≡◌, List, ℕ, IfOk, string_bytes};
+ghost use Rattle.std.specs.Prelude.{◌≡◌, ◌++◌, OnOk, codes, decimal, string_bytes};
+ghost use Rattle.dsa_model.specs.FaultTexts.{buffer_text};
+ghost use Rattle.csv_instance.specs.Columns.{name_of};
 ghost use Rattle.csv_instance.specs.FaultTexts.{instance_text, offsets_text, row_fault_text};
 
-use crate::{InstanceFault, OffsetsFault};
-use dsa_model::{NoMemory, number_text, pair_text, word_text};
-use std::alloc::Global;
+use crate::{Column, InstanceFault, OffsetsFault};
+use dsa_model::{BufferFault, NoMemory};
 
-/// A row and what is wrong with it.
-fn row_text(alloc: Global, row: u32, text: &str) -> Result<String, NoMemory>
-    ensures { IfOk result (λ made. string_bytes made ≡ row_fault_text row text.now) }
+/// Appends what is wrong.
+fn append(text: &mut String, what: &str) -> Result<(), NoMemory>
+    ensures { OnOk result (string_bytes text.new ≡ string_bytes text.old ++ what.now) }
 {
-    Ok(format!(in alloc; "row {row} {text}")?)
+    Ok(text.push_str(what)?)
 }
 
-/// A row, and the text of what is wrong with it, if there is memory for it.
-fn row_fault_text(
-    alloc: Global,
-    row: u32,
-    fault: Result<String, NoMemory>,
-) -> Result<String, NoMemory>
-    ensures { IfOk result (λ made. (fault_text : List ℕ) →
-        IfOk fault (λ text. string_bytes text ≡ fault_text) →
-        string_bytes made ≡ row_fault_text row fault_text) }
+/// Appends what is wrong with a column.
+fn append_column(text: &mut String, what: &str, column: Column) -> Result<(), NoMemory>
+    ensures { let column_text = codes " " ++ name_of column in OnOk result
+        (string_bytes text.new ≡ string_bytes text.old ++ (what.now ++ column_text)) }
 {
-    let text = fault?;
-    row_text(alloc, row, &text)
+    Ok(write!(text, "{what} {}", column.name())?)
+}
+
+/// Appends a row and what is wrong with it.
+fn append_row(text: &mut String, row: u32, what: &str) -> Result<(), NoMemory>
+    ensures { OnOk result
+        (string_bytes text.new ≡ string_bytes text.old ++ row_fault_text row what.now) }
+{
+    Ok(write!(text, "row {row} {what}")?)
+}
+
+/// Appends a row that has the id of an earlier one.
+fn append_duplicate(text: &mut String, row: u32, earlier: u32) -> Result<(), NoMemory>
+    ensures { let what = codes "duplicate id " ++ decimal earlier in OnOk result
+        (string_bytes text.new ≡ string_bytes text.old ++ row_fault_text row what) }
+{
+    Ok(write!(text, "row {row} duplicate id {earlier}")?)
+}
+
+/// Appends a row and the column that has no number.
+fn append_bad_number(text: &mut String, row: u32, column: Column) -> Result<(), NoMemory>
+    ensures { let what = codes "bad number " ++ name_of column in OnOk result
+        (string_bytes text.new ≡ string_bytes text.old ++ row_fault_text row what) }
+{
+    Ok(write!(text, "row {row} bad number {}", column.name())?)
+}
+
+/// Appends a row and what is wrong with its buffer.
+fn append_bad_buffer(text: &mut String, row: u32, fault: BufferFault) -> Result<(), NoMemory>
+    ensures { OnOk result
+        (string_bytes text.new ≡ string_bytes text.old ++ row_fault_text row (buffer_text fault)) }
+{
+    write!(text, "row {row} ")?;
+    fault.append_to(text)
+}
+
+/// Appends a buffer that has no row.
+fn append_missing(text: &mut String, buffer: u32) -> Result<(), NoMemory>
+    ensures { let buffer_id = codes "missing id " ++ decimal buffer in OnOk result
+        (string_bytes text.new ≡ string_bytes text.old ++ buffer_id) }
+{
+    Ok(write!(text, "missing id {buffer}")?)
 }
 
 impl InstanceFault {
-    /// The text that is printed for the fault.
-    pub fn text(self, alloc: Global) -> Result<String, NoMemory>
-        ensures text { IfOk result (λ text. string_bytes text ≡ instance_text self) }
+    /// Appends the text that is printed for the fault. Where memory runs out, nothing is known of
+    /// `text`.
+    pub fn append_to(self, text: &mut String) -> Result<(), NoMemory>
+        ensures appended { OnOk result
+            (string_bytes text.new ≡ string_bytes text.old ++ instance_text self) }
     {
         match self {
-            InstanceFault::NoHeader => word_text(alloc, "no header"),
-            InstanceFault::MarkedHeader => word_text(alloc, "marked header"),
-            InstanceFault::DuplicateColumn { column } => pair_text(
-                alloc,
-                "duplicate column",
-                column.name(),
-            ),
-            InstanceFault::OffsetColumn => word_text(alloc, "offset column"),
-            InstanceFault::MissingColumn { column } => pair_text(
-                alloc,
-                "missing column",
-                column.name(),
-            ),
-            InstanceFault::TooManyBuffers => word_text(alloc, "too many buffers"),
-            InstanceFault::FieldCount { row } => row_text(alloc, row, "field count"),
-            InstanceFault::EmptyId { row } => row_text(alloc, row, "empty id"),
-            InstanceFault::IdTooLong { row } => row_text(alloc, row, "id too long"),
-            InstanceFault::DuplicateId { row, earlier } => {
-                row_fault_text(
-                    alloc,
-                    row,
-                    number_text(alloc, "duplicate id", u64::from(earlier)),
-                )
+            InstanceFault::NoHeader => append(text, "no header"),
+            InstanceFault::MarkedHeader => append(text, "marked header"),
+            InstanceFault::DuplicateColumn { column } => {
+                append_column(text, "duplicate column", column)
             }
-            InstanceFault::BadNumber { row, column } => {
-                row_fault_text(alloc, row, pair_text(alloc, "bad number", column.name()))
+            InstanceFault::OffsetColumn => append(text, "offset column"),
+            InstanceFault::MissingColumn { column } => {
+                append_column(text, "missing column", column)
             }
-            InstanceFault::BadGap { row } => row_text(alloc, row, "bad gap"),
-            InstanceFault::BadBuffer { row, fault } => row_fault_text(
-                alloc,
-                row,
-                fault.text(alloc),
-            ),
+            InstanceFault::TooManyBuffers => append(text, "too many buffers"),
+            InstanceFault::FieldCount { row } => append_row(text, row, "field count"),
+            InstanceFault::EmptyId { row } => append_row(text, row, "empty id"),
+            InstanceFault::IdTooLong { row } => append_row(text, row, "id too long"),
+            InstanceFault::DuplicateId { row, earlier } => append_duplicate(text, row, earlier),
+            InstanceFault::BadNumber { row, column } => append_bad_number(text, row, column),
+            InstanceFault::BadGap { row } => append_row(text, row, "bad gap"),
+            InstanceFault::BadBuffer { row, fault } => append_bad_buffer(text, row, fault),
         }
     }
 }
 
 impl OffsetsFault {
-    /// The text that is printed for the fault.
-    pub fn text(self, alloc: Global) -> Result<String, NoMemory>
-        ensures text { IfOk result (λ text. string_bytes text ≡ offsets_text self) }
+    /// Appends the text that is printed for the fault. Where memory runs out, nothing is known of
+    /// `text`.
+    pub fn append_to(self, text: &mut String) -> Result<(), NoMemory>
+        ensures appended { OnOk result
+            (string_bytes text.new ≡ string_bytes text.old ++ offsets_text self) }
     {
         match self {
-            OffsetsFault::NoHeader => word_text(alloc, "no header"),
-            OffsetsFault::DuplicateColumn { column } => pair_text(
-                alloc,
-                "duplicate column",
-                column.name(),
-            ),
-            OffsetsFault::MissingColumn { column } => pair_text(
-                alloc,
-                "missing column",
-                column.name(),
-            ),
-            OffsetsFault::FieldCount { row } => row_text(alloc, row, "field count"),
-            OffsetsFault::UnknownId { row } => row_text(alloc, row, "unknown id"),
-            OffsetsFault::DuplicateId { row, earlier } => {
-                row_fault_text(
-                    alloc,
-                    row,
-                    number_text(alloc, "duplicate id", u64::from(earlier)),
-                )
+            OffsetsFault::NoHeader => append(text, "no header"),
+            OffsetsFault::DuplicateColumn { column } => {
+                append_column(text, "duplicate column", column)
             }
-            OffsetsFault::BadNumber { row } => row_text(alloc, row, "bad number offset"),
-            OffsetsFault::MissingId { buffer } => number_text(
-                alloc,
-                "missing id",
-                u64::from(buffer),
-            ),
+            OffsetsFault::MissingColumn { column } => append_column(text, "missing column", column),
+            OffsetsFault::FieldCount { row } => append_row(text, row, "field count"),
+            OffsetsFault::UnknownId { row } => append_row(text, row, "unknown id"),
+            OffsetsFault::DuplicateId { row, earlier } => append_duplicate(text, row, earlier),
+            OffsetsFault::BadNumber { row } => append_row(text, row, "bad number offset"),
+            OffsetsFault::MissingId { buffer } => append_missing(text, buffer),
         }
     }
 }

@@ -1,31 +1,24 @@
 //! The texts of faults, as they are printed.
 
-ghost use Rattle.std.specs.Prelude.{◌≡◌, IfOk, string_bytes};
-ghost use Rattle.csv_instance.specs.FaultTexts.{row_fault_text};
+ghost use Rattle.std.specs.Prelude.{◌≡◌, ◌++◌, OnOk, string_bytes};
 ghost use Rattle.cyclic_plan.specs.FaultTexts.{cycle_text};
 
 use crate::CycleFault;
 use dsa_model::NoMemory;
-use std::alloc::Global;
-
-/// A row and what is wrong with it.
-fn row_text(alloc: Global, row: u32, text: &str) -> Result<String, NoMemory>
-    ensures { IfOk result (λ made. string_bytes made ≡ row_fault_text row text.now) }
-{
-    Ok(format!(in alloc; "row {row} {text}")?)
-}
 
 impl CycleFault {
-    /// The text that is printed for the fault.
-    pub fn text(self, alloc: Global) -> Result<String, NoMemory>
-        ensures text { IfOk result (λ text. string_bytes text ≡ cycle_text self) }
+    /// Appends the text that is printed for the fault. Where memory runs out, nothing is known of
+    /// `text`.
+    pub fn append_to(self, text: &mut String) -> Result<(), NoMemory>
+        ensures appended { OnOk result
+            (string_bytes text.new ≡ string_bytes text.old ++ cycle_text self) }
     {
         match self {
-            CycleFault::Instance(fault) => fault.text(alloc),
-            CycleFault::Outside { row } => row_text(alloc, row, "outside"),
+            CycleFault::Instance(fault) => fault.append_to(text),
+            CycleFault::Outside { row } => Ok(write!(text, "row {row} outside")?),
             CycleFault::BadBuffer { row, fault } => {
-                let text = fault.text(alloc)?;
-                row_text(alloc, row, text.as_str())
+                write!(text, "row {row} ")?;
+                fault.append_to(text)
             }
         }
     }

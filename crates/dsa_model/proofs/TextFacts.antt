@@ -1,7 +1,7 @@
 -- What is printed of the faults of buffers and of offsets.
 use Rattle.std.proofs.Common.{◌≡◌, codes, refl}
 use Rattle.std.specs.Fmt.{digits}
-use Rattle.dsa_model.specs.FaultTexts.{buffer_text, layout_fault_text, overlap_text}
+use Rattle.dsa_model.specs.FaultTexts.{buffer_text, layout_fault_text}
 use Rattle.dsa_model.specs.declared.buffer_fault.BufferFault.TheVariants as buffer
 use Rattle.dsa_model.specs.declared.layout.LayoutFault.TheVariants as layout
 
@@ -34,6 +34,6 @@ above : layout_fault_text (layout.Above 3) ≡ codes "above 3"
 unfolding digits
 above = refl
 
-overlap : overlap_text 0 1 4 ≡ codes "overlap 0 1 4"
+overlap : layout_fault_text (layout.Overlap 0 1 4) ≡ codes "overlap 0 1 4"
 unfolding digits
 overlap = refl

@@ -18,15 +18,11 @@ buffer_text buffer.TooManyGaps = codes "too many gaps"
 buffer_text buffer.NeverLive = codes "never live"
 buffer_text buffer.LowestTooLarge = codes "lowest too large"
 
--- two buffers that overlap, and the moment
-abbrev pub overlap_text : ℕ → ℕ → ℕ → List ℕ
-overlap_text first second moment =
-    codes "overlap " ++ decimal first ++ codes " " ++ decimal second ++ codes " " ++ decimal moment
-
 -- what is wrong with offsets
 abbrev pub layout_fault_text : LayoutFault → List ℕ
 layout_fault_text layout.WrongCount = codes "count"
 layout_fault_text (layout.Unaligned buffer) = codes "unaligned " ++ decimal buffer
 layout_fault_text (layout.TooLow buffer) = codes "too low " ++ decimal buffer
 layout_fault_text (layout.Above buffer) = codes "above " ++ decimal buffer
-layout_fault_text (layout.Overlap first second moment) = overlap_text first second moment
+layout_fault_text (layout.Overlap first second moment) =
+    codes "overlap " ++ decimal first ++ codes " " ++ decimal second ++ codes " " ++ decimal moment

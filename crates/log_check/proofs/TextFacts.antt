@@ -2,18 +2,18 @@
 use Rattle.std.proofs.Common.{◌≡◌, codes, refl}
 use Rattle.std.specs.Fmt.{digits}
 use Rattle.refute_log.specs.declared.reason.Reason.TheVariants as reason
-use Rattle.log_check.specs.FaultTexts.{check_text, count_text, end_fault_text, illegal_text}
+use Rattle.log_check.specs.FaultTexts.{check_text}
 use Rattle.log_check.specs.declared.fault.CheckFault.TheVariants as check
 
-counts : count_text 3 4 ≡ codes "count 3 4"
+counts : check_text (check.WrongCount 3 4) ≡ codes "count 3 4"
 unfolding digits
 counts = refl
 
-illegal : illegal_text 6 (codes "not over") ≡ codes "line 6 not over"
+illegal : check_text (check.Illegal 6 reason.NotOver) ≡ codes "line 6 not over"
 unfolding digits
 illegal = refl
 
-a_bound : end_fault_text 6 2 ≡ codes "end 6 bound 2"
+a_bound : check_text (check.EndNotWhole 6 2) ≡ codes "end 6 bound 2"
 unfolding digits
 a_bound = refl
 

@@ -1,27 +1,28 @@
 //! The texts of faults, as they are printed.
 
-ghost use Rattle.std.specs.Prelude.{◌≡◌, IfOk, string_bytes};
+ghost use Rattle.std.specs.Prelude.{◌≡◌, ◌++◌, OnOk, string_bytes};
 ghost use Rattle.log_text.specs.FaultTexts.{text_fault_text};
 
 use crate::TextFault;
-use dsa_model::{NoMemory, number_text, word_text};
-use std::alloc::Global;
+use dsa_model::NoMemory;
 
 impl TextFault {
-    /// The text that is printed for the fault.
-    pub fn text(self, alloc: Global) -> Result<String, NoMemory>
-        ensures text { IfOk result (λ text. string_bytes text ≡ text_fault_text self) }
+    /// Appends the text that is printed for the fault. Where memory runs out, nothing is known of
+    /// `text`.
+    pub fn append_to(self, text: &mut String) -> Result<(), NoMemory>
+        ensures appended { OnOk result
+            (string_bytes text.new ≡ string_bytes text.old ++ text_fault_text self) }
     {
-        match self {
-            TextFault::NotLog => word_text(alloc, "not a log"),
-            TextFault::BadVersion { version } => number_text(alloc, "version", version),
-            TextFault::BadLine { line } => number_text(alloc, "bad line", line),
-            TextFault::NumberTooLarge { line } => number_text(alloc, "number too large", line),
-            TextFault::NotRising { line } => number_text(alloc, "not rising", line),
-            TextFault::BadBase { line } => number_text(alloc, "bad base", line),
-            TextFault::BadChange { line } => number_text(alloc, "bad change", line),
-            TextFault::NoEnd => word_text(alloc, "no end"),
-            TextFault::AfterEnd => word_text(alloc, "after end"),
-        }
+        Ok(match self {
+            TextFault::NotLog => text.push_str("not a log"),
+            TextFault::BadVersion { version } => write!(text, "version {version}"),
+            TextFault::BadLine { line } => write!(text, "bad line {line}"),
+            TextFault::NumberTooLarge { line } => write!(text, "number too large {line}"),
+            TextFault::NotRising { line } => write!(text, "not rising {line}"),
+            TextFault::BadBase { line } => write!(text, "bad base {line}"),
+            TextFault::BadChange { line } => write!(text, "bad change {line}"),
+            TextFault::NoEnd => text.push_str("no end"),
+            TextFault::AfterEnd => text.push_str("after end"),
+        }?)
     }
 }

@@ -1,29 +1,30 @@
 //! The texts of reasons, as they are printed.
 
-ghost use Rattle.std.specs.Prelude.{◌≡◌, IfOk, string_bytes};
+ghost use Rattle.std.specs.Prelude.{◌≡◌, ◌++◌, OnOk, string_bytes};
 ghost use Rattle.refute_log.specs.ReasonTexts.{reason_text};
 
 use crate::Reason;
-use dsa_model::{NoMemory, number_text, word_text};
-use std::alloc::Global;
+use dsa_model::NoMemory;
 
 impl Reason {
-    /// The text that is printed for the reason.
-    pub fn text(self, alloc: Global) -> Result<String, NoMemory>
-        ensures text { IfOk result (λ text. string_bytes text ≡ reason_text self) }
+    /// Appends the text that is printed for the reason. Where memory runs out, nothing is known of
+    /// `text`.
+    pub fn append_to(self, text: &mut String) -> Result<(), NoMemory>
+        ensures appended { OnOk result
+            (string_bytes text.new ≡ string_bytes text.old ++ reason_text self) }
     {
         match self {
-            Reason::EmptyClaim => word_text(alloc, "empty claim"),
-            Reason::BufferRange { buffer } => number_text(alloc, "buffer range", buffer),
-            Reason::ZeroModulus => word_text(alloc, "zero modulus"),
-            Reason::NotMultiple => word_text(alloc, "not multiple"),
-            Reason::EmptySet => word_text(alloc, "empty set"),
-            Reason::NotOver => word_text(alloc, "not over"),
-            Reason::CitesDiffer => word_text(alloc, "cites differ"),
-            Reason::NotEarlier { buffer } => number_text(alloc, "not earlier", u64::from(buffer)),
-            Reason::NotCovered { buffer } => number_text(alloc, "not covered", u64::from(buffer)),
-            Reason::NotBelow { buffer } => number_text(alloc, "not below", u64::from(buffer)),
-            Reason::NotTwin { buffer } => number_text(alloc, "not twin", u64::from(buffer)),
+            Reason::EmptyClaim => Ok(text.push_str("empty claim")?),
+            Reason::BufferRange { buffer } => Ok(write!(text, "buffer range {buffer}")?),
+            Reason::ZeroModulus => Ok(text.push_str("zero modulus")?),
+            Reason::NotMultiple => Ok(text.push_str("not multiple")?),
+            Reason::EmptySet => Ok(text.push_str("empty set")?),
+            Reason::NotOver => Ok(text.push_str("not over")?),
+            Reason::CitesDiffer => Ok(text.push_str("cites differ")?),
+            Reason::NotEarlier { buffer } => Ok(write!(text, "not earlier {buffer}")?),
+            Reason::NotCovered { buffer } => Ok(write!(text, "not covered {buffer}")?),
+            Reason::NotBelow { buffer } => Ok(write!(text, "not below {buffer}")?),
+            Reason::NotTwin { buffer } => Ok(write!(text, "not twin {buffer}")?),
         }
     }
 }

@@ -1,39 +1,41 @@
 //! The texts of faults, as they are printed.
 
-ghost use Rattle.std.specs.Prelude.{◌≡◌, IfOk, string_bytes};
-ghost use Rattle.trace_import.specs.FaultTexts.{still_live_text, trace_fault_text};
+ghost use Rattle.std.specs.Prelude.{◌≡◌, ◌++◌, OnOk, codes, decimal, string_bytes};
+ghost use Rattle.trace_import.specs.FaultTexts.{trace_fault_text};
 
 use crate::TraceFault;
-use dsa_model::{NoMemory, number_text};
-use std::alloc::Global;
+use dsa_model::NoMemory;
 
-/// A line that allocates what an earlier one holds.
-fn still_live_text(alloc: Global, line: u32, earlier: u32) -> Result<String, NoMemory>
-    ensures { IfOk result (λ made. string_bytes made ≡ still_live_text line earlier) }
+/// Appends what is wrong with a line.
+fn append_line(text: &mut String, what: &str, line: u32) -> Result<(), NoMemory>
+    ensures { let number = codes " " ++ decimal line in
+        OnOk result (string_bytes text.new ≡ string_bytes text.old ++ (what.now ++ number)) }
 {
-    Ok(format!(in alloc; "still live {line} {earlier}")?)
+    Ok(write!(text, "{what} {line}")?)
+}
+
+/// Appends a line that allocates what an earlier one holds.
+fn append_still_live(text: &mut String, line: u32, earlier: u32) -> Result<(), NoMemory>
+    ensures { let numbers = decimal line ++ codes " " ++ decimal earlier in OnOk result
+        (string_bytes text.new ≡ string_bytes text.old ++ (codes "still live " ++ numbers)) }
+{
+    Ok(write!(text, "still live {line} {earlier}")?)
 }
 
 impl TraceFault {
-    /// The text that is printed for the fault.
-    pub fn text(self, alloc: Global) -> Result<String, NoMemory>
-        ensures text { IfOk result (λ text. string_bytes text ≡ trace_fault_text self) }
+    /// Appends the text that is printed for the fault. Where memory runs out, nothing is known of
+    /// `text`.
+    pub fn append_to(self, text: &mut String) -> Result<(), NoMemory>
+        ensures appended { OnOk result
+            (string_bytes text.new ≡ string_bytes text.old ++ trace_fault_text self) }
     {
         match self {
-            TraceFault::BadLine { line } => number_text(alloc, "bad line", u64::from(line)),
-            TraceFault::BadSize { line } => number_text(alloc, "bad size", u64::from(line)),
-            TraceFault::BadAlignment { line } => number_text(
-                alloc,
-                "bad alignment",
-                u64::from(line),
-            ),
-            TraceFault::StillLive { line, earlier } => still_live_text(alloc, line, earlier),
-            TraceFault::NotLive { line } => number_text(alloc, "not live", u64::from(line)),
-            TraceFault::TooManyBuffers { line } => number_text(
-                alloc,
-                "too many buffers",
-                u64::from(line),
-            ),
+            TraceFault::BadLine { line } => append_line(text, "bad line", line),
+            TraceFault::BadSize { line } => append_line(text, "bad size", line),
+            TraceFault::BadAlignment { line } => append_line(text, "bad alignment", line),
+            TraceFault::StillLive { line, earlier } => append_still_live(text, line, earlier),
+            TraceFault::NotLive { line } => append_line(text, "not live", line),
+            TraceFault::TooManyBuffers { line } => append_line(text, "too many buffers", line),
         }
     }
 }
