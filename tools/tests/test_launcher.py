@@ -130,8 +130,10 @@ class Launcher(unittest.TestCase):
             text = file.read()
         forms = {}
         for command, needed, optional in re.findall(r'= row \(codes "(\w+)"\) \((.*?)\) (\(.*?\)|\[\])$', text, re.M):
+            # What is needed is written after what is done with it; only the input may be read as an instance.
             forms[command] = [
-                [f"--{it.lower()}" for it in re.findall(r"[A-Z]\w+", options)] for options in (needed, optional)
+                [f"--{it.lower()}" for it in re.findall(form, options)]
+                for form, options in ((r"([A-Z]\w+)(?= ∷)", needed.replace("Instance", "Input")), (r"[A-Z]\w+", optional))
             ]
         return forms
 

@@ -13,7 +13,7 @@ use Rattle.log_text.specs.Spellings.{log_text2}
 use Rattle.log_text.specs.Text.{log_text, raw_line_of, raw_log_of}
 use Rattle.log_text.specs.declared.raw.RawLine.{RawLine}
 use Rattle.log_text.proofs.Saying.{text2_says}
-use Rattle.run_status.specs.declared.status.Role.TheVariants as role
+use Rattle.command_words.specs.declared.role.Role.TheVariants as role
 use Rattle.run_status.specs.declared.status.Status.TheVariants as status
 use Rattle.run_course.specs.Course.{Outcome, says, writes}
 use Rattle.readings.specs.Checking.{Checks, is_accepted}

@@ -6,9 +6,9 @@ use Rattle.dsa_terms.specs.Trims.{IsTrimOf}
 use Rattle.log_text.specs.RawTexts.{IsTextOf}
 use Rattle.log_text.specs.Text.{log_text, raw_log_of}
 use Rattle.command_words.specs.Options.{Word}
+use Rattle.command_words.specs.declared.role.Role.TheVariants as role
 use Rattle.run_status.specs.Spoken.{IsSpoken}
 use Rattle.run_status.specs.declared.status.Status.TheVariants.{Trimmed}
-use Rattle.run_status.specs.declared.status.Role.TheVariants as role
 use Rattle.run_course.specs.Course.{Outcome, writes}
 use Rattle.checking.specs.Checking.{Trims}
 

@@ -5,9 +5,9 @@ use Rattle.log_text.specs.Says.{Says}
 use Rattle.log_text.specs.Spellings.{log_text2}
 use Rattle.log_text.specs.Text.{raw_log_of}
 use Rattle.command_words.specs.Options.{Word}
+use Rattle.command_words.specs.declared.role.Role.TheVariants as role
 use Rattle.run_status.specs.Spoken.{IsSpoken}
 use Rattle.run_status.specs.declared.status.Status.TheVariants.{Upgraded}
-use Rattle.run_status.specs.declared.status.Role.TheVariants as role
 use Rattle.run_course.specs.Course.{Outcome, writes}
 use Rattle.checking.specs.Checking.{Upgrades}
 

@@ -8,8 +8,8 @@ use Rattle.log_text.specs.Says.{Says}
 use Rattle.log_text.specs.Spellings.{log_text2}
 use Rattle.log_text.specs.Text.{log_text, raw_log_of}
 use Rattle.command_words.specs.Options.{Word}
+use Rattle.command_words.specs.declared.role.Role.TheVariants as role
 use Rattle.run_status.specs.declared.status.Status.TheVariants.{Accepted, Trimmed, Upgraded}
-use Rattle.run_status.specs.declared.status.Role.TheVariants as role
 use Rattle.run_course.specs.Course.{Course, Outcome, says, writes}
 use Rattle.readings.specs.Input.{opened}
 use Rattle.readings.specs.Checking.{checked}

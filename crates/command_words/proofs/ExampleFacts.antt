@@ -1,11 +1,14 @@
 -- Command lines, and what the definitions say of them.
-use Rattle.std.proofs.Common.{◌≡◌, true, false, List, [], ◌∷◌, ◌++◌, Some, None, Err, MatchResult, codes, refl}
-use Rattle.command_words.specs.Options.{Word, is_bad}
-use Rattle.command_words.specs.Forms.{option_of}
-use Rattle.command_words.specs.Pairs.{has_equal, number_at, number_given, pairs_of, place_after}
+use Rattle.std.proofs.Common.{◌≡◌, true, false, List, [], ◌∷◌, ◌++◌, length, Option, Some, None, Err, MatchResult, codes, refl}
+use Rattle.command_words.specs.Options.{Word}
+use Rattle.command_words.specs.Forms.{is_bad, use_of}
+use Rattle.command_words.specs.Pairs.{Pair, has_equal, number_at, number_given, pair_fault, pairs_of}
 use Rattle.command_words.specs.Requests.{Request, names_of, request_of}
 use Rattle.command_words.specs.declared.option.OptionName.TheVariants as option
+use Rattle.command_words.specs.declared.form.Use.TheVariants as used
+use Rattle.command_words.specs.declared.role.Role.TheVariants as role
 use Rattle.command_words.specs.declared.verb.Verb.TheVariants as verb
+use Rattle.command_words.specs.declared.fault.UsageFault.{UsageFault}
 use Rattle.command_words.specs.declared.fault.UsageFault.TheVariants as fault
 
 -- the words ask for a command, of which this holds
@@ -14,36 +17,36 @@ Asks words holds = MatchResult (request_of words) holds (λ _. ⊥)
 
 -- ---- values
 
-greatest_number : is_bad option.Capacity (codes "1152921504606846976") ≡ false
+greatest_number : is_bad (used.Number option.Capacity) (codes "1152921504606846976") ≡ false
 greatest_number = refl
 
-too_great : is_bad option.Capacity (codes "1152921504606846977") ≡ true
+too_great : is_bad (used.Number option.Capacity) (codes "1152921504606846977") ≡ true
 too_great = refl
 
-no_name : is_bad option.Log [] ≡ true
+no_name : is_bad (used.Writes role.Log) [] ≡ true
 no_name = refl
 
-any_name : is_bad option.Log (codes "--log") ≡ false
+any_name : is_bad (used.Writes role.Log) (codes "--log") ≡ false
 any_name = refl
 
-a_seed_without_digits : is_bad option.Seed (codes "i") ≡ true
+a_seed_without_digits : is_bad (used.Number option.Seed) (codes "i") ≡ true
 a_seed_without_digits = refl
 
-no_steps_at_all : is_bad option.Steps (codes "0") ≡ false
+no_steps_at_all : is_bad (used.Number option.Steps) (codes "0") ≡ false
 no_steps_at_all = refl
 
 -- ---- options and pairs
 
-an_option_of_solve : option_of verb.Solve (codes "--log") ≡ Some option.Log
+an_option_of_solve : use_of verb.Solve (codes "--log") ≡ Some (used.Writes role.Log)
 an_option_of_solve = refl
 
-no_option_of_bounds : option_of verb.Bounds (codes "--log") ≡ None
+no_option_of_bounds : use_of verb.Bounds (codes "--log") ≡ None
 no_option_of_bounds = refl
 
-steps_of_least : option_of verb.Least (codes "--steps") ≡ Some option.Steps
+steps_of_least : use_of verb.Least (codes "--steps") ≡ Some (used.Number option.Steps)
 steps_of_least = refl
 
-no_steps_of_trim : option_of verb.Trim (codes "--steps") ≡ None
+no_steps_of_trim : use_of verb.Trim (codes "--steps") ≡ None
 no_steps_of_trim = refl
 
 a_pair_and_a_half : pairs_of (codes "--input" ∷ codes "i" ∷ codes "--log" ∷ [])
@@ -51,17 +54,23 @@ a_pair_and_a_half : pairs_of (codes "--input" ∷ codes "i" ∷ codes "--log" �
     ∷ record { option = codes "--log"; value = None } ∷ []
 a_pair_and_a_half = refl
 
-first_place : place_after 0 ≡ 1
+-- ---- places of pairs: that of the first word, or the greatest
+abbrev unknown : List Pair → Option UsageFault
+unknown earlier = pair_fault verb.Bounds earlier (record { option = codes "--log"; value = None })
+
+first_place : unknown [] ≡ Some (fault.UnknownOption 1)
 first_place = refl
 
-third_place : place_after 2 ≡ 5
+third_place : unknown (pairs_of (codes "--a" ∷ codes "a" ∷ codes "--b" ∷ codes "b" ∷ [])) ≡ Some (fault.UnknownOption 5)
 third_place = refl
 
-last_place : place_after 2147483646 ≡ 4294967293
-last_place = refl
+last_place : (earlier : List Pair) → length earlier ≡ 2147483646 →
+    unknown earlier ≡ Some (fault.UnknownOption 4294967293)
+last_place earlier is = rw is refl
 
-place_past_the_last : place_after 2147483648 ≡ 4294967295
-place_past_the_last = refl
+place_past_the_last : (earlier : List Pair) → length earlier ≡ 2147483648 →
+    unknown earlier ≡ Some (fault.UnknownOption 4294967295)
+place_past_the_last earlier is = rw is refl
 
 first_and_last_equal : has_equal (codes "a" ∷ codes "b" ∷ codes "a" ∷ []) ≡ true
 first_and_last_equal = refl

@@ -1,5 +1,6 @@
 mod CommandFacts
 mod ExampleFacts
+pub mod FileLemmas
 pub mod NameLemmas
 pub mod PairLemmas
 pub mod RequestLemmas

@@ -1,4 +1,5 @@
 pub mod Options
+pub mod Roles
 pub mod Forms
 pub mod Pairs
 pub mod Requests

@@ -1,8 +1,8 @@
 //! The first fault of pairs of words.
 
-ghost use Rattle.std.specs.Prelude.{◌≡◌, ◌<◌, ◌≤◌, ◌^◌, [], map, take, length, string_bytes, find, not, is_some};
-ghost use Rattle.command_words.specs.Forms.{form_of};
-ghost use Rattle.command_words.specs.Pairs.{pairs_of, pair_value, place_after, pair_fault, pairs_fault, value_of};
+ghost use Rattle.std.specs.Prelude.{◌≡◌, ◌<◌, ◌+◌, ◌*◌, ◌-◌, ◌^◌, min, [], map, take, length, string_bytes, find, is_none};
+ghost use Rattle.command_words.specs.Forms.{form_of, option_of};
+ghost use Rattle.command_words.specs.Pairs.{pairs_of, pair_value, pair_fault, pairs_fault, value_of};
 
 use crate::pair::{Pair, has_option, split_pair, value_of};
 use crate::value::is_bad;
@@ -12,7 +12,7 @@ use crate::{OptionName, UsageFault, Verb};
 /// is greater.
 fn place_after(pairs: usize) -> u32
     requires { pairs < 2 ^ 63 }
-    ensures { result ≡ place_after pairs }
+    ensures { result ≡ min (2 * pairs + 1) (2 ^ 32 - 1) }
 {
     (2 * pairs + 1).min(u32::MAX as usize) as u32
 }
@@ -25,7 +25,7 @@ fn pair_fault(verb: Verb, words: &[String], earlier: usize, pair: Pair<'_>) -> O
         result ≡ pair_fault verb (take earlier pairs) (pair_value pair.entry) }
 {
     let word = place_after(earlier);
-    let Some(option) = verb.option_of(pair.option) else {
+    let Some(used) = verb.use_of(pair.option) else {
         return Some(UsageFault::UnknownOption { word });
     };
     if has_option(words, earlier, pair.option) {
@@ -34,7 +34,7 @@ fn pair_fault(verb: Verb, words: &[String], earlier: usize, pair: Pair<'_>) -> O
     let Some(value) = pair.value else {
         return Some(UsageFault::MissingValue { word });
     };
-    if is_bad(option, value) {
+    if is_bad(used, value) {
         return Some(UsageFault::BadValue { word });
     }
     None
@@ -59,11 +59,12 @@ pub(crate) fn pairs_fault(verb: Verb, words: &[String]) -> Option<UsageFault>
 /// The first option that the command needs and the pairs don't give.
 pub(crate) fn first_missing(verb: Verb, words: &[String]) -> Option<OptionName>
     ensures { let pairs = pairs_of (map string_bytes words.now) in
-        result ≡ find (λ o. not (is_some (value_of pairs o))) (form_of verb).needed }
+        result ≡ find (λ o. is_none (value_of pairs o))
+        (map option_of (form_of verb).needed) }
 {
     verb.form()
         .needed
         .iter()
-        .copied()
+        .map(|used| used.option())
         .find(|option| value_of(words, *option).is_none())
 }

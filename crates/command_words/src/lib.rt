@@ -11,6 +11,7 @@ mod option;
 mod pair;
 mod read;
 mod request;
+mod role;
 mod value;
 mod verb;
 
@@ -18,4 +19,5 @@ pub use fault::UsageFault;
 pub use option::OptionName;
 pub use read::read_words;
 pub use request::Request;
+pub use role::Role;
 pub use verb::Verb;

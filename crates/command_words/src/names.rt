@@ -1,35 +1,43 @@
 //! The names of a command's files.
 
-ghost use Rattle.std.specs.Prelude.{◌≡◌, filter, map, string_bytes};
-ghost use Rattle.std.specs.List.{list_any};
+ghost use Rattle.std.specs.Prelude.{◌≡◌, map, string_bytes};
+ghost use Rattle.std.specs.List.{filter_map, list_any};
 ghost use Rattle.std.specs.Str.{bytes_eq};
-ghost use Rattle.command_words.specs.Forms.{files_of};
-ghost use Rattle.command_words.specs.Options.{is_file};
-ghost use Rattle.command_words.specs.Pairs.{pairs_of, has_equal, word_at};
+ghost use Rattle.command_words.specs.Forms.{file_of, form_of};
+ghost use Rattle.command_words.specs.Pairs.{pairs_of, has_equal, name_in};
 
-use crate::pair::word_at;
-use crate::{OptionName, Verb};
+use crate::form::Use;
+use crate::pair::value_of;
+use crate::{Role, Verb};
 
-/// Whether one of the files among the options has this name.
-fn has_name(words: &[String], options: &[OptionName], name: &str) -> bool
-    ensures { let pairs = pairs_of (map string_bytes words.now) in
-        result ≡ list_any (λ o. bytes_eq name.now (word_at pairs o)) (filter is_file options.now) }
+/// The name that the words give a file.
+pub(crate) fn name_in(words: &[String], role: Role) -> &str
+    ensures { result.now ≡ name_in (pairs_of (map string_bytes words.now)) role }
 {
-    options
-        .iter()
-        .filter(|option| option.is_file())
-        .any(|file| name == word_at(words, *file))
+    value_of(words, role.option()).unwrap_or("")
+}
+
+/// Whether a file that one of the uses reads or writes has this name.
+fn has_name(words: &[String], uses: &[Use], name: &str) -> bool
+    ensures { let pairs = pairs_of (map string_bytes words.now) in
+        result ≡ list_any (λ r. bytes_eq name.now (name_in pairs r)) (filter_map file_of uses.now) }
+{
+    uses.iter()
+        .filter_map(|used| used.file())
+        .any(|role| name == name_in(words, role))
 }
 
 /// Whether two of the command's files have the same name.
 pub(crate) fn has_same_name(verb: Verb, words: &[String]) -> bool
     ensures { let pairs = pairs_of (map string_bytes words.now) in
-        result ≡ has_equal (map (word_at pairs) (files_of verb)) }
+        result ≡ has_equal (map (name_in pairs) (filter_map file_of (form_of verb).needed)) }
 {
     let mut rest = verb.form().needed;
-    while let Some((option, after)) = rest.split_first() {
-        if option.is_file() && has_name(words, after, word_at(words, *option)) {
-            return true;
+    while let Some((used, after)) = rest.split_first() {
+        if let Some(role) = used.file() {
+            if has_name(words, after, name_in(words, role)) {
+                return true;
+            }
         }
         rest = after;
     }

@@ -1,7 +1,7 @@
 //! The options of commands.
 
 ghost use Rattle.std.specs.Prelude.{◌≡◌};
-ghost use Rattle.command_words.specs.Options.{option_word, is_file};
+ghost use Rattle.command_words.specs.Options.{option_word};
 
 /// An option of a command; its word is its name after two dashes.
 #[derive(Clone, Copy, Debug, PartialEq, Eq)]
@@ -18,7 +18,7 @@ pub enum OptionName {
     Layout,
     /// `--trace`: the name of a trace.
     Trace,
-    /// `--steps`: a budget in units, each a claim that is opened, or for `pack` also so much placing.
+    /// `--steps`: a budget in units, each a claim that is opened, for `pack` also so much placing.
     Steps,
     /// `--seed`: the seed of a made instance.
     Seed,
@@ -44,24 +44,6 @@ impl OptionName {
             OptionName::Seed => "--seed",
             OptionName::Count => "--count",
             OptionName::Period => "--period",
-        }
-    }
-
-    /// Whether the option names a file; the others have numbers.
-    pub(crate) fn is_file(&self) -> bool
-        ensures { result ≡ is_file self.now }
-    {
-        match self {
-            OptionName::Input
-            | OptionName::Output
-            | OptionName::Log
-            | OptionName::Layout
-            | OptionName::Trace => true,
-            OptionName::Capacity
-            | OptionName::Steps
-            | OptionName::Seed
-            | OptionName::Count
-            | OptionName::Period => false,
         }
     }
 }

@@ -4,7 +4,7 @@ ghost use Rattle.std.specs.Prelude.{◌≡◌, ◌∷◌, ◌<◌, ◌≤◌, []
 ghost use Rattle.std.specs.List.{list_any};
 ghost use Rattle.std.specs.Str.{bytes_eq};
 ghost use Rattle.command_words.specs.Options.{number_limit};
-ghost use Rattle.command_words.specs.Pairs.{pairs_of, pair_value, value_of, word_at, number_at, number_given};
+ghost use Rattle.command_words.specs.Pairs.{pairs_of, pair_value, value_of, number_at, number_given};
 
 use crate::OptionName;
 use crate::value::number_of;
@@ -76,13 +76,6 @@ pub(crate) fn value_of(words: &[String], option: OptionName) -> Option<&str>
     None
 }
 
-/// The word that the pairs give an option, and an empty one where they give none.
-pub(crate) fn word_at(words: &[String], option: OptionName) -> &str
-    ensures { result.now ≡ word_at (pairs_of (map string_bytes words.now)) option }
-{
-    value_of(words, option).unwrap_or("")
-}
-
 /// The number that the pairs give an option, where they give one.
 pub(crate) fn number_given(words: &[String], option: OptionName) -> Option<u64>
     ensures value { result ≡ number_given (pairs_of (map string_bytes words.now)) option }
@@ -97,5 +90,5 @@ pub(crate) fn number_at(words: &[String], option: OptionName) -> u64
     ensures value { result ≡ number_at (pairs_of (map string_bytes words.now)) option }
     ensures within { result ≤ number_limit }
 {
-    number_of(word_at(words, option)).unwrap_or(0)
+    number_given(words, option).unwrap_or(0)
 }

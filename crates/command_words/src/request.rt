@@ -2,10 +2,11 @@
 
 ghost use Rattle.std.specs.Prelude.{◌≡◌, ◌≤◌, map, string_bytes, IfSome};
 ghost use Rattle.command_words.specs.Options.{number_limit};
-ghost use Rattle.command_words.specs.Pairs.{pairs_of, word_at, number_at, number_given};
+ghost use Rattle.command_words.specs.Pairs.{pairs_of, name_in, number_at, number_given};
 ghost use Rattle.command_words.specs.Requests as terms;
 
-use crate::{OptionName, Verb, pair};
+use crate::names::name_in;
+use crate::{OptionName, Role, Verb, pair};
 use std::marker::Model;
 
 /// A command with the values of its options, which it borrows from the words. A contract sees the
@@ -37,11 +38,11 @@ impl<'a> Request<'a> {
         self.verb
     }
 
-    /// The word that is given for the option, as the name of a file; an empty one where none is.
-    pub fn word(&self, option: OptionName) -> &'a str
-        ensures value { result.now ≡ word_at self.now.pairs option }
+    /// The name that is given for the file; an empty one where none is.
+    pub fn name(&self, role: Role) -> &'a str
+        ensures value { result.now ≡ name_in self.now.pairs role }
     {
-        pair::word_at(self.words, option)
+        name_in(self.words, role)
     }
 
     /// The number that is given for the option, and 0 where none is.

@@ -2,9 +2,10 @@
 
 ghost use Rattle.std.specs.Prelude.{◌≡◌, ◌≤◌, IfSome};
 ghost use Rattle.dsa_model.specs.Numbers.{written_number};
-ghost use Rattle.command_words.specs.Options.{is_bad, number_limit};
+ghost use Rattle.command_words.specs.Forms.{is_bad};
+ghost use Rattle.command_words.specs.Options.{number_limit};
 
-use crate::OptionName;
+use crate::form::Use;
 use dsa_model::parse_number;
 
 /// The greatest number of a word, 2^60.
@@ -18,13 +19,12 @@ pub(crate) fn number_of(word: &str) -> Option<u64>
     parse_number(word.as_bytes(), NUMBER_LIMIT)
 }
 
-/// Whether the option can't have this value.
-pub(crate) fn is_bad(option: OptionName, value: &str) -> bool
-    ensures { result ≡ is_bad option value.now }
+/// Whether an option of this use can't have the value.
+pub(crate) fn is_bad(used: Use, value: &str) -> bool
+    ensures { result ≡ is_bad used value.now }
 {
-    if option.is_file() {
-        value.is_empty()
-    } else {
-        number_of(value).is_none()
+    match used.file() {
+        Some(_) => value.is_empty(),
+        None => number_of(value).is_none(),
     }
 }

@@ -1,10 +1,10 @@
 //! The commands.
 
 ghost use Rattle.std.specs.Prelude.{◌≡◌};
-ghost use Rattle.command_words.specs.Forms.{form_of, form_value, option_of, verb_of};
+ghost use Rattle.command_words.specs.Forms.{form_of, form_value, use_of, verb_of};
 
-use crate::OptionName;
-use crate::form::{Form, row};
+use crate::form::{Form, Use, row};
+use crate::{OptionName, Role};
 
 /// A command. C is a capacity in bytes, S a seed, N a count of buffers and K a budget in units,
 /// each a claim that is opened, or for `pack` also so much placing; the others are names of files.
@@ -17,7 +17,7 @@ pub enum Verb {
     /// within the least capacity, and prove that they do not fit in less.
     Least,
     /// `pack --input I --output O --log L --steps K`, and `--capacity C` where it is given: lay the
-    /// buffers out as low as so many steps can, or within the capacity, and prove what does not fit.
+    /// buffers out as low as so many steps can, or within the capacity, and prove what doesn't fit.
     Pack,
     /// `verify --capacity C --input I --layout A`: judge a layout at the capacity.
     Verify,
@@ -76,24 +76,42 @@ impl Verb {
     pub(crate) fn form(self) -> Form
         ensures { form_value result ≡ form_of self }
     {
-        use OptionName::{Capacity, Count, Input, Layout, Log, Output, Period, Seed, Steps, Trace};
+        use OptionName::{Capacity, Count, Period, Seed, Steps};
+        use Role::{Input, Layout, Log, Output, Trace};
+        use Use::{Instance, Number, Reads, Writes};
         match self {
-            Verb::Solve => row("solve", &[Capacity, Input, Output, Log], &[Steps]),
-            Verb::Least => row("least", &[Input, Output, Log], &[Steps]),
-            Verb::Pack => row("pack", &[Input, Output, Log, Steps], &[Capacity]),
-            Verb::Verify => row("verify", &[Capacity, Input, Layout], &[]),
-            Verb::Refute => row("refute", &[Input, Log], &[]),
-            Verb::Trim => row("trim", &[Input, Log, Output], &[]),
-            Verb::Upgrade => row("upgrade", &[Input, Log, Output], &[]),
-            Verb::Bounds => row("bounds", &[Input], &[]),
-            Verb::Inspect => row("inspect", &[Input], &[]),
-            Verb::Report => row("report", &[Input, Layout], &[]),
-            Verb::Draw => row("draw", &[Input, Layout, Output], &[]),
-            Verb::Trial => row("trial", &[Seed, Count, Steps], &[]),
-            Verb::Import => row("import", &[Trace, Output], &[]),
-            Verb::Unroll => row("unroll", &[Period, Input, Output], &[]),
-            Verb::Classes => row("classes", &[Input, Output], &[]),
-            Verb::Core => row("core", &[Capacity, Input, Output, Log], &[]),
+            Verb::Solve => row(
+                "solve",
+                &[Number(Capacity), Instance, Writes(Output), Writes(Log)],
+                &[Steps],
+            ),
+            Verb::Least => row("least", &[Instance, Writes(Output), Writes(Log)], &[Steps]),
+            Verb::Pack => row(
+                "pack",
+                &[Instance, Writes(Output), Writes(Log), Number(Steps)],
+                &[Capacity],
+            ),
+            Verb::Verify => row("verify", &[Number(Capacity), Instance, Reads(Layout)], &[]),
+            Verb::Refute => row("refute", &[Instance, Reads(Log)], &[]),
+            Verb::Trim => row("trim", &[Instance, Reads(Log), Writes(Output)], &[]),
+            Verb::Upgrade => row("upgrade", &[Instance, Reads(Log), Writes(Output)], &[]),
+            Verb::Bounds => row("bounds", &[Instance], &[]),
+            Verb::Inspect => row("inspect", &[Instance], &[]),
+            Verb::Report => row("report", &[Instance, Reads(Layout)], &[]),
+            Verb::Draw => row("draw", &[Instance, Reads(Layout), Writes(Output)], &[]),
+            Verb::Trial => row("trial", &[Number(Seed), Number(Count), Number(Steps)], &[]),
+            Verb::Import => row("import", &[Reads(Trace), Writes(Output)], &[]),
+            Verb::Unroll => row(
+                "unroll",
+                &[Number(Period), Reads(Input), Writes(Output)],
+                &[],
+            ),
+            Verb::Classes => row("classes", &[Instance, Writes(Output)], &[]),
+            Verb::Core => row(
+                "core",
+                &[Number(Capacity), Instance, Writes(Output), Writes(Log)],
+                &[],
+            ),
         }
     }
 
@@ -104,15 +122,15 @@ impl Verb {
         VERBS.iter().copied().find(|verb| verb.form().word == word)
     }
 
-    /// The option of the command that has this word.
-    pub(crate) fn option_of(self, word: &str) -> Option<OptionName>
-        ensures { result ≡ option_of self word.now }
+    /// What the command does with the option that has this word.
+    pub(crate) fn use_of(self, word: &str) -> Option<Use>
+        ensures { result ≡ use_of self word.now }
     {
         let form = self.form();
         form.needed
             .iter()
-            .chain(form.optional.iter())
             .copied()
-            .find(|option| option.word() == word)
+            .chain(form.optional.iter().map(|option| Use::Number(*option)))
+            .find(|used| used.option().word() == word)
     }
 }

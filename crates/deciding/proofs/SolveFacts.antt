@@ -9,7 +9,7 @@ use Rattle.planner.specs.Openings.{AreGiven}
 use Rattle.planner.proofs.ExampleLeastFacts.{below_best, below_bound, below_log, four_is_open}
 use Rattle.planner.proofs.ShortageFacts.{four_of_four, short_of_four_steps}
 use Rattle.planner.proofs.StepFacts.{laid_at_4, none_within_4, refuted_at_3}
-use Rattle.run_status.specs.declared.status.Role.TheVariants as role
+use Rattle.command_words.specs.declared.role.Role.TheVariants as role
 use Rattle.run_status.specs.declared.status.Status.{Status}
 use Rattle.run_status.specs.declared.status.Status.TheVariants.{Feasible, Infeasible, Least, Open}
 use Rattle.run_course.specs.Course.{Outcome, Write, writes}

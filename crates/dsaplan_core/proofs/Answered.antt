@@ -5,9 +5,9 @@ use Rattle.dsa_outside.specs.Seen.{FilesSeen, SinkSeen}
 use Rattle.command_words.specs.Options.{Word}
 use Rattle.command_words.specs.Requests.{Request, request_of}
 use Rattle.command_words.specs.declared.fault.UsageFault.{UsageFault}
+use Rattle.command_words.specs.declared.role.Role.{Role}
 use Rattle.run_status.specs.declared.status.Status.{Status}
 use Rattle.run_status.specs.declared.status.Status.TheVariants as status
-use Rattle.run_status.specs.declared.status.Role.{Role}
 use Rattle.run_course.specs.Course.{Course, Comes, Outcome, says}
 use Rattle.run_course.specs.Answers.{Answers, AreBroken, IsSaid, Leaves, as_told, with_writes}
 use Rattle.dsaplan_core.specs.Courses.{course, course_or_fault, course_with}

@@ -6,17 +6,17 @@ use Rattle.dsa_terms.specs.Layouts.{IsLayout}
 use Rattle.dsa_model.proofs.LayoutFaults.{layout_exactly}
 use Rattle.dsa_outside.specs.Seen.{FilesSeen, SinkSeen}
 use Rattle.csv_instance.specs.Offsets.{ids_of, parsed_offsets}
-use Rattle.csv_instance.specs.Records.{Record, file_limit, table_of}
+use Rattle.csv_instance.specs.Records.{Record, table_of}
 use Rattle.command_words.specs.Options.{Word}
-use Rattle.command_words.specs.Forms.{reads_of}
-use Rattle.command_words.specs.Pairs.{Pair, number_at, word_at}
+use Rattle.command_words.specs.Forms.{ReadsInstance, reads_of}
+use Rattle.command_words.specs.Pairs.{Pair, name_in, number_at}
 use Rattle.command_words.specs.Requests.{Request, request_of}
 use Rattle.command_words.specs.declared.option.OptionName.TheVariants as option
 use Rattle.command_words.specs.declared.verb.Verb.{Verb}
 use Rattle.command_words.specs.declared.verb.Verb.TheVariants as verb
+use Rattle.command_words.specs.declared.role.Role.TheVariants as role
 use Rattle.run_status.specs.declared.status.Status.{Status}
 use Rattle.run_status.specs.declared.status.Status.TheVariants as status
-use Rattle.run_status.specs.declared.status.Role.TheVariants as role
 use Rattle.run_course.specs.Answers.{Answers}
 use Rattle.run_course.specs.Course.{Comes, Concludes, Course, Outcome}
 use Rattle.run_course.specs.Readings.{IsWholeFile}
@@ -29,7 +29,6 @@ use Rattle.judging.specs.Drawing.{Draws}
 use Rattle.dsaplan_core.specs.Causes.{IsJudgedAt}
 use Rattle.dsaplan_core.specs.Courses.{course, course_with}
 use Rattle.dsaplan_core.specs.Complete.{HoldsGivenLayout, IsApproval, IsReady, IsUndisturbed}
-use Rattle.dsaplan_core.specs.Theorem.{ReadsInstance}
 use Rattle.dsaplan_core.proofs.Answered.{answered, words_give}
 use Rattle.dsaplan_core.proofs.Concluded.{not_broken}
 use Rattle.dsaplan_core.proofs.Gives.{judged_gives}
@@ -42,34 +41,34 @@ memory v I offsets = tt
 module _ (old : FilesSeen) (r : Request) (I : Instance) (ready : IsReady old r I) (C : ℕ) (offsets : List ℕ)
     (holds : HoldsGivenLayout old r I C offsets) (reads : ReadsInstance r.verb) where
   -- the input has one table
-  same_table : (table : List Record) → IsInput old (word_at r.pairs option.Input) table I → table ≡ holds.table
+  same_table : (table : List Record) → IsInput old (name_in r.pairs role.Input) table I → table ≡ holds.table
   same_table table input =
       let there = (ready.input reads).file in
-      let one = same_bytes old (word_at r.pairs option.Input) file_limit input.bytes there.bytes there.held input.whole in
-      let other = same_bytes old (word_at r.pairs option.Input) file_limit holds.input.bytes there.bytes there.held
+      let one = same_bytes old role.Input (name_in r.pairs role.Input) input.bytes there.bytes there.held input.whole in
+      let other = same_bytes old role.Input (name_in r.pairs role.Input) holds.input.bytes there.bytes there.held
       holds.input.whole in
       input.records ∙ (ap table_of (one ∙ sym other) ∙ sym holds.input.records)
 
   -- by which the layout file gives these offsets
-  gives_them : (table : List Record) → IsInput old (word_at r.pairs option.Input) table I → (bytes : List ℕ) →
-      IsWholeFile old (word_at r.pairs option.Layout) file_limit bytes →
+  gives_them : (table : List Record) → IsInput old (name_in r.pairs role.Input) table I → (bytes : List ℕ) →
+      IsWholeFile old role.Layout (name_in r.pairs role.Layout) bytes →
       parsed_offsets (ids_of table) (table_of bytes) ≡ Ok offsets
   gives_them table input bytes whole =
-      let same = same_bytes old (word_at r.pairs option.Layout) file_limit bytes holds.bytes holds.held whole in
+      let same = same_bytes old role.Layout (name_in r.pairs role.Layout) bytes holds.bytes holds.held whole in
       ap₂ (λ (t : List Record) (b : List ℕ). parsed_offsets (ids_of t) (table_of b)) (same_table table input) same
       ∙ holds.parsed
 
-  its_offsets : (table : List Record) → IsInput old (word_at r.pairs option.Input) table I → (found : List ℕ) →
-      GivesLayout old (word_at r.pairs option.Layout) table I C found → found ≡ offsets
+  its_offsets : (table : List Record) → IsInput old (name_in r.pairs role.Input) table I → (found : List ℕ) →
+      GivesLayout old (name_in r.pairs role.Layout) table I C found → found ≡ offsets
   its_offsets table input found gives =
       let a = gives_them table input gives.bytes gives.whole in
       let b = gives.parsed in
       cc
 
   -- so they are not refused
-  not_refused : (table : List Record) → IsInput old (word_at r.pairs option.Input) table I → (s : Status) →
-      GivesNoOffsets old (word_at r.pairs option.Layout) table s
-      ⊎ GivesWrongOffsets old (word_at r.pairs option.Layout) table I C s → ⊥
+  not_refused : (table : List Record) → IsInput old (name_in r.pairs role.Input) table I → (s : Status) →
+      GivesNoOffsets old (name_in r.pairs role.Layout) table s
+      ⊎ GivesWrongOffsets old (name_in r.pairs role.Layout) table I C s → ⊥
   not_refused table input s (inl gives) =
       let a = gives_them table input gives.bytes gives.whole in
       let b = gives.refused in
@@ -86,16 +85,16 @@ module _ (old new : FilesSeen) (before after : SinkSeen) (I : Instance) (offsets
   module _ (r : Request) (ready : IsReady old r I) (calm : IsUndisturbed r old new before after) (C : ℕ)
       (holds : HoldsGivenLayout old r I C offsets) where
     -- a course that judges the layout file goes on with these offsets
-    judged_is : (reads : ReadsInstance r.verb) → IsIn option.Layout (reads_of r.verb) → (P : Outcome → Type 0)
+    judged_is : (reads : ReadsInstance r.verb) → IsIn role.Layout (reads_of r.verb) → (P : Outcome → Type 0)
         (next : List Record → Instance → List ℕ → Course) →
         ((table : List Record) (o : Outcome) → Comes old new (next table I offsets) o → P o) → (o : Outcome) →
-        Comes old new (opened (word_at r.pairs option.Input)
-        (λ table J. judged (word_at r.pairs option.Layout) table J C (next table J))) o → P o
+        Comes old new (opened (name_in r.pairs role.Input)
+        (λ table J. judged (name_in r.pairs role.Layout) table J C (next table J))) o → P o
     judged_is reads among P next given =
-        let name = word_at r.pairs option.Layout in
+        let name = name_in r.pairs role.Layout in
         opened_read old new before after I r ready calm reads P (λ table J. judged name table J C (next table J))
         (λ table input. judged_gives old new P name table I C (next table I)
-        (served old new before after I r ready calm P role.Layout option.Layout among)
+        (served old new before after I r ready calm P role.Layout among)
         (λ cause wrong. absurd (not_refused old r I ready C offsets holds reads table input (status.Wrong cause) wrong))
         (λ found gives o comes. given table o (subst (λ (xs : List ℕ). Comes old new (next table I xs) o)
         (its_offsets old r I ready C offsets holds reads table input found gives) comes)))
@@ -115,18 +114,18 @@ module _ (old new : FilesSeen) (before after : SinkSeen) (I : Instance) (offsets
   told verb.Verify pairs C at ready calm holds =
       let r : Request = record { verb = verb.Verify; pairs = pairs } in
       let capacity = number_at pairs option.Capacity in
-      judged_is r ready calm capacity (at_capacity r C capacity at holds) (inl refl, refl) (inr (inl refl))
+      judged_is r ready calm capacity (at_capacity r C capacity at holds) (inr (inl refl)) (inr (inl refl))
       (IsTold verb.Verify) (λ table J xs. Concludes (TellsRight J capacity xs))
       (λ table o comes. subst (IsTold verb.Verify) (sym comes.1.told) tt)
   told verb.Report pairs C at ready calm holds =
       let r : Request = record { verb = verb.Report; pairs = pairs } in
-      judged_is r ready calm (2 ^ 60) (at_capacity r C (2 ^ 60) at holds) (inl refl, refl) (inr (inl refl))
+      judged_is r ready calm (2 ^ 60) (at_capacity r C (2 ^ 60) at holds) (inl refl) (inr (inl refl))
       (IsTold verb.Report) (λ table J xs. Concludes (ShowsLayout table J xs))
       (λ table o comes. subst (IsTold verb.Report) (sym comes.1.shown) tt)
   told verb.Draw pairs C at ready calm holds =
       let r : Request = record { verb = verb.Draw; pairs = pairs } in
-      let output = word_at pairs option.Output in
-      judged_is r ready calm (2 ^ 60) (at_capacity r C (2 ^ 60) at holds) (inl refl, refl) (inr (inl refl))
+      let output = name_in pairs role.Output in
+      judged_is r ready calm (2 ^ 60) (at_capacity r C (2 ^ 60) at holds) (inl refl) (inr (inl refl))
       (IsTold verb.Draw) (λ table J xs. Concludes (Draws output table J xs))
       (λ table o comes. subst (IsTold verb.Draw) (sym comes.1.drawn) refl)
   told v pairs C at ready calm holds = absurd at

@@ -15,10 +15,10 @@ use Rattle.csv_instance.specs.Records.{Record, table_of}
 use Rattle.planner.proofs.ExampleLeastFacts.{below_log, four_is_open}
 use Rattle.planner.proofs.StepFacts.{laid_at_4, refuted_at_3}
 use Rattle.command_words.specs.Options.{Word}
-use Rattle.command_words.specs.Pairs.{pairs_of, word_at}
+use Rattle.command_words.specs.Pairs.{name_in, pairs_of}
 use Rattle.command_words.specs.Requests.{Request, request_of}
-use Rattle.command_words.specs.declared.option.OptionName.TheVariants as option
 use Rattle.command_words.specs.declared.verb.Verb.TheVariants as verb
+use Rattle.command_words.specs.declared.role.Role.TheVariants as role
 use Rattle.run_status.specs.declared.status.Status.{Status}
 use Rattle.run_status.specs.declared.status.Status.TheVariants as status
 use Rattle.run_course.specs.Answers.{with_writes}
@@ -58,7 +58,7 @@ only_input t I h =
     (table, cc)
 
 -- ---- what words ask for on it
-abbrev asking : (words : List Word) (r : Request) → request_of words ≡ Ok r → word_at r.pairs option.Input ≡ codes "i" →
+abbrev asking : (words : List Word) (r : Request) → request_of words ≡ Ok r → name_in r.pairs role.Input ≡ codes "i" →
     Asked words (told below_alone)
 asking words r asked named = record {
   verb = r.verb;
@@ -91,14 +91,14 @@ AnswersOf r t I new s = (layout : Option (List ℕ)) × (log : Option Log) × Is
 
 -- an answer is one to what the words ask for, of the two buffers
 answers : (words : List Word) (r : Request) (new : FilesSeen) (s : Status) → request_of words ≡ Ok r →
-    word_at r.pairs option.Input ≡ codes "i" → IsAnswered words (told below_alone) new s →
+    name_in r.pairs role.Input ≡ codes "i" → IsAnswered words (told below_alone) new s →
     AnswersOf r below_rows small_below new s
 answers words r new s asked named h =
     let a = h.0 in
     let q : Request = record { verb = a.verb; pairs = a.pairs } in
     let same : q ≡ r = (let k = a.words_ask in cc) in
-    let name : word_at a.pairs option.Input ≡ codes "i" =
-    ap (λ (r : Request). word_at r.pairs option.Input) same ∙ named in
+    let name : name_in a.pairs role.Input ≡ codes "i" =
+    ap (λ (r : Request). name_in r.pairs role.Input) same ∙ named in
     let its = only_input a.table a.instance
     (subst (λ (n : Word). IsInput (told below_alone) n a.table a.instance) name a.input) in
     subst (λ (r : Request). AnswersOf r below_rows small_below new s) same

@@ -4,17 +4,18 @@ use Rattle.dsa_terms.specs.Buffers.{Instance}
 use Rattle.dsa_terms.specs.Logs.{Log}
 use Rattle.dsa_outside.specs.Seen.{FilesSeen, SinkSeen}
 use Rattle.dsa_model.specs.Counts.{Rose}
-use Rattle.csv_instance.specs.Records.{Record, file_limit, table_of}
+use Rattle.csv_instance.specs.Records.{Record, table_of}
 use Rattle.command_words.specs.Options.{Word}
-use Rattle.command_words.specs.Pairs.{Pair, number_at, word_at}
+use Rattle.command_words.specs.Pairs.{Pair, name_in, number_at}
 use Rattle.command_words.specs.Requests.{Request, request_of}
 use Rattle.command_words.specs.declared.option.OptionName.TheVariants as option
 use Rattle.command_words.specs.declared.verb.Verb.{Verb}
 use Rattle.command_words.specs.declared.verb.Verb.TheVariants as verb
+use Rattle.command_words.specs.declared.role.Role.{Role}
+use Rattle.command_words.specs.declared.role.Role.TheVariants as role
+use Rattle.command_words.proofs.FileLemmas.{write_named}
 use Rattle.run_status.specs.declared.status.Status.{Status}
 use Rattle.run_status.specs.declared.status.Status.TheVariants as status
-use Rattle.run_status.specs.declared.status.Role.{Role}
-use Rattle.run_status.specs.declared.status.Role.TheVariants as role
 use Rattle.run_course.specs.Course.{Comes, Concludes, Outcome, says}
 use Rattle.run_course.specs.Answers.{Answers, AreBroken}
 use Rattle.readings.specs.Judging.{judged}
@@ -35,13 +36,12 @@ use Rattle.writings.specs.Answers.{Gives}
 use Rattle.dsaplan_core.specs.Courses.{ConcludesWith, IsAnswer, course, course_with, names_in}
 use Rattle.dsaplan_core.specs.Complete.{IsReady, IsUndisturbed}
 use Rattle.dsaplan_core.specs.Conclusions.{IsConclusion, MayStayOpen}
-use Rattle.dsaplan_core.specs.Lost.{IsOwnWrite, option_of_role}
+use Rattle.dsaplan_core.specs.Lost.{IsOwnWrite}
 use Rattle.dsaplan_core.proofs.Answered.{answered, words_give}
 use Rattle.dsaplan_core.proofs.Gives as gives
 use Rattle.dsaplan_core.proofs.Gives.{trial_gives}
 use Rattle.dsaplan_core.proofs.Headline.{one_own, promised}
 use Rattle.dsaplan_core.proofs.Promises.{AreOwn}
-use Rattle.dsaplan_core.proofs.Requests.{write_named}
 use Rattle.dsaplan_core.proofs.Served.{served, checked_served, judged_served, opened_served}
 
 memory : (v : Verb) (pairs : List Pair) (I : Instance) → IsConclusion v pairs I status.NoMemory
@@ -81,7 +81,7 @@ decided v pairs J concludes table o given = subst (λ (o : Outcome). IsConclusio
     (concludes given.status given.layout given.log given.answer)
 
 planned : (pairs : List Pair) (table : List Record) (J : Instance) (o : Outcome) →
-    Plans (word_at pairs option.Output) table J o →
+    Plans (name_in pairs role.Output) table J o →
     IsConclusion verb.Classes pairs J o.status
 planned pairs table J o (inl plan) =
     subst (λ (o : Outcome). IsConclusion verb.Classes pairs J o.status) (sym plan.2) plan.1.plain
@@ -96,14 +96,14 @@ explained pairs table J o (inr fits) =
     subst (λ (o : Outcome). IsConclusion verb.Core pairs J o.status) (sym fits.1) (refl, fits.0)
 
 imports_conclude : (pairs : List Pair) (J : Instance) (r : Result Trace TraceFault) (o : Outcome) →
-    Imports (word_at pairs option.Output) r o → IsConclusion verb.Import pairs J o.status
+    Imports (name_in pairs role.Output) r o → IsConclusion verb.Import pairs J o.status
 imports_conclude pairs J (Ok trace) o told =
     subst (λ (o : Outcome). IsConclusion verb.Import pairs J o.status) (sym told.1) tt
 imports_conclude pairs J (Err fault) o told =
     subst (λ (o : Outcome). IsConclusion verb.Import pairs J o.status) (sym told) tt
 
 unrolls_conclude : (pairs : List Pair) (table : List Record) (J : Instance) (r : Result Instance CycleFault)
-    (o : Outcome) → Unrolls (number_at pairs option.Period) (word_at pairs option.Output) table r o →
+    (o : Outcome) → Unrolls (number_at pairs option.Period) (name_in pairs role.Output) table r o →
     IsConclusion verb.Unroll pairs J o.status
 unrolls_conclude pairs table J (Ok I) o told =
     subst (λ (o : Outcome). IsConclusion verb.Unroll pairs J o.status) (sym told.1) tt
@@ -122,8 +122,8 @@ not_broken old new before after words r is calm role =
     (subst (AreOwn s) left.order (promised words old new s.verb s.pairs asked o comes).1) in
     let mine : IsOwnWrite r left.lost = subst (λ (s : Request). IsOwnWrite s left.lost) same own in
     let rose = subst (λ n. Rose (old.faults n) (new.faults n)) mine.1 left.rose in
-    calm.files (word_at r.pairs (option_of_role left.lost.role))
-    (write_named r (option_of_role left.lost.role) mine.0) rose)
+    calm.files (name_in r.pairs left.lost.role)
+    (write_named r left.lost.role mine.0) rose)
 
 module _ (old new : FilesSeen) (before after : SinkSeen) (I : Instance) where
   -- a request whose files are readable and are not disturbed
@@ -136,18 +136,18 @@ module _ (old new : FilesSeen) (before after : SinkSeen) (I : Instance) where
   imported_done : (pairs : List Pair) → IsLeftAlone (record { verb = verb.Import; pairs = pairs }) → (o : Outcome) →
       Comes old new (course_with verb.Import pairs) o → IsDone verb.Import pairs o
   imported_done pairs (ready, calm) o (inl failed) =
-      gives.unreadable old new (IsDone verb.Import pairs) role.Trace (word_at pairs option.Trace) file_limit
+      gives.unreadable old new (IsDone verb.Import pairs) role.Trace (name_in pairs role.Trace)
       (served old new before after I (record { verb = verb.Import; pairs = pairs }) ready calm
-      (IsDone verb.Import pairs) role.Trace option.Trace (inl refl)) o failed.0 failed.1
+      (IsDone verb.Import pairs) role.Trace (inl refl)) o failed.0 failed.1
   imported_done pairs (ready, calm) o (inr (bytes, whole, comes)) =
       imports_conclude pairs I (trace_of bytes) o comes.1
 
   unrolled_done : (pairs : List Pair) → IsLeftAlone (record { verb = verb.Unroll; pairs = pairs }) → (o : Outcome) →
       Comes old new (course_with verb.Unroll pairs) o → IsDone verb.Unroll pairs o
   unrolled_done pairs (ready, calm) o (inl failed) =
-      gives.unreadable old new (IsDone verb.Unroll pairs) role.Input (word_at pairs option.Input) file_limit
+      gives.unreadable old new (IsDone verb.Unroll pairs) role.Input (name_in pairs role.Input)
       (served old new before after I (record { verb = verb.Unroll; pairs = pairs }) ready calm
-      (IsDone verb.Unroll pairs) role.Input option.Input (inl refl)) o failed.0 failed.1
+      (IsDone verb.Unroll pairs) role.Input (inl refl)) o failed.0 failed.1
   unrolled_done pairs (ready, calm) o (inr (bytes, whole, comes)) =
       unrolls_conclude pairs (table_of bytes) I (unrolled_of (number_at pairs option.Period) (table_of bytes)) o comes.1
 
@@ -155,79 +155,79 @@ module _ (old new : FilesSeen) (before after : SinkSeen) (I : Instance) where
       Comes old new (course_with v pairs) o → IsDone v pairs o
   done verb.Solve pairs (ready, calm) =
       opened_served old new before after I (record { verb = verb.Solve; pairs = pairs }) ready calm
-      (inl refl, refl)
+      (inr (inl refl))
       (IsDone verb.Solve pairs)
       (λ table J. Concludes (ConcludesWith verb.Solve pairs table J))
       (λ table o comes. decided verb.Solve pairs I (solved pairs I) table o comes.1)
   done verb.Least pairs (ready, calm) =
       opened_served old new before after I (record { verb = verb.Least; pairs = pairs }) ready calm
-      (inl refl, refl)
+      (inl refl)
       (IsDone verb.Least pairs)
       (λ table J. Concludes (ConcludesWith verb.Least pairs table J))
       (λ table o comes. decided verb.Least pairs I (found pairs I) table o comes.1)
   done verb.Pack pairs (ready, calm) =
       opened_served old new before after I (record { verb = verb.Pack; pairs = pairs }) ready calm
-      (inl refl, refl)
+      (inl refl)
       (IsDone verb.Pack pairs)
       (λ table J. Concludes (ConcludesWith verb.Pack pairs table J))
       (λ table o comes. decided verb.Pack pairs I (packed pairs I) table o comes.1)
   done verb.Verify pairs (ready, calm) =
       let r : Request = record { verb = verb.Verify; pairs = pairs } in
       let capacity = number_at pairs option.Capacity in
-      opened_served old new before after I r ready calm (inl refl, refl) (IsDone verb.Verify pairs)
-      (λ table J. judged (word_at pairs option.Layout) table J capacity
+      opened_served old new before after I r ready calm (inr (inl refl)) (IsDone verb.Verify pairs)
+      (λ table J. judged (name_in pairs role.Layout) table J capacity
       (λ offsets. Concludes (TellsRight J capacity offsets)))
       (λ table. judged_served old new before after I r ready calm (inr (inl refl)) (IsDone verb.Verify pairs)
       table capacity (λ offsets. Concludes (TellsRight I capacity offsets)) (λ cause. tt)
       (λ offsets o comes. subst (IsDone verb.Verify pairs) (sym comes.1.told) tt))
   done verb.Refute pairs (ready, calm) =
       let r : Request = record { verb = verb.Refute; pairs = pairs } in
-      opened_served old new before after I r ready calm (inl refl, refl) (IsDone verb.Refute pairs)
-      (λ table J. checked (word_at pairs option.Log) J (λ log o. o ≡ says (status.Accepted log.capacity)))
+      opened_served old new before after I r ready calm (inl refl) (IsDone verb.Refute pairs)
+      (λ table J. checked (name_in pairs role.Log) J (λ log o. o ≡ says (status.Accepted log.capacity)))
       (λ table. checked_served old new before after I r ready calm (inr (inl refl)) (IsDone verb.Refute pairs)
       (λ log o. o ≡ says (status.Accepted log.capacity)) (λ fault bad. tt) (λ fault bad. tt)
       (λ log holds o told. subst (IsDone verb.Refute pairs) (sym told) tt))
   done verb.Trim pairs (ready, calm) =
       let r : Request = record { verb = verb.Trim; pairs = pairs } in
-      opened_served old new before after I r ready calm (inl refl, refl) (IsDone verb.Trim pairs)
-      (λ table J. checked (word_at pairs option.Log) J (Trims (word_at pairs option.Output) J))
+      opened_served old new before after I r ready calm (inl refl) (IsDone verb.Trim pairs)
+      (λ table J. checked (name_in pairs role.Log) J (Trims (name_in pairs role.Output) J))
       (λ table. checked_served old new before after I r ready calm (inr (inl refl)) (IsDone verb.Trim pairs)
-      (Trims (word_at pairs option.Output) I) (λ fault bad. tt) (λ fault bad. tt)
+      (Trims (name_in pairs role.Output) I) (λ fault bad. tt) (λ fault bad. tt)
       (λ log holds o done. subst (IsDone verb.Trim pairs) (sym done.outcome) tt))
   done verb.Upgrade pairs (ready, calm) =
       let r : Request = record { verb = verb.Upgrade; pairs = pairs } in
-      opened_served old new before after I r ready calm (inl refl, refl) (IsDone verb.Upgrade pairs)
-      (λ table J. checked (word_at pairs option.Log) J (Upgrades (word_at pairs option.Output)))
+      opened_served old new before after I r ready calm (inl refl) (IsDone verb.Upgrade pairs)
+      (λ table J. checked (name_in pairs role.Log) J (Upgrades (name_in pairs role.Output)))
       (λ table. checked_served old new before after I r ready calm (inr (inl refl)) (IsDone verb.Upgrade pairs)
-      (Upgrades (word_at pairs option.Output)) (λ fault bad. tt) (λ fault bad. tt)
+      (Upgrades (name_in pairs role.Output)) (λ fault bad. tt) (λ fault bad. tt)
       (λ log holds o told. subst (IsDone verb.Upgrade pairs) (sym told.outcome) tt))
   done verb.Report pairs (ready, calm) =
       let r : Request = record { verb = verb.Report; pairs = pairs } in
-      opened_served old new before after I r ready calm (inl refl, refl) (IsDone verb.Report pairs)
-      (λ table J. judged (word_at pairs option.Layout) table J (2 ^ 60)
+      opened_served old new before after I r ready calm (inl refl) (IsDone verb.Report pairs)
+      (λ table J. judged (name_in pairs role.Layout) table J (2 ^ 60)
       (λ offsets. Concludes (ShowsLayout table J offsets)))
       (λ table. judged_served old new before after I r ready calm (inr (inl refl)) (IsDone verb.Report pairs)
       table (2 ^ 60) (λ offsets. Concludes (ShowsLayout table I offsets)) (λ cause. tt)
       (λ offsets o comes. subst (IsDone verb.Report pairs) (sym comes.1.shown) tt))
   done verb.Draw pairs (ready, calm) =
       let r : Request = record { verb = verb.Draw; pairs = pairs } in
-      opened_served old new before after I r ready calm (inl refl, refl) (IsDone verb.Draw pairs)
-      (λ table J. judged (word_at pairs option.Layout) table J (2 ^ 60)
-      (λ offsets. Concludes (Draws (word_at pairs option.Output) table J offsets)))
+      opened_served old new before after I r ready calm (inl refl) (IsDone verb.Draw pairs)
+      (λ table J. judged (name_in pairs role.Layout) table J (2 ^ 60)
+      (λ offsets. Concludes (Draws (name_in pairs role.Output) table J offsets)))
       (λ table. judged_served old new before after I r ready calm (inr (inl refl)) (IsDone verb.Draw pairs)
-      table (2 ^ 60) (λ offsets. Concludes (Draws (word_at pairs option.Output) table I offsets)) (λ cause. tt)
+      table (2 ^ 60) (λ offsets. Concludes (Draws (name_in pairs role.Output) table I offsets)) (λ cause. tt)
       (λ offsets o comes. subst (IsDone verb.Draw pairs) (sym comes.1.drawn) tt))
   done verb.Import pairs served = imported_done pairs served
   done verb.Unroll pairs served = unrolled_done pairs served
   done verb.Classes pairs (ready, calm) =
       opened_served old new before after I (record { verb = verb.Classes; pairs = pairs }) ready calm
-      (inl refl, refl)
+      (inl refl)
       (IsDone verb.Classes pairs)
-      (λ table J. Concludes (Plans (word_at pairs option.Output) table J))
+      (λ table J. Concludes (Plans (name_in pairs role.Output) table J))
       (λ table o comes. planned pairs table I o comes.1)
   done verb.Core pairs (ready, calm) =
       opened_served old new before after I (record { verb = verb.Core; pairs = pairs }) ready calm
-      (inl refl, refl)
+      (inr (inl refl))
       (IsDone verb.Core pairs)
       (λ table J. Concludes (ConcludesWith verb.Core pairs table J))
       (λ table o comes. explained pairs table I o comes.1)
@@ -235,7 +235,7 @@ module _ (old new : FilesSeen) (before after : SinkSeen) (I : Instance) where
       (number_at pairs option.Count) (number_at pairs option.Steps)
       (λ many. (refl, many)) (λ few o shows. subst (IsDone verb.Trial pairs) (sym shows.shown) few)
   done v pairs (ready, calm) =
-      opened_served old new before after I (record { verb = v; pairs = pairs }) ready calm (inl refl, refl)
+      opened_served old new before after I (record { verb = v; pairs = pairs }) ready calm (inl refl)
       (IsDone v pairs) (λ table J. Concludes (ShowsReport v table J))
       (λ table o comes. subst (IsDone v pairs) (sym comes.1.shown) (table, comes.1.text, comes.1.report))
 

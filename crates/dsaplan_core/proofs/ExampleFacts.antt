@@ -1,5 +1,5 @@
 -- What words ask for, how they go, and which statuses conclude, accept or refuse.
-use Rattle.std.proofs.Common.{◌≡◌, ◌<◌, ℕ, List, [], ◌∷◌, length, Option, Some, None, Ok, ap, codes, refl, inl, lit<, lit≤, arith}
+use Rattle.std.proofs.Common.{◌≡◌, ◌<◌, ℕ, List, [], ◌∷◌, length, Option, Some, None, Ok, ap, codes, refl, lit<, lit≤, arith, inl, inr}
 use Rattle.dsa_terms.specs.Buffers.{Instance}
 use Rattle.dsa_terms.specs.Logs.{Log}
 use Rattle.dsa_terms.proofs.Examples.{sample, small_below, two_of_four}
@@ -22,7 +22,6 @@ use Rattle.command_words.specs.declared.verb.Verb.TheVariants as verb
 use Rattle.command_words.specs.declared.fault.UsageFault.TheVariants as usage
 use Rattle.run_status.specs.declared.status.Status.TheVariants as status
 use Rattle.run_status.specs.declared.status.LogCause.TheVariants as refused
-use Rattle.run_status.specs.declared.status.Role.TheVariants as role
 use Rattle.run_course.specs.Course.{Ends, says}
 use Rattle.judging.specs.Judging.{verify}
 use Rattle.judging.specs.Drawing.{draw}
@@ -36,11 +35,10 @@ use Rattle.packing.specs.Packing.{AreEnds, pack}
 use Rattle.explaining.proofs.ExampleFacts.{laid_at_8, none_at_7}
 use Rattle.planning.proofs.ExampleFacts.{one, one_plain}
 use Rattle.dsaplan_core.specs.Courses.{course}
-use Rattle.dsaplan_core.specs.Complete.{IsAcceptance, limit_of}
+use Rattle.dsaplan_core.specs.Complete.{IsAcceptance}
 use Rattle.dsaplan_core.specs.Conclusions.{IsConclusion, MayStayOpen}
 use Rattle.dsaplan_core.specs.Causes.{IsChecking, IsJudgedAt}
-use Rattle.dsaplan_core.specs.Theorem.{Decides, ReadsInstance, SeeksLeast}
-use Rattle.dsaplan_core.specs.Lost.{option_of_role}
+use Rattle.dsaplan_core.specs.Theorem.{Decides, SeeksLeast}
 use Rattle.dsaplan_core.specs.Refused.{IsMisuse}
 use Rattle.dsaplan_core.proofs.WorldFacts.{bounds_values, classes_values, core_values, draw_values, import_values, pack_values, pack_within, trial_values, unroll_values, upgrade_values, verify_values}
 
@@ -151,19 +149,6 @@ ends_without_a_capacity = record {
 not_past_the_best : (within : Option ℕ) → AreEnds small_below within 4 6 → ⊥
 not_past_the_best within h = let e = best_at_5 in let le = h.to_best in omega (arith, e, le)
 
--- ---- files
-most_of_a_log : limit_of option.Log ≡ 1099511627776
-most_of_a_log = refl
-
-most_of_an_input : limit_of option.Input ≡ 67108864
-most_of_an_input = refl
-
-a_log_is_named : option_of_role role.Log ≡ option.Log
-a_log_is_named = refl
-
-a_trace_is_named : option_of_role role.Trace ≡ option.Trace
-a_trace_is_named = refl
-
 -- ---- statuses
 accepted_at_its_own : IsAcceptance verb.Refute sample (status.Accepted 4)
 accepted_at_its_own = refl
@@ -210,17 +195,11 @@ draw_judges_at_the_greatest : (pairs : List Pair) → IsJudgedAt verb.Draw pairs
 draw_judges_at_the_greatest pairs = refl
 
 upgrade_checks_its_log : IsChecking verb.Upgrade
-upgrade_checks_its_log = tt
+upgrade_checks_its_log = inr (inl refl)
 
 solve_checks_none : IsChecking verb.Solve → ⊥
-solve_checks_none h = h
-
-draw_reads_an_instance : ReadsInstance verb.Draw
-draw_reads_an_instance = (inl refl, refl)
-
--- `unroll` reads an input, but as no instance
-unroll_reads_none : ReadsInstance verb.Unroll → ⊥
-unroll_reads_none h = let e = h.1 in absurd cc
+solve_checks_none (inl is) = cc
+solve_checks_none (inr none) = none
 
 refute_judges_none : (pairs : List Pair) (C : ℕ) → IsJudgedAt verb.Refute pairs C → ⊥
 refute_judges_none pairs C h = h

@@ -5,10 +5,10 @@ use Rattle.dsa_terms.specs.Logs.{Log}
 use Rattle.dsa_outside.specs.Seen.{FilesSeen}
 use Rattle.csv_instance.specs.Records.{Record}
 use Rattle.command_words.specs.Options.{Word}
-use Rattle.command_words.specs.Pairs.{Pair, word_at}
+use Rattle.command_words.specs.Pairs.{Pair, name_in}
 use Rattle.command_words.specs.Requests.{Request, request_of}
-use Rattle.command_words.specs.declared.option.OptionName.TheVariants as option
 use Rattle.command_words.specs.declared.verb.Verb.TheVariants as verb
+use Rattle.command_words.specs.declared.role.Role.TheVariants as role
 use Rattle.run_status.specs.declared.status.Status.{Status}
 use Rattle.run_status.specs.declared.status.Status.TheVariants as status
 use Rattle.run_course.specs.Course.{Comes, Concludes, Outcome, writes}
@@ -26,7 +26,7 @@ module _ (words : List Word) (old new : FilesSeen) (pairs : List Pair)
   abbrev request : Request
   request = record { verb = verb.Least; pairs = pairs }
 
-  module _ (table : List Record) (I : Instance) (input : IsInput old (word_at pairs option.Input) table I) where
+  module _ (table : List Record) (I : Instance) (input : IsInput old (name_in pairs role.Input) table I) where
     abbrev this : Asked words old
     this = asked words old request is table I input
 
@@ -83,6 +83,6 @@ module _ (words : List Word) (old new : FilesSeen) (pairs : List Pair)
 
   pub least_promises : (o : Outcome) → Comes old new (course_with verb.Least pairs) o →
       Promises words old new request o
-  least_promises o comes = opened_promises words old new request is (inl refl, refl)
+  least_promises o comes = opened_promises words old new request is (inl refl)
       (λ table I. Concludes (ConcludesWith verb.Least pairs table I))
       (λ table I input o comes. sought table I input o comes.1) o comes

@@ -7,7 +7,7 @@ use Rattle.dsa_model.specs.LayoutFaults.{layout_fault}
 use Rattle.dsa_model.proofs.LayoutFaults.{layout_exactly}
 use Rattle.dsa_model.specs.declared.layout.LayoutFault.{LayoutFault}
 use Rattle.dsa_outside.specs.Seen.{FilesSeen}
-use Rattle.csv_instance.specs.Records.{Record, file_limit, table_of}
+use Rattle.csv_instance.specs.Records.{Record, table_of}
 use Rattle.csv_instance.specs.Parse.{parse}
 use Rattle.csv_instance.specs.Offsets.{ids_of, parsed_offsets}
 use Rattle.csv_instance.specs.declared.fault.InstanceFault.{InstanceFault}
@@ -15,42 +15,42 @@ use Rattle.csv_instance.specs.declared.fault.OffsetsFault.{OffsetsFault}
 use Rattle.log_text.specs.declared.fault.TextFault.{TextFault}
 use Rattle.log_check.specs.declared.fault.CheckFault.{CheckFault}
 use Rattle.command_words.specs.Options.{Word}
+use Rattle.command_words.specs.declared.role.Role.{Role}
+use Rattle.command_words.specs.declared.role.Role.TheVariants as role
 use Rattle.run_status.specs.declared.status.Status.TheVariants as status
 use Rattle.run_status.specs.declared.status.WrongCause.{WrongCause}
 use Rattle.run_status.specs.declared.status.WrongCause.TheVariants as wrong
 use Rattle.run_status.specs.declared.status.LogCause.TheVariants as refused
-use Rattle.run_status.specs.declared.status.Role.{Role}
-use Rattle.run_status.specs.declared.status.Role.TheVariants as role
 use Rattle.run_course.specs.Readings.{HoldsMore, IsUnread}
 use Rattle.run_course.specs.Course.{Course, Concludes, Comes, Outcome, IsUnreadable, says}
 use Rattle.readings.specs.Input.{opened, instance_or_fault}
 use Rattle.readings.specs.Opens.{IsInput, IsMalformed}
 use Rattle.readings.specs.Judging.{judged, layout_or_fault, offsets_or_fault}
 use Rattle.readings.specs.GivenLayouts.{GivesLayout, GivesNoOffsets, GivesWrongOffsets}
-use Rattle.readings.specs.Checking.{checked, log_limit, Checks, no_text, not_accepted, is_accepted}
+use Rattle.readings.specs.Checking.{checked, Checks, no_text, not_accepted, is_accepted}
 use Rattle.readings.specs.GivenLogs.{HoldsAccepted, HoldsNoText, HoldsNoRefutation}
 use Rattle.fact_reports.specs.Reporting.{ShowsTrial, trial, unless_many}
 
 module _ (old new : FilesSeen) (P : Outcome → Type 0) where
-  -- it holds where the file could not be read, and where the file holds more bytes than that
-  abbrev pub IfUnreadable : Role → Word → ℕ → Type 0
-  IfUnreadable role name most = (IsUnread old new name → P (says (status.ReadFault role)))
-      × ((IsSome old.held → HoldsMore old name most) → P (says (status.TooLong role)))
+  -- it holds where the file could not be read, and where the file holds more bytes than it may
+  abbrev pub IfUnreadable : Role → Word → Type 0
+  IfUnreadable role name = (IsUnread old new name → P (says (status.ReadFault role)))
+      × ((IsSome old.held → HoldsMore old role name) → P (says (status.TooLong role)))
 
-  pub unreadable : (role : Role) (name : Word) (most : ℕ) → IfUnreadable role name most → (o : Outcome) →
-      IsUnreadable old new role name most o.status → o ≡ says o.status → P o
-  unreadable role name most holds o (inl failed) is = subst P (sym (is ∙ ap says failed.0)) (holds.0 failed.1)
-  unreadable role name most holds o (inr long) is = subst P (sym (is ∙ ap says long.0)) (holds.1 long.1)
+  pub unreadable : (role : Role) (name : Word) → IfUnreadable role name → (o : Outcome) →
+      IsUnreadable old new role name o.status → o ≡ says o.status → P o
+  unreadable role name holds o (inl failed) is = subst P (sym (is ∙ ap says failed.0)) (holds.0 failed.1)
+  unreadable role name holds o (inr long) is = subst P (sym (is ∙ ap says long.0)) (holds.1 long.1)
 
   -- a course that reads the input
   pub opened_gives : (name : Word) (next : List Record → Instance → Course) →
-      IfUnreadable role.Input name file_limit →
+      IfUnreadable role.Input name →
       ((fault : InstanceFault) → IsMalformed old name fault → P (says (status.Malformed fault))) →
       ((table : List Record) (I : Instance) → IsInput old name table I →
       (o : Outcome) → Comes old new (next table I) o → P o) →
       (o : Outcome) → Comes old new (opened name next) o → P o
   opened_gives name next unread malformed given o (inl failed) =
-      unreadable role.Input name file_limit unread o failed.0 failed.1
+      unreadable role.Input name unread o failed.0 failed.1
   opened_gives name next unread malformed given o (inr (bytes, whole, comes)) =
       parsed (parse (table_of bytes)) refl comes
     where
@@ -63,14 +63,14 @@ module _ (old new : FilesSeen) (P : Outcome → Type 0) where
 
   -- a course that judges a layout file
   pub judged_gives : (name : Word) (table : List Record) (I : Instance) (C : ℕ) (next : List ℕ → Course) →
-      IfUnreadable role.Layout name file_limit →
+      IfUnreadable role.Layout name →
       ((cause : WrongCause) → GivesNoOffsets old name table (status.Wrong cause)
       ⊎ GivesWrongOffsets old name table I C (status.Wrong cause) → P (says (status.Wrong cause))) →
       ((offsets : List ℕ) → GivesLayout old name table I C offsets →
       (o : Outcome) → Comes old new (next offsets) o → P o) →
       (o : Outcome) → Comes old new (judged name table I C next) o → P o
   judged_gives name table I C next unread wrongly given o (inl failed) =
-      unreadable role.Layout name file_limit unread o failed.0 failed.1
+      unreadable role.Layout name unread o failed.0 failed.1
   judged_gives name table I C next unread wrongly given o (inr (bytes, whole, comes)) =
       parsed (parsed_offsets (ids_of table) (table_of bytes)) refl comes
     where
@@ -103,7 +103,7 @@ module _ (old new : FilesSeen) (P : Outcome → Type 0) where
 
   -- a course that checks a log's file
   pub checked_gives : (name : Word) (I : Instance) (accepted : Log → Outcome → Type 0) →
-      IfUnreadable role.Log name log_limit →
+      IfUnreadable role.Log name →
       ((fault : TextFault) → HoldsNoText old name (status.LogRefused (refused.Text fault)) →
       P (says (status.LogRefused (refused.Text fault)))) →
       ((fault : CheckFault) → HoldsNoRefutation old name I (status.LogRefused (refused.Check fault)) →
@@ -111,7 +111,7 @@ module _ (old new : FilesSeen) (P : Outcome → Type 0) where
       ((log : Log) → HoldsAccepted old name I log → (o : Outcome) → accepted log o → P o) →
       (o : Outcome) → Comes old new (checked name I accepted) o → P o
   checked_gives name I accepted unread no_log no_proof given o (inl failed) =
-      unreadable role.Log name log_limit unread o failed.0 failed.1
+      unreadable role.Log name unread o failed.0 failed.1
   checked_gives name I accepted unread no_log no_proof given o (inr (bytes, whole, comes)) = told comes.1
     where
       told : Checks I bytes accepted o → P o

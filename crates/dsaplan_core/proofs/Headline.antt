@@ -7,11 +7,11 @@ use Rattle.command_words.specs.Requests.{Request, request_of}
 use Rattle.command_words.specs.declared.verb.Verb.{Verb}
 use Rattle.command_words.specs.declared.verb.Verb.TheVariants as verb
 use Rattle.command_words.specs.declared.fault.UsageFault.{UsageFault}
+use Rattle.command_words.specs.declared.role.Role.{Role}
 use Rattle.run_status.specs.Lines.{line}
 use Rattle.run_status.specs.Spoken.{IsSpoken}
 use Rattle.run_status.specs.declared.status.Status.{Status}
 use Rattle.run_status.specs.declared.status.Status.TheVariants as status
-use Rattle.run_status.specs.declared.status.Role.{Role}
 use Rattle.run_course.specs.Course.{Comes, Outcome, Write}
 use Rattle.run_course.specs.Answers.{Answers, AreBroken, IsSaid, Leaves, as_told, with_writes}
 use Rattle.dsaplan_core.specs.Courses.{course, course_with}
@@ -70,7 +70,7 @@ module _ (words : List Word) (old new : FilesSeen) where
   promised verb.Unroll pairs is o comes = unroll_promises words old new pairs is o comes
   promised verb.Classes pairs is o comes = classes_promises words old new pairs is o comes
   promised verb.Core pairs is o comes = core_promises words old new pairs is o comes
-  promised v pairs is o comes = reports_promise words old new pairs v (inl refl, refl) is o comes
+  promised v pairs is o comes = reports_promise words old new pairs v (inl refl) is o comes
 
   -- what is promised of an outcome of the words that is written
   abbrev Holds : Outcome → Type 0

@@ -8,6 +8,14 @@ use Rattle.column_report.proofs.ExampleFacts.{two_told}
 use Rattle.dsa_terms.specs.Logs.{Log, Over}
 use Rattle.dsa_terms.proofs.Examples.{evens, sample}
 use Rattle.log_text.specs.Text.{log_text}
+use Rattle.command_words.specs.Options.{Word}
+use Rattle.command_words.specs.Pairs.{Pair, name_in, number_at, pairs_of}
+use Rattle.command_words.specs.Requests.{Request}
+use Rattle.command_words.specs.declared.option.OptionName.TheVariants as option
+use Rattle.command_words.specs.declared.verb.Verb.TheVariants as verb
+use Rattle.command_words.specs.declared.fault.UsageFault.TheVariants as usage
+use Rattle.command_words.specs.declared.role.Role.{Role}
+use Rattle.command_words.specs.declared.role.Role.TheVariants as role
 use Rattle.readings.proofs.SampleFacts.{sample_is_accepted, sample_reads_back}
 use Rattle.csv_instance.specs.Layout.{layout_text}
 use Rattle.csv_instance.specs.Parse.{parse}
@@ -18,27 +26,18 @@ use Rattle.csv_instance.proofs.FileFacts.{no_bytes, two, two_file, two_rows}
 use Rattle.dsa_outside.specs.Held.{file_at}
 use Rattle.dsa_outside.specs.Seen.{FilesSeen, SinkSeen}
 use Rattle.dsa_outside.proofs.Lookups.{file_at-with_file}
-use Rattle.command_words.specs.Options.{Word}
-use Rattle.command_words.specs.Pairs.{Pair, number_at, pairs_of, word_at}
-use Rattle.command_words.specs.Requests.{Request}
-use Rattle.command_words.specs.declared.option.OptionName.{OptionName}
-use Rattle.command_words.specs.declared.option.OptionName.TheVariants as option
-use Rattle.command_words.specs.declared.verb.Verb.TheVariants as verb
-use Rattle.command_words.specs.declared.fault.UsageFault.TheVariants as usage
 use Rattle.run_course.specs.Complete.{ConcludesOn, IsReadable}
 use Rattle.run_course.specs.Course.{Concludes, Outcome, shows}
 use Rattle.readings.specs.Input.{instance_or_fault}
 use Rattle.packer.specs.Packs.{IsTrimmed}
 use Rattle.fact_reports.specs.Reporting.{ShowsReport}
 use Rattle.run_status.specs.declared.status.Status.TheVariants as status
-use Rattle.run_status.specs.declared.status.Role.{Role}
-use Rattle.run_status.specs.declared.status.Role.TheVariants as role
 use Rattle.explaining.proofs.ExampleFacts.{fits_at_8, laid_at_8, none_at_7}
 use Rattle.dsaplan_core.specs.Causes.{AreNoCommand, AskTooMany, RefusesInput}
 use Rattle.dsaplan_core.specs.Choice.{Choice}
 use Rattle.dsaplan_core.specs.Courses.{ConcludesWith, IsAnswer}
 use Rattle.dsaplan_core.specs.Derived.{Derived}
-use Rattle.dsaplan_core.specs.Complete.{HoldsLog, HoldsNoInstance, IsConcluded, IsMalformedFor, IsReady, IsTooLongFor, IsUndisturbed, limit_of}
+use Rattle.dsaplan_core.specs.Complete.{HoldsLog, HoldsNoInstance, IsConcluded, IsMalformedFor, IsReady, IsTooLongFor, IsUndisturbed}
 use Rattle.dsaplan_core.specs.Lost.{LosesFile, MissesFile}
 use Rattle.dsaplan_core.specs.Shown.{Tells}
 use Rattle.dsaplan_core.specs.Theorem.{Asked, Headline, HoldsLayout, HoldsRefutation}
@@ -146,7 +145,7 @@ missed_input = record {
   files = refl;
 }
 
-not_among : IsIn option.Output (option.Input ∷ []) → ⊥
+not_among : IsIn role.Output (role.Input ∷ []) → ⊥
 not_among (inl e) = cc
 not_among (inr i) = i
 
@@ -162,7 +161,7 @@ refused_input : RefusesInput (codes "bounds" ∷ bounds_values) empty_input empt
 refused_input = record {
   request = record { verb = verb.Bounds; pairs = pairs_of bounds_values };
   words_ask = refl;
-  read = (inl refl, refl);
+  read = inl refl;
   malformed = record {
     bytes = [];
     whole = record { held = λ there. file_at-with_file (Some empty) (codes "i") [] refl; short = lit≤ tt };
@@ -220,17 +219,17 @@ no_other_fault old new h = let e = h.refused in absurd cc
 abbrev pub bounds_request : Request
 bounds_request = record { verb = verb.Bounds; pairs = pairs_of bounds_values }
 
-abbrev input_is_readable : IsReadable (told input_alone) (codes "i") 67108864
+abbrev input_is_readable : IsReadable (told input_alone) role.Input (codes "i")
 input_is_readable = record { bytes = two_file; held = reads_input; short = lit≤ tt }
 
 ready : IsReady (told input_alone) bounds_request two
 ready = record { files = files; input = λ among. record { file = input_is_readable; parsed = in_parse } }
   where
-    files : (o : OptionName) → IsIn o (option.Input ∷ []) →
-        IsReadable (told input_alone) (word_at (pairs_of bounds_values) o) (limit_of o)
-    files o (inl is) = subst (λ (o : OptionName).
-        IsReadable (told input_alone) (word_at (pairs_of bounds_values) o) (limit_of o)) (sym is) input_is_readable
-    files o (inr i) = absurd i
+    files : (r : Role) → IsIn r (role.Input ∷ []) →
+        IsReadable (told input_alone) r (name_in (pairs_of bounds_values) r)
+    files r (inl is) = subst (λ (r : Role).
+        IsReadable (told input_alone) r (name_in (pairs_of bounds_values) r)) (sym is) input_is_readable
+    files r (inr i) = absurd i
 
 abbrev pub quiet : SinkSeen
 quiet = record { content = Some []; faults = 0 }

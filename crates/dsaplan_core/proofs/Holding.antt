@@ -10,18 +10,18 @@ use Rattle.planner.specs.Decides.{LeavesNoLayout}
 use Rattle.planner.specs.Openings.{StaysOpen}
 use Rattle.packer.specs.Packs.{RefutesWithin}
 use Rattle.command_words.specs.Options.{Word}
-use Rattle.command_words.specs.Pairs.{word_at}
-use Rattle.command_words.specs.declared.option.OptionName.TheVariants as option
+use Rattle.command_words.specs.Pairs.{name_in}
+use Rattle.command_words.specs.declared.role.Role.TheVariants as role
 use Rattle.writings.specs.Writings.{ReadsBack}
 use Rattle.dsaplan_core.specs.Theorem.{Asked, HoldsLayout, HoldsRefutation}
 use Rattle.dsaplan_core.proofs.Held.{first_held, last_held, second_held}
 
 module _ {words : List Word} {old : FilesSeen} (a : Asked words old) (new : FilesSeen) where
   abbrev output : Word
-  output = word_at a.pairs option.Output
+  output = name_in a.pairs role.Output
 
   abbrev log_name : Word
-  log_name = word_at a.pairs option.Log
+  log_name = name_in a.pairs role.Log
 
   -- the file of this name holds these bytes, where that is told
   abbrev Has : Word → List ℕ → Type 0

@@ -1,16 +1,14 @@
 -- What `import` promises.
 use Rattle.std.proofs.Common.{◌≡◌, ℕ, List, Result, Ok, Err, refl, sym, subst, inl, inr}
 use Rattle.dsa_outside.specs.Seen.{FilesSeen}
-use Rattle.csv_instance.specs.Records.{file_limit}
 use Rattle.trace_import.specs.Faults.{trace_of}
 use Rattle.trace_import.specs.Traces.{Trace}
 use Rattle.trace_import.specs.declared.fault.TraceFault.{TraceFault}
 use Rattle.command_words.specs.Options.{Word}
-use Rattle.command_words.specs.Pairs.{Pair, word_at}
+use Rattle.command_words.specs.Pairs.{Pair, name_in}
 use Rattle.command_words.specs.Requests.{Request, request_of}
-use Rattle.command_words.specs.declared.option.OptionName.TheVariants as option
 use Rattle.command_words.specs.declared.verb.Verb.TheVariants as verb
-use Rattle.run_status.specs.declared.status.Role.TheVariants as role
+use Rattle.command_words.specs.declared.role.Role.TheVariants as role
 use Rattle.run_course.specs.Readings.{IsWholeFile}
 use Rattle.run_course.specs.Course.{Comes, Outcome}
 use Rattle.importing.specs.Importing.{Imports}
@@ -25,12 +23,12 @@ module _ (words : List Word) (old new : FilesSeen) (pairs : List Pair)
   abbrev request : Request
   request = record { verb = verb.Import; pairs = pairs }
 
-  abbrev asked_of : (bytes : List ℕ) → IsWholeFile old (word_at pairs option.Trace) file_limit bytes →
-      AskedOf words old verb.Import option.Trace
+  abbrev asked_of : (bytes : List ℕ) → IsWholeFile old role.Trace (name_in pairs role.Trace) bytes →
+      AskedOf words old verb.Import role.Trace
   asked_of bytes whole = record { pairs = pairs; bytes = bytes; words_ask = is; whole = whole }
 
-  imported : (bytes : List ℕ) → IsWholeFile old (word_at pairs option.Trace) file_limit bytes →
-      (r : Result Trace TraceFault) → trace_of bytes ≡ r → (o : Outcome) → Imports (word_at pairs option.Output) r o →
+  imported : (bytes : List ℕ) → IsWholeFile old role.Trace (name_in pairs role.Trace) bytes →
+      (r : Result Trace TraceFault) → trace_of bytes ≡ r → (o : Outcome) → Imports (name_in pairs role.Output) r o →
       Promises words old new request o
   imported bytes whole (Ok trace) read o told = subst (Promises words old new request) (sym told.1) (
     λ files. (
@@ -60,7 +58,7 @@ module _ (words : List Word) (old new : FilesSeen) (pairs : List Pair)
   pub import_promises : (o : Outcome) → Comes old new (course_with verb.Import pairs) o →
       Promises words old new request o
   import_promises o (inl failed) = gives.unreadable old new (Promises words old new request) role.Trace
-      (word_at pairs option.Trace) file_limit
+      (name_in pairs role.Trace)
       (unreadable words old new request is role.Trace (inl refl)) o failed.0 failed.1
   import_promises o (inr (bytes, whole, comes)) =
       imported bytes whole (trace_of bytes) refl o comes.1

@@ -54,27 +54,29 @@ right_at_8 : Judged (codes "verify" ∷ verify_values (codes "8")) (beside high_
 right_at_8 = (
   verify_8 high_file,
   refl,
-  record {
-    bytes = high_file;
-    offsets = 0 ∷ 4 ∷ [];
-    whole = record { held = λ there. reads_layout high_file; short = lit≤ tt };
-    parsed = high_offsets;
-    layout = laid_at_8;
-  },
+  (
+    0 ∷ 4 ∷ [],
+    record {
+      bytes = high_file;
+      whole = record { held = λ there. reads_layout high_file; short = lit≤ tt };
+      parsed = high_offsets;
+      layout = laid_at_8;
+    },
+  ),
   refl,
 )
 
 -- a layout file whose buffers overlap gives no layout
-not_right : GivesLayoutAt (verify_8 low_file) 8 → ⊥
+not_right : (given_offsets : List ℕ) → GivesLayoutAt (verify_8 low_file) 8 given_offsets → ⊥
 unfolding is_live buffer
-not_right given =
+not_right given_offsets given =
     let held : Some low_file ≡ Some given.bytes = sym (reads_layout low_file) ∙ given.whole.held refl in
     let bytes : low_file ≡ given.bytes = cc in
-    let read = subst (λ (bytes : List ℕ). parsed_offsets (ids_of two_rows) (table_of bytes) ≡ Ok given.offsets)
+    let read = subst (λ (bytes : List ℕ). parsed_offsets (ids_of two_rows) (table_of bytes) ≡ Ok given_offsets)
     (sym bytes) given.parsed in
-    let offsets : 0 ∷ 2 ∷ [] ≡ given.offsets = (let low = low_offsets in cc) in
-    let low : slice_index given.offsets 0 ≡ 0 = ap (λ (xs : List ℕ). slice_index xs 0) (sym offsets) in
-    let high : slice_index given.offsets 1 ≡ 2 = ap (λ (xs : List ℕ). slice_index xs 1) (sym offsets) in
+    let offsets : 0 ∷ 2 ∷ [] ≡ given_offsets = (let low = low_offsets in cc) in
+    let low : slice_index given_offsets 0 ≡ 0 = ap (λ (xs : List ℕ). slice_index xs 0) (sym offsets) in
+    let high : slice_index given_offsets 1 ≡ 2 = ap (λ (xs : List ℕ). slice_index xs 1) (sym offsets) in
     elim (given.layout.apart 0 1 4 (lit< tt) (lit< tt) (λ e. cc) refl refl) [
       | inl le ↦ omega (arith, le, low, high)
       | inr le ↦ omega (arith, le, low, high)

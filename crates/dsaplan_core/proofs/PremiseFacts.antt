@@ -18,15 +18,15 @@ use Rattle.dsa_outside.specs.Held.{FileMap, file_at}
 use Rattle.dsa_outside.specs.Seen.{FilesSeen, SinkSeen}
 use Rattle.dsa_outside.proofs.Lookups.{file_at-with_file, file_at-with_other}
 use Rattle.command_words.specs.Options.{Word}
-use Rattle.command_words.specs.Forms.{reads_of}
-use Rattle.command_words.specs.Pairs.{Pair, pairs_of, word_at}
+use Rattle.command_words.specs.Forms.{ReadsInstance, reads_of}
+use Rattle.command_words.specs.Pairs.{Pair, name_in, pairs_of}
 use Rattle.command_words.specs.Requests.{Request, request_of}
-use Rattle.command_words.specs.declared.option.OptionName.{OptionName}
-use Rattle.command_words.specs.declared.option.OptionName.TheVariants as option
 use Rattle.command_words.specs.declared.verb.Verb.TheVariants as verb
 use Rattle.command_words.specs.declared.fault.UsageFault.{UsageFault}
+use Rattle.command_words.specs.declared.role.Role.TheVariants as role
+use Rattle.command_words.specs.Roles.{limit_of}
+use Rattle.command_words.specs.declared.role.Role.{Role}
 use Rattle.run_status.specs.Lines.{line}
-use Rattle.run_status.specs.declared.status.Role.TheVariants as role
 use Rattle.run_status.specs.declared.status.Status.{Status}
 use Rattle.run_status.specs.declared.status.Status.TheVariants as status
 use Rattle.run_course.specs.Answers.{Answers, IsSaid}
@@ -39,10 +39,8 @@ use Rattle.readings.specs.Checking.{checked, is_accepted}
 use Rattle.judging.specs.Judging.{TellsRight}
 use Rattle.explaining.proofs.ExampleFacts.{laid_at_8}
 use Rattle.dsaplan_core.specs.Causes.{IsChecking, IsJudgedAt}
-use Rattle.dsaplan_core.specs.Complete.{HoldsGivenLayout, HoldsInstance, HoldsLog, HoldsNoInstance, IsReady, IsUndisturbed, limit_of}
+use Rattle.dsaplan_core.specs.Complete.{HoldsGivenLayout, HoldsInstance, HoldsLog, HoldsNoInstance, IsReady, IsUndisturbed}
 use Rattle.dsaplan_core.specs.Courses.{ConcludesWith, course, course_or_fault, course_with}
-use Rattle.dsaplan_core.specs.Lost.{option_of_role}
-use Rattle.dsaplan_core.specs.Theorem.{ReadsInstance}
 use Rattle.dsaplan_core.proofs.WorldFacts.{bounds_values, first_differs, in_parse, input_alone, reads_input, told, verify_values}
 use Rattle.dsaplan_core.proofs.HeldFacts.{bounds_request, empty_input, no_instance, quiet, seven_log}
 use Rattle.dsaplan_core.proofs.RefutedFacts.{refuted_at_7, seven_file, seven_reads}
@@ -87,16 +85,15 @@ module _ (name bytes : List ℕ) (other : codes "i" ≢ name) where
   two_there = record { file = record { bytes = two_file; held = reads_two; short = lit≤ tt }; parsed = in_parse }
 
   -- where two files are readable, each of them is
-  both : (pairs : List Pair) (second : OptionName) → word_at pairs option.Input ≡ codes "i" →
-      IsReadable (told (with_file name bytes)) (word_at pairs second) (limit_of second) → (o : OptionName) →
-      IsIn o (option.Input ∷ second ∷ []) → IsReadable (told (with_file name bytes)) (word_at pairs o) (limit_of o)
-  both pairs second named there o (inl is) =
-      subst (λ (o : OptionName). IsReadable (told (with_file name bytes)) (word_at pairs o) (limit_of o)) (sym is)
-      (subst (λ (w : Word). IsReadable (told (with_file name bytes)) w (limit_of option.Input)) (sym named)
-      two_there.file)
-  both pairs second named there o (inr (inl is)) =
-      subst (λ (o : OptionName). IsReadable (told (with_file name bytes)) (word_at pairs o) (limit_of o)) (sym is) there
-  both pairs second named there o (inr (inr i)) = absurd i
+  both : (pairs : List Pair) (second : Role) → name_in pairs role.Input ≡ codes "i" →
+      IsReadable (told (with_file name bytes)) second (name_in pairs second) → (r : Role) →
+      IsIn r (role.Input ∷ second ∷ []) → IsReadable (told (with_file name bytes)) r (name_in pairs r)
+  both pairs second named there r (inl is) =
+      subst (λ (r : Role). IsReadable (told (with_file name bytes)) r (name_in pairs r)) (sym is)
+      (subst (IsReadable (told (with_file name bytes)) role.Input) (sym named) two_there.file)
+  both pairs second named there r (inr (inl is)) =
+      subst (λ (r : Role). IsReadable (told (with_file name bytes)) r (name_in pairs r)) (sym is) there
+  both pairs second named there r (inr (inr i)) = absurd i
 
   -- a course that reads the input goes on with the two
   goes_on : (next : List Record → Instance → Course) (o : Outcome) →
@@ -121,7 +118,7 @@ not_a e = first_differs (codes "a") (codes "i") (lit< tt) (sym e)
 
 layout_is_ready : IsReady (beside high_file) verify_8 two
 layout_is_ready = record {
-  files = both (codes "a") high_file not_a verify_8.pairs option.Layout refl
+  files = both (codes "a") high_file not_a verify_8.pairs role.Layout refl
       (record { bytes = high_file; held = reads_layout high_file; short = lit≤ tt });
   input = λ reads. two_there (codes "a") high_file not_a;
 }
@@ -175,7 +172,7 @@ not_l = first_differs (codes "i") (codes "l") (lit< tt)
 
 log_is_ready : IsReady with_log refute_7 two
 log_is_ready = record {
-  files = both (codes "l") seven_file not_l refute_7.pairs option.Log refl
+  files = both (codes "l") seven_file not_l refute_7.pairs role.Log refl
       (record { bytes = seven_file; held = reads_log; short = lit≤ tt });
   input = λ reads. two_there (codes "l") seven_file not_l;
 }
@@ -200,12 +197,12 @@ accepted_at_7 = inr (
 
 checks_is_met : (request_of (codes "refute" ∷ refute_values) ≡ Ok refute_7) × IsChecking refute_7.verb
     × IsReady with_log refute_7 two × IsUndisturbed refute_7 with_log with_log quiet (sink_after (status.Accepted 7))
-    × HoldsLog two seven_log with_log (word_at refute_7.pairs option.Log)
+    × HoldsLog two seven_log with_log (name_in refute_7.pairs role.Log)
     × Answers (course (codes "refute" ∷ refute_values)) with_log with_log quiet (sink_after (status.Accepted 7))
     (status.Accepted 7)
 checks_is_met = (
   refl,
-  tt,
+  inr (inl refl),
   log_is_ready,
   undisturbed refute_7 (with_file (codes "l") seven_file) (status.Accepted 7),
   holds_seven,
@@ -229,11 +226,11 @@ is_malformed = inr (
 malformed_is_met : (request_of (codes "bounds" ∷ bounds_values) ≡ Ok bounds_request)
     × ReadsInstance bounds_request.verb
     × IsUndisturbed bounds_request empty_input empty_input quiet (sink_after no_header)
-    × HoldsNoInstance instance.NoHeader empty_input (word_at bounds_request.pairs option.Input)
+    × HoldsNoInstance instance.NoHeader empty_input (name_in bounds_request.pairs role.Input)
     × Answers (course (codes "bounds" ∷ bounds_values)) empty_input empty_input quiet (sink_after no_header) no_header
 malformed_is_met = (
   refl,
-  (inl refl, refl),
+  inl refl,
   undisturbed bounds_request (insert empty (codes "i") []) no_header,
   no_instance,
   said (codes "bounds" ∷ bounds_values) bounds_request (insert empty (codes "i") []) no_header refl is_malformed,
@@ -248,16 +245,15 @@ module _ (bytes : List ℕ) where
   abbrev long_input : FileMap
   long_input = insert empty (codes "i") bytes
 
-  first_is_met : limit_of option.Input < length bytes →
+  first_is_met : limit_of role.Input < length bytes →
       (request_of (codes "bounds" ∷ bounds_values) ≡ Ok bounds_request)
-      × (reads_of bounds_request.verb ≡ option_of_role role.Input ∷ [])
+      × (reads_of bounds_request.verb ≡ role.Input ∷ [])
       × IsUndisturbed bounds_request (told long_input) (told long_input) quiet (sink_after (status.TooLong role.Input))
-      × HoldsMore (told long_input) (word_at bounds_request.pairs (option_of_role role.Input))
-      (limit_of (option_of_role role.Input))
+      × HoldsMore (told long_input) role.Input (name_in bounds_request.pairs role.Input)
       × Answers (course (codes "bounds" ∷ bounds_values)) (told long_input) (told long_input) quiet
       (sink_after (status.TooLong role.Input)) (status.TooLong role.Input)
   first_is_met long =
-      let more : HoldsMore (told long_input) (codes "i") (limit_of option.Input) =
+      let more : HoldsMore (told long_input) role.Input (codes "i") =
       record { bytes = bytes; held = file_at-with_file (Some empty) (codes "i") bytes refl; long = long } in (
         refl,
         refl,
@@ -267,17 +263,16 @@ module _ (bytes : List ℕ) where
             (inl (inr (refl, λ there. more), refl)),
       )
 
-  second_is_met : limit_of option.Layout < length bytes →
+  second_is_met : limit_of role.Layout < length bytes →
       (request_of (codes "verify" ∷ verify_values (codes "8")) ≡ Ok verify_8)
-      × (reads_of verify_8.verb ≡ option.Input ∷ option_of_role role.Layout ∷ [])
+      × (reads_of verify_8.verb ≡ role.Input ∷ role.Layout ∷ [])
       × IsUndisturbed verify_8 (beside bytes) (beside bytes) quiet (sink_after (status.TooLong role.Layout))
-      × HoldsInstance two (beside bytes) (word_at verify_8.pairs option.Input)
-      × HoldsMore (beside bytes) (word_at verify_8.pairs (option_of_role role.Layout))
-      (limit_of (option_of_role role.Layout))
+      × HoldsInstance two (beside bytes) (name_in verify_8.pairs role.Input)
+      × HoldsMore (beside bytes) role.Layout (name_in verify_8.pairs role.Layout)
       × Answers (course (codes "verify" ∷ verify_values (codes "8"))) (beside bytes) (beside bytes) quiet
       (sink_after (status.TooLong role.Layout)) (status.TooLong role.Layout)
   second_is_met long =
-      let more : HoldsMore (beside bytes) (codes "a") (limit_of option.Layout) =
+      let more : HoldsMore (beside bytes) role.Layout (codes "a") =
       record { bytes = bytes; held = reads_layout bytes; long = long } in (
         refl,
         refl,

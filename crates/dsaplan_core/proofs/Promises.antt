@@ -4,9 +4,9 @@ use Rattle.dsa_terms.specs.Buffers.{Instance}
 use Rattle.dsa_outside.specs.Seen.{FilesSeen}
 use Rattle.csv_instance.specs.Records.{Record}
 use Rattle.command_words.specs.Options.{Word}
-use Rattle.command_words.specs.Pairs.{word_at}
 use Rattle.command_words.specs.Requests.{Request, request_of}
-use Rattle.command_words.specs.declared.option.OptionName.TheVariants as option
+use Rattle.command_words.specs.Pairs.{name_in}
+use Rattle.command_words.specs.declared.role.Role.TheVariants as role
 use Rattle.run_status.specs.declared.status.Status.{Status}
 use Rattle.run_status.specs.declared.status.Status.TheVariants as status
 use Rattle.run_course.specs.Course.{Outcome, Write}
@@ -40,7 +40,7 @@ Promises words old new r o = (new.held ≡ with_writes old.held o.writes →
 
 -- what the words ask for, with the instance of the input
 abbrev pub asked : (words : List Word) (old : FilesSeen) (r : Request) → request_of words ≡ Ok r →
-    (table : List Record) (I : Instance) → IsInput old (word_at r.pairs option.Input) table I → Asked words old
+    (table : List Record) (I : Instance) → IsInput old (name_in r.pairs role.Input) table I → Asked words old
 asked words old r is table I input = record {
   verb = r.verb;
   pairs = r.pairs;

@@ -7,15 +7,15 @@ use Rattle.dsa_terms.specs.Logs.{Log}
 use Rattle.dsa_outside.specs.Seen.{FilesSeen}
 use Rattle.csv_instance.specs.Records.{Record}
 use Rattle.command_words.specs.Options.{Word}
-use Rattle.command_words.specs.Forms.{reads_of}
-use Rattle.command_words.specs.Pairs.{word_at}
+use Rattle.command_words.specs.Forms.{ReadsInstance, reads_of}
 use Rattle.command_words.specs.Requests.{Request, request_of}
-use Rattle.command_words.specs.declared.option.OptionName.TheVariants as option
+use Rattle.command_words.specs.declared.role.Role.{Role}
+use Rattle.command_words.specs.declared.role.Role.TheVariants as role
+use Rattle.command_words.specs.Pairs.{name_in}
+use Rattle.command_words.proofs.FileLemmas.{input_is_read}
 use Rattle.run_status.specs.declared.status.Status.TheVariants as status
 use Rattle.run_status.specs.declared.status.LogCause.{LogCause}
 use Rattle.run_status.specs.declared.status.LogCause.TheVariants as refused
-use Rattle.run_status.specs.declared.status.Role.{Role}
-use Rattle.run_status.specs.declared.status.Role.TheVariants as role
 use Rattle.run_course.specs.Course.{Course, Comes, Outcome, says}
 use Rattle.readings.specs.Input.{opened}
 use Rattle.readings.specs.Opens.{IsInput}
@@ -24,9 +24,6 @@ use Rattle.readings.specs.GivenLayouts.{GivesLayout}
 use Rattle.readings.specs.Checking.{checked}
 use Rattle.readings.specs.GivenLogs.{HoldsAccepted, HoldsNoText, HoldsNoRefutation}
 use Rattle.dsaplan_core.specs.Causes.{IsChecking, IsJudgedAt}
-use Rattle.dsaplan_core.specs.Complete.{limit_of}
-use Rattle.dsaplan_core.specs.Lost.{option_of_role}
-use Rattle.dsaplan_core.specs.Theorem.{ReadsInstance}
 use Rattle.dsaplan_core.proofs.Gives.{IfUnreadable, checked_gives, judged_gives, opened_gives}
 use Rattle.dsaplan_core.proofs.Promises.{Promises, asked}
 
@@ -34,8 +31,8 @@ module _ (words : List Word) (old new : FilesSeen) (r : Request) (is : request_o
   abbrev P : Outcome → Type 0
   P = Promises words old new r
 
-  pub unreadable : (role : Role) → IsIn (option_of_role role) (reads_of r.verb) →
-      IfUnreadable old new P role (word_at r.pairs (option_of_role role)) (limit_of (option_of_role role))
+  pub unreadable : (role : Role) → IsIn role (reads_of r.verb) →
+      IfUnreadable old new P role (name_in r.pairs role)
   unreadable role read = (
     λ unread. (
       λ files.
@@ -50,23 +47,24 @@ module _ (words : List Word) (old new : FilesSeen) (r : Request) (is : request_o
   )
 
   pub opened_promises : ReadsInstance r.verb → (next : List Record → Instance → Course) →
-      ((table : List Record) (I : Instance) → IsInput old (word_at r.pairs option.Input) table I →
+      ((table : List Record) (I : Instance) → IsInput old (name_in r.pairs role.Input) table I →
       (o : Outcome) → Comes old new (next table I) o → P o) →
-      (o : Outcome) → Comes old new (opened (word_at r.pairs option.Input) next) o → P o
-  opened_promises read next = opened_gives old new P (word_at r.pairs option.Input) next (unreadable role.Input read.0)
+      (o : Outcome) → Comes old new (opened (name_in r.pairs role.Input) next) o → P o
+  opened_promises read next = opened_gives old new P (name_in r.pairs role.Input) next
+      (unreadable role.Input (input_is_read r.verb read))
       (λ fault bad. (
         λ files.
             (tt, tt, refl, record { request = r; words_ask = is; read = read; malformed = bad; files = files }),
         tt,
       ))
 
-  pub judged_promises : IsIn option.Layout (reads_of r.verb) → (table : List Record) (I : Instance) (C : ℕ)
-      (next : List ℕ → Course) → IsInput old (word_at r.pairs option.Input) table I → IsJudgedAt r.verb r.pairs C →
-      ((offsets : List ℕ) → GivesLayout old (word_at r.pairs option.Layout) table I C offsets →
+  pub judged_promises : IsIn role.Layout (reads_of r.verb) → (table : List Record) (I : Instance) (C : ℕ)
+      (next : List ℕ → Course) → IsInput old (name_in r.pairs role.Input) table I → IsJudgedAt r.verb r.pairs C →
+      ((offsets : List ℕ) → GivesLayout old (name_in r.pairs role.Layout) table I C offsets →
       (o : Outcome) → Comes old new (next offsets) o → P o) →
-      (o : Outcome) → Comes old new (judged (word_at r.pairs option.Layout) table I C next) o → P o
+      (o : Outcome) → Comes old new (judged (name_in r.pairs role.Layout) table I C next) o → P o
   judged_promises read table I C next input judged_at =
-      judged_gives old new P (word_at r.pairs option.Layout) table I C next (unreadable role.Layout read)
+      judged_gives old new P (name_in r.pairs role.Layout) table I C next (unreadable role.Layout read)
       (λ cause wrong. (
         λ files. (
           tt,
@@ -83,10 +81,10 @@ module _ (words : List Word) (old new : FilesSeen) (r : Request) (is : request_o
         tt,
       ))
 
-  refuses_log : (table : List Record) (I : Instance) → IsInput old (word_at r.pairs option.Input) table I →
+  refuses_log : (table : List Record) (I : Instance) → IsInput old (name_in r.pairs role.Input) table I →
       IsChecking r.verb → (cause : LogCause) →
-      HoldsNoText old (word_at r.pairs option.Log) (status.LogRefused cause)
-      ⊎ HoldsNoRefutation old (word_at r.pairs option.Log) I (status.LogRefused cause) →
+      HoldsNoText old (name_in r.pairs role.Log) (status.LogRefused cause)
+      ⊎ HoldsNoRefutation old (name_in r.pairs role.Log) I (status.LogRefused cause) →
       P (says (status.LogRefused cause))
   refuses_log table I input checks cause bad = (
     λ files. (
@@ -103,12 +101,12 @@ module _ (words : List Word) (old new : FilesSeen) (r : Request) (is : request_o
     tt,
   )
 
-  pub checked_promises : IsIn option.Log (reads_of r.verb) → (table : List Record) (I : Instance)
-      (accepted : Log → Outcome → Type 0) → IsInput old (word_at r.pairs option.Input) table I →
+  pub checked_promises : IsIn role.Log (reads_of r.verb) → (table : List Record) (I : Instance)
+      (accepted : Log → Outcome → Type 0) → IsInput old (name_in r.pairs role.Input) table I →
       IsChecking r.verb →
-      ((log : Log) → HoldsAccepted old (word_at r.pairs option.Log) I log → (o : Outcome) → accepted log o → P o) →
-      (o : Outcome) → Comes old new (checked (word_at r.pairs option.Log) I accepted) o → P o
+      ((log : Log) → HoldsAccepted old (name_in r.pairs role.Log) I log → (o : Outcome) → accepted log o → P o) →
+      (o : Outcome) → Comes old new (checked (name_in r.pairs role.Log) I accepted) o → P o
   checked_promises read table I accepted input checks =
-      checked_gives old new P (word_at r.pairs option.Log) I accepted (unreadable role.Log read)
+      checked_gives old new P (name_in r.pairs role.Log) I accepted (unreadable role.Log read)
       (λ fault bad. refuses_log table I input checks (refused.Text fault) (inl bad))
       (λ fault bad. refuses_log table I input checks (refused.Check fault) (inr bad))

@@ -1,16 +1,17 @@
 -- What the commands promise that print something of an instance.
 use Rattle.std.proofs.Common.{◌≡◌, List, Ok, refl, sym, subst, inl, inr}
-use Rattle.fact_reports.specs.Reporting.{ShowsReport, reporting}
-use Rattle.dsa_outside.specs.Seen.{FilesSeen}
+use Rattle.command_words.specs.Forms.{ReadsInstance}
 use Rattle.command_words.specs.Options.{Word}
-use Rattle.command_words.specs.Pairs.{Pair, number_at, word_at}
+use Rattle.command_words.specs.Pairs.{Pair, name_in, number_at}
 use Rattle.command_words.specs.Requests.{Request, request_of}
 use Rattle.command_words.specs.declared.option.OptionName.TheVariants as option
 use Rattle.command_words.specs.declared.verb.Verb.{Verb}
 use Rattle.command_words.specs.declared.verb.Verb.TheVariants as verb
+use Rattle.command_words.specs.declared.role.Role.TheVariants as role
+use Rattle.fact_reports.specs.Reporting.{ShowsReport, reporting}
+use Rattle.dsa_outside.specs.Seen.{FilesSeen}
 use Rattle.run_course.specs.Course.{Comes, Concludes, Outcome}
 use Rattle.dsaplan_core.specs.Courses.{course_with}
-use Rattle.dsaplan_core.specs.Theorem.{ReadsInstance}
 use Rattle.dsaplan_core.proofs.Promises.{Promises, asked}
 use Rattle.dsaplan_core.proofs.Gives.{trial_gives}
 use Rattle.dsaplan_core.proofs.Refusals.{opened_promises}
@@ -21,7 +22,7 @@ module _ (words : List Word) (old new : FilesSeen) (pairs : List Pair) where
 
   -- a command that prints something of its instance alone
   pub reports_promise : (v : Verb) → ReadsInstance v → request_of words ≡ Ok (r v) → (o : Outcome) →
-      Comes old new (reporting v (word_at pairs option.Input)) o → Promises words old new (r v) o
+      Comes old new (reporting v (name_in pairs role.Input)) o → Promises words old new (r v) o
   reports_promise v reads is = opened_promises words old new (r v) is reads
       (λ table I. Concludes (ShowsReport v table I))
       (λ table I input o comes. subst (Promises words old new (r v)) (sym comes.1.shown) (

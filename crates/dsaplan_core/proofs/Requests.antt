@@ -1,20 +1,18 @@
 -- The names of a request: they are of its files, and differ from each other.
-use Rattle.std.proofs.Common.{◌≡◌, ◌≢◌, Bool, true, false, ℕ, zero, suc, List, [], ◌∷◌, drop, length, map, take, Option, None, Some, Ok, Err, bytes_eq, refl, ap, subst, inl, inr}
+use Rattle.std.proofs.Common.{◌≡◌, ◌≢◌, Bool, true, false, List, [], ◌∷◌, Option, None, Some, Ok, Err, bytes_eq, refl, subst}
 use Rattle.std.specs.Option.{option_map_or}
 use Rattle.std.proofs.lemmas.Slice.Eq.{bytes_eq-Decides}
-use Rattle.dsa_terms.specs.Claims.{IsIn}
 use Rattle.dsa_terms.specs.Firsts.{when, first_fault}
 use Rattle.dsa_terms.proofs.Moments.{or_false}
 use Rattle.command_words.specs.Options.{Word}
-use Rattle.command_words.specs.Forms.{files_of, reads_of, verb_of, writes_of}
-use Rattle.command_words.specs.Pairs.{Pair, has_equal, pairs_of, word_at}
+use Rattle.command_words.specs.Forms.{verb_of}
+use Rattle.command_words.specs.Pairs.{Pair, has_equal, name_in, pairs_of}
 use Rattle.command_words.specs.Requests.{Request, names_of, request_fault, request_of, request_or_fault}
-use Rattle.command_words.specs.declared.option.OptionName.{OptionName}
-use Rattle.command_words.specs.declared.option.OptionName.TheVariants as option
 use Rattle.command_words.specs.declared.verb.Verb.{Verb}
 use Rattle.command_words.specs.declared.verb.Verb.TheVariants as verb
 use Rattle.command_words.specs.declared.fault.UsageFault.{UsageFault}
 use Rattle.command_words.specs.declared.fault.UsageFault.TheVariants as fault
+use Rattle.command_words.specs.declared.role.Role.TheVariants as role
 
 -- ---- names that differ
 -- no fault comes before a request
@@ -55,47 +53,21 @@ last_two input output log is same =
 -- the output and the log of a command that writes both have different names
 pub solve_apart : (words : List Word) (pairs : List Pair) →
     request_of words ≡ Ok (record { verb = verb.Solve; pairs = pairs }) →
-    word_at pairs option.Output ≢ word_at pairs option.Log
-solve_apart words pairs is = last_two (word_at pairs option.Input) (word_at pairs option.Output)
-    (word_at pairs option.Log)
+    name_in pairs role.Output ≢ name_in pairs role.Log
+solve_apart words pairs is = last_two (name_in pairs role.Input) (name_in pairs role.Output)
+    (name_in pairs role.Log)
     (names_differ words (record { verb = verb.Solve; pairs = pairs }) is)
 
 pub least_apart : (words : List Word) (pairs : List Pair) →
     request_of words ≡ Ok (record { verb = verb.Least; pairs = pairs }) →
-    word_at pairs option.Output ≢ word_at pairs option.Log
-least_apart words pairs is = last_two (word_at pairs option.Input) (word_at pairs option.Output)
-    (word_at pairs option.Log)
+    name_in pairs role.Output ≢ name_in pairs role.Log
+least_apart words pairs is = last_two (name_in pairs role.Input) (name_in pairs role.Output)
+    (name_in pairs role.Log)
     (names_differ words (record { verb = verb.Least; pairs = pairs }) is)
 
 pub pack_apart : (words : List Word) (pairs : List Pair) →
     request_of words ≡ Ok (record { verb = verb.Pack; pairs = pairs }) →
-    word_at pairs option.Output ≢ word_at pairs option.Log
-pack_apart words pairs is = last_two (word_at pairs option.Input) (word_at pairs option.Output)
-    (word_at pairs option.Log)
+    name_in pairs role.Output ≢ name_in pairs role.Log
+pack_apart words pairs is = last_two (name_in pairs role.Input) (name_in pairs role.Output)
+    (name_in pairs role.Log)
     (names_differ words (record { verb = verb.Pack; pairs = pairs }) is)
-
--- ---- names of files
-in_taken : {X : Type 0} (x : X) (k : ℕ) (xs : List X) → IsIn x (take k xs) → IsIn x xs
-in_taken x zero xs is = absurd is
-in_taken x (suc k) [] is = absurd is
-in_taken x (suc k) (y ∷ xs) (inl same) = inl same
-in_taken x (suc k) (y ∷ xs) (inr is) = inr (in_taken x k xs is)
-
-in_dropped : {X : Type 0} (x : X) (k : ℕ) (xs : List X) → IsIn x (drop k xs) → IsIn x xs
-in_dropped x zero xs is = is
-in_dropped x (suc k) [] is = absurd is
-in_dropped x (suc k) (y ∷ xs) is = inr (in_dropped x k xs is)
-
-in_map : {X Y : Type 0} (f : X → Y) (x : X) (xs : List X) → IsIn x xs → IsIn (f x) (map f xs)
-in_map f x [] is = absurd is
-in_map f x (y ∷ xs) (inl same) = inl (ap f same)
-in_map f x (y ∷ xs) (inr is) = inr (in_map f x xs is)
-
--- a file that the command reads has a name of the request
-pub read_named : (r : Request) (o : OptionName) → IsIn o (reads_of r.verb) → IsIn (word_at r.pairs o) (names_of r)
-read_named r o is = in_map (word_at r.pairs) o (files_of r.verb) (in_taken o _ (files_of r.verb) is)
-
--- a file that the command writes has one too
-pub write_named : (r : Request) (o : OptionName) → IsIn o (writes_of r.verb) → IsIn (word_at r.pairs o) (names_of r)
-write_named r o is =
-    in_map (word_at r.pairs) o (files_of r.verb) (in_dropped o (length (reads_of r.verb)) (files_of r.verb) is)

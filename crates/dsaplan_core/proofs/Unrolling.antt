@@ -2,15 +2,15 @@
 use Rattle.std.proofs.Common.{◌≡◌, ℕ, List, Result, Ok, Err, refl, sym, subst, inl, inr}
 use Rattle.dsa_terms.specs.Buffers.{Instance}
 use Rattle.dsa_outside.specs.Seen.{FilesSeen}
-use Rattle.csv_instance.specs.Records.{file_limit, table_of}
+use Rattle.csv_instance.specs.Records.{table_of}
 use Rattle.cyclic_plan.specs.Unrolled.{unrolled_of}
 use Rattle.cyclic_plan.specs.declared.fault.CycleFault.{CycleFault}
 use Rattle.command_words.specs.Options.{Word}
-use Rattle.command_words.specs.Pairs.{Pair, number_at, word_at}
+use Rattle.command_words.specs.Pairs.{Pair, name_in, number_at}
 use Rattle.command_words.specs.Requests.{Request, request_of}
 use Rattle.command_words.specs.declared.option.OptionName.TheVariants as option
 use Rattle.command_words.specs.declared.verb.Verb.TheVariants as verb
-use Rattle.run_status.specs.declared.status.Role.TheVariants as role
+use Rattle.command_words.specs.declared.role.Role.TheVariants as role
 use Rattle.run_course.specs.Readings.{IsWholeFile}
 use Rattle.run_course.specs.Course.{Comes, Outcome}
 use Rattle.importing.specs.Unrolling.{Unrolls}
@@ -25,13 +25,13 @@ module _ (words : List Word) (old new : FilesSeen) (pairs : List Pair)
   abbrev request : Request
   request = record { verb = verb.Unroll; pairs = pairs }
 
-  abbrev asked_of : (bytes : List ℕ) → IsWholeFile old (word_at pairs option.Input) file_limit bytes →
-      AskedOf words old verb.Unroll option.Input
+  abbrev asked_of : (bytes : List ℕ) → IsWholeFile old role.Input (name_in pairs role.Input) bytes →
+      AskedOf words old verb.Unroll role.Input
   asked_of bytes whole = record { pairs = pairs; bytes = bytes; words_ask = is; whole = whole }
 
-  unrolled : (bytes : List ℕ) → IsWholeFile old (word_at pairs option.Input) file_limit bytes →
+  unrolled : (bytes : List ℕ) → IsWholeFile old role.Input (name_in pairs role.Input) bytes →
       (r : Result Instance CycleFault) → unrolled_of (number_at pairs option.Period) (table_of bytes) ≡ r →
-      (o : Outcome) → Unrolls (number_at pairs option.Period) (word_at pairs option.Output) (table_of bytes) r o →
+      (o : Outcome) → Unrolls (number_at pairs option.Period) (name_in pairs role.Output) (table_of bytes) r o →
       Promises words old new request o
   unrolled bytes whole (Ok I) read o told = subst (Promises words old new request) (sym told.1) (
     λ files. (
@@ -53,7 +53,7 @@ module _ (words : List Word) (old new : FilesSeen) (pairs : List Pair)
   pub unroll_promises : (o : Outcome) → Comes old new (course_with verb.Unroll pairs) o →
       Promises words old new request o
   unroll_promises o (inl failed) = gives.unreadable old new (Promises words old new request) role.Input
-      (word_at pairs option.Input) file_limit
+      (name_in pairs role.Input)
       (unreadable words old new request is role.Input (inl refl)) o failed.0 failed.1
   unroll_promises o (inr (bytes, whole, comes)) =
       unrolled bytes whole (unrolled_of (number_at pairs option.Period) (table_of bytes)) refl o comes.1

@@ -8,10 +8,10 @@ use Rattle.csv_instance.specs.Parse.{parse}
 use Rattle.csv_instance.specs.Records.{table_of}
 use Rattle.csv_instance.proofs.FileFacts.{two, two_file, two_parse, two_reads, two_rows}
 use Rattle.command_words.specs.Options.{Word}
-use Rattle.command_words.specs.Pairs.{Pair, word_at}
+use Rattle.command_words.specs.Pairs.{Pair, name_in}
 use Rattle.command_words.specs.Requests.{request_of}
-use Rattle.command_words.specs.declared.option.OptionName.TheVariants as option
 use Rattle.command_words.specs.declared.verb.Verb.{Verb}
+use Rattle.command_words.specs.declared.role.Role.TheVariants as role
 use Rattle.readings.specs.Opens.{IsInput}
 use Rattle.dsaplan_core.specs.Theorem.{Asked}
 
@@ -95,7 +95,7 @@ its_input = record {
 
 -- the words ask for the command, on this input
 abbrev pub asking : (words : List Word) (v : Verb) (pairs : List Pair) →
-    request_of words ≡ Ok (record { verb = v; pairs = pairs }) → word_at pairs option.Input ≡ codes "i" →
+    request_of words ≡ Ok (record { verb = v; pairs = pairs }) → name_in pairs role.Input ≡ codes "i" →
     Asked words (told input_alone)
 asking words v pairs asked named = record {
   verb = v;

@@ -2,15 +2,18 @@
 -- log's file. Nothing is written then.
 use Rattle.std.specs.Prelude.{◌≡◌, ◌<◌, ◌⊎◌, ◌^◌, ℕ, List, Ok, Err}
 use Rattle.dsa_model.specs.Buffer.{buffer_limit}
+use Rattle.dsa_terms.specs.Claims.{IsIn}
 use Rattle.dsa_outside.specs.Seen.{FilesSeen}
 use Rattle.csv_instance.specs.declared.fault.InstanceFault.{InstanceFault}
+use Rattle.command_words.specs.Forms.{ReadsInstance, reads_of}
 use Rattle.command_words.specs.Options.{Word}
-use Rattle.command_words.specs.Pairs.{Pair, number_at, word_at}
+use Rattle.command_words.specs.Pairs.{Pair, name_in, number_at}
 use Rattle.command_words.specs.Requests.{Request, request_of}
 use Rattle.command_words.specs.declared.option.OptionName.TheVariants as option
 use Rattle.command_words.specs.declared.verb.Verb.{Verb}
 use Rattle.command_words.specs.declared.verb.Verb.TheVariants as verb
 use Rattle.command_words.specs.declared.fault.UsageFault.{UsageFault}
+use Rattle.command_words.specs.declared.role.Role.TheVariants as role
 use Rattle.readings.specs.Opens.{IsMalformed}
 use Rattle.readings.specs.GivenLayouts.{GivesNoOffsets, GivesWrongOffsets}
 use Rattle.readings.specs.GivenLogs.{HoldsNoText, HoldsNoRefutation}
@@ -18,7 +21,7 @@ use Rattle.run_status.specs.declared.status.Status.{Status}
 use Rattle.run_status.specs.declared.status.Status.TheVariants as status
 use Rattle.run_status.specs.declared.status.WrongCause.{WrongCause}
 use Rattle.run_status.specs.declared.status.LogCause.{LogCause}
-use Rattle.dsaplan_core.specs.Theorem.{Asked, ReadsInstance}
+use Rattle.dsaplan_core.specs.Theorem.{Asked}
 
 -- the words are no command, for this fault first
 pub record AreNoCommand (words : List Word) (old new : FilesSeen) (fault : UsageFault) : Type 0 where
@@ -38,7 +41,7 @@ pub record RefusesInput (words : List Word) (old new : FilesSeen) (fault : Insta
   pub request : Request
   pub words_ask : request_of words ≡ Ok request
   pub read : ReadsInstance request.verb
-  pub malformed : IsMalformed old (word_at request.pairs option.Input) fault
+  pub malformed : IsMalformed old (name_in request.pairs role.Input) fault
   pub files : new.held ≡ old.held
 
 -- the command judges a layout file, at this capacity
@@ -53,24 +56,21 @@ pub record RefusesLayout (words : List Word) (old new : FilesSeen) (cause : Wron
   pub asked : Asked words old
   pub capacity : ℕ
   pub judged : IsJudgedAt asked.verb asked.pairs capacity
-  pub wrong : GivesNoOffsets old (word_at asked.pairs option.Layout) asked.table (status.Wrong cause)
-      ⊎ GivesWrongOffsets old (word_at asked.pairs option.Layout) asked.table asked.instance capacity
+  pub wrong : GivesNoOffsets old (name_in asked.pairs role.Layout) asked.table (status.Wrong cause)
+      ⊎ GivesWrongOffsets old (name_in asked.pairs role.Layout) asked.table asked.instance capacity
       (status.Wrong cause)
   pub files : new.held ≡ old.held
 
--- the command checks a log's file
+-- the command reads a log's file, which it then checks
 abbrev pub IsChecking : Verb → Type 0
-IsChecking verb.Refute = Unit {0}
-IsChecking verb.Trim = Unit {0}
-IsChecking verb.Upgrade = Unit {0}
-IsChecking verb = ⊥
+IsChecking v = IsIn role.Log (reads_of v)
 
 -- the log's file says no log, or one that is not accepted, for this cause
 pub record RefusesLog (words : List Word) (old new : FilesSeen) (cause : LogCause) : Type 0 where
   pub asked : Asked words old
   pub checked : IsChecking asked.verb
-  pub refused : HoldsNoText old (word_at asked.pairs option.Log) (status.LogRefused cause)
-      ⊎ HoldsNoRefutation old (word_at asked.pairs option.Log) asked.instance (status.LogRefused cause)
+  pub refused : HoldsNoText old (name_in asked.pairs role.Log) (status.LogRefused cause)
+      ⊎ HoldsNoRefutation old (name_in asked.pairs role.Log) asked.instance (status.LogRefused cause)
   pub files : new.held ≡ old.held
 
 -- why a status refuses, where it does

@@ -9,42 +9,34 @@ use Rattle.dsa_outside.specs.Held.{file_at}
 use Rattle.dsa_outside.specs.Seen.{FilesSeen, SinkSeen}
 use Rattle.dsa_model.specs.Counts.{Rose}
 use Rattle.csv_instance.specs.Offsets.{ids_of, parsed_offsets}
-use Rattle.csv_instance.specs.Records.{Record, file_limit, table_of}
+use Rattle.csv_instance.specs.Records.{Record, table_of}
 use Rattle.csv_instance.specs.Parse.{parse}
 use Rattle.csv_instance.specs.declared.fault.InstanceFault.{InstanceFault}
 use Rattle.layout_picture.specs.Rectangles.{rectangles}
 use Rattle.log_text.specs.Says.{Says}
 use Rattle.log_text.specs.Text.{raw_log_of}
 use Rattle.command_words.specs.Options.{Word}
-use Rattle.command_words.specs.Forms.{reads_of}
-use Rattle.command_words.specs.Pairs.{word_at}
+use Rattle.command_words.specs.Forms.{ReadsInstance, reads_of}
 use Rattle.command_words.specs.Requests.{Request, names_of}
-use Rattle.command_words.specs.declared.option.OptionName.{OptionName}
-use Rattle.command_words.specs.declared.option.OptionName.TheVariants as option
 use Rattle.command_words.specs.declared.verb.Verb.{Verb}
 use Rattle.command_words.specs.declared.verb.Verb.TheVariants as verb
+use Rattle.command_words.specs.declared.role.Role.{Role}
+use Rattle.command_words.specs.Pairs.{name_in}
+use Rattle.command_words.specs.declared.role.Role.TheVariants as role
 use Rattle.run_course.specs.Complete.{ConcludesOn, IsCalm, IsReadable}
-use Rattle.readings.specs.Checking.{log_limit}
 use Rattle.readings.specs.Opens.{IsInput}
-use Rattle.run_status.specs.declared.status.Role.{Role}
 use Rattle.run_status.specs.declared.status.Status.{Status}
 use Rattle.run_status.specs.declared.status.Status.TheVariants as status
 use Rattle.dsaplan_core.specs.Courses.{course_with}
-use Rattle.dsaplan_core.specs.Theorem.{ReadsInstance}
-
--- the greatest number of bytes that the file of an option may have
-abbrev pub limit_of : OptionName → ℕ
-limit_of option.Log = log_limit
-limit_of other = file_limit
 
 -- the name holds this instance
 pub record HoldsInstance (I : Instance) (files : FilesSeen) (name : Word) : Type 0 where
-  pub file : IsReadable files name file_limit
+  pub file : IsReadable files role.Input name
   pub parsed : parse (table_of file.bytes) ≡ Ok I
 
 -- the name holds bytes that are no instance, for this fault first
 pub record HoldsNoInstance (fault : InstanceFault) (files : FilesSeen) (name : Word) : Type 0 where
-  pub file : IsReadable files name file_limit
+  pub file : IsReadable files role.Input name
   pub refused : parse (table_of file.bytes) ≡ Err fault
 
 -- the status says that the input is malformed, for this fault, or that memory ran out
@@ -61,8 +53,8 @@ IsTooLongFor role status = ⊥
 
 -- each file that the command reads is readable, and the instance, if it reads one, is this
 pub record IsReady (seen : FilesSeen) (r : Request) (I : Instance) : Type 0 where
-  pub files : (o : OptionName) → IsIn o (reads_of r.verb) → IsReadable seen (word_at r.pairs o) (limit_of o)
-  pub input : ReadsInstance r.verb → HoldsInstance I seen (word_at r.pairs option.Input)
+  pub files : (file : Role) → IsIn file (reads_of r.verb) → IsReadable seen file (name_in r.pairs file)
+  pub input : ReadsInstance r.verb → HoldsInstance I seen (name_in r.pairs role.Input)
 
 -- the name holds bytes that say this log, which is accepted for the instance
 pub record HoldsLog (I : Instance) (log : Log) (files : FilesSeen) (name : Word) : Type 0 where
@@ -85,9 +77,9 @@ IsAcceptance verb log status = ⊥
 -- instance at the capacity
 pub record HoldsGivenLayout (seen : FilesSeen) (r : Request) (I : Instance) (C : ℕ) (offsets : List ℕ) : Type 0 where
   pub table : List Record
-  pub input : IsInput seen (word_at r.pairs option.Input) table I
+  pub input : IsInput seen (name_in r.pairs role.Input) table I
   pub bytes : List ℕ
-  pub held : file_at seen.held (word_at r.pairs option.Layout) ≡ Some bytes
+  pub held : file_at seen.held (name_in r.pairs role.Layout) ≡ Some bytes
   pub parsed : parsed_offsets (ids_of table) (table_of bytes) ≡ Ok offsets
   pub layout : IsLayout I C offsets
 

@@ -4,9 +4,10 @@ use Rattle.dsa_terms.specs.Buffers.{Instance}
 use Rattle.dsa_terms.specs.Logs.{Log as LogTerm}
 use Rattle.csv_instance.specs.Records.{Record}
 use Rattle.command_words.specs.Options.{Word}
-use Rattle.command_words.specs.Pairs.{Pair, number_at, number_given, word_at}
+use Rattle.command_words.specs.Pairs.{Pair, name_in, number_at, number_given}
 use Rattle.command_words.specs.Requests.{Request, request_of}
-use Rattle.command_words.specs.declared.option.OptionName.TheVariants.{Capacity, Input, Output, Log, Layout, Trace, Steps, Seed, Count, Period}
+use Rattle.command_words.specs.declared.option.OptionName.TheVariants.{Capacity, Steps, Seed, Count, Period}
+use Rattle.command_words.specs.declared.role.Role.TheVariants.{Input, Output, Log, Layout, Trace}
 use Rattle.command_words.specs.declared.verb.Verb.{Verb}
 use Rattle.command_words.specs.declared.verb.Verb.TheVariants as verb
 use Rattle.command_words.specs.declared.fault.UsageFault.{UsageFault}
@@ -29,7 +30,7 @@ use Rattle.packing.specs.Packing.{IsPacked}
 
 -- the names that the pairs give the files of a command that decides
 abbrev pub names_in : List Pair → Names
-names_in pairs = record { input = word_at pairs Input; output = word_at pairs Output; log = word_at pairs Log }
+names_in pairs = record { input = name_in pairs Input; output = name_in pairs Output; log = name_in pairs Log }
 
 -- what a command that decides answers of an instance: a status, with a layout and a log where it has them
 abbrev pub IsAnswer : Verb → List Pair → Instance → Status → Option (List ℕ) → Option LogTerm → Type 0
@@ -43,22 +44,22 @@ abbrev pub ConcludesWith : Verb → List Pair → List Record → Instance → O
 ConcludesWith verb.Solve pairs = λ table I. Gives (IsAnswer verb.Solve pairs I) (names_in pairs) table
 ConcludesWith verb.Least pairs = λ table I. Gives (IsAnswer verb.Least pairs I) (names_in pairs) table
 ConcludesWith verb.Pack pairs = λ table I. Gives (IsAnswer verb.Pack pairs I) (names_in pairs) table
-ConcludesWith verb.Classes pairs = Plans (word_at pairs Output)
+ConcludesWith verb.Classes pairs = Plans (name_in pairs Output)
 ConcludesWith verb.Core pairs = ExplainsOrFits (number_at pairs Capacity) (names_in pairs)
 ConcludesWith verb pairs = ShowsReport verb
 
 -- how a command goes
 abbrev pub course_with : Verb → List Pair → Course
-course_with verb.Verify pairs = verify (number_at pairs Capacity) (word_at pairs Input) (word_at pairs Layout)
-course_with verb.Refute pairs = refute (word_at pairs Input) (word_at pairs Log)
-course_with verb.Trim pairs = trim (word_at pairs Input) (word_at pairs Log) (word_at pairs Output)
-course_with verb.Upgrade pairs = upgrade (word_at pairs Input) (word_at pairs Log) (word_at pairs Output)
-course_with verb.Report pairs = report (word_at pairs Input) (word_at pairs Layout)
-course_with verb.Draw pairs = draw (word_at pairs Input) (word_at pairs Layout) (word_at pairs Output)
+course_with verb.Verify pairs = verify (number_at pairs Capacity) (name_in pairs Input) (name_in pairs Layout)
+course_with verb.Refute pairs = refute (name_in pairs Input) (name_in pairs Log)
+course_with verb.Trim pairs = trim (name_in pairs Input) (name_in pairs Log) (name_in pairs Output)
+course_with verb.Upgrade pairs = upgrade (name_in pairs Input) (name_in pairs Log) (name_in pairs Output)
+course_with verb.Report pairs = report (name_in pairs Input) (name_in pairs Layout)
+course_with verb.Draw pairs = draw (name_in pairs Input) (name_in pairs Layout) (name_in pairs Output)
 course_with verb.Trial pairs = trial (number_at pairs Seed) (number_at pairs Count) (number_at pairs Steps)
-course_with verb.Import pairs = import_course (word_at pairs Trace) (word_at pairs Output)
-course_with verb.Unroll pairs = unroll_course (number_at pairs Period) (word_at pairs Input) (word_at pairs Output)
-course_with verb pairs = opened (word_at pairs Input) (λ table I. Concludes (ConcludesWith verb pairs table I))
+course_with verb.Import pairs = import_course (name_in pairs Trace) (name_in pairs Output)
+course_with verb.Unroll pairs = unroll_course (number_at pairs Period) (name_in pairs Input) (name_in pairs Output)
+course_with verb pairs = opened (name_in pairs Input) (λ table I. Concludes (ConcludesWith verb pairs table I))
 
 -- how words go: as their command, or their first fault is told
 abbrev pub course_or_fault : Result Request UsageFault → Course

@@ -6,46 +6,33 @@ use Rattle.dsa_outside.specs.Seen.{FilesSeen}
 use Rattle.dsa_model.specs.Counts.{Rose}
 use Rattle.command_words.specs.Options.{Word}
 use Rattle.command_words.specs.Forms.{reads_of, writes_of}
-use Rattle.command_words.specs.Pairs.{word_at}
 use Rattle.command_words.specs.Requests.{Request, request_of}
-use Rattle.command_words.specs.declared.option.OptionName.{OptionName}
-use Rattle.command_words.specs.declared.option.OptionName.TheVariants as option
-use Rattle.run_status.specs.declared.status.Role.{Role}
-use Rattle.run_status.specs.declared.status.Role.TheVariants as role
+use Rattle.command_words.specs.declared.role.Role.{Role}
+use Rattle.command_words.specs.Pairs.{name_in}
 use Rattle.run_course.specs.Readings.{HoldsMore, IsUnread}
 use Rattle.run_course.specs.Course.{Comes, Outcome, Write}
 use Rattle.run_course.specs.Answers.{with_writes}
 use Rattle.dsaplan_core.specs.Courses.{course_with}
-use Rattle.dsaplan_core.specs.Complete.{limit_of}
-
--- the option that names the file of the role
-abbrev pub option_of_role : Role → OptionName
-option_of_role role.Input = option.Input
-option_of_role role.Layout = option.Layout
-option_of_role role.Log = option.Log
-option_of_role role.Trace = option.Trace
-option_of_role role.Output = option.Output
 
 -- the file of the role is one that the command reads, and it could not be read
 pub record MissesFile (words : List Word) (old new : FilesSeen) (role : Role) : Type 0 where
   pub request : Request
   pub asked : request_of words ≡ Ok request
-  pub read : IsIn (option_of_role role) (reads_of request.verb)
-  pub cause : IsUnread old new (word_at request.pairs (option_of_role role))
+  pub read : IsIn role (reads_of request.verb)
+  pub cause : IsUnread old new (name_in request.pairs role)
   pub files : new.held ≡ old.held
 
 -- the file of the role is one that the command reads, and where it is told what files hold, more bytes than it may
 pub record HasLongFile (words : List Word) (old new : FilesSeen) (role : Role) : Type 0 where
   pub request : Request
   pub asked : request_of words ≡ Ok request
-  pub read : IsIn (option_of_role role) (reads_of request.verb)
-  pub long : IsSome old.held →
-      HoldsMore old (word_at request.pairs (option_of_role role)) (limit_of (option_of_role role))
+  pub read : IsIn role (reads_of request.verb)
+  pub long : IsSome old.held → HoldsMore old role (name_in request.pairs role)
   pub files : new.held ≡ old.held
 
 -- the write is of a file that the command writes, under the name that the words give it
 abbrev pub IsOwnWrite : Request → Write → Type 0
-IsOwnWrite r w = IsIn (option_of_role w.role) (writes_of r.verb) × (w.name ≡ word_at r.pairs (option_of_role w.role))
+IsOwnWrite r w = IsIn w.role (writes_of r.verb) × (w.name ≡ name_in r.pairs w.role)
 
 -- the command came to an outcome whose writes were made up to that of the role, which failed: the number of its own
 -- name rose, nothing is known of what that file holds, and all others hold what the writes before it leave

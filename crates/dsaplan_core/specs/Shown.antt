@@ -26,8 +26,9 @@ use Rattle.dsaplan_core.specs.Judged.{GivesLayoutAt}
 -- the tightest moment of the layout that the layout file gives
 pub record TellsLayout {words : List Word} {old : FilesSeen} (a : Asked words old) (text : List ℕ) : Type 0 where
   pub command : a.verb ≡ verb.Report
-  pub given : GivesLayoutAt a (2 ^ 60)
-  pub its_text : IsReportOf a.table a.instance given.offsets text
+  pub offsets : List ℕ
+  pub given : GivesLayoutAt a (2 ^ 60) offsets
+  pub its_text : IsReportOf a.table a.instance offsets text
 
 -- the facts of the made instance, and the verdict on it
 pub record TellsTrial (words : List Word) (text : List ℕ) : Type 0 where
@@ -42,8 +43,8 @@ pub record TellsTrial (words : List Word) (text : List ℕ) : Type 0 where
   pub true_verdict : IsVerdict instance (number_at pairs option.Steps) verdict
   pub its_text : text ≡ bounds_text facts ++ line verdict
 
--- the text is the line of the status, or, where a report is shown, what the command prints of the input's instance alone,
--- of the layout that the layout file gives, or of the made instance, and the files are as before
+-- the text is the line of the status, or, where a report is shown, what the command prints of the input's instance
+-- alone, of the layout that the layout file gives, or of the made instance, and the files are as before
 abbrev pub Tells : List Word → FilesSeen → FilesSeen → Status → List ℕ → Type 0
 Tells words old new status.Shown text = (new.held ≡ old.held)
     × (((a : Asked words old) × IsReport a.verb a.table a.instance text)

@@ -1,9 +1,8 @@
 -- The promise of a run in few words. The layout that is written with 'feasible', 'least C' or 'open L H' is aligned,
 -- within its capacity and free of overlap at every moment; with 'infeasible', 'least C' or 'open L H' the written log,
 -- at C - 1 unless C is zero, or at L - 1, is accepted, and an accepted log means that no layout fits.
-use Rattle.std.specs.Prelude.{◌≡◌, ◌-◌, ◌≤◌, ◌<◌, ℕ, List, IsSome, None, Some, Ok, false}
+use Rattle.std.specs.Prelude.{◌≡◌, ◌-◌, ◌≤◌, ◌<◌, ℕ, List, IsSome, None, Some, Ok}
 use Rattle.dsa_terms.specs.Buffers.{Instance}
-use Rattle.dsa_terms.specs.Claims.{IsIn}
 use Rattle.dsa_terms.specs.Layouts.{IsLayout, IsInfeasible, IsLeast}
 use Rattle.dsa_terms.specs.Logs.{Log, IsAccepted}
 use Rattle.dsa_outside.specs.Held.{file_at}
@@ -13,19 +12,15 @@ use Rattle.csv_instance.specs.Layout.{layout_text}
 use Rattle.log_text.specs.RawTexts.{IsTextOf}
 use Rattle.log_text.specs.Text.{log_text, raw_log_of}
 use Rattle.command_words.specs.Options.{Word}
-use Rattle.command_words.specs.Forms.{reads_of, reads_raw}
-use Rattle.command_words.specs.Pairs.{Pair, number_at, number_given, word_at}
+use Rattle.command_words.specs.Pairs.{Pair, name_in, number_at, number_given}
 use Rattle.command_words.specs.Requests.{request_of}
 use Rattle.command_words.specs.declared.option.OptionName.TheVariants as option
 use Rattle.command_words.specs.declared.verb.Verb.{Verb}
 use Rattle.command_words.specs.declared.verb.Verb.TheVariants as verb
+use Rattle.command_words.specs.declared.role.Role.TheVariants as role
 use Rattle.readings.specs.Opens.{IsInput}
 use Rattle.run_status.specs.declared.status.Status.{Status}
 use Rattle.run_status.specs.declared.status.Status.TheVariants as status
-
--- the command reads an input, and takes it as an instance
-abbrev pub ReadsInstance : Verb → Type 0
-ReadsInstance v = IsIn option.Input (reads_of v) × (reads_raw v ≡ false)
 
 -- what the words ask for: the command with its values, and the instance that its input holds
 pub record Asked (words : List Word) (old : FilesSeen) : Type 0 where
@@ -34,7 +29,7 @@ pub record Asked (words : List Word) (old : FilesSeen) : Type 0 where
   pub table : List Record
   pub instance : Instance
   pub words_ask : request_of words ≡ Ok (record { verb = verb; pairs = pairs })
-  pub input : IsInput old (word_at pairs option.Input) table instance
+  pub input : IsInput old (name_in pairs role.Input) table instance
 
 -- the command decides the capacity: `solve`, and `pack` where it is given
 abbrev pub Decides : Verb → List Pair → ℕ → Type 0
@@ -53,7 +48,7 @@ SeeksLeast verb pairs = ⊥
 pub record HoldsLayout {w : List Word} {old : FilesSeen} (a : Asked w old) (new : FilesSeen) (C : ℕ) : Type 0 where
   pub offsets : List ℕ
   pub layout : IsLayout a.instance C offsets
-  pub held : IsSome old.held → file_at new.held (word_at a.pairs option.Output) ≡ Some (layout_text a.table offsets)
+  pub held : IsSome old.held → file_at new.held (name_in a.pairs role.Output) ≡ Some (layout_text a.table offsets)
 
 -- the log's file holds the text of a log that is accepted at the capacity, and no layout fits within it
 pub record HoldsRefutation {w : List Word} {old : FilesSeen} (a : Asked w old) (new : FilesSeen) (C : ℕ) : Type 0 where
@@ -62,7 +57,7 @@ pub record HoldsRefutation {w : List Word} {old : FilesSeen} (a : Asked w old) (
   pub its_capacity : refutation.capacity ≡ C
   pub infeasible : IsInfeasible a.instance C
   pub readable : IsTextOf (log_text refutation) (raw_log_of refutation)
-  pub held : IsSome old.held → file_at new.held (word_at a.pairs option.Log) ≡ Some (log_text refutation)
+  pub held : IsSome old.held → file_at new.held (name_in a.pairs role.Log) ≡ Some (log_text refutation)
 
 -- what the status of a command that decides promises of the files
 abbrev pub Headline : List Word → FilesSeen → FilesSeen → Status → Type 0

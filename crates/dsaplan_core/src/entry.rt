@@ -10,7 +10,7 @@ ghost use Rattle.dsaplan_core.specs.Complete.{IsConcluded, IsUndisturbed};
 
 use crate::misuse::Misuse;
 use checking::{Refute, Trim, Upgrade};
-use command_words::{OptionName, Request, Verb, read_words};
+use command_words::{OptionName, Request, Role, Verb, read_words};
 use deciding::{Least, Solve};
 use dsa_outside::{Files, Sink};
 use explaining::Core;
@@ -35,10 +35,10 @@ fn answer<F: Files, S: Sink>(
         (F.seen files.old) (F.seen files.new) (S.seen out.old) (S.seen out.new) result }
 {
     let capacity = request.number(OptionName::Capacity);
-    let input = request.word(OptionName::Input);
-    let output = request.word(OptionName::Output);
-    let log = request.word(OptionName::Log);
-    let layout = request.word(OptionName::Layout);
+    let input = request.name(Role::Input);
+    let output = request.name(Role::Output);
+    let log = request.name(Role::Log);
+    let layout = request.name(Role::Layout);
     let steps = request.number_given(OptionName::Steps);
     let names = Names { input, output, log };
     match request.verb() {
@@ -94,7 +94,7 @@ fn answer<F: Files, S: Sink>(
             perform(alloc, &draw, files, out)
         }
         Verb::Import => {
-            let trace = request.word(OptionName::Trace);
+            let trace = request.name(Role::Trace);
             perform(alloc, &Import { trace, output }, files, out)
         }
         Verb::Unroll => {

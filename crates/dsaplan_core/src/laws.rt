@@ -13,16 +13,15 @@ ghost use Rattle.log_text.specs.declared.raw.RawLog.{RawLog};
 ghost use Rattle.log_check.specs.Faults.{check_fault};
 ghost use Rattle.log_check.specs.declared.fault.CheckFault.{CheckFault};
 ghost use Rattle.command_words.specs.Options.{Word};
-ghost use Rattle.command_words.specs.Forms.{reads_of};
-ghost use Rattle.command_words.specs.Pairs.{word_at};
+ghost use Rattle.command_words.specs.Forms.{ReadsInstance, reads_of};
 ghost use Rattle.command_words.specs.Requests.{Request, request_of};
-ghost use Rattle.command_words.specs.declared.option.OptionName.{OptionName};
-ghost use Rattle.command_words.specs.declared.option.OptionName.TheVariants as option;
 ghost use Rattle.command_words.specs.declared.fault.UsageFault.{UsageFault};
+ghost use Rattle.command_words.specs.declared.role.Role.{Role};
+ghost use Rattle.command_words.specs.Pairs.{name_in};
+ghost use Rattle.command_words.specs.declared.role.Role.TheVariants as role;
 ghost use Rattle.run_status.specs.Spoken.{IsSpoken};
 ghost use Rattle.run_status.specs.declared.status.Status.{Status};
 ghost use Rattle.run_status.specs.declared.status.Status.TheVariants as status;
-ghost use Rattle.run_status.specs.declared.status.Role.{Role};
 ghost use Rattle.run_course.specs.Answers.{Answers};
 ghost use Rattle.run_course.specs.Readings.{HoldsMore};
 ghost use Rattle.dsaplan_core.specs.Courses.{course};
@@ -37,16 +36,14 @@ ghost use Rattle.dsaplan_core.specs.Complete.{
   IsReady,
   IsTooLongFor,
   IsUndisturbed,
-  limit_of,
 };
 ghost use Rattle.dsaplan_core.specs.Conclusions.{IsConclusion};
 ghost use Rattle.dsaplan_core.specs.Causes.{IsCaused, IsChecking, IsJudgedAt};
 ghost use Rattle.dsaplan_core.specs.Derived.{Derived};
 ghost use Rattle.dsaplan_core.specs.Judged.{Judged};
-ghost use Rattle.dsaplan_core.specs.Lost.{HasLongFile, LosesFile, MissesFile, option_of_role};
+ghost use Rattle.dsaplan_core.specs.Lost.{HasLongFile, LosesFile, MissesFile};
 ghost use Rattle.dsaplan_core.specs.Refused.{IsMisuse};
 ghost use Rattle.dsaplan_core.specs.Shown.{Shows};
-ghost use Rattle.dsaplan_core.specs.Theorem.{ReadsInstance};
 
 /// 'right' and 'accepted' say of the layout and of the log that were read what 'feasible' and
 /// 'infeasible' say of those that are written, and so do 'drawn', at the greatest capacity,
@@ -83,7 +80,7 @@ pub fn checks()
         (request : Request) (I : Instance) (log : Log) (s : Status) →
         request_of words ≡ Ok request → IsChecking request.verb → IsReady old request I →
         IsUndisturbed request old new before after →
-        HoldsLog I log old (word_at request.pairs option.Log) →
+        HoldsLog I log old (name_in request.pairs role.Log) →
         Answers (course words) old new before after s → IsAcceptance request.verb log s }
 {}
 
@@ -106,7 +103,7 @@ pub fn malformed()
         (request : Request) (fault : InstanceFault) (s : Status) →
         request_of words ≡ Ok request → ReadsInstance request.verb →
         IsUndisturbed request old new before after →
-        HoldsNoInstance fault old (word_at request.pairs option.Input) →
+        HoldsNoInstance fault old (name_in request.pairs role.Input) →
         Answers (course words) old new before after s → IsMalformedFor fault s }
 {}
 
@@ -115,21 +112,18 @@ pub fn malformed()
 /// file, where the input holds an instance.
 pub fn too_long()
     ensures first { (words : List Word) (old new : FilesSeen) (before after : SinkSeen)
-        (request : Request) (role : Role) (rest : List OptionName) (s : Status) →
-        request_of words ≡ Ok request → reads_of request.verb ≡ option_of_role role ∷ rest →
+        (request : Request) (file : Role) (rest : List Role) (s : Status) →
+        request_of words ≡ Ok request → reads_of request.verb ≡ file ∷ rest →
         IsUndisturbed request old new before after →
-        HoldsMore old (word_at request.pairs (option_of_role role))
-        (limit_of (option_of_role role)) →
-        Answers (course words) old new before after s → IsTooLongFor role s }
+        HoldsMore old file (name_in request.pairs file) →
+        Answers (course words) old new before after s → IsTooLongFor file s }
     ensures second { (words : List Word) (old new : FilesSeen) (before after : SinkSeen)
-        (request : Request) (I : Instance) (role : Role) (s : Status) →
-        request_of words ≡ Ok request →
-        reads_of request.verb ≡ option.Input ∷ option_of_role role ∷ [] →
+        (request : Request) (I : Instance) (file : Role) (s : Status) →
+        request_of words ≡ Ok request → reads_of request.verb ≡ role.Input ∷ file ∷ [] →
         IsUndisturbed request old new before after →
-        HoldsInstance I old (word_at request.pairs option.Input) →
-        HoldsMore old (word_at request.pairs (option_of_role role))
-        (limit_of (option_of_role role)) →
-        Answers (course words) old new before after s → IsTooLongFor role s }
+        HoldsInstance I old (name_in request.pairs role.Input) →
+        HoldsMore old file (name_in request.pairs file) →
+        Answers (course words) old new before after s → IsTooLongFor file s }
 {}
 
 /// Where a command's files are readable, its input is an instance, and nothing outside fails, the

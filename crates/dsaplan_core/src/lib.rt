@@ -5,10 +5,10 @@ mod entry;
 mod laws;
 mod misuse;
 
-pub use command_words::{OptionName, UsageFault};
+pub use command_words::{OptionName, Role, UsageFault};
 pub use entry::run;
 pub use laws::{
     causes, check_faults_are_exact, checks, conclusions, derived, judged, judges,
     layout_faults_are_exact, lost, malformed, missed, print_fault, refused, shown, too_long,
 };
-pub use run_status::{LogCause, Role, Status, WrongCause};
+pub use run_status::{LogCause, Status, WrongCause};

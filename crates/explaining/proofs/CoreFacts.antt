@@ -1,11 +1,11 @@
 -- The core of two buffers that are both live at 4, where 7 bytes are too little for both: it is these two.
-use Rattle.std.proofs.Common.{◌≡◌, ◌∙◌, ◌<◌, ℕ, zero, suc, List, [], ◌∷◌, Ok, codes, refl, sym, ap, subst, inl, inr, lit<, lit≤, arith}
+use Rattle.std.proofs.Common.{◌≡◌, ◌∙◌, ◌<◌, ℕ, zero, suc, List, [], ◌∷◌, Ok, refl, sym, ap, subst, inl, inr, lit<, lit≤, arith}
 use Rattle.std.proofs.lemmas.List.Elements.{All-cons, All-nil}
 use Rattle.csv.specs.Writing.{escaped, fields_text, is_blank}
 use Rattle.dsa_terms.specs.Bounds.{counted, line_height, pile, rounded_size, stack, stack_line, stack_log}
 use Rattle.dsa_terms.specs.Buffers.{Instance, IsInstance, buffer, floor, is_live, some_before}
 use Rattle.dsa_terms.specs.Claims.{IsIn}
-use Rattle.dsa_terms.specs.Layouts.{IsFeasible, IsInfeasible, IsLayout}
+use Rattle.dsa_terms.specs.Layouts.{IsFeasible, IsInfeasible}
 use Rattle.dsa_terms.specs.Logs.{Log, IsAccepted, Over}
 use Rattle.dsa_model.specs.Chosen.{some_of}
 use Rattle.dsa_model.specs.LayoutFaults as faults

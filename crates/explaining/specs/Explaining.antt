@@ -10,8 +10,8 @@ use Rattle.csv_instance.specs.Chosen.{chosen_text}
 use Rattle.csv_instance.specs.Parse.{parse}
 use Rattle.core_find.specs.Cores.{IsCore, without}
 use Rattle.command_words.specs.Options.{Word}
+use Rattle.command_words.specs.declared.role.Role.TheVariants as role
 use Rattle.run_status.specs.declared.status.Status.TheVariants as status
-use Rattle.run_status.specs.declared.status.Role.TheVariants as role
 use Rattle.run_course.specs.Course.{Course, Outcome, Concludes, Write, says, writes}
 use Rattle.readings.specs.Input.{opened}
 use Rattle.writings.specs.Writings.{Names, ReadsBack, log_file}

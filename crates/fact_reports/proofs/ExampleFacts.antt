@@ -21,7 +21,7 @@ use Rattle.planner.proofs.ExampleFacts.{facts_of_none, no_facts}
 use Rattle.planner.proofs.ExampleLeastFacts.{below_bound, below_modulus}
 use Rattle.planner.proofs.StepFacts.{best_at_5}
 use Rattle.command_words.specs.declared.verb.Verb.TheVariants as verb
-use Rattle.run_status.specs.declared.status.Role.TheVariants as role
+use Rattle.command_words.specs.declared.role.Role.TheVariants as role
 use Rattle.run_status.specs.declared.status.Status.TheVariants as status
 use Rattle.run_course.specs.Course.{Comes, Concludes, Outcome, Reads, says, shows}
 use Rattle.readings.specs.Input.{instance_or_fault}
@@ -115,7 +115,7 @@ verify_shows_nothing : (table : List Record) (I : Instance) (o : Outcome) → Sh
 verify_shows_nothing table I o h = h.report
 
 -- ---- how reports go
-bounds_reads_its_input : reporting verb.Bounds (codes "i") ≡ Reads role.Input (codes "i") 67108864
+bounds_reads_its_input : reporting verb.Bounds (codes "i") ≡ Reads role.Input (codes "i")
     (λ bytes. instance_or_fault (parse (table_of bytes))
     (λ I. Concludes (ShowsReport verb.Bounds (table_of bytes) I)))
 bounds_reads_its_input = refl

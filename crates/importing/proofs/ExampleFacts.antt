@@ -1,13 +1,20 @@
 -- What importing a few lines comes to, and what a line comes to that frees what nobody holds.
 use Rattle.std.proofs.Common.{◌≡◌, ℕ, List, [], ◌∷◌, Ok, codes, refl, lit≤}
+use Rattle.csv_instance.specs.Records.{file_limit}
 use Rattle.trace_import.specs.Faults.{holder, trace_of}
 use Rattle.trace_import.specs.ImportText.{import_text}
 use Rattle.trace_import.specs.Traces.{Alloc, Free, Trace, imported}
 use Rattle.trace_import.specs.declared.fault.TraceFault.TheVariants as fault
+use Rattle.command_words.specs.Roles.{limit_of}
+use Rattle.command_words.specs.declared.role.Role.TheVariants as role
 use Rattle.run_status.specs.declared.status.Status.TheVariants.{TraceRefused}
 use Rattle.run_course.specs.Course.{Outcome, says}
 use Rattle.importing.specs.Importing.{Imports}
 use Rattle.importing.proofs.Importing.{imported_file, is_imported}
+
+-- a trace may be as long as its reader takes
+most_of_a_trace : limit_of role.Trace ≡ file_limit
+most_of_a_trace = refl
 
 abbrev lines : List ℕ
 lines = codes "alloc a 4 1\nalloc b 8 4\nfree a\nalloc a 2 1\n"

@@ -10,10 +10,10 @@ use Rattle.trace_import.specs.declared.fault.TraceFault.{TraceFault}
 use Rattle.trace_import.proofs.Accepted.{accepted_parses, imported_count}
 use Rattle.trace_import.proofs.Imported.{imported_traced}
 use Rattle.command_words.specs.Options.{Word}
+use Rattle.command_words.specs.declared.role.Role.TheVariants as role
 use Rattle.run_status.specs.Spoken.{IsSpoken}
 use Rattle.run_status.specs.declared.status.Status.{Status}
 use Rattle.run_status.specs.declared.status.Status.TheVariants.{Imported}
-use Rattle.run_status.specs.declared.status.Role.TheVariants as role
 use Rattle.run_course.specs.Readings.{IsWholeFile}
 use Rattle.run_course.specs.Course.{Comes, IsUnreadable, Outcome, says, writes}
 use Rattle.run_course.specs.Prepares.{outcome_of}
@@ -51,7 +51,7 @@ imports_spoken output (Err fault) o is = subst (λ (p : Outcome). IsSpoken p.sta
 
 -- the trace is read whole
 pub comes : (old new : FilesSeen) (trace output : Word) (bytes : List ℕ) (r : Result Prepared NoMemory) →
-    IsWholeFile old trace file_limit bytes → IfOk r (λ p. Imports output (trace_of bytes) (outcome_of p)) →
+    IsWholeFile old role.Trace trace bytes → IfOk r (λ p. Imports output (trace_of bytes) (outcome_of p)) →
     IfOk r (λ p. Comes old new (import_course trace output) (outcome_of p))
 comes old new trace output bytes (Ok p) whole is =
     inr (bytes, whole, (imports_spoken output (trace_of bytes) (outcome_of p) is, is))
@@ -59,5 +59,5 @@ comes old new trace output bytes (Err e) whole is = tt
 
 -- the trace could not be read
 pub missing : (old new : FilesSeen) (trace output : Word) (s : Status) →
-    IsUnreadable old new role.Trace trace file_limit s → Comes old new (import_course trace output) (says s)
+    IsUnreadable old new role.Trace trace s → Comes old new (import_course trace output) (says s)
 missing old new trace output s failed = inl (failed, refl)

@@ -2,16 +2,16 @@
 use Rattle.std.proofs.Common.{◌≡◌, ◌≤◌, inl, inr, ℕ, List, [], ◌∷◌, length, Result, Ok, Err, IfOk, refl, sym, subst}
 use Rattle.dsa_terms.specs.Buffers.{Instance}
 use Rattle.dsa_model.specs.declared.fail.NoMemory.{NoMemory}
-use Rattle.csv_instance.specs.Records.{Record, file_limit, table_of}
+use Rattle.csv_instance.specs.Records.{Record, table_of}
 use Rattle.dsa_outside.specs.Seen.{FilesSeen}
 use Rattle.cyclic_plan.specs.Unrolled.{unrolled_of, unrolled_text}
 use Rattle.cyclic_plan.specs.declared.fault.CycleFault.{CycleFault}
 use Rattle.cyclic_plan.proofs.Tables.{unrolled_gives}
 use Rattle.command_words.specs.Options.{Word, number_limit}
+use Rattle.command_words.specs.declared.role.Role.TheVariants as role
 use Rattle.run_status.specs.Spoken.{IsSpoken}
 use Rattle.run_status.specs.declared.status.Status.{Status}
 use Rattle.run_status.specs.declared.status.Status.TheVariants.{Unrolled}
-use Rattle.run_status.specs.declared.status.Role.TheVariants as role
 use Rattle.run_course.specs.Readings.{IsWholeFile}
 use Rattle.run_course.specs.Course.{Comes, IsUnreadable, Outcome, says, writes}
 use Rattle.run_course.specs.Prepares.{outcome_of}
@@ -41,7 +41,7 @@ unrolls_spoken period output table (Err fault) o is = subst (λ (p : Outcome). I
 
 module _ (old new : FilesSeen) (period : ℕ) (input output : Word) where
   -- the input is read whole
-  pub comes : (bytes : List ℕ) (r : Result Prepared NoMemory) → IsWholeFile old input file_limit bytes →
+  pub comes : (bytes : List ℕ) (r : Result Prepared NoMemory) → IsWholeFile old role.Input input bytes →
       IfOk r (λ p. Unrolls period output (table_of bytes) (unrolled_of period (table_of bytes)) (outcome_of p)) →
       IfOk r (λ p. Comes old new (unroll_course period input output) (outcome_of p))
   comes bytes (Ok p) whole is =
@@ -56,6 +56,6 @@ module _ (old new : FilesSeen) (period : ℕ) (input output : Word) where
   comes bytes (Err e) whole is = tt
 
   -- the input could not be read
-  pub missing : (s : Status) → IsUnreadable old new role.Input input file_limit s →
+  pub missing : (s : Status) → IsUnreadable old new role.Input input s →
       Comes old new (unroll_course period input output) (says s)
   missing s failed = inl (failed, refl)

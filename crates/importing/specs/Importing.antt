@@ -2,14 +2,14 @@
 use Rattle.std.specs.Prelude.{◌≡◌, [], ◌∷◌, length, Result, Ok, Err}
 use Rattle.std.specs.List.{count_by}
 use Rattle.csv_instance.specs.Parse.{parse}
-use Rattle.csv_instance.specs.Records.{file_limit, table_of}
+use Rattle.csv_instance.specs.Records.{table_of}
 use Rattle.trace_import.specs.Faults.{trace_of}
 use Rattle.trace_import.specs.ImportText.{import_text}
 use Rattle.trace_import.specs.Traces.{IsTraced, Trace, imported, is_alloc}
 use Rattle.trace_import.specs.declared.fault.TraceFault.{TraceFault}
 use Rattle.command_words.specs.Options.{Word}
+use Rattle.command_words.specs.declared.role.Role.TheVariants as role
 use Rattle.run_status.specs.declared.status.Status.TheVariants.{Imported, TraceRefused}
-use Rattle.run_status.specs.declared.status.Role.TheVariants as role
 use Rattle.run_course.specs.Course.{Concludes, Course, Outcome, Reads, says, writes}
 
 -- the text of the trace's instance is read as that instance, which has a buffer for each line that allocates, and at each
@@ -28,4 +28,4 @@ Imports output (Err fault) o = o ≡ says (TraceRefused fault)
 
 -- how `import` goes: it reads the trace
 abbrev pub import_course : (trace output : Word) → Course
-import_course trace output = Reads role.Trace trace file_limit (λ bytes. Concludes (Imports output (trace_of bytes)))
+import_course trace output = Reads role.Trace trace (λ bytes. Concludes (Imports output (trace_of bytes)))

@@ -1,12 +1,12 @@
 -- How the command goes that unrolls buffers whose moments repeat.
 use Rattle.std.specs.Prelude.{◌≡◌, ℕ, List, [], ◌∷◌, length, Result, Ok, Err}
 use Rattle.dsa_terms.specs.Buffers.{Instance}
-use Rattle.csv_instance.specs.Records.{Record, file_limit, table_of}
+use Rattle.csv_instance.specs.Records.{Record, table_of}
 use Rattle.cyclic_plan.specs.Unrolled.{IsUnrolled, unrolled_of, unrolled_text}
 use Rattle.cyclic_plan.specs.declared.fault.CycleFault.{CycleFault}
 use Rattle.command_words.specs.Options.{Word}
+use Rattle.command_words.specs.declared.role.Role.TheVariants as role
 use Rattle.run_status.specs.declared.status.Status.TheVariants.{CycleRefused, Unrolled}
-use Rattle.run_status.specs.declared.status.Role.TheVariants as role
 use Rattle.run_course.specs.Course.{Concludes, Course, Outcome, Reads, says, writes}
 
 -- the text of the table's instance of one period is written, which has just the layouts that hold at every moment of
@@ -19,5 +19,5 @@ Unrolls period output table (Err fault) o = o ≡ says (CycleRefused fault)
 
 -- how `unroll` goes: it reads the input; the period is in moments
 abbrev pub unroll_course : (period : ℕ) (input output : Word) → Course
-unroll_course period input output = Reads role.Input input file_limit
+unroll_course period input output = Reads role.Input input
     (λ bytes. Concludes (Unrolls period output (table_of bytes) (unrolled_of period (table_of bytes))))

@@ -1,13 +1,13 @@
 //! `import`: the instance of a recorded run of allocations.
 
 ghost use Rattle.std.specs.Prelude.{◌≤◌, IfOk, length};
+ghost use Rattle.csv_instance.specs.Records.{file_limit};
 ghost use Rattle.trace_import.specs.Faults.{trace_of};
 ghost use Rattle.run_course.specs.Prepares.{outcome_of};
 ghost use Rattle.importing.specs.Importing.{Imports, import_course};
 
 use dsa_model::{Fail, NoMemory};
 use dsa_outside::Files;
-use readings::FILE_LIMIT;
 use run_course::{Command, Content, Prepared, Writing, one_write, read_file, silent};
 use run_status::{Role, Status};
 use std::alloc::Global;
@@ -22,7 +22,7 @@ pub struct Import<'a> {
 
 /// What is written and told of the trace's bytes.
 fn imported<'a>(alloc: Global, words: &Import<'a>, bytes: &[u8]) -> Result<Prepared<'a>, NoMemory>
-    requires { length bytes.now ≤ 67108864 }
+    requires { length bytes.now ≤ file_limit }
     ensures { IfOk result (λ p.
         Imports words.now.output.now (trace_of bytes.now) (outcome_of p)) }
 {
@@ -44,7 +44,7 @@ impl<'a> Command<'a> for Import<'a> {
     ghost course = { λ i. import_course i.trace.now i.output.now };
 
     fn conclude<F: Files>(&self, alloc: Global, files: &mut F) -> Result<Prepared<'a>, NoMemory> {
-        let bytes = match read_file(files, self.trace, FILE_LIMIT, Role::Trace)? {
+        let bytes = match read_file(files, Role::Trace, self.trace)? {
             Content::Bytes(bytes) => bytes,
             Content::Unreadable(status) => return silent(alloc, status),
         };

@@ -2,7 +2,7 @@
 
 ghost use Rattle.std.specs.Prelude.{◌≤◌, IfOk, length};
 ghost use Rattle.command_words.specs.Options.{number_limit};
-ghost use Rattle.csv_instance.specs.Records.{table_of};
+ghost use Rattle.csv_instance.specs.Records.{file_limit, table_of};
 ghost use Rattle.cyclic_plan.specs.Unrolled.{unrolled_of};
 ghost use Rattle.run_course.specs.Prepares.{outcome_of};
 ghost use Rattle.importing.specs.Unrolling.{Unrolls, unroll_course};
@@ -10,7 +10,6 @@ ghost use Rattle.importing.specs.Unrolling.{Unrolls, unroll_course};
 use cyclic_plan::unroll;
 use dsa_model::{Fail, NoMemory};
 use dsa_outside::Files;
-use readings::FILE_LIMIT;
 use run_course::{Command, Content, Prepared, Writing, one_write, read_file, silent};
 use run_status::{Role, Status};
 use std::alloc::Global;
@@ -26,7 +25,7 @@ pub struct Unroll<'a> {
 /// What is written and told of the input's bytes.
 fn unrolled<'a>(alloc: Global, words: &Unroll<'a>, bytes: &[u8]) -> Result<Prepared<'a>, NoMemory>
     requires period { words.now.period ≤ number_limit }
-    requires length { length bytes.now ≤ 67108864 }
+    requires length { length bytes.now ≤ file_limit }
     ensures { let table = table_of bytes.now in let period = words.now.period in
         IfOk result (λ p.
         Unrolls period words.now.output.now table (unrolled_of period table) (outcome_of p)) }
@@ -51,7 +50,7 @@ impl<'a> Command<'a> for Unroll<'a> {
     ghost is_asked = { λ u. u.period ≤ number_limit };
 
     fn conclude<F: Files>(&self, alloc: Global, files: &mut F) -> Result<Prepared<'a>, NoMemory> {
-        let bytes = match read_file(files, self.input, FILE_LIMIT, Role::Input)? {
+        let bytes = match read_file(files, Role::Input, self.input)? {
             Content::Bytes(bytes) => bytes,
             Content::Unreadable(status) => return silent(alloc, status),
         };

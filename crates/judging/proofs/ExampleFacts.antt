@@ -19,10 +19,10 @@ use Rattle.dsa_model.proofs.LayoutFaults.{layout_exactly}
 use Rattle.csv_instance.specs.Records.{Record}
 use Rattle.csv_instance.specs.Offsets.{ids_of}
 use Rattle.csv_instance.proofs.FileFacts.{high_file, low_file, two, two_file, two_rows}
+use Rattle.command_words.specs.declared.role.Role.TheVariants as role
 use Rattle.run_status.specs.declared.status.Status.TheVariants as status
 use Rattle.run_status.specs.declared.status.WrongCause.TheVariants as wrong
 use Rattle.run_course.specs.Course.{Comes, Concludes, Course, Outcome, says, shows, writes}
-use Rattle.run_status.specs.declared.status.Role.TheVariants as role
 use Rattle.readings.specs.Judging.{judged}
 use Rattle.readings.proofs.ExampleFacts.{apart_at_8, judges_layout, judges_overlap, opens_two, overlap_at_4, overlaps}
 use Rattle.judging.specs.Judging.{ShowsLayout, TellsRight, verify}

@@ -7,8 +7,8 @@ use Rattle.csv_instance.specs.Offsets.{ids_of}
 use Rattle.layout_picture.specs.Rectangles.{rectangles}
 use Rattle.layout_picture.specs.Texts.{picture_text}
 use Rattle.command_words.specs.Options.{Word}
+use Rattle.command_words.specs.declared.role.Role.TheVariants as role
 use Rattle.run_status.specs.declared.status.Status.TheVariants.{Drawn}
-use Rattle.run_status.specs.declared.status.Role.TheVariants as role
 use Rattle.run_course.specs.Course.{Concludes, Course, Outcome, writes}
 use Rattle.readings.specs.Input.{opened}
 use Rattle.readings.specs.Judging.{judged}

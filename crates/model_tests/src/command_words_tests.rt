@@ -1,6 +1,6 @@
 //! Command lines, read or refused, and how an option is written.
 
-use command_words::{OptionName, UsageFault, Verb, read_words};
+use command_words::{OptionName, Role, UsageFault, Verb, read_words};
 use std::alloc::{AllocError, Global};
 
 /// The words, each with memory of its own.
@@ -106,7 +106,7 @@ fn is_read(words: &[String]) -> bool {
         Ok(request) => {
             request.verb() == Verb::Solve
                 && request.number(OptionName::Capacity) == 12
-                && request.word(OptionName::Log) == "--input"
+                && request.name(Role::Log) == "--input"
         }
         Err(_) => false,
     }

@@ -103,11 +103,13 @@ fn fault_of(alloc: Global, text: &[u8]) -> Option<String> {
     if text.len() > 67108864 {
         return None;
     }
+    let mut told = String::new(alloc);
     match read_instance(alloc, text).err() {
-        None => Some(String::new(alloc)),
-        Some(Fail::Fault(fault)) => fault.text(alloc).ok(),
-        Some(Fail::NoMemory) => None,
+        None => {}
+        Some(Fail::Fault(fault)) => fault.append_to(&mut told).ok()?,
+        Some(Fail::NoMemory) => return None,
     }
+    Some(told)
 }
 
 /// Instance files, each with the text of its fault: of its header, of its first record that has
@@ -179,11 +181,13 @@ fn offsets_fault(alloc: Global, table: &Table, text: &[u8]) -> Option<String> {
     if text.len() > 67108864 {
         return None;
     }
+    let mut told = String::new(alloc);
     match read_offsets(alloc, table, text).err() {
-        None => Some(String::new(alloc)),
-        Some(Fail::Fault(fault)) => fault.text(alloc).ok(),
-        Some(Fail::NoMemory) => None,
+        None => {}
+        Some(Fail::Fault(fault)) => fault.append_to(&mut told).ok()?,
+        Some(Fail::NoMemory) => return None,
     }
+    Some(told)
 }
 
 /// Layout files for the example, each with the text of its fault.

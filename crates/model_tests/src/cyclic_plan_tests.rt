@@ -11,11 +11,13 @@ fn fault_of(alloc: Global, text: &[u8]) -> Option<String> {
     if text.len() > 67108864 {
         return None;
     }
+    let mut told = String::new(alloc);
     match unroll(alloc, text, 10).err() {
-        None => Some(String::new(alloc)),
-        Some(Fail::Fault(fault)) => fault.text(alloc).ok(),
-        Some(Fail::NoMemory) => None,
+        None => {}
+        Some(Fail::Fault(fault)) => fault.append_to(&mut told).ok()?,
+        Some(Fail::NoMemory) => return None,
     }
+    Some(told)
 }
 
 /// Two buffers, of which the first wraps.

@@ -26,11 +26,13 @@ fn fault_of(alloc: Global, bytes: &[u8]) -> Option<String> {
     if bytes.len() > 67108864 {
         return None;
     }
+    let mut told = String::new(alloc);
     match read_trace(alloc, bytes).err() {
-        None => Some(String::new(alloc)),
-        Some(Fail::Fault(fault)) => fault.text(alloc).ok(),
-        Some(Fail::NoMemory) => None,
+        None => {}
+        Some(Fail::Fault(fault)) => fault.append_to(&mut told).ok()?,
+        Some(Fail::NoMemory) => return None,
     }
+    Some(told)
 }
 
 /// A trace that allocates `count` identifiers, with these lines behind.

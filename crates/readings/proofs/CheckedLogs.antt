@@ -3,23 +3,23 @@ use Rattle.std.proofs.Common.{◌≡◌, ◌⊎◌, List, Ok, refl, sym, subst, 
 use Rattle.dsa_terms.specs.Buffers.{Instance}
 use Rattle.dsa_terms.specs.Logs.{Log}
 use Rattle.command_words.specs.Options.{Word}
+use Rattle.command_words.specs.declared.role.Role.TheVariants as role
 use Rattle.csv_instance.specs.Records.{Record}
 use Rattle.csv_instance.specs.Parse.{parse}
 use Rattle.dsa_outside.specs.Faults.{NoneFell}
 use Rattle.run_status.specs.declared.status.Status.{Status}
-use Rattle.run_status.specs.declared.status.Role.TheVariants as role
 use Rattle.run_status.specs.Spoken.{IsSpoken}
 use Rattle.dsa_outside.specs.Seen.{FilesSeen}
 use Rattle.run_course.specs.Course.{Comes, Outcome, IsUnreadable, says}
 use Rattle.readings.specs.Input.{opened}
 use Rattle.readings.specs.Opens.{IsInput}
 use Rattle.readings.proofs.Opening.{with_input}
-use Rattle.readings.specs.Checking.{checked, log_limit, no_text, not_accepted, is_accepted}
+use Rattle.readings.specs.Checking.{checked, no_text, not_accepted, is_accepted}
 use Rattle.readings.specs.GivenLogs.{HoldsAccepted, HoldsNoText, HoldsNoRefutation}
 
 -- why the file gives no accepted log
 abbrev pub IsNone : FilesSeen → FilesSeen → Word → Instance → Status → Type 0
-IsNone old new name I s = IsUnreadable old new role.Log name log_limit s
+IsNone old new name I s = IsUnreadable old new role.Log name s
     ⊎ HoldsNoText old name s ⊎ HoldsNoRefutation old name I s
 
 -- the file gives no accepted log, so the course ends here

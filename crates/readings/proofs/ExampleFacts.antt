@@ -10,11 +10,13 @@ use Rattle.dsa_outside.specs.Held.{file_at}
 use Rattle.dsa_outside.specs.Seen.{FilesSeen}
 use Rattle.csv_instance.specs.Offsets.{ids_of, parsed_offsets}
 use Rattle.csv_instance.specs.Parse.{parse}
-use Rattle.csv_instance.specs.Records.{Record, table_of}
+use Rattle.csv_instance.specs.Records.{Record, file_limit, table_of}
 use Rattle.csv_instance.specs.declared.fault.InstanceFault.TheVariants as instance
 use Rattle.csv_instance.specs.declared.fault.OffsetsFault.TheVariants as offsets
 use Rattle.csv_instance.proofs.FileFacts.{five_file, five_parse, five_reads, high_file, high_offsets, low_file, low_offsets, no_bytes, two, two_file, two_parse, two_reads, two_rows}
 use Rattle.command_words.specs.Options.{Word}
+use Rattle.command_words.specs.Roles.{limit_of}
+use Rattle.command_words.specs.declared.role.Role.TheVariants as role
 use Rattle.run_status.specs.declared.status.Status.TheVariants as status
 use Rattle.run_status.specs.declared.status.WrongCause.TheVariants as wrong
 use Rattle.run_course.specs.Course.{Comes, Course, Ends, Outcome, says}
@@ -22,6 +24,10 @@ use Rattle.readings.specs.Input.{instance_or_fault, opened}
 use Rattle.readings.specs.Judging.{judged, layout_or_fault, offsets_or_fault}
 
 -- ---- inputs
+-- an instance and a layout file may be as long as their readers take
+most_of_a_file : (limit_of role.Input ≡ file_limit) × (limit_of role.Layout ≡ file_limit)
+most_of_a_file = (refl, refl)
+
 goes_on_with_five : (next : Instance → Course) → instance_or_fault (parse (table_of five_file)) next ≡ next five
 goes_on_with_five next = ap (λ table. instance_or_fault (parse table) next) five_reads
     ∙ ap (λ r. instance_or_fault r next) five_parse

@@ -9,17 +9,16 @@ use Rattle.csv_instance.specs.declared.fault.InstanceFault.TheVariants as instan
 use Rattle.csv_instance.specs.declared.fault.OffsetsFault.TheVariants as offsets
 use Rattle.csv_instance.proofs.FileFacts.{high_file, high_offsets, low_file, low_offsets, no_bytes, short_file, two, two_file, two_parse, two_reads, two_rows, without_y}
 use Rattle.command_words.specs.Options.{Word}
+use Rattle.command_words.specs.declared.role.Role.TheVariants as role
 use Rattle.log_check.specs.declared.fault.CheckFault.TheVariants as check
 use Rattle.log_text.specs.Says.{Says}
 use Rattle.log_text.specs.Text.{raw_log_of}
 use Rattle.log_text.specs.declared.fault.TextFault.TheVariants as text
 use Rattle.refute_log.specs.declared.reason.Reason.TheVariants as reason
 use Rattle.run_status.specs.declared.status.LogCause.TheVariants as cause
-use Rattle.run_status.specs.declared.status.Role.TheVariants as role
 use Rattle.run_status.specs.declared.status.Status.TheVariants as status
 use Rattle.run_status.specs.declared.status.WrongCause.TheVariants as wrong
 use Rattle.run_course.specs.Readings.{IsWholeFile}
-use Rattle.readings.specs.Checking.{log_limit}
 use Rattle.readings.specs.GivenLayouts.{GivesLayout, GivesNoOffsets, JudgesTable}
 use Rattle.readings.specs.GivenLogs.{ChecksLog}
 use Rattle.readings.specs.Opens.{OpensInput}
@@ -92,7 +91,7 @@ module _ (files : FilesSeen) (name : Word) where
   }
 
   -- ---- files of logs
-  module _ (bytes : List ℕ) (whole : IsWholeFile files name log_limit bytes) where
+  module _ (bytes : List ℕ) (whole : IsWholeFile files role.Log name bytes) where
     accepts_sample : Says bytes (raw_log_of sample) → ChecksLog files files name evens (checked.Accepted sample)
     accepts_sample is = record {
       bytes = bytes;
@@ -114,7 +113,7 @@ module _ (files : FilesSeen) (name : Word) where
       refused = too_low;
     }))
 
-  refuses_no_bytes : IsWholeFile files name log_limit [] →
+  refuses_no_bytes : IsWholeFile files role.Log name [] →
       ChecksLog files files name evens (checked.Unaccepted (status.LogRefused (cause.Text text.NotLog)))
   refuses_no_bytes whole = inr (inl (record {
     bytes = [];

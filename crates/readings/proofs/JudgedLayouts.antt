@@ -2,12 +2,12 @@
 use Rattle.std.proofs.Common.{◌≡◌, ◌⊎◌, ℕ, List, Ok, refl, sym, subst, inl, inr, ap}
 use Rattle.dsa_terms.specs.Buffers.{Instance}
 use Rattle.dsa_model.proofs.LayoutFaults.{layout_exactly}
-use Rattle.csv_instance.specs.Records.{Record, file_limit}
+use Rattle.csv_instance.specs.Records.{Record}
 use Rattle.command_words.specs.Options.{Word}
+use Rattle.command_words.specs.declared.role.Role.TheVariants as role
 use Rattle.csv_instance.specs.Parse.{parse}
 use Rattle.dsa_outside.specs.Faults.{NoneFell}
 use Rattle.run_status.specs.declared.status.Status.{Status}
-use Rattle.run_status.specs.declared.status.Role.TheVariants as role
 use Rattle.run_status.specs.Spoken.{IsSpoken}
 use Rattle.dsa_outside.specs.Seen.{FilesSeen}
 use Rattle.run_course.specs.Course.{Course, Comes, Outcome, IsUnreadable, says}
@@ -19,7 +19,7 @@ use Rattle.readings.specs.GivenLayouts.{GivesLayout, GivesNoOffsets, GivesWrongO
 
 -- why the file gives no layout
 abbrev pub IsNone : FilesSeen → FilesSeen → Word → List Record → Instance → ℕ → Status → Type 0
-IsNone old new name table I C s = IsUnreadable old new role.Layout name file_limit s
+IsNone old new name table I C s = IsUnreadable old new role.Layout name s
     ⊎ GivesNoOffsets old name table s ⊎ GivesWrongOffsets old name table I C s
 
 -- the file gives no layout, so the course ends here

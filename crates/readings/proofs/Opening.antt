@@ -1,14 +1,14 @@
 -- From what reading the input comes to, to what a course comes to that begins with it.
 use Rattle.std.proofs.Common.{◌≡◌, ◌⊎◌, List, Ok, refl, sym, subst, ap, inl, inr}
 use Rattle.dsa_terms.specs.Buffers.{Instance}
-use Rattle.csv_instance.specs.Records.{Record, file_limit, table_of}
+use Rattle.csv_instance.specs.Records.{Record, table_of}
 use Rattle.csv_instance.specs.Parse.{parse}
 use Rattle.csv_instance.specs.declared.fault.InstanceFault.{InstanceFault}
 use Rattle.command_words.specs.Options.{Word}
+use Rattle.command_words.specs.declared.role.Role.TheVariants as role
 use Rattle.dsa_outside.specs.Faults.{NoneFell}
 use Rattle.run_status.specs.declared.status.Status.{Status}
 use Rattle.run_status.specs.declared.status.Status.TheVariants as status
-use Rattle.run_status.specs.declared.status.Role.TheVariants as role
 use Rattle.dsa_outside.specs.Seen.{FilesSeen}
 use Rattle.run_course.specs.Course.{Course, Comes, Outcome, IsUnreadable, says}
 use Rattle.run_status.specs.Spoken.{IsSpoken}
@@ -18,7 +18,7 @@ use Rattle.readings.specs.Opens.{IsInput, IsMalformed}
 
 -- why the input gives no instance
 abbrev pub IsMissing : FilesSeen → FilesSeen → Word → Status → Type 0
-IsMissing old new name s = IsUnreadable old new role.Input name file_limit s
+IsMissing old new name s = IsUnreadable old new role.Input name s
     ⊎ ((fault : InstanceFault) × (s ≡ status.Malformed fault) × IsMalformed old name fault)
 
 -- the input gives no instance, so the course ends here, whatever stands behind

@@ -1,5 +1,5 @@
 -- How a log's file is checked.
-use Rattle.std.specs.Prelude.{◌≡◌, ◌^◌, ℕ, List, Some}
+use Rattle.std.specs.Prelude.{◌≡◌, ℕ, List, Some}
 use Rattle.dsa_terms.specs.Buffers.{Instance}
 use Rattle.dsa_terms.specs.Layouts.{IsInfeasible}
 use Rattle.dsa_terms.specs.Logs.{Log, IsAccepted}
@@ -11,14 +11,10 @@ use Rattle.log_text.specs.declared.fault.TextFault.{TextFault}
 use Rattle.log_check.specs.Faults.{check_fault}
 use Rattle.log_check.specs.declared.fault.CheckFault.{CheckFault}
 use Rattle.command_words.specs.Options.{Word}
+use Rattle.command_words.specs.declared.role.Role.TheVariants as role
 use Rattle.run_status.specs.declared.status.Status.TheVariants.{LogRefused}
 use Rattle.run_status.specs.declared.status.LogCause.TheVariants.{Text, Check}
-use Rattle.run_status.specs.declared.status.Role.TheVariants as role
 use Rattle.run_course.specs.Course.{Course, Outcome, Reads, Concludes, says}
-
--- the greatest number of bytes of a log's file
-abbrev pub log_limit : ℕ
-log_limit = 2 ^ 40
 
 -- the bytes say no log, or a log that is not accepted for the instance, each told by its first fault; or they say an
 -- accepted log, by which no layout fits within its capacity, and which has such an outcome
@@ -32,4 +28,4 @@ pub data Checks (I : Instance) (bytes : List ℕ) (accepted : Log → Outcome �
 
 -- reads a log's file, and concludes with an outcome of the accepted log that it says
 abbrev pub checked : Word → Instance → (Log → Outcome → Type 0) → Course
-checked name I accepted = Reads role.Log name log_limit (λ bytes. Concludes (Checks I bytes accepted))
+checked name I accepted = Reads role.Log name (λ bytes. Concludes (Checks I bytes accepted))

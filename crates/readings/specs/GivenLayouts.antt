@@ -4,15 +4,15 @@ use Rattle.dsa_terms.specs.Buffers.{Instance}
 use Rattle.dsa_terms.specs.Layouts.{IsLayout}
 use Rattle.dsa_model.specs.LayoutFaults.{layout_fault}
 use Rattle.dsa_model.specs.declared.layout.LayoutFault.{LayoutFault}
-use Rattle.csv_instance.specs.Records.{Record, file_limit, table_of}
+use Rattle.csv_instance.specs.Records.{Record, table_of}
 use Rattle.csv_instance.specs.Parse.{parse}
 use Rattle.csv_instance.specs.Offsets.{ids_of, parsed_offsets}
 use Rattle.csv_instance.specs.declared.fault.OffsetsFault.{OffsetsFault}
 use Rattle.command_words.specs.Options.{Word}
+use Rattle.command_words.specs.declared.role.Role.TheVariants as role
 use Rattle.run_status.specs.declared.status.Status.{Status}
 use Rattle.run_status.specs.declared.status.Status.TheVariants.{Wrong}
 use Rattle.run_status.specs.declared.status.WrongCause.TheVariants as wrong
-use Rattle.run_status.specs.declared.status.Role.TheVariants as role
 use Rattle.dsa_outside.specs.Seen.{FilesSeen}
 use Rattle.run_course.specs.Readings.{IsWholeFile}
 use Rattle.run_course.specs.Course.{IsUnreadable}
@@ -23,7 +23,7 @@ use Rattle.readings.specs.declared.layout_file.Judged.TheVariants as judged
 pub record GivesLayout (files : FilesSeen) (name : Word) (table : List Record) (I : Instance) (C : ℕ)
     (offsets : List ℕ) : Type 0 where
   pub bytes : List ℕ
-  pub whole : IsWholeFile files name file_limit bytes
+  pub whole : IsWholeFile files role.Layout name bytes
   pub parsed : parsed_offsets (ids_of table) (table_of bytes) ≡ Ok offsets
   pub layout : IsLayout I C offsets
 
@@ -32,7 +32,7 @@ pub record GivesNoOffsets (files : FilesSeen) (name : Word) (table : List Record
   pub bytes : List ℕ
   pub fault : OffsetsFault
   pub told : s ≡ Wrong (wrong.Offsets fault)
-  pub whole : IsWholeFile files name file_limit bytes
+  pub whole : IsWholeFile files role.Layout name bytes
   pub refused : parsed_offsets (ids_of table) (table_of bytes) ≡ Err fault
 
 -- the file gives offsets, which are no layout at the capacity, for their first fault
@@ -42,14 +42,14 @@ pub record GivesWrongOffsets (files : FilesSeen) (name : Word) (table : List Rec
   pub offsets : List ℕ
   pub fault : LayoutFault
   pub told : s ≡ Wrong (wrong.Layout fault)
-  pub whole : IsWholeFile files name file_limit bytes
+  pub whole : IsWholeFile files role.Layout name bytes
   pub parsed : parsed_offsets (ids_of table) (table_of bytes) ≡ Ok offsets
   pub refused : layout_fault I C offsets ≡ Some fault
 
 -- the layout, or why there is none
 abbrev pub JudgesAt : FilesSeen → FilesSeen → Word → List Record → Instance → ℕ → Judged → Type 0
 JudgesAt old new name table I C (judged.Layout offsets) = GivesLayout old name table I C offsets.items
-JudgesAt old new name table I C (judged.NoLayout s) = IsUnreadable old new role.Layout name file_limit s
+JudgesAt old new name table I C (judged.NoLayout s) = IsUnreadable old new role.Layout name s
     ⊎ GivesNoOffsets old name table s ⊎ GivesWrongOffsets old name table I C s
 
 -- what the file comes to for the table's instance

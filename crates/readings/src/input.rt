@@ -11,9 +11,6 @@ use run_course::{Content, read_file};
 use run_status::{Role, Status};
 use std::alloc::Global;
 
-/// The greatest number of bytes of an instance or a layout file.
-pub const FILE_LIMIT: u64 = 67108864;
-
 /// The table of the input, or the status that the run ends with.
 #[derive(Drop)]
 pub enum Input {
@@ -28,7 +25,7 @@ pub fn open_input<F: Files>(alloc: Global, files: &mut F, name: &str) -> Result<
     ensures files { (F.seen files.new).held ≡ (F.seen files.old).held }
     ensures counts { NoneFell (F.seen files.old).faults (F.seen files.new).faults }
 {
-    let bytes = match read_file(files, name, FILE_LIMIT, Role::Input)? {
+    let bytes = match read_file(files, Role::Input, name)? {
         Content::Bytes(bytes) => bytes,
         Content::Unreadable(status) => return Ok(Input::Missing(status)),
     };

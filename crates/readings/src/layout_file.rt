@@ -4,7 +4,6 @@ ghost use Rattle.std.specs.Prelude.{◌≡◌, IfOk};
 ghost use Rattle.dsa_outside.specs.Faults.{NoneFell};
 ghost use Rattle.readings.specs.GivenLayouts.{JudgesTable};
 
-use crate::FILE_LIMIT;
 use csv_instance::{Table, read_offsets};
 use dsa_model::{Fail, NoMemory, judge};
 use dsa_outside::Files;
@@ -33,7 +32,7 @@ pub fn read_judged_layout<F: Files>(
     ensures counts { NoneFell (F.seen files.old).faults (F.seen files.new).faults }
 {
     let instance = table.instance();
-    let bytes = match read_file(files, name, FILE_LIMIT, Role::Layout)? {
+    let bytes = match read_file(files, Role::Layout, name)? {
         Content::Bytes(bytes) => bytes,
         Content::Unreadable(status) => return Ok(Judged::NoLayout(status)),
     };

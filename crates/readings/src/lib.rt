@@ -7,7 +7,7 @@ mod layout_file;
 mod log_file;
 mod table_command;
 
-pub use input::{FILE_LIMIT, Input, open_input};
+pub use input::{Input, open_input};
 pub use layout_file::{Judged, read_judged_layout};
 pub use log_file::{Checked, read_checked_log};
 pub use table_command::{TableCommand, conclude_input};

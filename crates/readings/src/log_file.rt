@@ -13,9 +13,6 @@ use run_course::{Content, read_file};
 use run_status::{LogCause, Role, Status};
 use std::alloc::Global;
 
-/// The greatest number of bytes of a log's file.
-const LOG_LIMIT: u64 = 1 << 40;
-
 /// The log that a file says, accepted for the instance, or the status that the run ends with.
 #[derive(Drop)]
 pub enum Checked {
@@ -35,7 +32,7 @@ pub fn read_checked_log<F: Files>(
     ensures files { (F.seen files.new).held ≡ (F.seen files.old).held }
     ensures counts { NoneFell (F.seen files.old).faults (F.seen files.new).faults }
 {
-    let bytes = match read_file(files, name, LOG_LIMIT, Role::Log)? {
+    let bytes = match read_file(files, Role::Log, name)? {
         Content::Bytes(bytes) => bytes,
         Content::Unreadable(status) => return Ok(Checked::Unaccepted(status)),
     };

@@ -2,9 +2,10 @@
 use Rattle.std.proofs.Common.{◌≡◌, ℕ, ◌≤◌, List, length, Option, IsSome, Some, None, refl, sym, subst, inl, inr, arith}
 use Rattle.dsa_outside.specs.Held.{FileMap, file_at, IsMissing}
 use Rattle.command_words.specs.Options.{Word}
+use Rattle.command_words.specs.declared.role.Role.{Role}
+use Rattle.command_words.specs.Roles.{limit_of}
 use Rattle.run_status.specs.declared.status.Status.{Status}
 use Rattle.run_status.specs.declared.status.Status.TheVariants as status
-use Rattle.run_status.specs.declared.status.Role.{Role}
 use Rattle.dsa_outside.specs.Seen.{FilesSeen, SinkSeen}
 use Rattle.run_course.specs.Readings.{HoldsMore}
 use Rattle.run_course.specs.Course.{Course, Concludes, Reads, Comes, Outcome}
@@ -46,29 +47,29 @@ is_told : (held : Option FileMap) (name : Word) (bytes : List ℕ) → file_at h
 is_told None name bytes one = cc
 is_told (Some m) name bytes one = refl
 
-too_long : (files : FilesSeen) (name : Word) (most : ℕ) → IsReadable files name most → HoldsMore files name most → ⊥
-too_long files name most file more =
+too_long : (files : FilesSeen) (role : Role) (name : Word) → IsReadable files role name → HoldsMore files role name → ⊥
+too_long files role name file more =
     let e : file.bytes ≡ more.bytes = same_bytes files.held name file.bytes more.bytes file.held (λ told. more.held) in
-    let short : length more.bytes ≤ most = subst (λ b. length b ≤ most) e file.short in
+    let short : length more.bytes ≤ limit_of role = subst (λ b. length b ≤ limit_of role) e file.short in
     omega (arith, short, more.long)
 
 -- no call failed on a file that the course may read
 abbrev pub IsServed : FilesSeen → FilesSeen → Course → Type 0
 IsServed old new (Concludes allowed) = Unit {0}
-IsServed old new (Reads role name most next) =
+IsServed old new (Reads role name next) =
     IsCalm old new name × ((bytes : List ℕ) → IsServed old new (next bytes))
 
 -- where no call on its files failed, the course concludes with the status of the outcome that it comes to
 pub concludes_on : (old new : FilesSeen) (course : Course) (o : Outcome) → IsServed old new course →
     Comes old new course o → ConcludesOn old course o.status
 concludes_on old new (Concludes allowed) o served comes = (o, comes.0, comes.1, refl)
-concludes_on old new (Reads role name most next) o served (inl (inl (is, inl rose), same)) =
+concludes_on old new (Reads role name next) o served (inl (inl (is, inl rose), same)) =
     λ file. absurd (served.0 rose)
-concludes_on old new (Reads role name most next) o served (inl (inl (is, inr missing), same)) =
+concludes_on old new (Reads role name next) o served (inl (inl (is, inr missing), same)) =
     λ file. absurd (not_missing old.held name file.bytes file.held missing)
-concludes_on old new (Reads role name most next) o served (inl (inr (is, more), same)) =
-    λ file. absurd (too_long old name most file (more (is_told old.held name file.bytes file.held)))
-concludes_on old new (Reads role name most next) o served (inr (bytes, whole, comes)) = λ file.
+concludes_on old new (Reads role name next) o served (inl (inr (is, more), same)) =
+    λ file. absurd (too_long old role name file (more (is_told old.held name file.bytes file.held)))
+concludes_on old new (Reads role name next) o served (inr (bytes, whole, comes)) = λ file.
     let e : file.bytes ≡ bytes = same_bytes old.held name file.bytes bytes file.held whole.held in
     concludes_on old new (next file.bytes) o (served.1 file.bytes)
     (subst (λ b. Comes old new (next b) o) (sym e) comes)

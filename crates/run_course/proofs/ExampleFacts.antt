@@ -1,13 +1,14 @@
--- A small course, and what a run on it leaves: it reads the file i, of at most two bytes, and copies them to o and to
--- l.
-use Rattle.std.proofs.Common.{◌≡◌, ℕ, List, [], ◌∷◌, Some, None, inl, inr, cond, codes, refl, ap, lit<, lit≤, arith, rules}
+-- A small course, and what a run on it leaves: it reads the file i, and copies its bytes to o and to l.
+use Rattle.std.proofs.Common.{◌≡◌, ◌<◌, ℕ, suc, List, length, replicate, [], ◌∷◌, Some, None, inl, inr, cond, codes, refl, ap, lit<, lit≤, arith, rules}
+use Rattle.std.proofs.lemmas.List.{length-replicate}
 use Rattle.std.specs.FinMap.{empty, gets, insert}
 use Rattle.std.specs.Str.{bytes_eq}
 use Rattle.dsa_outside.specs.Held.{FileMap, file_at}
 use Rattle.dsa_outside.specs.Seen.{FilesSeen, SinkSeen}
 use Rattle.dsa_outside.proofs.FileMaps.{remove-insert}
 use Rattle.dsa_outside.proofs.Lookups.{file_at-with_file}
-use Rattle.run_status.specs.declared.status.Role.TheVariants as role
+use Rattle.command_words.specs.declared.role.Role.TheVariants as role
+use Rattle.command_words.specs.Roles.{limit_of}
 use Rattle.run_status.specs.declared.status.Status.TheVariants as status
 use Rattle.run_course.specs.Answers.{Answers, AreBroken, IsCutShort, Leaves, Tells}
 use Rattle.run_course.specs.Complete.{ConcludesOn}
@@ -25,7 +26,7 @@ abbrev copied : List ℕ → Outcome
 copied bytes = writes (output bytes ∷ log bytes ∷ []) status.Right
 
 abbrev copy : Course
-copy = Reads role.Input (codes "i") 2 (λ bytes. Ends (copied bytes))
+copy = Reads role.Input (codes "i") (λ bytes. Ends (copied bytes))
 
 -- ---- files, and a sink
 abbrev told : FileMap → FilesSeen
@@ -64,11 +65,13 @@ comes_to_copies new =
 missing : Comes (told empty) (told empty) copy (says (status.ReadFault role.Input))
 missing = inl (inl (refl, inr reads_none), refl)
 
-too_long : Comes (told (holding (codes "abc"))) (told empty) copy (says (status.TooLong role.Input))
-too_long = inl (
-  inr (refl, λ told. record { bytes = codes "abc"; held = reads_i (codes "abc"); long = lit< tt }),
-  refl,
-)
+too_long : (bytes : List ℕ) → limit_of role.Input < length bytes →
+    Comes (told (holding bytes)) (told empty) copy (says (status.TooLong role.Input))
+too_long bytes long = inl (inr (refl, λ told. record { bytes = bytes; held = reads_i bytes; long = long }), refl)
+
+such_bytes : (most : ℕ) → (bytes : List ℕ) × (most < length bytes)
+such_bytes most =
+    (replicate (suc most) 0, (let e = length-replicate {A = ℕ} (suc most) 0 in omega (arith, e)))
 
 no_other_file : (old new : FilesSeen) → Comes old new copy (says (status.ReadFault role.Log)) → ⊥
 no_other_file old new (inl (inl (e, unread), ended)) = absurd cc

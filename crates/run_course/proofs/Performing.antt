@@ -2,10 +2,10 @@
 use Rattle.std.proofs.Common.{◌≡◌, ℕ, List, Option, Some, None, sym, ap, ◌∙◌, subst, inl, inr}
 use Rattle.dsa_outside.specs.Faults.{NoneFell}
 use Rattle.dsa_outside.specs.Held.{without_file}
+use Rattle.command_words.specs.declared.role.Role.{Role}
 use Rattle.run_status.specs.Spoken.{IsSpoken}
 use Rattle.run_status.specs.declared.status.Status.{Status}
 use Rattle.run_status.specs.declared.status.Status.TheVariants as status
-use Rattle.run_status.specs.declared.status.Role.{Role}
 use Rattle.dsa_outside.specs.Seen.{FilesSeen, SinkSeen}
 use Rattle.run_course.specs.Course.{Write, Outcome, Course, Comes}
 use Rattle.run_course.specs.Answers.{Answers, AreBegun, AreBroken, IsInterrupted, IsSaid, Leaves, Tells, as_told, with_writes}

@@ -2,9 +2,9 @@
 use Rattle.std.specs.Prelude.{◌≡◌, ◌⊎◌, ℕ, List, [], ◌∷◌, ◌++◌, Option, Some, None, take}
 use Rattle.dsa_outside.specs.Held.{FileMap, with_file, without_file, with_text}
 use Rattle.dsa_model.specs.Counts.{Rose}
+use Rattle.command_words.specs.declared.role.Role.{Role}
 use Rattle.run_status.specs.declared.status.Status.{Status}
 use Rattle.run_status.specs.declared.status.Status.TheVariants.{WriteFault, PrintFault, NoMemory}
-use Rattle.run_status.specs.declared.status.Role.{Role}
 use Rattle.dsa_outside.specs.Seen.{FilesSeen, SinkSeen}
 use Rattle.run_course.specs.Course.{Write, Outcome, Course, Comes, says}
 

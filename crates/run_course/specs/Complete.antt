@@ -3,16 +3,18 @@ use Rattle.std.specs.Prelude.{◌≡◌, ◌≤◌, ℕ, List, length, Some}
 use Rattle.dsa_outside.specs.Held.{file_at}
 use Rattle.dsa_model.specs.Counts.{Rose}
 use Rattle.command_words.specs.Options.{Word}
+use Rattle.command_words.specs.Roles.{limit_of}
+use Rattle.command_words.specs.declared.role.Role.{Role}
 use Rattle.dsa_outside.specs.Seen.{FilesSeen}
 use Rattle.run_status.specs.Spoken.{IsSpoken}
 use Rattle.run_status.specs.declared.status.Status.{Status}
 use Rattle.run_course.specs.Course.{Course, Concludes, Reads, Outcome}
 
--- the name holds bytes, and no more than that
-pub record IsReadable (files : FilesSeen) (name : Word) (most : ℕ) : Type 0 where
+-- the name holds bytes, and no more than a file of this role may have
+pub record IsReadable (files : FilesSeen) (role : Role) (name : Word) : Type 0 where
   pub bytes : List ℕ
   pub held : file_at files.held name ≡ Some bytes
-  pub short : length bytes ≤ most
+  pub short : length bytes ≤ limit_of role
 
 -- no call on the name failed
 abbrev pub IsCalm : FilesSeen → FilesSeen → Word → Type 0
@@ -22,5 +24,5 @@ IsCalm old new name = ¬ Rose (old.faults name) (new.faults name)
 abbrev pub ConcludesOn : FilesSeen → Course → Status → Type 0
 ConcludesOn files (Concludes allowed) status =
     (outcome : Outcome) × IsSpoken outcome.status × allowed outcome × (status ≡ outcome.status)
-ConcludesOn files (Reads role name most next) status =
-    (file : IsReadable files name most) → ConcludesOn files (next file.bytes) status
+ConcludesOn files (Reads role name next) status =
+    (file : IsReadable files role name) → ConcludesOn files (next file.bytes) status

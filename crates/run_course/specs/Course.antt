@@ -1,11 +1,11 @@
 -- How a command goes: it reads files, one after the other, and concludes from what they hold.
 use Rattle.std.specs.Prelude.{◌≡◌, ◌⊎◌, ℕ, List, [], IsSome}
 use Rattle.command_words.specs.Options.{Word}
+use Rattle.command_words.specs.declared.role.Role.{Role}
 use Rattle.run_status.specs.Lines.{line}
 use Rattle.run_status.specs.Spoken.{IsSpoken}
 use Rattle.run_status.specs.declared.status.Status.{Status}
 use Rattle.run_status.specs.declared.status.Status.TheVariants.{ReadFault, Shown, TooLong}
-use Rattle.run_status.specs.declared.status.Role.{Role}
 use Rattle.dsa_outside.specs.Seen.{FilesSeen}
 use Rattle.run_course.specs.Readings.{IsWholeFile, HoldsMore, IsUnread}
 
@@ -34,25 +34,25 @@ abbrev pub shows : List ℕ → Outcome
 shows text = record { status = Shown; text = text; writes = [] }
 
 -- how a command goes (an interaction tree, as Xia and others have it): it concludes with one of some outcomes, or it
--- reads the file of a role, of at most so many bytes, and goes on as these bytes say
+-- reads the file of a role, and goes on as its bytes say
 pub data Course : Type 1 where
   Concludes : (Outcome → Type 0) → Course
-  Reads : Role → Word → ℕ → (List ℕ → Course) → Course
+  Reads : Role → Word → (List ℕ → Course) → Course
 
 -- the command concludes with this outcome alone
 abbrev pub Ends : Outcome → Course
 Ends outcome = Concludes (λ o. o ≡ outcome)
 
--- the file of this role could not be read, or holds more than so many bytes, as the status says
-abbrev pub IsUnreadable : FilesSeen → FilesSeen → Role → Word → ℕ → Status → Type 0
-IsUnreadable old new role name most status =
+-- the file of this role could not be read, or holds more bytes than it may, as the status says
+abbrev pub IsUnreadable : FilesSeen → FilesSeen → Role → Word → Status → Type 0
+IsUnreadable old new role name status =
     ((status ≡ ReadFault role) × IsUnread old new name)
-    ⊎ ((status ≡ TooLong role) × (IsSome old.held → HoldsMore old name most))
+    ⊎ ((status ≡ TooLong role) × (IsSome old.held → HoldsMore old role name))
 
 -- on these files the course comes to this outcome: its own, whose status is spoken, or that of the first file that
 -- could not be read whole
 abbrev pub Comes : FilesSeen → FilesSeen → Course → Outcome → Type 0
 Comes old new (Concludes allowed) outcome = IsSpoken outcome.status × allowed outcome
-Comes old new (Reads role name most next) outcome =
-    (IsUnreadable old new role name most outcome.status × (outcome ≡ says outcome.status))
-    ⊎ ((bytes : List ℕ) × IsWholeFile old name most bytes × Comes old new (next bytes) outcome)
+Comes old new (Reads role name next) outcome =
+    (IsUnreadable old new role name outcome.status × (outcome ≡ says outcome.status))
+    ⊎ ((bytes : List ℕ) × IsWholeFile old role name bytes × Comes old new (next bytes) outcome)

@@ -1,7 +1,7 @@
 -- What stands before the first write, and what comes of reading and of writing.
-use Rattle.std.specs.Prelude.{ℕ, [], ◌∷◌}
+use Rattle.std.specs.Prelude.{[], ◌∷◌}
 use Rattle.command_words.specs.Options.{Word}
-use Rattle.run_status.specs.declared.status.Role.{Role}
+use Rattle.command_words.specs.declared.role.Role.{Role}
 use Rattle.dsa_outside.specs.Seen.{FilesSeen}
 use Rattle.run_course.specs.Readings.{IsWholeFile}
 use Rattle.run_course.specs.Course.{Write, Outcome, IsUnreadable}
@@ -24,6 +24,6 @@ outcome_of (Both first second said) =
     record { status = said.status; text = said.text.items; writes = write_of first ∷ write_of second ∷ [] }
 
 -- the whole content, or why there is none
-abbrev pub Opens : FilesSeen → FilesSeen → Role → Word → ℕ → Content → Type 0
-Opens old new role name most (Bytes bytes) = IsWholeFile old name most bytes.items
-Opens old new role name most (Unreadable status) = IsUnreadable old new role name most status
+abbrev pub Opens : FilesSeen → FilesSeen → Role → Word → Content → Type 0
+Opens old new role name (Bytes bytes) = IsWholeFile old role name bytes.items
+Opens old new role name (Unreadable status) = IsUnreadable old new role name status

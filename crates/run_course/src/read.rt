@@ -1,6 +1,6 @@
 //! Reading whole files.
 
-ghost use Rattle.std.specs.Prelude.{◌≡◌, ◌^◌, ◌<◌, IfOk};
+ghost use Rattle.std.specs.Prelude.{◌≡◌, IfOk};
 ghost use Rattle.dsa_outside.specs.Faults.{NoneFell};
 ghost use Rattle.run_course.specs.Prepares.{Opens};
 
@@ -15,19 +15,14 @@ pub enum Content {
     Unreadable(Status),
 }
 
-/// Reads a whole file of at most `most` bytes.
-pub fn read_file<F: Files>(
-    files: &mut F,
-    name: &str,
-    most: u64,
-    role: Role,
-) -> Result<Content, NoMemory>
-    requires { most < 2 ^ 60 }
+/// Reads a whole file, where it has no more bytes than one of its role may have.
+pub fn read_file<F: Files>(files: &mut F, role: Role, name: &str) -> Result<Content, NoMemory>
     ensures content { IfOk result (λ content. Opens
-        (F.seen files.old) (F.seen files.new) role name.now most content) }
+        (F.seen files.old) (F.seen files.new) role name.now content) }
     ensures files { (F.seen files.new).held ≡ (F.seen files.old).held }
     ensures counts { NoneFell (F.seen files.old).faults (F.seen files.new).faults }
 {
+    let most = role.limit();
     let bytes = match files.read(name, most + 1) {
         Ok(bytes) => bytes,
         Err(FileFault::Failed) => return Ok(Content::Unreadable(Status::ReadFault(role))),

@@ -2,6 +2,7 @@
 use Rattle.std.proofs.Common.{◌≡◌, [], codes, refl}
 use Rattle.std.specs.Fmt.{digits}
 use Rattle.command_words.specs.declared.fault.UsageFault.TheVariants as usage
+use Rattle.command_words.specs.declared.role.Role.TheVariants as role
 use Rattle.csv_instance.specs.declared.fault.InstanceFault.TheVariants as instance
 use Rattle.csv_instance.specs.declared.fault.OffsetsFault.TheVariants as offsets
 use Rattle.cyclic_plan.specs.declared.fault.CycleFault.TheVariants as cycle
@@ -13,7 +14,6 @@ use Rattle.run_status.specs.Codes.{code_of}
 use Rattle.run_status.specs.Lines.{line, refused_text, role_text, wrong_text}
 use Rattle.run_status.specs.Spoken.{IsSpoken}
 use Rattle.run_status.specs.declared.status.LogCause.TheVariants as refused
-use Rattle.run_status.specs.declared.status.Role.TheVariants as role
 use Rattle.run_status.specs.declared.status.Status.TheVariants as status
 use Rattle.run_status.specs.declared.status.WrongCause.TheVariants as wrong
 

@@ -1,14 +1,15 @@
 -- The printed line of each status, without the reports that are shown.
 use Rattle.std.specs.Prelude.{ℕ, List, [], ◌++◌, codes, decimal}
+use Rattle.command_words.specs.declared.role.Role.{Role}
+use Rattle.command_words.specs.FaultTexts.{usage_text}
+use Rattle.command_words.specs.Options.{option_word}
+use Rattle.command_words.specs.Roles.{option_of_role}
 use Rattle.run_status.specs.declared.status.Status.{Status}
 use Rattle.run_status.specs.declared.status.Status.TheVariants as status
-use Rattle.run_status.specs.declared.status.Role.{Role}
-use Rattle.run_status.specs.declared.status.Role.TheVariants as role
 use Rattle.run_status.specs.declared.status.WrongCause.{WrongCause}
 use Rattle.run_status.specs.declared.status.WrongCause.TheVariants as wrong
 use Rattle.run_status.specs.declared.status.LogCause.{LogCause}
 use Rattle.run_status.specs.declared.status.LogCause.TheVariants as refused
-use Rattle.command_words.specs.FaultTexts.{usage_text}
 use Rattle.csv_instance.specs.FaultTexts.{instance_text, offsets_text}
 use Rattle.cyclic_plan.specs.FaultTexts.{cycle_text}
 use Rattle.dsa_model.specs.FaultTexts.{layout_fault_text}
@@ -18,11 +19,7 @@ use Rattle.trace_import.specs.FaultTexts.{trace_fault_text}
 
 -- the option that names a file of this role
 abbrev pub role_text : Role → List ℕ
-role_text role.Input = codes "--input"
-role_text role.Layout = codes "--layout"
-role_text role.Log = codes "--log"
-role_text role.Trace = codes "--trace"
-role_text role.Output = codes "--output"
+role_text role = option_word (option_of_role role)
 
 -- why a layout is wrong
 abbrev pub wrong_text : WrongCause → List ℕ

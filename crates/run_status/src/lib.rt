@@ -4,6 +4,6 @@
 mod lines;
 mod status;
 
-pub use command_words::{OptionName, UsageFault};
+pub use command_words::{OptionName, Role, UsageFault};
 pub use lines::{status_line, unwritten_line};
-pub use status::{LogCause, Role, Status, WrongCause};
+pub use status::{LogCause, Status, WrongCause};

@@ -3,28 +3,13 @@
 ghost use Rattle.std.specs.Prelude.{◌≡◌};
 ghost use Rattle.run_status.specs.Codes.{code_of};
 
-use command_words::UsageFault;
+use command_words::{Role, UsageFault};
 use csv_instance::{InstanceFault, OffsetsFault};
 use cyclic_plan::CycleFault;
 use dsa_model::LayoutFault;
 use log_check::CheckFault;
 use log_text::TextFault;
 use trace_import::TraceFault;
-
-/// A file's part in a command, named by its option.
-#[derive(Clone, Copy)]
-pub enum Role {
-    /// `--input`: the instance.
-    Input,
-    /// `--layout`: a layout to judge.
-    Layout,
-    /// `--log`: a log.
-    Log,
-    /// `--trace`: a recorded run of allocations.
-    Trace,
-    /// `--output`: the file to write.
-    Output,
-}
 
 /// Why a layout file is wrong.
 #[derive(Clone, Copy)]

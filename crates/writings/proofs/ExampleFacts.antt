@@ -22,7 +22,7 @@ use Rattle.log_text.specs.RawLogs.{IsRawLineKept, IsPairWithin}
 use Rattle.log_text.specs.Text.{log_text}
 use Rattle.log_text.specs.declared.raw.RawLine.{RawLine}
 use Rattle.log_text.specs.declared.raw.RawLine.TheVariants as raw_line
-use Rattle.run_status.specs.declared.status.Role.TheVariants as role
+use Rattle.command_words.specs.declared.role.Role.TheVariants as role
 use Rattle.run_course.specs.Course.{Write}
 use Rattle.writings.specs.Answers.{AllReadBack, answer_files}
 use Rattle.writings.specs.Writings.{Names, ReadsBack}

@@ -6,7 +6,7 @@ use Rattle.csv_instance.specs.Layout.{layout_text}
 use Rattle.log_text.specs.RawTexts.{IsTextOf}
 use Rattle.log_text.specs.Text.{log_text, raw_log_of}
 use Rattle.command_words.specs.Options.{Word}
-use Rattle.run_status.specs.declared.status.Role.TheVariants as role
+use Rattle.command_words.specs.declared.role.Role.TheVariants as role
 use Rattle.run_course.specs.Course.{Write}
 
 -- the names of the files of a command that decides: its input, its output, and the log's file

@@ -1,14 +1,15 @@
-use Rattle.std.proofs.Common.{◌≡◌, filter, length, map, string_bytes}
-use Rattle.command_words.specs.Forms.{files_of}
-use Rattle.command_words.specs.Options.{is_file}
-use Rattle.command_words.specs.Pairs.{pairs_of, has_equal, word_at}
+use Rattle.std.proofs.Common.{◌≡◌, length, map, string_bytes}
+use Rattle.std.specs.List.{filter_map}
+use Rattle.command_words.specs.Forms.{file_of, form_of}
+use Rattle.command_words.specs.Pairs.{pairs_of, has_equal, name_in}
 use Rattle.command_words.proofs.names.has_same_name.Given as goal
 
 -- two of all names are equal where two of those that are left are
-abbrev pub invariant-loop-option : goal.invariant-loop-option
-invariant-loop-option l =
+abbrev pub invariant-loop-used : goal.invariant-loop-used
+invariant-loop-used l =
     let pairs = pairs_of (map string_bytes l.words) in
-    has_equal (map (word_at pairs) (files_of l.fn.verb)) ≡ has_equal (map (word_at pairs) (filter is_file l.rest))
+    has_equal (map (name_in pairs) (filter_map file_of (form_of l.fn.verb).needed))
+    ≡ has_equal (map (name_in pairs) (filter_map file_of l.rest))
 
-abbrev pub decreases-loop-option : goal.decreases-loop-option
-decreases-loop-option l = length l.rest
+abbrev pub decreases-loop-used : goal.decreases-loop-used
+decreases-loop-used l = length l.rest
