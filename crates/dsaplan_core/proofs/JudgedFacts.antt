@@ -31,7 +31,7 @@ beside file = told (insert input_alone (codes "a") file)
 pub reads_layout : (file : List ℕ) → file_at (Some (insert input_alone (codes "a") file)) (codes "a") ≡ Some file
 reads_layout file = file_at-with_file (Some input_alone) (codes "a") file refl
 
-abbrev verify_8 : (file : List ℕ) → Asked (codes "verify" ∷ verify_values (codes "8")) (beside file)
+abbrev pub verify_8 : (file : List ℕ) → Asked (codes "verify" ∷ verify_values (codes "8")) (beside file)
 verify_8 file = record {
   verb = verb.Verify;
   pairs = pairs_of (verify_values (codes "8"));

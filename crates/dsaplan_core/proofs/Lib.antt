@@ -30,3 +30,4 @@ mod JudgedFacts
 mod RefutedFacts
 mod PremiseFacts
 mod ChoiceFacts
+mod OutcomeFacts

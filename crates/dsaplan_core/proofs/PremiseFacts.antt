@@ -74,11 +74,11 @@ said words r files s asked comes = record {
 }
 
 -- ---- the input beside a file of another name
-abbrev with_file : Word → List ℕ → FileMap
+abbrev pub with_file : Word → List ℕ → FileMap
 with_file name bytes = insert input_alone name bytes
 
 module _ (name bytes : List ℕ) (other : codes "i" ≢ name) where
-  reads_two : file_at (Some (with_file name bytes)) (codes "i") ≡ Some two_file
+  pub reads_two : file_at (Some (with_file name bytes)) (codes "i") ≡ Some two_file
   reads_two = file_at-with_other (Some input_alone) name bytes (codes "i") other ∙ reads_input
 
   two_there : HoldsInstance two (told (with_file name bytes)) (codes "i")
@@ -155,19 +155,19 @@ judges_is_met = (
 )
 
 -- ---- the law `checks`: the log at 7
-abbrev refute_values : List Word
+abbrev pub refute_values : List Word
 refute_values = codes "--input" ∷ codes "i" ∷ codes "--log" ∷ codes "l" ∷ []
 
 abbrev refute_7 : Request
 refute_7 = record { verb = verb.Refute; pairs = pairs_of refute_values }
 
-abbrev with_log : FilesSeen
+abbrev pub with_log : FilesSeen
 with_log = told (with_file (codes "l") seven_file)
 
-reads_log : file_at with_log.held (codes "l") ≡ Some seven_file
+pub reads_log : file_at with_log.held (codes "l") ≡ Some seven_file
 reads_log = file_at-with_file (Some input_alone) (codes "l") seven_file refl
 
-not_l : codes "i" ≢ codes "l"
+pub not_l : codes "i" ≢ codes "l"
 not_l = first_differs (codes "i") (codes "l") (lit< tt)
 
 log_is_ready : IsReady with_log refute_7 two
@@ -242,7 +242,7 @@ there_are_more most =
     (replicate (suc most) 0, (let e = length-replicate {A = ℕ} (suc most) 0 in omega (arith, e)))
 
 module _ (bytes : List ℕ) where
-  abbrev long_input : FileMap
+  abbrev pub long_input : FileMap
   long_input = insert empty (codes "i") bytes
 
   first_is_met : limit_of role.Input < length bytes →
