@@ -13,7 +13,7 @@ option_of_role role.Log = option.Log
 option_of_role role.Trace = option.Trace
 option_of_role role.Output = option.Output
 
--- the greatest number of bytes that a command reads of the file
+-- the greatest number of bytes that the file may have
 abbrev pub limit_of : Role → ℕ
 limit_of role.Log = 2 ^ 40
 limit_of other = 2 ^ 26

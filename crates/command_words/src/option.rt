@@ -18,7 +18,8 @@ pub enum OptionName {
     Layout,
     /// `--trace`: the name of a trace.
     Trace,
-    /// `--steps`: a budget in units, each a claim that is opened, for `pack` also so much placing.
+    /// `--steps`: a budget in units, each a claim that is opened, or for `pack` also so much
+    /// placing.
     Steps,
     /// `--seed`: the seed of a made instance.
     Seed,

@@ -34,7 +34,7 @@ impl Role {
         }
     }
 
-    /// The greatest number of bytes that a command reads of the file.
+    /// The greatest number of bytes that the file may have.
     pub fn limit(self) -> u64
         ensures value { result ≡ limit_of self }
         ensures within { result < 2 ^ 60 }
