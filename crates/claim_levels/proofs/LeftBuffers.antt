@@ -1,0 +1,90 @@
+-- The buffers that have a level: found one after another, and those that are left in a child.
+use Rattle.std.proofs.Common.{◌≡◌, ◌≢◌, ℕ, ◌+◌, ◌<◌, ◌≤◌, inl, inr, true, false, List, [], ◌∷◌, ◌++◌, length, slice_index, sym, ap, ◌∙◌, subst, arith}
+use Rattle.claim_levels.proofs.Words.{Instance, Claim, IsIn, Rises, child, has, from_append, has_in, in_has, left_append, right_append, below_or_last, entry_of, AreLevels, from_child, in_child_by, has_level, level_inside}
+use Rattle.dsa_terms.proofs.Ranges.{rises-push}
+use Rattle.lifetime.specs.Switching.{IsSwitched}
+use Rattle.claim_levels.specs.Levels.{AreLeft, HasLowChild}
+use Rattle.claim_levels.specs.Raisings.{IsRaised}
+use Rattle.claim_levels.proofs.ChildLevels.{child_levels}
+use Rattle.claim_levels.proofs.Grounding.{some_within}
+
+-- the buffers below n that have a level, rising
+pub record AreLeftBelow (levels : List ℕ) (n : ℕ) (left : List ℕ) : Type 0 where
+  pub rises : Rises left
+  pub below : (b : ℕ) → IsIn b left → b < n
+  pub some : (b : ℕ) → IsIn b left → 0 < slice_index levels b
+  pub all : (b : ℕ) → b < n → 0 < slice_index levels b → IsIn b left
+
+module _ (levels : List ℕ) where
+  pub left_next : (n : ℕ) (before after : List ℕ) → after ≡ before ++ n ∷ [] → 0 < slice_index levels n →
+      AreLeftBelow levels n before → AreLeftBelow levels (n + 1) after
+  left_next n before after q more h = subst (λ (xs : List ℕ). AreLeftBelow levels (n + 1) xs) (sym q) (record {
+    rises = rises-push before n h.rises h.below;
+    below = λ b i. elim (from_append before (n ∷ []) b i) [
+      | inl j ↦ (let k = h.below b j in omega (arith, k))
+      | inr j ↦ elim j [ inl p ↦ omega (arith, p) | inr z ↦ absurd z ]
+    ];
+    some = λ b i. elim (from_append before (n ∷ []) b i) [
+      | inl j ↦ h.some b j
+      | inr j ↦ elim j [ inl p ↦ subst (λ (b : ℕ). 0 < slice_index levels b) (sym p) more | inr z ↦ absurd z ]
+    ];
+    all = λ b lt some. elim (below_or_last b n lt) [
+      | inl less ↦ left_append before (n ∷ []) b (h.all b less some)
+      | inr last ↦ right_append before (n ∷ []) b (inl last)
+    ];
+  })
+
+  pub left_skip : (n : ℕ) (left : List ℕ) → slice_index levels n ≡ 0 → AreLeftBelow levels n left →
+      AreLeftBelow levels (n + 1) left
+  left_skip n left z h = record {
+    rises = h.rises;
+    below = λ b i. (let k = h.below b i in omega (arith, k));
+    some = h.some;
+    all = λ b lt some. elim (below_or_last b n lt) [
+      | inl less ↦ h.all b less some
+      | inr last ↦ absurd (let p = ap (slice_index levels) last in omega (arith, p, z, some))
+    ];
+  }
+
+  pub left_all : (n : ℕ) (left : List ℕ) → length levels ≤ n → AreLeftBelow levels n left → AreLeft levels left
+  left_all n left le h = record {
+    rises = h.rises;
+    some = h.some;
+    all = λ b some. h.all b (let k = some_within levels b some in omega (arith, k, le)) some;
+  }
+
+  pub left_within : (left : List ℕ) (b : ℕ) → AreLeft levels left → IsIn b left → b < length levels
+  left_within left b a i = some_within levels b (a.some b i)
+
+-- ---- all but the one that was chosen
+pub child_left : (I : Instance) (levels numbers left others : List ℕ) (b : ℕ) → HasLowChild I levels b →
+    AreLeft levels left → IsSwitched left b false others → length numbers ≡ length levels →
+    ((c : ℕ) → slice_index levels c ≡ 0 → slice_index numbers c ≡ 0) → ((c : ℕ) → IsRaised I levels b numbers c) →
+    AreLeft numbers others
+child_left I levels numbers left others b low a sw count outside done = record {
+  rises = sw.rises;
+  some = λ c i.
+      let ne = other c i in
+      let m = a.some c (has_in c left (sym (sw.others c ne) ∙ in_has c others i)) in
+      let k = level_inside I M _ are c (in_child_by I l b c (has_level I l levels low.are c m) ne) in
+      omega (arith, k);
+  all = λ c more.
+      let r = from_child I l b c (has_level I M numbers are c more) in
+      let k = level_inside I l _ low.are c r.0 in
+      has_in c others (sw.others c r.1 ∙ in_has c left (a.all c (omega (arith, k))));
+}
+  where
+    l : Claim
+    l = low.above
+
+    M : Claim
+    M = child I l (entry_of l b)
+
+    are : AreLevels I M numbers
+    are = child_levels I l _ b low.are numbers count outside (λ c more. done c more l low.are)
+
+    other : (c : ℕ) → IsIn c others → c ≢ b
+    other c i q =
+        let t : has b others ≡ true = in_has b others (subst (λ (c : ℕ). IsIn c others) q i) in
+        let f = sw.own in
+        absurd cc

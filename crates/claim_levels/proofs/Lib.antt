@@ -1,0 +1,11 @@
+pub mod AllLevels
+pub mod ChildLevels
+pub mod FirstLevel
+pub mod Grounding
+pub mod Leading
+pub mod LeftBuffers
+pub mod LevelFacts
+pub mod Leveling
+pub mod Lifting
+pub mod RaisingSteps
+pub mod Words

@@ -1,0 +1,8 @@
+use Rattle.std.proofs.Common.{ℕ, List, subst}
+use Rattle.claim_levels.specs.Levels.{IsLeastLevel}
+use Rattle.claim_levels.proofs.FirstLevel.{first_by_level}
+use Rattle.claim_levels.proofs.levels.Levels.first.Goals as goal
+
+pub returns-clause-first : goal.returns-clause-first
+returns-clause-first c = λ I l h some. first_by_level I l _ c.self.inside.first h
+    (subst (λ (xs : List ℕ). IsLeastLevel xs c.self.inside.first) c.self.view_is c.self.invariant.least) some

@@ -1,0 +1,4 @@
+pub mod Firsts
+pub mod Levels
+pub mod Lifted
+pub mod Raisings

@@ -1,0 +1,58 @@
+//! The levels of a child.
+
+ghost use Rattle.std.specs.Prelude.{IfOk};
+ghost use Rattle.dsa_terms.specs.Claims.{Claim as ClaimTerm, child as child_of};
+ghost use Rattle.canonical_order.specs.Claims.{entry_of};
+ghost use Rattle.canonical_order.specs.Levels.{AreLevels};
+ghost use Rattle.lifetime.specs.SectionList.{AreSectionsOf};
+ghost use Rattle.line_index.specs.Watches.{AreTheRaised};
+ghost use Rattle.claim_levels.specs.Levels.{HasLowChild};
+
+use crate::left::without;
+use crate::levels::Levels;
+use crate::raising::Raising;
+use crate::spreading::raise_child;
+use dsa_model::{Instance, NoMemory};
+use lifetime::Sections;
+use std::alloc::Global;
+
+/// The levels of a child, and which of its buffers are higher there than in the claim above it.
+#[derive(Drop)]
+pub struct Child {
+    /// The levels of the child.
+    pub levels: Levels,
+    /// The buffers that have a higher level there than in the claim.
+    pub raised: Vec<u32>,
+}
+
+impl Levels {
+    /// The levels of the child by the buffer, which is in the claim. They are made from those of
+    /// the claim: most stay as they are, and these are copied together. No bound of the child
+    /// may be above 2^54.
+    pub fn child(
+        &self,
+        alloc: Global,
+        instance: &Instance,
+        sections: &Sections,
+        b: u32,
+    ) -> Result<Child, NoMemory>
+        requires low { HasLowChild instance.now self.now b }
+        requires sections { AreSectionsOf instance.now sections.now }
+        ensures levels { let I = instance.now in (l : ClaimTerm) → AreLevels I l self.now →
+            IfOk result (λ child. AreLevels I (child_of I l (entry_of l b)) child.levels) }
+        ensures raised { IfOk result
+            (λ child. AreTheRaised self.now child.levels child.raised.items) }
+    {
+        let _count = self.len();
+        let mut raising = Raising::of(alloc, self)?;
+        raise_child(&mut raising, instance, self, b, sections)?;
+        let Raising {
+            numbers,
+            top,
+            raised,
+        } = raising;
+        let left = without(alloc, self.left(), b)?;
+        let levels = Levels::with(numbers, left, top);
+        Ok(Child { levels, raised })
+    }
+}
