@@ -1,0 +1,10 @@
+pub mod Branches
+pub mod Cites
+pub mod Endings
+pub mod Fresh
+pub mod Keys
+pub mod Logs
+pub mod Overs
+pub mod Tries
+pub mod Trying
+pub mod TwinMarks
