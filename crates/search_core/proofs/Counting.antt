@@ -1,8 +1,8 @@
 -- A search makes no more lines than it takes units.
 use Rattle.std.proofs.Common.{◌≡◌, ℕ, ◌+◌, ◌≤◌, List, [], ◌∷◌, ◌++◌, length, length-append, Option, Some, None, ap, arith}
 use Rattle.search_core.proofs.Words.{Line}
+use Rattle.branching.specs.Tries.{Tried}
 use Rattle.search_core.specs.Meters.{AreCounted, AreMoreBy, Units, units_counted}
-use Rattle.search_core.specs.Tries.{Tried}
 use Rattle.search_core.specs.Walks.{due_lines}
 use Rattle.search_core.specs.Ways.{Way}
 

@@ -5,17 +5,18 @@ use Rattle.std.proofs.lemmas.List.Elements.{All-cons, All-nil, All-weaker}
 use Rattle.std.proofs.lemmas.Option.{slice_get-get_or}
 use Rattle.search_core.proofs.Words.{Instance, IsInstance, Claim, Entry, child, Line, first, work, HasBuffer, entry_of, AreLevels, last_claim, AreRaised, raised_trans}
 use Rattle.line_index.proofs.Rising.{child_raised}
-use Rattle.search_core.specs.Descents.{Descends, HasAskedAll, IsKnown, IsPath, IsPlace, IsStanding, IsTrying, IsUnder, IsUnderLast, Place, above_of, claim_at, left_of, owed, root_of, sky_root, through, turns_left}
-use Rattle.search_core.specs.Logs.{Extends}
-use Rattle.search_core.specs.Tries.{IsLeft, Tried, chosen_of, later_of, noted_by, rest_of}
+use Rattle.skyline.proofs.Carrying.{last_of_append}
+use Rattle.branching.specs.Trying.{IsKnown, IsTrying, through}
+use Rattle.branching.specs.Logs.{Extends}
+use Rattle.branching.specs.Tries.{IsLeft, Tried, chosen_of, later_of, noted_by, rest_of}
+use Rattle.branching.proofs.Descent.{child_within}
+use Rattle.branching.proofs.Growing.{get_new}
+use Rattle.branching.proofs.Searching.{choice_refuted, chosen_in, next_choice, rest_of_noted, trying_still}
+use Rattle.branching.proofs.Working.{through_next}
+use Rattle.search_core.specs.Descents.{Descends, HasAskedAll, IsPath, IsPlace, IsStanding, IsUnder, IsUnderLast, Place, above_of, claim_at, left_of, owed, root_of, sky_root, turns_left}
 use Rattle.search_core.specs.Turns.{IsAhead, debt_of}
 use Rattle.search_core.specs.Watches.{AreRaisedFrom}
-use Rattle.search_core.proofs.Descent.{child_within}
-use Rattle.search_core.proofs.Growing.{get_new}
-use Rattle.search_core.proofs.Searching.{choice_refuted, chosen_in, next_choice, rest_of_noted, trying_still}
 use Rattle.search_core.proofs.Stacks.{above_pushed, all_reversed, count_above, reverse_push}
-use Rattle.skyline.proofs.Carrying.{last_of_append}
-use Rattle.search_core.proofs.Working.{through_next}
 
 -- what holds of three things holds of their equals
 carried : {X Y Z : Type 0} (P : X → Y → Z → Type 0) {a x : X} {b y : Y} {c z : Z} → a ≡ x → b ≡ y → c ≡ z → P x y z →

@@ -2,13 +2,13 @@
 -- multiples of 4 alone.
 use Rattle.std.proofs.Common.{◌≡◌, ℕ, List, [], ◌∷◌, length, Option, Some, None, refl, sym, ap, arith}
 use Rattle.search_core.proofs.Words.{buffer, do_share, is_live, some_before, Claim, child, step, up, Line, small_below, Sky}
-use Rattle.search_core.specs.Descents.{Descends, IsPath, IsPlace, IsStanding, Place, claim_at, left_of, sky_root, turns_left}
-use Rattle.search_core.specs.Tries.{Tried}
-use Rattle.search_core.proofs.Computing.{computing_work}
-use Rattle.search_core.proofs.FoundFacts.{rest_known}
-use Rattle.search_core.proofs.LevelFacts.{differ, rest, root}
-use Rattle.search_core.proofs.OverFacts.{over}
-use Rattle.search_core.proofs.TryFacts.{both_left, one_left, trying_both, trying_one}
+use Rattle.claim_levels.proofs.LevelFacts.{differ, rest, root}
+use Rattle.branching.specs.Tries.{Tried}
+use Rattle.branching.proofs.Computing.{computing_work}
+use Rattle.branching.proofs.KnownFacts.{rest_known}
+use Rattle.branching.proofs.OverFacts.{over}
+use Rattle.branching.proofs.TryFacts.{both_left, one_left, trying_both, trying_one}
+use Rattle.search_core.specs.Descents.{Descends, IsPath, IsPlace, IsStanding, Place, claim_at, left_of, sky_root, turns_left, HasAskedAll}
 
 abbrev pub sky_of : List Claim → Sky
 sky_of claims = record {
@@ -119,3 +119,13 @@ nowhere frames p = let k = p.path.some in omega arith
 
 not_below : IsPlace small_below 4 [] (record { sky = sky_of (root ∷ rest ∷ []); frames = []; line = None }) → ⊥
 not_below p = p.path.descends
+
+-- ---- lines that were asked
+asked_by_the_last : HasAskedAll (over ∷ []) (both_left 0 ∷ both_left 1 ∷ [])
+asked_by_the_last = refl
+
+not_by_the_first_alone : HasAskedAll (over ∷ []) (both_left 1 ∷ both_left 0 ∷ []) → ⊥
+not_by_the_first_alone e = omega (arith, e)
+
+by_none : HasAskedAll (over ∷ []) []
+by_none = tt

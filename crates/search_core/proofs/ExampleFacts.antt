@@ -1,25 +1,16 @@
 -- Worked facts: a buffer of size 3 beside one of size 1 that stands at multiples of 4 alone, which fit into 4 and
 -- not into 3.
-use Rattle.std.proofs.Common.{◌≡◌, ◌-◌, ◌^◌, zero, suc, [], ◌∷◌, Some, None, inl, inr, refl, ap, subst, arith}
-use Rattle.search_core.proofs.Words.{buffer, Entry, IsIn, up, Line, Log, Over, claim_of, HasBuffer, small_below}
+use Rattle.std.proofs.Common.{◌≡◌, ◌-◌, ◌^◌, [], ◌∷◌, Some, None, refl, arith}
+use Rattle.search_core.proofs.Words.{Log, Over, small_below}
 use Rattle.refute_log.specs.Answers.{Offsets, Refutation}
 use Rattle.refute_log.specs.declared.decided.Decided.TheVariants.{Spent}
+use Rattle.branching.proofs.Computing.{computing_searched, computing_work}
 use Rattle.search_core.specs.Courses.{at_start}
 use Rattle.search_core.specs.Decisions.{IsGiven, allowance_of, charge_of, turn_of}
 use Rattle.search_core.specs.Descents.{above_of, owed, root_of}
-use Rattle.search_core.specs.Lifted.{lifted}
-use Rattle.search_core.specs.Tries.{Tried, chosen_of, later_of, noted_by, rest_of}
-use Rattle.search_core.specs.Keys.{key_of}
-use Rattle.search_core.specs.Logs.{AreUncovered, Extends}
 use Rattle.search_core.specs.Meters.{AreCounted, AreMore, AreMoreBy, AreSpent, AreWithin, HasUnit, Units, units_counted}
 use Rattle.search_core.specs.Outcomes.{LinesAreCounted, spends_after}
 use Rattle.search_core.proofs.TurnFacts.{at_root}
-use Rattle.search_core.proofs.Computing.{computing_searched, computing_work}
-
--- ---- the order of choices
-key_of_aligned : key_of small_below (1, 2) ≡ (4, 1)
-unfolding up buffer
-key_of_aligned = refl
 
 -- ---- units
 nothing_counted : units_counted None 3 ≡ 0
@@ -88,49 +79,6 @@ allowance_of_none = refl
 
 starts_unused : at_start small_below (Some 7) ≡ record { subject = small_below; units = unused; spends = 0 }
 starts_unused = refl
-
--- ---- lines
-abbrev tall : Line
-tall = Over ((1, 3) ∷ []) 0 3 1
-
-one_line_is_uncovered : AreUncovered small_below (tall ∷ [])
-one_line_is_uncovered zero zero earlier line lt at_j at_k covers = absurd (omega arith)
-one_line_is_uncovered zero (suc k) earlier line lt at_j at_k covers = absurd cc
-one_line_is_uncovered (suc j) k earlier line lt at_j at_k covers = absurd cc
-
-extends_by_one : Extends ((1, 1) ∷ []) [] (tall ∷ [])
-extends_by_one = record { more = tall ∷ []; is = refl; among = among }
-  where
-    among : (line : Line) (e : Entry) → IsIn line (tall ∷ []) → IsIn e (claim_of line) → HasBuffer ((1, 1) ∷ []) e.0
-    among line e (inl q) j = elim (subst (λ (x : Line). IsIn e (claim_of x)) q j)
-        [ inl p ↦ inl (ap (λ (e : Entry). e.0) p) | inr z ↦ absurd z ]
-    among line e (inr z) j = absurd z
-
--- ---- choices
-abbrev one_refuted : Tried
-one_refuted = record { order = 2 ∷ 0 ∷ 1 ∷ []; refuted = record { buffer = 2; line = 7 } ∷ []; levels = []; asked = 9 }
-
-rest_after_one : rest_of one_refuted ≡ 0 ∷ 1 ∷ []
-rest_after_one = refl
-
-chosen_after_one : chosen_of one_refuted ≡ 0
-chosen_after_one = refl
-
-later_after_one : later_of one_refuted ≡ 1 ∷ []
-later_after_one = refl
-
-two_refuted : noted_by one_refuted 8 ≡ record {
-  order = 2 ∷ 0 ∷ 1 ∷ [];
-  refuted = record { buffer = 2; line = 7 } ∷ record { buffer = 0; line = 8 } ∷ [];
-  levels = [];
-  asked = 9;
-}
-two_refuted = refl
-
--- the bound 3 of a buffer that is aligned to four becomes 4
-lows_are_bounds : lifted small_below ((0, 0) ∷ (1, 3) ∷ []) ≡ (0, 0) ∷ (1, 4) ∷ []
-unfolding up buffer
-lows_are_bounds = refl
 
 -- ---- claims above the last one
 last_one_first : above_of (((0, 0) ∷ (1, 0) ∷ []) ∷ ((1, 3) ∷ []) ∷ [] ∷ []) ≡ ((1, 3) ∷ []) ∷

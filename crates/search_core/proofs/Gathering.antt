@@ -2,13 +2,13 @@
 use Rattle.std.proofs.Common.{◌≡◌, ℕ, ◌<◌, List, [], length, reverse, Some, None, slice_set, refl, sym, ap, ◌∙◌, subst, arith, length-set}
 use Rattle.search_core.proofs.Words.{Instance, Claim, child, up, Line, first, seated, HasBuffer, entry_of, Stands, in_range, last_claim}
 use Rattle.dsa_search_laws.proofs.Search.{first_empty}
+use Rattle.branching.specs.Tries.{Tried, chosen_of}
+use Rattle.branching.proofs.Searching.{chosen_in, layout_found}
 use Rattle.search_core.specs.Descents.{Descends, IsPath, above_of, sky_root}
 use Rattle.search_core.specs.Seats.{seats_by}
-use Rattle.search_core.specs.Tries.{Tried, chosen_of}
 use Rattle.search_core.specs.Walks.{place_on}
 use Rattle.search_core.specs.Ways.{IsBackBy, Way}
 use Rattle.search_core.proofs.Descending.{IsBack, no_above}
-use Rattle.search_core.proofs.Searching.{chosen_in, layout_found}
 use Rattle.search_core.proofs.Seating.{seated_by, seats_of_none}
 use Rattle.search_core.proofs.Stepping.{is_back_from}
 

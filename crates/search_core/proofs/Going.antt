@@ -1,10 +1,11 @@
 -- Steps of the way, down and back, by what is kept.
 use Rattle.std.proofs.Common.{◌≡◌, ℕ, List, [], ◌∷◌, ◌++◌, IfSome, refl, sym, ap, ◌∙◌, subst, append-nil}
 use Rattle.search_core.proofs.Words.{Instance, Claim, child, entry_of, AreLevels, Sky, last_claim}
+use Rattle.branching.specs.Tries.{IsLeft, Tried, chosen_of}
+use Rattle.branching.specs.Branches.{IsOrderOf, tried_of}
 use Rattle.search_core.specs.declared.kept.Kept.{Kept}
 use Rattle.search_core.specs.Descents.{IsStanding}
-use Rattle.search_core.specs.Tries.{IsLeft, Tried, chosen_of}
-use Rattle.search_core.specs.Ways.{AreKeptAlong, IsBackBy, IsBackFrom, IsOrderOf, Way, notes_of, tried_of, tries_of}
+use Rattle.search_core.specs.Ways.{AreKeptAlong, IsBackBy, IsBackFrom, Way, notes_of, tries_of}
 use Rattle.search_core.proofs.Keeping.{last_kept, no_tries, pop_kept, push_kept, pushed_tries}
 
 -- the way with so much kept

@@ -1,91 +1,13 @@
 -- What is kept of the choices of claims, and what is made again.
-use Rattle.std.proofs.Common.{◌≡◌, ℕ, zero, suc, ◌+◌, ◌-◌, ◌<◌, ◌==◌, Bool, true, false, cond, List, [], ◌∷◌, ◌++◌, length, map, slice_get, slice_index_or, slice_set, IfSome, Some, inl, inr, refl, sym, ap, ◌∙◌, subst, arith, length-append, ext_get_or, get_or-set_other, length-set}
+use Rattle.std.proofs.Common.{◌≡◌, ℕ, zero, suc, ◌+◌, ◌-◌, ◌<◌, List, [], ◌∷◌, ◌++◌, length, slice_get, slice_index_or, slice_set, IfSome, Some, inl, inr, refl, sym, ap, ◌∙◌, subst, arith, length-append, get_or-set_other, length-set}
 use Rattle.std.proofs.lemmas.List.{get_or_append_left, get_or_push, map-append, length-map}
-use Rattle.std.proofs.lemmas.List.FromFn.{get_or-map-range_with_len, length-map-range_with_len}
 use Rattle.std.proofs.lemmas.Grind.{get_or-set_at}
 use Rattle.std.proofs.Math.Seq.{map-set_same}
-use Rattle.search_core.proofs.Words.{Instance, Claim, buffers_of, number_of, up, choices, not_excluded, below_or_last, equal, same, same_or_not, HasBuffer, entry_of, AreLevels, has_or_not, last_claim}
-use Rattle.search_core.specs.declared.branches.Branches.{Branches}
-use Rattle.search_core.specs.declared.fresh.Fresh.{Fresh}
+use Rattle.search_core.proofs.Words.{Instance, Claim, below_or_last, same_or_not, AreLevels, last_claim}
+use Rattle.branching.specs.declared.notes.Notes.{Notes}
+use Rattle.branching.specs.Branches.{tried_of}
 use Rattle.search_core.specs.declared.kept.Kept.{Kept}
-use Rattle.search_core.specs.declared.notes.Notes.{Notes}
-use Rattle.search_core.specs.Fresh.{tries_at}
-use Rattle.search_core.specs.Tries.{Tried}
-use Rattle.search_core.specs.Ways.{AreBranches, AreKeptAlong, IsKeptOf, claim_no, level_of, levels_of, notes_of, order_of, tried_by, tried_of, tries_of}
-use Rattle.search_core.proofs.LiftedChoices.{buffers_of_entries}
-
--- ---- the levels and the choices of a claim are all there are
-level_inside : (I : Instance) (l : Claim) (b : ℕ) → HasBuffer l b → level_of I l b ≡ up I (entry_of l b) + 1
-level_inside I [] b h = absurd h
-level_inside I (e ∷ es) b h = go (level_inside I es b) (e.0 == b) refl
-  where
-    go : (HasBuffer es b → level_of I es b ≡ up I (entry_of es b) + 1) → (t : Bool) → (e.0 == b) ≡ t →
-        cond t (up I e + 1) (level_of I es b) ≡ up I (b, cond t e.1 (number_of es b)) + 1
-    go ih true q = ap (λ (n : ℕ). up I (n, e.1) + 1) (equal e.0 b q)
-    go ih false q = elim h [
-      | inl p ↦ absurd (let k = same e.0 b (sym p) in let r = sym q ∙ k in cc)
-      | inr i ↦ ih i
-    ]
-
-level_outside : (I : Instance) (l : Claim) (b : ℕ) → (HasBuffer l b → ⊥) → level_of I l b ≡ 0
-level_outside I [] b n = refl
-level_outside I (e ∷ es) b n = go (level_outside I es b (λ i. n (inr i))) (e.0 == b) refl
-  where
-    go : level_of I es b ≡ 0 → (t : Bool) → (e.0 == b) ≡ t → cond t (up I e + 1) (level_of I es b) ≡ 0
-    go ih true q = absurd (n (inl (sym (equal e.0 b q))))
-    go ih false q = ih
-
-pub levels_are : (I : Instance) (l : Claim) (levels : List ℕ) → AreLevels I l levels → levels ≡ levels_of I l
-levels_are I l levels h =
-    ext_get_or 0 levels (levels_of I l) (h.count ∙ sym (length-map-range_with_len (level_of I l) 0 (length I))) each
-  where
-    each : (b : ℕ) → b < length levels → slice_index_or levels b 0 ≡ slice_index_or (levels_of I l) b 0
-    each b lt =
-        let within : b < length I = (let k = h.count in omega arith) in
-        let made : slice_index_or (levels_of I l) b 0 ≡ level_of I l b =
-        get_or-map-range_with_len (level_of I l) 0 (length I) b b 0 within (omega arith) in
-        elim (has_or_not l b) [
-          | inl i ↦ (h.each b within).inside i ∙ sym (level_inside I l b i) ∙ sym made
-          | inr n ↦ (h.each b within).outside n ∙ sym (level_outside I l b n) ∙ sym made
-        ]
-
-pub order_is : (I : Instance) (l : Claim) (order : List ℕ) → map (entry_of l) order ≡ choices I (not_excluded I) l →
-    order ≡ order_of I l
-order_is I l order q = sym (buffers_of_entries l order) ∙ ap buffers_of q
-
--- so branches of the claim, with notes, are the tries of the claim that are noted so
-pub tries_are : (I : Instance) (l : Claim) (b : Branches) (n : Notes) → AreBranches I l b →
-    tried_by b n ≡ tried_of I l n
-tries_are I l b n h = put (order_is I l b.order.items h.order) (levels_are I l b.levels h.levels)
-  where
-    put : {order : List ℕ} {levels : List ℕ} → b.order.items ≡ order → b.levels ≡ levels → tried_by b n ≡ record {
-      order = order;
-      refuted = n.refuted.items;
-      levels = levels;
-      asked = n.asked;
-    }
-    put p q = rw (← p, ← q) refl
-
--- and so are those of a claim that was just opened
-pub fresh_are : (I : Instance) (l : Claim) (x : Fresh) (n : Notes) → AreLevels I l x.levels → n.refuted.items ≡ [] →
-    n.asked ≡ x.asked → tries_at I l x ≡ tried_of I l n
-fresh_are I l x n h none asked = put (levels_are I l x.levels h)
-  where
-    put : {levels : List ℕ} → x.levels ≡ levels → tries_at I l x ≡ record {
-      order = order_of I l;
-      refuted = n.refuted.items;
-      levels = levels;
-      asked = n.asked;
-    }
-    put p = rw (← p, none, asked) refl
-
--- the branches of a frame
-pub branches_from : (I : Instance) (l : Claim) (f : Tried) (b : Branches) (n : Notes) → f ≡ tried_by b n →
-    map (entry_of l) f.order ≡ choices I (not_excluded I) l → AreLevels I l f.levels → AreBranches I l b
-branches_from I l f b n e order levels = record {
-  order = subst (λ (f : Tried). map (entry_of l) f.order ≡ choices I (not_excluded I) l) e order;
-  levels = subst (λ (f : Tried). AreLevels I l f.levels) e levels;
-}
+use Rattle.search_core.specs.Ways.{AreKeptAlong, IsKeptOf, claim_no, notes_of, tries_of}
 
 -- ---- tries along claims
 last_of_more : (l m : Claim) (ls : List Claim) → last_claim (l ∷ m ∷ ls) ≡ last_claim (m ∷ ls)

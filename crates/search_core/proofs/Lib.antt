@@ -1,63 +1,30 @@
-pub mod Words
-pub mod Least
-pub mod Ends
-pub mod FirstChoice
-pub mod Order
-pub mod Noted
-pub mod Taking
-pub mod Seating
-pub mod Gathering
-pub mod TallLines
-pub mod FullSections
-pub mod Descent
-pub mod Growing
-pub mod Uncovered
-pub mod Working
-pub mod Searching
-pub mod Lifting
-pub mod Leveling
-pub mod LiftedChoices
-pub mod Keeping
-pub mod Going
-pub mod MadeAgain
-pub mod Stacks
-pub mod CasesLines
-pub mod Descending
-pub mod Stepping
-pub mod Passing
-pub mod Parting
-pub mod Joining
-pub mod Deciding
 pub mod Charging
-mod Computing
-pub mod ExampleFacts
-pub mod RaisingSteps
-pub mod TallLevels
-pub mod Along
-pub mod Grounding
-pub mod LeftBuffers
-pub mod Leading
-pub mod ChildLevels
-pub mod Watched
-pub mod TwinMarking
-pub mod TwinFacts
 pub mod Counting
-mod OutcomeFacts
-mod LevelFacts
-mod EndingFacts
-mod OverFacts
-mod LogFacts
-mod FoundFacts
-mod CiteFacts
-mod RefutationFacts
-mod PieceFacts
-mod TryFacts
+pub mod Deciding
+pub mod Descending
 mod DescentFacts
-mod OpenedFacts
-pub mod TurnFacts
-mod WalkFacts
-mod WayFacts
-mod NoTwinFacts
+mod ExampleFacts
+mod FoundFacts
+pub mod Gathering
+pub mod Going
+pub mod Joining
+pub mod Keeping
 mod LowFacts
+pub mod MadeAgain
+mod OpenedFacts
+mod OutcomeFacts
+pub mod Parting
+pub mod Passing
+mod PieceFacts
+mod RefutationFacts
 mod SeatFacts
+pub mod Seating
+pub mod Stacks
+pub mod Stepping
+pub mod Taking
+mod TurnFacts
+mod WalkFacts
 mod WatchFacts
+pub mod Watched
+mod WayFacts
+pub mod Words

@@ -3,8 +3,8 @@ use Rattle.std.proofs.Common.{◌≡◌, ℕ, zero, suc, true, [], ◌∷◌, sl
 use Rattle.search_core.proofs.Words.{Instance, IsLive, buffer, floor, is_live, Entry, IsIn, IsWhole, up, IsLeanLine, IsLegal, Line, Log, Over, claim_of, is_stacked, rounded, rounding, IsUncut, searched, whole, lifted, low, raised}
 use Rattle.dsa_search_laws.proofs.LineTests.{do_rise, has_reason, is_claim, is_legal, is_over, legal}
 use Rattle.refute_log.specs.Answers.{Offsets}
+use Rattle.branching.proofs.Computing.{computing_searched}
 use Rattle.search_core.specs.Decisions.{IsGiven, IsRefutation, turn_of}
-use Rattle.search_core.proofs.Computing.{computing_searched}
 
 -- ---- size 3 from 1 on stands on size 2, so both fit into 5 and not into 4
 three_on_two : IsGiven lifted 5 (Offsets (2 ∷ 0 ∷ []))

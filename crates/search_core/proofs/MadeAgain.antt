@@ -1,14 +1,17 @@
 -- Levels that are made from those of the claim above.
 use Rattle.std.proofs.Common.{◌≡◌, ℕ, ◌+◌, ◌-◌, ◌<◌, ◌^◌, List, [], length, slice_get, slice_index_or, slice_set, Option, Some, IfSome, sym, ap, ◌∙◌, subst, arith}
 use Rattle.search_core.proofs.Words.{Instance, Claim, child, in_at, HasBuffer, IsBoundedBy, entry_of, AreLevels, AreLow, last_claim}
+use Rattle.claim_levels.specs.Levels.{HasLowChild}
+use Rattle.claim_levels.proofs.AllLevels.{levels_are}
+use Rattle.branching.specs.Tries.{Tried, chosen_of}
+use Rattle.branching.specs.Branches.{order_of, tried_of}
+use Rattle.branching.proofs.LiftedChoices.{order_entries}
+use Rattle.branching.proofs.Searching.{chosen_at}
 use Rattle.search_core.specs.declared.kept.Kept.{Kept}
 use Rattle.search_core.specs.declared.path.Above.{Above}
-use Rattle.search_core.specs.Levels.{HasLowChild}
-use Rattle.search_core.specs.Tries.{Tried}
-use Rattle.search_core.specs.Ways.{AreKeptAlong, IsAbove, IsKeptOf, claim_no, notes_of, order_of, tried_of, tries_of}
-use Rattle.search_core.proofs.Keeping.{levels_are, set_kept, set_notes, tries_count, tries_get}
-use Rattle.search_core.proofs.LiftedChoices.{order_entries}
-use Rattle.search_core.proofs.Searching.{chosen_at}
+use Rattle.search_core.specs.Ways.{AreKeptAlong, IsAbove, IsKeptOf, claim_no, notes_of, tries_of}
+use Rattle.search_core.proofs.Keeping.{set_kept, set_notes, tries_count, tries_get}
+use Rattle.search_core.specs.Descents.{IsUnder}
 
 -- ---- the child of one claim
 module _ (I : Instance) (l m : Claim) (levels : List ℕ) (k : Kept) (h : AreLevels I l levels) (o : IsKeptOf I l m k)
@@ -120,3 +123,22 @@ all_made I claims before kept i levels m n done =
     let w = m.within in
     let e : i ≡ length claims - 1 = omega arith in
     subst (λ (i : ℕ). AreLevels I (claim_no claims i) levels) e m.are
+
+-- ---- the claim that the search is at, under the last frame
+pub low_child : (I : Instance) (f : Tried) (levels : List ℕ) (b : ℕ) (l : Claim) → IsUnder I f l →
+    levels ≡ f.levels → b ≡ chosen_of f → IsBoundedBy (2 ^ 54) l → HasLowChild I levels b
+low_child I f levels b l u q e low = record {
+  above = u.above;
+  are = subst (AreLevels I u.above) (sym q) u.levels;
+  has = subst (λ (b : ℕ). HasBuffer u.above b) (sym e) u.has;
+  low = subst (IsBoundedBy (2 ^ 54)) (u.standing.is_child
+      ∙ ap (λ (b : ℕ). child I u.above (entry_of u.above b)) (sym e)) low;
+}
+
+pub child_under : (I : Instance) (f : Tried) (levels numbers : List ℕ) (b : ℕ) (l : Claim) → IsUnder I f l →
+    levels ≡ f.levels → b ≡ chosen_of f →
+    ((m : Claim) → AreLevels I m levels → AreLevels I (child I m (entry_of m b)) numbers) → AreLevels I l numbers
+child_under I f levels numbers b l u q e h =
+    subst (λ (l : Claim). AreLevels I l numbers)
+    (sym (u.standing.is_child ∙ ap (λ (b : ℕ). child I u.above (entry_of u.above b)) (sym e)))
+    (h u.above (subst (AreLevels I u.above) (sym q) u.levels))

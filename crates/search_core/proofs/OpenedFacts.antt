@@ -1,39 +1,14 @@
 -- What is found where claims are opened of a buffer of size 3 and one of size 1 that stands at multiples of 4 alone.
 use Rattle.std.proofs.Common.{◌≡◌, ◌<◌, ℕ, zero, suc, List, [], ◌∷◌, slice_get, Some, inl, refl, sym, ◌∙◌, subst, arith}
-use Rattle.search_core.proofs.Words.{buffer, have_same_moments, is_live, some_before, Entry, up, Line, claim_of, ends_below, is_twin, comes_before, first, work, small_below, same_some, HasBuffer, AreNoted, LineWatches, RulesOut}
-use Rattle.search_core.specs.declared.fresh.Fresh.{Fresh}
-use Rattle.search_core.specs.declared.opening.Opened.TheVariants as opened
+use Rattle.search_core.proofs.Words.{buffer, have_same_moments, is_live, some_before, Entry, up, Line, claim_of, ends_below, is_twin, comes_before, first, small_below, same_some, HasBuffer, AreNoted, LineWatches, RulesOut}
+use Rattle.claim_levels.proofs.LevelFacts.{rest, root}
+use Rattle.branching.specs.declared.fresh.Fresh.{Fresh}
+use Rattle.branching.proofs.KnownFacts.{rest_known, root_layout}
+use Rattle.branching.proofs.OverFacts.{over}
+use Rattle.branching.proofs.TryFacts.{choices_of_root}
 use Rattle.search_core.specs.Meters.{Units}
-use Rattle.search_core.specs.Opened.{AreAllAsked, AreChoices, IfChoices, IsOpened, UnlessUnopened, left_open}
-use Rattle.search_core.specs.Tries.{Tried}
-use Rattle.search_core.proofs.Computing.{computing_work}
-use Rattle.search_core.proofs.FoundFacts.{rest_known, root_layout}
-use Rattle.search_core.proofs.LevelFacts.{differ, rest, root}
-use Rattle.search_core.proofs.OverFacts.{over, over_covers}
-use Rattle.search_core.proofs.TryFacts.{both_left, one_left, trying_both}
-
--- ---- choices
--- of four claims that the search looks at three are left
-choices_of_root : AreChoices small_below 4 [] root (both_left 0)
-unfolding computing_work
-choices_of_root = record {
-  not_empty = λ q. cc;
-  fresh = λ k line at covers. cc;
-  trying = trying_both [] 0;
-  work = refl;
-}
-
--- two are left where the first choice is refuted
-not_once_one_is_refuted : (lines : List Line) → AreChoices small_below 4 lines root one_left → ⊥
-unfolding computing_work
-not_once_one_is_refuted lines h = differ 3 4 (omega arith) (sym h.work)
-
--- a claim that a line covers is not opened
-none_where_covered : (f : Tried) → AreChoices small_below 4 (over ∷ []) rest f → ⊥
-none_where_covered f h = h.fresh 0 over refl over_covers
-
-none_of_no_buffers : (f : Tried) → AreChoices small_below 4 [] [] f → ⊥
-none_of_no_buffers f h = h.not_empty refl
+use Rattle.search_core.specs.Opened.{AreAllAsked, IfChoices, IsOpened, UnlessUnopened, left_open}
+use Rattle.search_core.specs.declared.opening.Opened.TheVariants as opened
 
 -- the claim of both, just opened
 abbrev fresh : ℕ → Fresh

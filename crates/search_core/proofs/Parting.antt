@@ -4,8 +4,8 @@ use Rattle.std.specs.Int.{next_multiple_of}
 use Rattle.search_core.proofs.Words.{Instance, IsInstance, buffer, floor, Claim, Entry, IsIn, Covers, IsWhole, up, Line, Log, claim_of, IsAccepted, numbers, part_of, parts, whole, from_filter, into_map, equal, buffers_of-whole, claim_of_part, in_whole, part_is_members, same_part_uncut, OpenLog, ended, IsCoveredBy}
 use Rattle.dsa_terms.proofs.Ranges.{from_range}
 use Rattle.dsa_search_laws.proofs.PartLists.{got_in}
+use Rattle.branching.specs.Logs.{Extends, IsSearchLog}
 use Rattle.search_core.specs.Decisions.{IsRefutation}
-use Rattle.search_core.specs.Logs.{Extends, IsSearchLog}
 
 pub part_in_range : (I : Instance) (p : List ℕ) → IsIn p (parts I) → All (λ b. b < length I) p
 part_in_range I p h = all_in p (λ b i.

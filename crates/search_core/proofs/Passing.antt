@@ -1,14 +1,15 @@
 -- Choices whose children lines are known to cover.
 use Rattle.std.proofs.Common.{◌≡◌, ℕ, ◌+◌, ◌-◌, ◌<◌, ◌≤◌, cond, List, ◌∷◌, [], length, map, Option, Some, None, is_some, ap, ◌∙◌, arith, length-append}
 use Rattle.search_core.proofs.Words.{Instance, Claim, Entry, child, Line, first, work, claim-child, entry_of, Stands, OpenLog, IsCoveredBy}
-use Rattle.search_core.specs.Descents.{IsTrying, Place, claim_at, through}
-use Rattle.search_core.specs.Logs.{IsSearchLog}
-use Rattle.search_core.specs.Tries.{IsLeft, Tried, chosen_of, later_of, noted_by, rest_of}
+use Rattle.branching.specs.Trying.{IsTrying, through}
+use Rattle.branching.specs.Logs.{IsSearchLog}
+use Rattle.branching.specs.Tries.{IsLeft, Tried, chosen_of, later_of, noted_by, rest_of}
+use Rattle.branching.proofs.Descent.{is_instance}
+use Rattle.branching.proofs.Searching.{choice_refuted, next_choice, rest_of_noted}
+use Rattle.branching.proofs.Uncovered.{none_where_covered}
+use Rattle.branching.proofs.Working.{through_next}
+use Rattle.search_core.specs.Descents.{Place, claim_at}
 use Rattle.search_core.specs.Turns.{IsAhead}
-use Rattle.search_core.proofs.Descent.{is_instance}
-use Rattle.search_core.proofs.Searching.{choice_refuted, next_choice, rest_of_noted}
-use Rattle.search_core.proofs.Uncovered.{none_where_covered}
-use Rattle.search_core.proofs.Working.{through_next}
 
 -- how much is left to do below the claim
 abbrev pub left_below : Instance → ℕ → Claim → Tried → ℕ

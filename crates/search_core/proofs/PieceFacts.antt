@@ -2,13 +2,13 @@
 use Rattle.std.proofs.Common.{◌≡◌, ℕ, [], ◌∷◌, Some, None, refl, sym, ap, ◌∙◌, arith}
 use Rattle.std.specs.Global.{Vec}
 use Rattle.search_core.proofs.Words.{Log, searched, whole, first}
-use Rattle.refute_log.specs.declared.decided.Decided.TheVariants as decided
-use Rattle.search_core.specs.declared.part.Piece.TheVariants as piece
+use Rattle.branching.proofs.Computing.{computing_first, computing_searched}
 use Rattle.search_core.specs.Meters.{Units}
 use Rattle.search_core.specs.Outcomes.{IsDecided}
 use Rattle.search_core.specs.Pieces.{IfPieceSpent, IsPiece, PieceIsCounted, UnlessPieceSpent}
-use Rattle.search_core.proofs.Computing.{computing_first, computing_searched}
 use Rattle.search_core.proofs.RefutationFacts.{from_zero, found_at_3, log_of, lone, none_at_3, refuted_at_2}
+use Rattle.refute_log.specs.declared.decided.Decided.TheVariants as decided
+use Rattle.search_core.specs.declared.part.Piece.TheVariants as piece
 
 seated_at_3 : first lone 3 (whole lone (0 ∷ [])) ≡ Some ((0, 0) ∷ [])
 unfolding computing_first

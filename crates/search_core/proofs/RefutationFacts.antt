@@ -3,8 +3,8 @@ use Rattle.std.proofs.Common.{◌≡◌, ◌<◌, ◌^◌, ℕ, zero, suc, List,
 use Rattle.search_core.proofs.Words.{Instance, IsInstance, IsLive, buffer, is_live, Covers, Entry, IsClaim, IsIn, IsWhole, up, IsLeanLine, IsLegal, Line, Log, Over, claim_of, is_stacked, rounded, rounding, IsUncut, searched, plain, searched_is_layout}
 use Rattle.dsa_terms.specs.Layouts.{IsLayout}
 use Rattle.dsa_search_laws.proofs.Logs.{accepted_is_infeasible}
+use Rattle.branching.proofs.Computing.{computing_searched}
 use Rattle.search_core.specs.Decisions.{IsRefutation, where_numbered}
-use Rattle.search_core.proofs.Computing.{computing_searched}
 
 abbrev pub lone : Instance
 lone = plain 0 1 3 1 ∷ []

@@ -1,9 +1,10 @@
 -- Seats by the offsets of buffers.
-use Rattle.std.proofs.Common.{◌≡◌, ℕ, ◌+◌, ◌<◌, ◌==◌, Bool, true, false, cond, List, [], ◌∷◌, drop, length, map, max, Option, Some, None, slice_index, slice_set, inl, inr, refl, sym, ap, ◌∙◌, arith, ext_get_or, get_or-set_other}
+use Rattle.std.proofs.Common.{◌≡◌, ℕ, ◌+◌, ◌<◌, ◌==◌, Bool, true, false, cond, List, [], ◌∷◌, drop, length, map, max, Option, Some, None, slice_index, slice_set, inl, inr, refl, sym, ap, ◌∙◌, arith, ext_get_or, get_or-set_other, ◌++◌}
 use Rattle.std.specs.List.{list_any}
 use Rattle.std.proofs.lemmas.Grind.{get_or-set_at}
 use Rattle.std.proofs.lemmas.List.FromFn.{get_or-map-range_with_len, length-map-range_with_len}
-use Rattle.search_core.proofs.Words.{Instance, Claim, Entry, IsIn, child, number_of, step, up, offsets_of, choices, first, first_of, first_some, is_tall, not_excluded, seated, some_answer, apart, same, same_or_not, number_of-map, in_child, entry_of}
+use Rattle.std.proofs.lemmas.List.{map-append}
+use Rattle.search_core.proofs.Words.{Instance, Claim, Entry, IsIn, child, number_of, step, up, offsets_of, choices, first, first_of, first_some, is_tall, not_excluded, seated, some_answer, apart, same, same_or_not, number_of-map, in_child, entry_of, Rises, buffers_of, HasBuffer, entries_below, below_zero, below_skip, below_take, below_all}
 use Rattle.dsa_search_laws.proofs.Complete.{seated_some}
 use Rattle.search_core.specs.Seats.{seats_by}
 
@@ -75,3 +76,22 @@ offsets_are I seats offsets i z n h =
     all : (xs : List Entry) → drop 0 xs ≡ xs
     all [] = refl
     all (x ∷ xs) = refl
+
+-- ---- a list that is made of the entries of a claim, one after another
+module _ {A : Type 0} (f : Entry → A) (l : Claim) where
+  pub map_none : (items : List A) → items ≡ [] → items ≡ map f (entries_below 0 l)
+  map_none items q = rw (q, ← below_zero l) refl
+
+  pub map_skip : (n : ℕ) (items after : List A) → (HasBuffer l n → ⊥) → after ≡ items →
+      items ≡ map f (entries_below n l) → after ≡ map f (entries_below (n + 1) l)
+  map_skip n items after h q e = rw (q, below_skip l n h) e
+
+  pub map_take : (n : ℕ) (items after : List A) → Rises (buffers_of l) → HasBuffer l n →
+      after ≡ items ++ f (entry_of l n) ∷ [] → items ≡ map f (entries_below n l) →
+      after ≡ map f (entries_below (n + 1) l)
+  map_take n items after r h q e =
+      rw (q, below_take l n r h, map-append f (entries_below n l) (entry_of l n ∷ []), e) refl
+
+  pub map_all : (n : ℕ) (items : List A) → ((e : Entry) → IsIn e l → e.0 < n) →
+      items ≡ map f (entries_below n l) → items ≡ map f l
+  map_all n items h e = rw (below_all l n h) at e

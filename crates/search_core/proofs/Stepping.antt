@@ -1,16 +1,17 @@
 -- One step of the search, as a whole.
 use Rattle.std.proofs.Common.{◌≡◌, ℕ, ◌+◌, ◌*◌, ◌≤◌, cond, List, [], ◌∷◌, ◌++◌, length, reverse, Option, Some, None, IfNone, IfSome, is_some, refl, sym, ap, ◌∙◌, subst, arith, length-append}
 use Rattle.search_core.proofs.Words.{Instance, Claim, IsClaim, Line, first, work, IsCoveredBy}
-use Rattle.search_core.specs.Descents.{Descends, HasAskedAll, IsKnown, IsPath, IsPlace, Place, above_of, claim_at, left_of, owed, sky_root, turns_left}
-use Rattle.search_core.specs.Logs.{Extends}
+use Rattle.branching.specs.Trying.{IsKnown}
+use Rattle.branching.specs.Logs.{Extends}
+use Rattle.branching.specs.Tries.{Tried, noted_by}
+use Rattle.branching.proofs.Growing.{extends_along, extends_none}
+use Rattle.branching.proofs.Working.{some_work}
+use Rattle.search_core.specs.Descents.{Descends, HasAskedAll, IsPath, IsPlace, Place, above_of, claim_at, left_of, owed, sky_root, turns_left}
 use Rattle.search_core.specs.Meters.{Units}
-use Rattle.search_core.specs.Tries.{Tried, noted_by}
 use Rattle.search_core.specs.Turns.{IsAhead, IsOn, debt_of}
 use Rattle.search_core.specs.Walks.{place_on}
 use Rattle.search_core.specs.Ways.{IsBackFrom, Way}
 use Rattle.search_core.proofs.Descending.{IsBack, back_debt, is_back, no_above, place_with_line, root_has, with_line}
-use Rattle.search_core.proofs.Growing.{extends_along, extends_none}
-use Rattle.search_core.proofs.Working.{some_work}
 
 -- lines that have only buffers of the last claim have only buffers of the first one
 pub grown_below : (I : Instance) (C : ℕ) (lines after : List Line) (here : Place) → IsPath I C lines here →

@@ -2,9 +2,9 @@
 use Rattle.std.proofs.Common.{◌≡◌, ℕ, ◌<◌, ◌≤◌, List, [], ◌∷◌, length, slice_get, Some, arith}
 use Rattle.search_core.proofs.Words.{Instance, Claim, IsIn, Line, members, part_of, parts, part_is_in, IsCoveredBy}
 use Rattle.search_core.specs.declared.found.Found.{Found}
-use Rattle.search_core.specs.declared.found.Found.TheVariants as found
 use Rattle.search_core.specs.Found.{UnlessFoundSpent}
 use Rattle.search_core.specs.Meters.{AreMore, Units}
+use Rattle.search_core.specs.declared.found.Found.TheVariants as found
 
 -- no line of no lines covers a claim
 pub none_covers : (I : Instance) (l : Claim) (lines : List Line) (k : ℕ) → lines ≡ [] → IsCoveredBy I lines l k → ⊥

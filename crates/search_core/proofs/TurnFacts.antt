@@ -3,17 +3,17 @@
 use Rattle.std.proofs.Common.{◌≡◌, ℕ, [], ◌∷◌, Option, Some, None, refl, sym, ap, ◌∙◌, arith}
 use Rattle.std.specs.Global.{Vec}
 use Rattle.search_core.proofs.Words.{small_below}
+use Rattle.claim_levels.proofs.LevelFacts.{rest, root}
+use Rattle.branching.specs.Tries.{Tried}
+use Rattle.branching.proofs.Computing.{computing_work}
+use Rattle.branching.proofs.KnownFacts.{root_layout}
+use Rattle.branching.proofs.OverFacts.{over}
+use Rattle.branching.proofs.TryFacts.{both_left, one_left, trying_both}
+use Rattle.search_core.specs.Descents.{Place, owed}
+use Rattle.search_core.specs.Turns.{IfOn, IsAhead, IsOn, IsAtChoices, IsUncovered, IsTurned, Stage, UnlessTurnSpent, debt_of}
+use Rattle.search_core.proofs.DescentFacts.{after_line, before_line, below_root, seven_turns, six_turns, sky_of}
 use Rattle.search_core.specs.declared.found.Found.TheVariants as found
 use Rattle.search_core.specs.declared.turns.Turn.TheVariants as turn
-use Rattle.search_core.specs.Descents.{Place, owed}
-use Rattle.search_core.specs.Tries.{Tried}
-use Rattle.search_core.specs.Turns.{IfOn, IsAhead, IsOn, IsAtChoices, IsUncovered, IsTurned, Stage, UnlessTurnSpent, debt_of}
-use Rattle.search_core.proofs.Computing.{computing_work}
-use Rattle.search_core.proofs.DescentFacts.{after_line, before_line, below_root, seven_turns, six_turns, sky_of}
-use Rattle.search_core.proofs.FoundFacts.{root_layout}
-use Rattle.search_core.proofs.LevelFacts.{rest, root}
-use Rattle.search_core.proofs.OverFacts.{over}
-use Rattle.search_core.proofs.TryFacts.{both_left, one_left, trying_both}
 
 -- the search is at what is left, with n of seven units used
 abbrev below : Option ℕ → Place

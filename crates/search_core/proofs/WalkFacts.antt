@@ -1,15 +1,15 @@
 -- A search that is at what is left of one buffer, below a root of two.
 use Rattle.std.proofs.Common.{◌≡◌, ℕ, [], ◌∷◌, Some, None, length, refl, ap, arith}
 use Rattle.search_core.proofs.Words.{Instance, LineWatches, OpenLog}
+use Rattle.claim_levels.proofs.LevelFacts.{rest, root}
+use Rattle.branching.specs.Tries.{Tried}
+use Rattle.branching.proofs.OverFacts.{over}
+use Rattle.branching.proofs.TryFacts.{both_left}
 use Rattle.search_core.specs.declared.walk.Walk.{Walk}
 use Rattle.search_core.specs.Meters.{Units}
-use Rattle.search_core.specs.Tries.{Tried}
 use Rattle.search_core.specs.Walks.{GoesOn, HasWatches, due_lines, place_of, place_on, stage_of}
 use Rattle.search_core.specs.Watches.{AreWatchedAt}
 use Rattle.search_core.specs.Ways.{Way}
-use Rattle.search_core.proofs.LevelFacts.{rest, root}
-use Rattle.search_core.proofs.OverFacts.{over}
-use Rattle.search_core.proofs.TryFacts.{both_left}
 
 module _
     (path : Way)

@@ -1,7 +1,7 @@
 -- Worked facts: a line of two bounds that is watched at the claims of one frame, and not at those of two.
 use Rattle.std.proofs.Common.{zero, suc, [], ◌∷◌, arith}
 use Rattle.line_index.proofs.WatchFacts.{by_one, fallen, high, lines, low, met_by_high, raised, watched_at_low}
-use Rattle.search_core.specs.Tries.{untried}
+use Rattle.branching.specs.Tries.{untried}
 use Rattle.search_core.specs.Watches.{AreRaisedFrom, AreWatchedAt}
 
 watched_at_one : AreWatchedAt lines by_one (untried (0 ∷ []) low 1 ∷ [])

@@ -3,10 +3,10 @@ use Rattle.std.proofs.Common.{◌≡◌, ℕ, ◌-◌, List, [], ◌∷◌, ◌+
 use Rattle.std.proofs.lemmas.List.Elements.{All-pop, All-push, All-weaker}
 use Rattle.std.proofs.lemmas.Option.{get_or_from_slice_get, slice_get_within}
 use Rattle.search_core.proofs.Words.{Claim, Line, AreRaised, AreWatched, LineWatches, watched_more}
+use Rattle.branching.specs.Logs.{Extends}
+use Rattle.branching.specs.Tries.{Tried}
 use Rattle.search_core.specs.declared.path.Above.{Above}
 use Rattle.search_core.specs.Descents.{HasAskedAll}
-use Rattle.search_core.specs.Logs.{Extends}
-use Rattle.search_core.specs.Tries.{Tried}
 use Rattle.search_core.specs.Watches.{AreRaisedFrom, AreWatchedAt}
 use Rattle.search_core.specs.Ways.{IsAbove}
 

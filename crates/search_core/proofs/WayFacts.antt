@@ -2,29 +2,12 @@
 -- and what is left of it by the first of them.
 use Rattle.std.proofs.Common.{◌≡◌, [], ◌∷◌, refl, arith}
 use Rattle.search_core.proofs.Words.{buffer, do_share, have_same_moments, is_live, some_before, child, step, up, ends_below, is_twin, comes_before, small_below}
-use Rattle.search_core.specs.declared.notes.Notes.{Notes}
+use Rattle.claim_levels.proofs.LevelFacts.{rest, root}
+use Rattle.branching.specs.declared.notes.Notes.{Notes}
+use Rattle.branching.specs.Branches.{tried_of}
+use Rattle.branching.proofs.TryFacts.{both_left}
 use Rattle.search_core.specs.Descents.{IsStanding}
-use Rattle.search_core.specs.Ways.{level_of, levels_of, order_of, tried_of, tries_of}
-use Rattle.search_core.proofs.LevelFacts.{rest, root}
-use Rattle.search_core.proofs.TryFacts.{both_left}
-
--- ---- levels
-both_at_0 : levels_of small_below root ≡ 1 ∷ 1 ∷ []
-unfolding up buffer
-both_at_0 = refl
-
--- the one that is not in the claim has none, and the bound 3 of the other one is met at 4
-one_at_4 : levels_of small_below rest ≡ 0 ∷ 5 ∷ []
-unfolding up buffer
-one_at_4 = refl
-
-no_third : level_of small_below rest 2 ≡ 0
-no_third = refl
-
--- ---- choices
-both_in_order : order_of small_below root ≡ 0 ∷ 1 ∷ []
-unfolding comes_before ends_below is_twin have_same_moments some_before is_live up buffer
-both_in_order = refl
+use Rattle.search_core.specs.Ways.{tries_of}
 
 -- ---- tries
 module _ (n : Notes) (none : n.refuted.items ≡ []) (asked : n.asked ≡ 0) where

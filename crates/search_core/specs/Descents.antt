@@ -1,37 +1,14 @@
 -- Where a search is: the claims that it goes down through, and what it knows of each.
-use Rattle.std.specs.Prelude.{◌≡◌, ℕ, ◌+◌, ◌-◌, ◌*◌, ◌<◌, ⊤, Option, is_some, IfSome, IfNone, None, cond, List, [], ◌∷◌, ◌++◌, length, map, drop, reverse, slice_get}
+use Rattle.std.specs.Prelude.{◌≡◌, ℕ, ◌+◌, ◌-◌, ◌*◌, ◌<◌, ⊤, Option, is_some, IfSome, IfNone, cond, List, [], ◌∷◌, length, map, drop, reverse, slice_get}
 use Rattle.dsa_terms.specs.Buffers.{Instance}
-use Rattle.dsa_terms.specs.Claims.{Claim, Entry, IsIn, child}
+use Rattle.dsa_terms.specs.Claims.{Claim, child}
 use Rattle.dsa_terms.specs.Logs.{Line}
-use Rattle.dsa_terms.specs.Search.{choices, first, first_some, not_excluded, seated, work, work_through}
+use Rattle.dsa_terms.specs.Search.{first, work}
 use Rattle.canonical_order.specs.Claims.{HasBuffer, entry_of}
 use Rattle.canonical_order.specs.Levels.{AreLevels}
 use Rattle.skyline.specs.Skies.{Sky, last_claim}
-use Rattle.line_index.specs.Covered.{IsCoveredBy}
-use Rattle.search_core.specs.declared.found.Refuted.{Refuted}
-use Rattle.search_core.specs.Cites.{IsChildCovered}
-use Rattle.search_core.specs.Tries.{Tried, IsLeft, chosen_of, later_of, rest_of}
-
--- the layout of the claim with that entry first
-abbrev pub try_of : Instance → ℕ → Claim → Entry → Option (List Entry)
-try_of I C l e = seated I l e (first I C (child I l e))
-
--- how many claims the search looks at below the claim, where these entries are its choices
-unfoldable pub through : Instance → ℕ → Claim → List Entry → ℕ
-through I C l es = work_through (λ e. work I C (child I l e)) (λ e. is_some (first I C (child I l e))) es
-
--- the buffer of a refuted choice
-abbrev pub refuted_buffer : Refuted → ℕ
-refuted_buffer r = r.buffer
-
--- the choices are those of the claim, in order; the first of them are refuted, each by a line, and the claim's first
--- layout is the one that the others give; the levels are the claim's
-pub record IsTrying (I : Instance) (C : ℕ) (lines : List Line) (l : Claim) (f : Tried) : Type 0 where
-  pub order : map (entry_of l) f.order ≡ choices I (not_excluded I) l
-  pub noted : f.order ≡ map refuted_buffer f.refuted ++ rest_of f
-  pub covered : (r : Refuted) → IsIn r f.refuted → IsChildCovered I lines l r
-  pub left : first I C l ≡ first_some (try_of I C l) (map (entry_of l) (rest_of f))
-  pub levels : AreLevels I l f.levels
+use Rattle.branching.specs.Tries.{Tried, IsLeft, chosen_of, later_of}
+use Rattle.branching.specs.Trying.{through, IsTrying, IsKnown}
 
 -- the last one of the frames has asked all lines, if there is one
 abbrev pub HasAskedAll : List Line → List Tried → Type 0
@@ -100,11 +77,6 @@ owed I C here =
 -- how many turns are left at most
 abbrev pub turns_left : Instance → ℕ → Place → ℕ
 turns_left I C here = 2 * owed I C here + length here.frames + cond (is_some here.line) 1 0
-
--- the claim has no layout, and the line of that number covers it
-pub record IsKnown (I : Instance) (C : ℕ) (lines : List Line) (l : Claim) (k : ℕ) : Type 0 where
-  pub none : first I C l ≡ None
-  pub covered : IsCoveredBy I lines l k
 
 -- the claim that the search is at is reached from the first one by the choices that stand
 pub record IsPath (I : Instance) (C : ℕ) (lines : List Line) (here : Place) : Type 0 where

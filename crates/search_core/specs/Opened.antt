@@ -1,26 +1,16 @@
 -- What is found where a claim is opened.
-use Rattle.std.specs.Prelude.{◌≡◌, ◌≢◌, ℕ, ◌+◌, ⊤, Some, [], List, length, map}
+use Rattle.std.specs.Prelude.{◌≡◌, ℕ, ⊤, Some, [], List, length}
 use Rattle.dsa_terms.specs.Buffers.{Instance}
 use Rattle.dsa_terms.specs.Claims.{Claim}
 use Rattle.dsa_terms.specs.Logs.{Line}
-use Rattle.dsa_terms.specs.Search.{first, work}
-use Rattle.canonical_order.specs.Claims.{entry_of}
-use Rattle.line_index.specs.Covered.{NoneCovers}
+use Rattle.dsa_terms.specs.Search.{first}
 use Rattle.line_index.specs.Watches.{AreWatched, LineWatches}
+use Rattle.branching.specs.declared.fresh.Fresh.{Fresh}
+use Rattle.branching.specs.Trying.{IsKnown, AreChoices}
+use Rattle.branching.specs.Fresh.{IsFresh, tries_at}
 use Rattle.search_core.specs.declared.opening.Opened.{Opened}
-use Rattle.search_core.specs.declared.opening.Opened.TheVariants as opened
-use Rattle.search_core.specs.declared.fresh.Fresh.{Fresh}
-use Rattle.search_core.specs.Descents.{IsKnown, IsTrying, through}
-use Rattle.search_core.specs.Fresh.{IsFresh, tries_at}
 use Rattle.search_core.specs.Meters.{AreSpent, Units}
-use Rattle.search_core.specs.Tries.{Tried, rest_of}
-
--- the choices of a claim that has some buffers: they decide its layout, and its work but for itself; no line covers it
-pub record AreChoices (I : Instance) (C : ℕ) (lines : List Line) (l : Claim) (f : Tried) : Type 0 where
-  pub not_empty : l ≢ []
-  pub fresh : NoneCovers I lines l
-  pub trying : IsTrying I C lines l f
-  pub work : work I C l ≡ 1 + through I C l (map (entry_of l) (rest_of f))
+use Rattle.search_core.specs.declared.opening.Opened.TheVariants as opened
 
 -- all lines were asked at the claim of the choices, and are watched there
 pub record AreAllAsked (lines : List Line) (watches : LineWatches) (x : Fresh) : Type 0 where

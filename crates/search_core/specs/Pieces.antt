@@ -4,9 +4,9 @@ use Rattle.dsa_terms.specs.Buffers.{Instance}
 use Rattle.dsa_terms.specs.Parts.{whole}
 use Rattle.dsa_terms.specs.Search.{first}
 use Rattle.search_core.specs.declared.part.Piece.{Piece}
-use Rattle.search_core.specs.declared.part.Piece.TheVariants as piece
 use Rattle.search_core.specs.Decisions.{IsRefutation}
 use Rattle.search_core.specs.Meters.{AreMoreBy, Units}
+use Rattle.search_core.specs.declared.part.Piece.TheVariants as piece
 
 -- the first layout of the part, or a log that refutes the capacity where there is none
 abbrev pub IsPiece : Instance → ℕ → List ℕ → Piece → Type 0

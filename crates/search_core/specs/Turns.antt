@@ -4,13 +4,14 @@ use Rattle.dsa_terms.specs.Buffers.{Instance}
 use Rattle.dsa_terms.specs.Logs.{Line}
 use Rattle.canonical_order.specs.Claims.{entry_of}
 use Rattle.line_index.specs.Covered.{NoneCovers}
+use Rattle.branching.specs.Trying.{IsTrying, through}
+use Rattle.branching.specs.Tries.{Tried, rest_of}
 use Rattle.search_core.specs.declared.found.Found.{Found}
 use Rattle.search_core.specs.declared.turns.Turn.{Turn}
-use Rattle.search_core.specs.declared.turns.Turn.TheVariants as turn
-use Rattle.search_core.specs.Descents.{IsPath, IsPlace, IsTrying, Place, above_of, claim_at, left_of, owed, sky_root, through, turns_left}
+use Rattle.search_core.specs.Descents.{IsPath, IsPlace, Place, above_of, claim_at, left_of, owed, sky_root, turns_left}
 use Rattle.search_core.specs.Found.{IfFoundSpent, IsFound, UnlessFoundSpent}
 use Rattle.search_core.specs.Meters.{AreSpent, Units}
-use Rattle.search_core.specs.Tries.{Tried, rest_of}
+use Rattle.search_core.specs.declared.turns.Turn.TheVariants as turn
 
 -- how many claims are left to look at where the claim that the search is at is open and has these choices
 abbrev pub debt_of : Instance → ℕ → Place → Tried → ℕ

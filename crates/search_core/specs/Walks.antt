@@ -4,11 +4,11 @@ use Rattle.dsa_terms.specs.Buffers.{Instance}
 use Rattle.dsa_terms.specs.Logs.{Line}
 use Rattle.refute_log.specs.Logs.{OpenLog}
 use Rattle.line_index.specs.Watches.{AreWatched}
+use Rattle.branching.specs.Logs.{Extends, IsSearchLog}
+use Rattle.branching.specs.Tries.{Tried}
 use Rattle.search_core.specs.declared.walk.Walk.{Walk}
 use Rattle.search_core.specs.Descents.{Place, claim_at}
-use Rattle.search_core.specs.Logs.{Extends, IsSearchLog}
 use Rattle.search_core.specs.Meters.{Units}
-use Rattle.search_core.specs.Tries.{Tried}
 use Rattle.search_core.specs.Turns.{IsAhead, Stage}
 use Rattle.search_core.specs.Watches.{AreWatchedAt}
 use Rattle.search_core.specs.Ways.{Way}

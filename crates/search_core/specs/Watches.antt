@@ -3,7 +3,7 @@ use Rattle.std.specs.Prelude.{ℕ, List}
 use Rattle.std.specs.List.{All}
 use Rattle.dsa_terms.specs.Logs.{Line}
 use Rattle.line_index.specs.Watches.{AreRaised, AreWatched, LineWatches}
-use Rattle.search_core.specs.Tries.{Tried}
+use Rattle.branching.specs.Tries.{Tried}
 
 -- at each of these claims the lines that were asked there are watched
 abbrev pub AreWatchedAt : List Line → LineWatches → List Tried → Type 0

@@ -1,60 +1,20 @@
 -- The way of a search: the claims down to the one that it is at, and what is kept of the choices of those above.
 use Rattle.std.specs.Prelude.{◌≡◌, ℕ, ◌+◌, ◌-◌, ◌<◌, ◌≤◌, ◌++◌, List, [], ◌∷◌, length, map, slice_get, slice_index_or, IfSome, Option, Some}
-use Rattle.std.specs.Global.{Vec}
 use Rattle.dsa_terms.specs.Buffers.{Instance}
-use Rattle.dsa_terms.specs.Claims.{Claim, Entry, buffers_of, number_of, up}
-use Rattle.dsa_terms.specs.Parts.{numbers}
-use Rattle.dsa_terms.specs.Search.{choices, not_excluded}
-use Rattle.canonical_order.specs.Claims.{entry_of}
+use Rattle.dsa_terms.specs.Claims.{Claim}
 use Rattle.canonical_order.specs.Levels.{AreLevels}
 use Rattle.skyline.specs.Skies.{Sky, last_claim}
-use Rattle.search_core.specs.declared.branches.Branches.{Branches}
-use Rattle.search_core.specs.declared.notes.Notes.{Notes}
+use Rattle.branching.specs.declared.notes.Notes.{Notes}
+use Rattle.branching.specs.Tries.{Tried, chosen_of}
+use Rattle.branching.specs.Branches.{IsOrderOf, tried_of}
 use Rattle.search_core.specs.declared.kept.Kept.{Kept}
 use Rattle.search_core.specs.declared.path.Above.{Above}
 use Rattle.search_core.specs.Descents.{IsStanding}
-use Rattle.search_core.specs.Tries.{Tried, chosen_of}
 
 -- the claims down to the last one, and the tries of each claim above that one
 pub record Way : Type 0 where
   pub sky : Sky
   pub frames : List Tried
-
--- ---- what a claim alone decides
--- the level of the buffer: one more than its up in the claim, and 0 where it is not in it
-abbrev pub level_of : Instance → Claim → ℕ → ℕ
-level_of I l b = number_of (map (λ (e : Entry). (e.0, up I e + 1)) l) b
-
--- the levels of the claim
-abbrev pub levels_of : Instance → Claim → List ℕ
-levels_of I l = map (level_of I l) (numbers (length I))
-
--- the choices of the claim in order
-abbrev pub order_of : Instance → Claim → List ℕ
-order_of I l = buffers_of (choices I (not_excluded I) l)
-
--- these are the choices of the claim in order
-abbrev pub IsOrderOf : Instance → Claim → Vec ℕ → Type 0
-IsOrderOf I l order = map (entry_of l) order.items ≡ choices I (not_excluded I) l
-
--- these are the choices of the claim in order, and its levels
-pub record AreBranches (I : Instance) (l : Claim) (b : Branches) : Type 0 where
-  pub order : map (entry_of l) b.order.items ≡ choices I (not_excluded I) l
-  pub levels : AreLevels I l b.levels
-
--- ---- tries
--- the tries of these choices that are noted so
-abbrev pub tried_by : Branches → Notes → Tried
-tried_by b n = record { order = b.order.items; refuted = n.refuted.items; levels = b.levels; asked = n.asked }
-
--- the tries of the claim that are noted so
-abbrev pub tried_of : Instance → Claim → Notes → Tried
-tried_of I l n = record {
-  order = order_of I l;
-  refuted = n.refuted.items;
-  levels = levels_of I l;
-  asked = n.asked;
-}
 
 -- the tries of each claim but for the last one, by what is noted of each
 abbrev pub tries_of : Instance → List Claim → List Notes → List Tried

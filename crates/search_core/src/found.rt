@@ -10,10 +10,3 @@ pub(crate) enum Found {
     /// Nothing, since the budget is spent.
     Spent,
 }
-
-/// A buffer of a claim, and the number of a line that covers the child by it.
-#[derive(Clone, Copy, Debug)]
-pub(crate) struct Refuted {
-    pub(crate) buffer: u32,
-    pub(crate) line: u64,
-}

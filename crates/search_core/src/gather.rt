@@ -9,7 +9,7 @@ ghost use Rattle.search_core.specs.Walks.{place_on};
 ghost use Rattle.skyline.specs.Skies.{last_claim};
 
 use crate::path::Path;
-use crate::task::Task;
+use branching::Task;
 use canonical_order::Lows;
 use dsa_model::NoMemory;
 use std::alloc::Global;

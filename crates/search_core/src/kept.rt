@@ -2,8 +2,8 @@
 
 ghost use Rattle.std.specs.Prelude.{◌≡◌, None, Some};
 
-use crate::levels::Levels;
-use crate::notes::Notes;
+use branching::Notes;
+use claim_levels::Levels;
 
 /// What is noted of the choices of a claim, the choice that was taken, all choices in order, where
 /// they were needed so far, and the claim's levels. Order and levels can be dropped, and made

@@ -4,21 +4,18 @@ ghost use Rattle.std.specs.Prelude.{◌≡◌, ◌+◌, ◌≤◌, ℕ, [], List
 ghost use Rattle.canonical_order.specs.Levels.{AreLevels};
 ghost use Rattle.line_index.specs.Covered.{IsCoveredBy};
 ghost use Rattle.line_index.specs.Watches.{AreWatched};
+ghost use Rattle.branching.specs.Logs.{Extends, IsSearchLog};
 ghost use Rattle.search_core.specs.Descents.{HasAskedAll, IsUnderLast};
-ghost use Rattle.search_core.specs.Logs.{Extends, IsSearchLog};
 ghost use Rattle.search_core.specs.Meters.{AreCounted, AreMore};
 ghost use Rattle.search_core.specs.Opened.{AreAllAsked, IfChoices, IsOpened, UnlessUnopened, left_open};
 ghost use Rattle.search_core.specs.Watches.{AreRaisedFrom, AreWatchedAt};
 ghost use Rattle.skyline.specs.Skies.{last_claim};
 
-use crate::fresh::Fresh;
-use crate::levels::Levels;
-use crate::lines::append;
 use crate::meter::Meter;
-use crate::over::over_line;
 use crate::path::Path;
-use crate::task::Task;
+use branching::{Fresh, Task, append, over_line};
 use canonical_order::Lows;
+use claim_levels::Levels;
 use conflicts::Lemmas;
 use dsa_model::{Instance, NoMemory};
 use line_index::Watches;

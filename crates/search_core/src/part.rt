@@ -10,8 +10,8 @@ ghost use Rattle.search_core.specs.Pieces.{IfPieceSpent, IsPiece, PieceIsCounted
 
 use crate::found::Found;
 use crate::meter::Meter;
-use crate::task::Task;
 use crate::turns::search;
+use branching::Task;
 use conflicts::Lemmas;
 use dsa_model::NoMemory;
 use lifetime::Sections;

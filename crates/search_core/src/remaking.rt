@@ -6,8 +6,8 @@ ghost use Rattle.search_core.specs.Ways.{AreKeptAlong, IsNearest, notes_of};
 ghost use Rattle.skyline.specs.Skies.{last_claim};
 
 use crate::kept::Kept;
-use crate::levels::Levels;
-use crate::task::Task;
+use branching::Task;
+use claim_levels::Levels;
 use dsa_model::NoMemory;
 use skyline::Skyline;
 use std::alloc::Global;

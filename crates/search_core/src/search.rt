@@ -8,9 +8,8 @@ ghost use Rattle.search_core.specs.Meters.{AreWithin};
 
 use crate::Budget;
 use crate::meter::Meter;
-use crate::task::{Task, greatest_size};
-use crate::twin_marks::TwinMarks;
 use crate::whole::search_parts;
+use branching::{Task, TwinMarks, greatest_size};
 use dsa_model::{Instance, NoMemory};
 use lifetime::Sections;
 use refute_log::{Decided, Decider};
@@ -35,7 +34,7 @@ impl<'a> Model for Search<'a> {
     ghost use Rattle.dsa_terms.specs.Parts.{parts as parts_of};
     ghost use Rattle.lifetime.specs.SectionList.{AreSectionsOf};
     ghost use Rattle.search_core.specs.Courses.{Course};
-    ghost use Rattle.search_core.specs.TwinMarks.{AreTwinMarks};
+    ghost use Rattle.branching.specs.TwinMarks.{AreTwinMarks};
 
     ghost Value = { Course };
 

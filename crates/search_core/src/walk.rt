@@ -3,18 +3,16 @@
 ghost use Rattle.std.specs.Prelude.{◌≡◌, ◌≤◌, OnOk, map};
 ghost use Rattle.canonical_order.specs.Claims.{entry_of};
 ghost use Rattle.line_index.specs.Watches.{AreWatched};
-ghost use Rattle.search_core.specs.Descents.{IsTrying, claim_at, through};
-ghost use Rattle.search_core.specs.Fresh.{IsFresh, tries_at};
-ghost use Rattle.search_core.specs.Logs.{IsSearchLog};
-ghost use Rattle.search_core.specs.Tries.{rest_of};
+ghost use Rattle.branching.specs.Fresh.{IsFresh, tries_at};
+ghost use Rattle.branching.specs.Logs.{IsSearchLog};
+ghost use Rattle.branching.specs.Tries.{rest_of};
+ghost use Rattle.branching.specs.Trying.{IsTrying, through};
+ghost use Rattle.search_core.specs.Descents.{claim_at};
 ghost use Rattle.search_core.specs.Turns.{IsAtChoices, IsUncovered};
 ghost use Rattle.search_core.specs.Walks.{GoesOn, HasWatches, place_of};
 
-use crate::cases::refute;
-use crate::frame::Frame;
-use crate::fresh::Fresh;
 use crate::path::Path;
-use crate::task::Task;
+use branching::{Frame, Fresh, Task, refute};
 use canonical_order::Lows;
 use conflicts::Lemmas;
 use dsa_model::NoMemory;

@@ -9,7 +9,7 @@ ghost use Rattle.search_core.specs.Outcomes.{IsDecided, LinesAreCounted, UnlessS
 
 use crate::meter::Meter;
 use crate::part::{Piece, search_part};
-use crate::task::Task;
+use branching::Task;
 use dsa_model::{Instance, NoMemory};
 use lifetime::Sections;
 use refute_log::Decided;

@@ -1,8 +1,7 @@
 use Rattle.std.proofs.Common.{◌∙◌, ◌<◌, ap, arith, length}
-use Rattle.search_core.proofs.Noted.{map_all, map_none, map_skip, map_take}
-use Rattle.search_core.proofs.Seating.{seat_at}
-use Rattle.search_core.proofs.gather.gathered.Goals as goal
+use Rattle.search_core.proofs.Seating.{map_all, map_none, map_skip, map_take, seat_at}
 use Rattle.search_core.proofs.gather.gathered.Goals.{then-is_free+in_ok-push, else-is_free}
+use Rattle.search_core.proofs.gather.gathered.Goals as goal
 
 pub loop-b-init : goal.loop-b-init
 loop-b-init g c =

@@ -1,11 +1,11 @@
 use Rattle.std.proofs.Common.{Option, [], ◌-◌, IfSome, arith, length, subst}
 use Rattle.search_core.proofs.Words.{in_at, AreLevels, last_claim}
+use Rattle.branching.specs.Tries.{Tried}
 use Rattle.search_core.specs.Descents.{IsUnder}
-use Rattle.search_core.specs.Tries.{Tried}
-use Rattle.search_core.proofs.ChildLevels.{child_under, low_child}
+use Rattle.search_core.proofs.MadeAgain.{child_under, low_child}
 use Rattle.search_core.proofs.Watched.{all_watched_still, watched_above}
-use Rattle.search_core.proofs.opening.enter.Goals as goal
 use Rattle.search_core.proofs.opening.enter.Goals.{In_ok-line-in-Some}
+use Rattle.search_core.proofs.opening.enter.Goals as goal
 
 pub child-requires-clause-low : goal.child-requires-clause-low
 child-requires-clause-low c =

@@ -1,13 +1,13 @@
 use Rattle.std.proofs.Common.{◌≢◌, ◌+◌, ◌∙◌, [], arith, length}
-use Rattle.dsa_search_laws.proofs.Search.{first_empty}
 use Rattle.search_core.proofs.Words.{watched_none, last_claim}
-use Rattle.search_core.specs.Ways.{order_of}
+use Rattle.dsa_search_laws.proofs.Search.{first_empty}
+use Rattle.branching.specs.Branches.{order_of}
+use Rattle.branching.proofs.Descent.{is_instance}
+use Rattle.branching.proofs.LiftedChoices.{order_entries}
+use Rattle.branching.proofs.Searching.{are_choices}
+use Rattle.branching.proofs.Uncovered.{covered_has_none, covers_less}
 use Rattle.search_core.proofs.Counting.{counted_one_more}
-use Rattle.search_core.proofs.Descent.{is_instance}
-use Rattle.search_core.proofs.LiftedChoices.{order_entries}
-use Rattle.search_core.proofs.Searching.{are_choices}
 use Rattle.search_core.proofs.Taking.{none_covers}
-use Rattle.search_core.proofs.Uncovered.{covered_has_none, covers_less}
 use Rattle.search_core.proofs.Watched.{all_watched_more, watched_to}
 use Rattle.search_core.proofs.opening.open.Goals as goal
 

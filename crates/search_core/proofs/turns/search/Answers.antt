@@ -1,8 +1,8 @@
 use Rattle.std.proofs.Common.{◌∙◌, length, arith, inl, inr, rules}
 use Rattle.search_core.proofs.Words.{whole}
+use Rattle.branching.proofs.Growing.{extends_along}
 use Rattle.search_core.specs.Walks.{due_lines}
 use Rattle.search_core.proofs.Counting.{counted_along, counted_less, more_by_after}
-use Rattle.search_core.proofs.Growing.{extends_along}
 use Rattle.search_core.proofs.Taking.{more_still, unless_along, unless_always}
 use Rattle.search_core.proofs.turns.search.Goals as goal
 

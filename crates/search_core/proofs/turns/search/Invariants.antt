@@ -1,7 +1,7 @@
 use Rattle.std.proofs.Common.{◌≡◌, ◌+◌, ◌≤◌, ◌⊎◌, None, [], length}
 use Rattle.search_core.proofs.Words.{whole, work}
+use Rattle.branching.specs.Logs.{Extends, IsSearchLog}
 use Rattle.search_core.specs.Descents.{IsPlace, owed, sky_root, turns_left}
-use Rattle.search_core.specs.Logs.{Extends, IsSearchLog}
 use Rattle.search_core.specs.Meters.{AreCounted, AreMore}
 use Rattle.search_core.specs.Walks.{HasWatches, due_lines, place_of}
 use Rattle.search_core.proofs.turns.search.Given as goal

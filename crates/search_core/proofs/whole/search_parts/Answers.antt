@@ -2,8 +2,8 @@ use Rattle.std.proofs.Common.{◌+◌, ◌∙◌, ◌≤◌, length, refl, arith
 use Rattle.search_core.proofs.Words.{whole_work}
 use Rattle.search_core.proofs.Counting.{more_by_after}
 use Rattle.search_core.proofs.Joining.{all_joined, all_taken, all_work, is_part, joining_next, part_refuted, part_work}
-use Rattle.search_core.proofs.whole.search_parts.Goals as goal
 use Rattle.search_core.proofs.whole.search_parts.Goals.{After-search_part}
+use Rattle.search_core.proofs.whole.search_parts.Goals as goal
 
 pub search_part-requires-clause-part : goal.search_part-requires-clause-part
 search_part-requires-clause-part c =

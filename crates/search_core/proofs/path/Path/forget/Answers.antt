@@ -1,6 +1,6 @@
 use Rattle.std.proofs.Common.{◌∙◌, ◌-◌, List, ap, arith}
+use Rattle.branching.specs.declared.notes.Notes.{Notes}
 use Rattle.search_core.specs.declared.kept.Kept.{Kept}
-use Rattle.search_core.specs.declared.notes.Notes.{Notes}
 use Rattle.search_core.specs.Ways.{Way, tries_of}
 use Rattle.search_core.proofs.Keeping.{set_notes}
 use Rattle.search_core.proofs.path.Path.forget.Goals as goal

@@ -1,8 +1,8 @@
 use Rattle.std.proofs.Common.{◌∙◌, sym, subst}
 use Rattle.search_core.proofs.Words.{Instance, AreLevels, last_claim}
-use Rattle.search_core.specs.declared.branches.Branches.{Branches}
-use Rattle.search_core.specs.Ways.{AreBranches}
-use Rattle.search_core.proofs.Keeping.{tries_are}
+use Rattle.branching.specs.declared.branches.Branches.{Branches}
+use Rattle.branching.specs.Branches.{AreBranches}
+use Rattle.branching.proofs.AllBranches.{tries_are}
 use Rattle.search_core.proofs.path.Path.frame_of.Goals as goal
 
 pub returns-in-Some-clause-value : goal.returns-in-Some-clause-value

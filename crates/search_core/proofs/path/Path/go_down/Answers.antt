@@ -1,9 +1,9 @@
 use Rattle.std.proofs.Common.{◌∙◌, ◌++◌, ◌∷◌, [], Some}
 use Rattle.search_core.proofs.Words.{last_claim}
+use Rattle.branching.specs.Branches.{AreBranches}
+use Rattle.branching.proofs.AllBranches.{branches_from, tries_are}
 use Rattle.search_core.specs.declared.kept.Kept.{Kept}
-use Rattle.search_core.specs.Ways.{AreBranches}
 use Rattle.search_core.proofs.Going.{IsWayTo, down}
-use Rattle.search_core.proofs.Keeping.{branches_from, tries_are}
 use Rattle.search_core.proofs.path.Path.go_down.Goals as goal
 
 -- the frame is put on the stack

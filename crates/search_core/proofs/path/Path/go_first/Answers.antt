@@ -1,11 +1,11 @@
 use Rattle.std.proofs.Common.{◌≡◌, ◌∙◌, ◌++◌, ◌∷◌, [], None, Some, refl, subst}
 use Rattle.search_core.proofs.Words.{child, entry_of, last_claim}
+use Rattle.branching.specs.declared.notes.Notes.{Notes}
+use Rattle.branching.specs.Fresh.{tries_at}
+use Rattle.branching.proofs.AllBranches.{fresh_are}
 use Rattle.search_core.specs.declared.kept.Kept.{Kept}
-use Rattle.search_core.specs.declared.notes.Notes.{Notes}
-use Rattle.search_core.specs.Fresh.{tries_at}
 use Rattle.search_core.specs.Ways.{Way}
 use Rattle.search_core.proofs.Going.{IsWayTo, down}
-use Rattle.search_core.proofs.Keeping.{fresh_are}
 use Rattle.search_core.proofs.path.Path.go_first.Goals as goal
 
 -- the tries are put on the stack

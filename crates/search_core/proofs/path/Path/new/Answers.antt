@@ -1,6 +1,6 @@
 use Rattle.std.proofs.Common.{◌∙◌, List, ap}
+use Rattle.branching.specs.Tries.{Tried}
 use Rattle.search_core.specs.declared.kept.Kept.{Kept}
-use Rattle.search_core.specs.Tries.{Tried}
 use Rattle.search_core.specs.Ways.{Way, notes_of, tries_of}
 use Rattle.search_core.proofs.Keeping.{no_tries}
 use Rattle.search_core.proofs.path.Path.new.Goals as goal

@@ -4,8 +4,8 @@ use Rattle.refute_log.proofs.Settling.{right_settles}
 use Rattle.search_core.specs.Courses.{Course}
 use Rattle.search_core.proofs.Charging.{is_charged}
 use Rattle.search_core.proofs.Deciding.{is_right}
-use Rattle.search_core.proofs.search.SearchDecider.decide.Goals as goal
 use Rattle.search_core.proofs.search.SearchDecider.decide.Goals.{in-Spent, in_default}
+use Rattle.search_core.proofs.search.SearchDecider.decide.Goals as goal
 
 pub returns-clause-right : goal.returns-clause-right
 returns-clause-right c =

@@ -1,16 +1,17 @@
 use Rattle.std.proofs.Common.{◌≡◌, ◌∙◌, None, arith, map, length, refl, sym, ap}
 use Rattle.search_core.proofs.Words.{equal, last_claim}
-use Rattle.search_core.specs.Descents.{refuted_buffer}
+use Rattle.claim_levels.proofs.Leveling.{lifted_levels}
+use Rattle.claim_levels.proofs.Lifting.{lifted_at_lows}
+use Rattle.branching.specs.Trying.{refuted_buffer}
+use Rattle.branching.proofs.Descent.{is_instance}
+use Rattle.branching.proofs.Growing.{extends_none}
+use Rattle.branching.proofs.LiftedChoices.{lifted_nothing}
+use Rattle.branching.proofs.LiftedClaims.{covered_from_lifted, lifted_covered, lifted_extends, lifted_fresh, lifted_noted, lifted_stands}
+use Rattle.branching.proofs.Searching.{all_refuted, chosen_in, each_noted, one_is_left, refuted_in}
 use Rattle.search_core.specs.Walks.{place_on}
-use Rattle.search_core.proofs.Descent.{is_instance}
 use Rattle.search_core.proofs.Descending.{ahead_covered, ahead_deeper}
 use Rattle.search_core.proofs.Counting.{one_claim_more}
-use Rattle.search_core.proofs.Growing.{extends_none}
-use Rattle.search_core.proofs.Leveling.{lifted_levels}
-use Rattle.search_core.proofs.LiftedChoices.{lifted_nothing}
-use Rattle.search_core.proofs.Lifting.{covered_from_lifted, lifted_at_lows, lifted_covered, lifted_extends, lifted_fresh, lifted_noted, lifted_stands}
 use Rattle.search_core.proofs.Watched.{all_watched_more, all_watched_push}
-use Rattle.search_core.proofs.Searching.{all_refuted, chosen_in, each_noted, one_is_left, refuted_in}
 use Rattle.search_core.proofs.walk.Walk.advance.Goals as goal
 
 -- ---- no choice is left

@@ -1,13 +1,13 @@
 use Rattle.std.proofs.Common.{◌≡◌, ◌∷◌, ◌++◌, [], ℕ, None, refl, subst, sym, arith}
 use Rattle.search_core.proofs.Words.{child, entry_of, last_claim, level_inside}
-use Rattle.search_core.specs.Fresh.{tries_at}
-use Rattle.search_core.specs.Tries.{Tried}
+use Rattle.branching.specs.Fresh.{tries_at}
+use Rattle.branching.specs.Tries.{Tried}
+use Rattle.branching.proofs.Growing.{extends_none}
+use Rattle.branching.proofs.Searching.{first_in}
 use Rattle.search_core.specs.Turns.{IsUncovered}
 use Rattle.search_core.specs.Walks.{GoesOn, place_of, place_on}
 use Rattle.search_core.proofs.Descending.{ahead_deeper}
 use Rattle.search_core.proofs.Counting.{one_claim_more}
-use Rattle.search_core.proofs.Growing.{extends_none}
-use Rattle.search_core.proofs.Searching.{first_in}
 use Rattle.search_core.proofs.Watched.{all_watched_push}
 use Rattle.search_core.proofs.walk.Walk.begin.Goals as goal
 

@@ -1,8 +1,8 @@
 use Rattle.std.proofs.Common.{◌-◌, ◌<◌, length, sym, subst, arith}
 use Rattle.search_core.proofs.Words.{child, entry_of, last_claim, IsCoveredBy, level_inside}
-use Rattle.search_core.specs.Tries.{Tried, chosen_of}
+use Rattle.branching.specs.Tries.{Tried, chosen_of}
+use Rattle.branching.proofs.Searching.{chosen_in, one_is_left}
 use Rattle.search_core.proofs.Passing.{IsPassing, passed_less, passed_one, passed_trying}
-use Rattle.search_core.proofs.Searching.{chosen_in, one_is_left}
 use Rattle.search_core.proofs.walk.Walk.pass_over.Goals as goal
 
 pub find-requires-clause-b_in : goal.find-requires-clause-b_in

@@ -1,10 +1,10 @@
 use Rattle.std.proofs.Common.{arith}
 use Rattle.search_core.proofs.Words.{last_claim, watched_none}
+use Rattle.branching.proofs.Descent.{is_instance}
+use Rattle.branching.proofs.Growing.{extends_none}
+use Rattle.branching.proofs.Searching.{trying_asked}
+use Rattle.branching.proofs.Uncovered.{covered_has_none}
 use Rattle.search_core.proofs.Descending.{ahead_covered, are_raised}
-use Rattle.search_core.proofs.Descent.{is_instance}
-use Rattle.search_core.proofs.Growing.{extends_none}
-use Rattle.search_core.proofs.Searching.{trying_asked}
-use Rattle.search_core.proofs.Uncovered.{covered_has_none}
 use Rattle.search_core.proofs.Watched.{all_watched_still, watched_to}
 use Rattle.search_core.proofs.walk.Walk.resume.Goals as goal
 

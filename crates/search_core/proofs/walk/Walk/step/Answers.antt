@@ -1,17 +1,17 @@
 use Rattle.std.proofs.Common.{◌+◌, ◌≤◌, ap, arith, length}
 use Rattle.search_core.proofs.Words.{last_claim, Stands, AreWatched}
+use Rattle.branching.specs.Logs.{Extends}
+use Rattle.branching.proofs.Descent.{is_instance}
+use Rattle.branching.proofs.Growing.{extends_along}
 use Rattle.search_core.specs.Descents.{claim_at, owed, sky_root}
-use Rattle.search_core.specs.Logs.{Extends}
 use Rattle.search_core.specs.Walks.{place_of, place_on}
 use Rattle.search_core.specs.Watches.{AreWatchedAt}
 use Rattle.search_core.proofs.Counting.{counted_with}
-use Rattle.search_core.proofs.Descent.{is_instance}
 use Rattle.search_core.proofs.Descending.{IsBack, are_raised, under_last, back_noted, path_still}
-use Rattle.search_core.proofs.Growing.{extends_along}
 use Rattle.search_core.proofs.Stepping.{asked_above, grown_below, is_back_from, known_line, on_back, on_line, root_refuted, some_owed}
 use Rattle.search_core.proofs.Watched.{all_watched_pop}
-use Rattle.search_core.proofs.walk.Walk.step.Goals as goal
 use Rattle.search_core.proofs.walk.Walk.step.Goals.{In-None, In-Some-2, In_ok-k-in-None}
+use Rattle.search_core.proofs.walk.Walk.step.Goals as goal
 
 -- ---- back
 -- what is known of the claim that the search is back at

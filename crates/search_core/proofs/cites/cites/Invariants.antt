@@ -1,9 +1,0 @@
-use Rattle.std.proofs.Common.{map, take}
-use Rattle.std.specs.List.{AllZip}
-use Rattle.search_core.proofs.Words.{cite_value}
-use Rattle.search_core.specs.Cites.{IsCiteFor}
-use Rattle.search_core.proofs.cites.cites.Given as goal
-
-abbrev pub invariant-loop-i : goal.invariant-loop-i
-invariant-loop-i l = AllZip (IsCiteFor l.view.instance.now l.view.claim.now l.refuted) (take l.i l.pairs)
-    (map cite_value l.cites.items)

@@ -1,5 +1,0 @@
-use Rattle.search_core.proofs.LeftBuffers.{AreLeftBelow}
-use Rattle.search_core.proofs.left.left_of.Given as goal
-
-abbrev pub invariant-loop-b : goal.invariant-loop-b
-invariant-loop-b l = AreLeftBelow l.levels l.b l.left.items

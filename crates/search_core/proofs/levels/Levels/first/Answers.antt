@@ -1,8 +1,0 @@
-use Rattle.std.proofs.Common.{ℕ, List, subst}
-use Rattle.search_core.specs.Levels.{IsLeastLevel}
-use Rattle.search_core.proofs.FirstChoice.{first_by_level}
-use Rattle.search_core.proofs.levels.Levels.first.Goals as goal
-
-pub returns-clause-first : goal.returns-clause-first
-returns-clause-first c = λ I l h some. first_by_level I l _ c.self.inside.first h
-    (subst (λ (xs : List ℕ). IsLeastLevel xs c.self.inside.first) c.self.view_is c.self.invariant.least) some

@@ -1,6 +1,0 @@
-use Rattle.std.proofs.Common.{drop}
-use Rattle.search_core.proofs.TallLevels.{NoneAmong}
-use Rattle.search_core.proofs.over.tall.Given as goal
-
-abbrev pub invariant-loop-i : goal.invariant-loop-i
-invariant-loop-i l = NoneAmong l.task.instance.now l.task.capacity l.levels (drop l.i l.left)

@@ -1,6 +1,0 @@
-use Rattle.std.proofs.Common.{◌≡◌, length}
-use Rattle.search_core.specs.TwinMarks.{AreTwinMarks}
-use Rattle.search_core.proofs.twin_marks.TwinMarks.of.Given as goal
-
-abbrev pub invariant-loop-b : goal.invariant-loop-b
-invariant-loop-b l = (l.b ≡ length l.marks.items) × AreTwinMarks l.instance l.marks.items
