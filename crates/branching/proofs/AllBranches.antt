@@ -8,7 +8,7 @@ use Rattle.branching.specs.declared.notes.Notes.{Notes}
 use Rattle.branching.specs.Fresh.{tries_at}
 use Rattle.branching.specs.Tries.{Tried}
 use Rattle.branching.specs.Branches.{AreBranches, order_of, tried_by, tried_of}
-use Rattle.branching.proofs.LiftedChoices.{buffers_of_entries}
+use Rattle.branching.proofs.ChoiceEntries.{buffers_of_entries}
 
 pub order_is : (I : Instance) (l : Claim) (order : List ℕ) → map (entry_of l) order ≡ choices I (not_excluded I) l →
     order ≡ order_of I l

@@ -1,11 +1,10 @@
 -- Which buffers another one ends below, by the least end of the claim.
 use Rattle.std.proofs.Common.{◌≡◌, ◌≢◌, ◌⊎◌, [], ◌∷◌, inl, inr, ℕ, ◌+◌, ◌<◌, ◌≤◌, ◌^◌, ◌==◌, ◌&&◌, Bool, true, false, not, nat_le, List, length, refl, sym, ap, subst, arith}
 use Rattle.std.specs.List.{list_any}
-use Rattle.branching.proofs.Words.{Instance, buffer, Claim, Entry, IsIn, Rises, buffers_of, up, ends_below, any_gives, true_or_false, sound, in_buffers, HasBuffer, entry_of, Stands, entry_in, is_entry, apart, is_at_most, not_at_most}
+use Rattle.branching.proofs.Words.{Instance, IsInstance, buffer, Claim, Entry, IsClaim, IsIn, Rises, buffers_of, up, ends_below, any_gives, true_or_false, sound, in_buffers, HasBuffer, entry_of, entry_in, is_entry, apart, is_at_most, not_at_most}
 use Rattle.conflicts.specs.Ends.{end_of}
 use Rattle.branching.specs.declared.ending.Ending.{Ending}
 use Rattle.branching.specs.Endings.{IsLeastEnding}
-use Rattle.branching.proofs.Descent.{is_instance}
 
 -- ---- the loop over the buffers
 
@@ -65,7 +64,7 @@ and_false : (b : Bool) → (b && false) ≡ false
 and_false true = refl
 and_false false = refl
 
-module _ (I : Instance) (l : Claim) (x : Ending) (b : ℕ) (s : Stands I l) (i : HasBuffer l b)
+module _ (I : Instance) (l : Claim) (x : Ending) (b : ℕ) (s : IsInstance I) (claim : IsClaim I l) (i : HasBuffer l b)
     (h : IsLeastEnding I l (length I) x) where
   pub least_is_below : x.end ≤ up I (entry_of l b) → up I (entry_of l b) < 2 ^ 62 →
       (f : Entry) × IsIn f l × (f.0 ≡ x.buffer) × (ends_below I f (entry_of l b) ≡ true)
@@ -82,13 +81,13 @@ module _ (I : Instance) (l : Claim) (x : Ending) (b : ℕ) (s : Stands I l) (i :
           let r = h.is_end (omega arith) in
           let e = r.1 in
           let u = ap (λ b. up I (entry_of l b)) q in
-          let n = (sound I x.buffer (is_instance I l s)).0 in
+          let n = (sound I x.buffer s).0 in
           omega arith
 
   pub none_is_below : up I (entry_of l b) < x.end → list_any (λ f. ends_below I f (entry_of l b)) l ≡ false
   unfolding ends_below end_of
   none_is_below lt = no_any (λ f. ends_below I f (entry_of l b)) l (λ f j.
-      let k = h.least f j (s.claim.in_range f j) in
+      let k = h.least f j (claim.in_range f j) in
       let t : nat_le (up I f + (buffer I f.0).size) (up I (entry_of l b)) ≡ false =
       not_at_most (up I f + (buffer I f.0).size) (up I (entry_of l b)) (omega arith) in
       rw t (and_false (not (f.0 == b))))

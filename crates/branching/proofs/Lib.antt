@@ -1,6 +1,7 @@
 pub mod AllBranches
 pub mod Along
 pub mod CasesLines
+pub mod ChoiceEntries
 mod CiteFacts
 pub mod Computing
 pub mod Descent
@@ -11,7 +12,7 @@ pub mod FullSections
 pub mod Growing
 pub mod KnownFacts
 pub mod Least
-pub mod LiftedChoices
+pub mod LeftEntries
 pub mod LiftedClaims
 mod LogFacts
 pub mod Noted
@@ -23,6 +24,7 @@ pub mod TallLines
 pub mod TryFacts
 mod TwinFacts
 pub mod TwinMarking
+pub mod TwinWalks
 pub mod Uncovered
 pub mod Words
 pub mod Working

@@ -1,7 +1,7 @@
 -- What a claim with its lows as bounds has in common with the claim.
 use Rattle.std.proofs.Common.{◌≡◌, ℕ, ◌<◌, ◌≤◌, ◌+◌, ◌^◌, ◌==◌, Bool, true, false, not, cond, List, [], ◌∷◌, filter, length, map, max, refl, sym, ap, ◌∙◌, subst, arith}
 use Rattle.std.specs.List.{list_any}
-use Rattle.branching.proofs.Words.{Instance, IsInstance, buffer, Claim, Covers, Entry, IsIn, Rises, buffers_of, child, step, up, Line, claim_of, ends_below, is_twin, not_excluded, from_map, HasBuffer, IsBoundedBy, entry_of, Stands, IsCoveredBy, NoneCovers}
+use Rattle.branching.proofs.Words.{Instance, IsInstance, Claim, Covers, Entry, IsIn, Rises, buffers_of, child, step, up, Line, claim_of, ends_below, is_twin, not_excluded, from_map, HasBuffer, IsBoundedBy, entry_of, Stands, IsCoveredBy, NoneCovers}
 use Rattle.claim_levels.specs.Lifted.{lift, lifted}
 use Rattle.claim_levels.proofs.Lifting.{up_of_lift, buffers_of-lifted, lifted_rises, lifted_entry}
 use Rattle.branching.specs.declared.notes.Refuted.{Refuted}
@@ -51,7 +51,7 @@ twin_lifted : (I : Instance) (f e : Entry) → IsInstance I → is_twin I (lift 
 unfolding is_twin
 twin_lifted I f e s = rw (up_of_lift I f s, up_of_lift I e s) refl
 
-pub lifted_excluded : (I : Instance) (l : Claim) (e : Entry) → IsInstance I →
+lifted_excluded : (I : Instance) (l : Claim) (e : Entry) → IsInstance I →
     not_excluded I (lifted I l) (lift I e) ≡ not_excluded I l e
 lifted_excluded I l e s = rw (
   any_lifted I (λ f. ends_below I f (lift I e)) (λ f. ends_below I f e) l (λ f. below_lifted I f e s),
@@ -119,3 +119,8 @@ pub lifted_extends : (I : Instance) (l : Claim) (before after : List Line) → E
 lifted_extends I l before after grown =
     extends_along _ l _ _ _ (λ b h. subst (IsIn b) (buffers_of-lifted I l) h)
     (extends_none l before) grown
+
+-- ---- whether there is a buffer
+pub lifted_nothing : (I : Instance) (l : Claim) → length (lifted I l) ≡ 0 → l ≡ []
+lifted_nothing I [] e = refl
+lifted_nothing I (x ∷ xs) e = absurd cc

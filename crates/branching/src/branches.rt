@@ -7,7 +7,7 @@ ghost use Rattle.branching.specs.Branches.{AreBranches};
 
 use crate::choice::choices;
 use crate::task::Task;
-use claim_levels::{Leveled, Levels};
+use claim_levels::Levels;
 use dsa_model::NoMemory;
 use std::alloc::Global;
 
@@ -28,14 +28,7 @@ impl Branches {
             AreLevels I l levels → IfOk result (AreBranches I l) }
         ensures levels { IfOk result (λ branches. branches.levels ≡ levels) }
     {
-        let _count = task.instance.len();
-        let ground = levels.ground(alloc)?;
-        let view = Leveled {
-            instance: task.instance,
-            claim: &ground,
-            levels: &levels,
-        };
-        let order = choices(alloc, &view, task.twins)?;
+        let order = choices(alloc, task, &levels)?;
         Ok(Branches { order, levels })
     }
 }

@@ -72,7 +72,7 @@ pub(crate) fn cites(
     ensures { let I = view.now.instance.now in let l = view.now.claim.now in
         IfOk result (λ cites. AllZip (IsCiteFor I l refuted.now) l (map cite_value cites)) }
 {
-    let least = least_end(view);
+    let least = least_end(view.instance, view.levels);
     let pairs = view.claim.pairs();
     let mut cites = Vec::with_capacity(alloc, pairs.len())?;
     for i in 0..pairs.len() {

@@ -1,11 +1,14 @@
 //! The buffer of a claim that ends lowest.
 
-ghost use Rattle.std.specs.Prelude.{◌≡◌, ◌^◌, ◌<◌, length};
-ghost use Rattle.dsa_terms.specs.Claims.{IsIn};
+ghost use Rattle.std.specs.Prelude.{◌≡◌, ◌^◌, ◌<◌, length, slice_index};
+ghost use Rattle.dsa_terms.specs.Claims.{Claim as ClaimTerm};
+ghost use Rattle.canonical_order.specs.Claims.{entry_of};
+ghost use Rattle.canonical_order.specs.Levels.{AreLevels};
 ghost use Rattle.conflicts.specs.Ends.{end_of};
 ghost use Rattle.branching.specs.Endings.{IsLeastEnding};
 
-use claim_levels::Leveled;
+use claim_levels::Levels;
+use dsa_model::Instance;
 
 /// A buffer of a claim, and where it ends at its low, in bytes.
 #[derive(Clone, Copy, Debug)]
@@ -14,31 +17,33 @@ pub(crate) struct Ending {
     pub(crate) end: u64,
 }
 
-/// Where the buffer of the pair ends at its low.
-pub(crate) fn end_of(view: &Leveled, pair: (u32, u64)) -> u64
-    requires { IsIn pair view.now.claim.now }
-    ensures value { result ≡ end_of view.now.instance.now pair }
+/// Where the buffer ends at its low in the claim of the levels, which has it.
+fn end_of(instance: &Instance, levels: &Levels, b: u32) -> u64
+    requires count { length levels.now ≡ length instance.now }
+    requires b_in { 0 < slice_index levels.now b }
+    ensures value { let I = instance.now in (l : ClaimTerm) → AreLevels I l levels.now →
+        result ≡ end_of I (entry_of l b) }
     ensures limit { result < 2 ^ 63 }
 {
-    let _count = view.instance.len();
-    let _pairs = view.claim.len();
-    pair.1 + view.instance.buffer(pair.0).size()
+    let low = levels.at(b as usize) - 1;
+    low + instance.buffer(b).size()
 }
 
-/// The buffer of the claim that ends lowest, and of these the one of least number. Where the claim
-/// has no buffer, the end is above all lows.
-pub(crate) fn least_end(view: &Leveled) -> Ending
-    ensures { let I = view.now.instance.now in
-        IsLeastEnding I view.now.claim.now (length I) result }
+/// The buffer that ends lowest of the claim of the levels, and of these the one of least number.
+/// Where the claim has no buffer, the end is above all lows.
+pub(crate) fn least_end(instance: &Instance, levels: &Levels) -> Ending
+    requires count { length levels.now ≡ length instance.now }
+    ensures { let I = instance.now in (l : ClaimTerm) → AreLevels I l levels.now →
+        IsLeastEnding I l (length I) result }
 {
     let mut least = Ending {
         buffer: 0,
         end: u64::MAX,
     };
-    for pair in view.claim.pairs() {
-        let end = end_of(view, *pair);
+    for b in levels.left() {
+        let end = end_of(instance, levels, *b);
         if end < least.end {
-            let buffer = pair.0;
+            let buffer = *b;
             least = Ending { buffer, end };
         }
     }

@@ -5,7 +5,7 @@ use Rattle.claim_levels.specs.Levels.{HasLowChild}
 use Rattle.claim_levels.proofs.AllLevels.{levels_are}
 use Rattle.branching.specs.Tries.{Tried, chosen_of}
 use Rattle.branching.specs.Branches.{order_of, tried_of}
-use Rattle.branching.proofs.LiftedChoices.{order_entries}
+use Rattle.branching.proofs.ChoiceEntries.{order_entries}
 use Rattle.branching.proofs.Searching.{chosen_at}
 use Rattle.search_core.specs.declared.kept.Kept.{Kept}
 use Rattle.search_core.specs.declared.path.Above.{Above}

@@ -1,56 +1,46 @@
-use Rattle.std.proofs.Common.{◌≡◌, ◌∙◌, ◌+◌, ◌-◌, ◌<◌, ℕ, [], ap, arith, drop, length, map, refl, rules, subst, sym, drop_of_length-le}
-use Rattle.branching.proofs.Words.{Claim, Rises, buffers_of}
-use Rattle.branching.proofs.Along.{place_in}
-use Rattle.branching.proofs.Order.{all_keys, keys_exclude_at, keys_of, keys_take_at}
+use Rattle.std.proofs.Common.{◌≡◌, ◌∙◌, ◌+◌, ℕ, ap, drop, map, rules, slice_index, subst, sym}
+use Rattle.branching.proofs.Words.{in_at, entry_of, not_excluded}
+use Rattle.branching.proofs.LeftEntries.{left_next, left_past}
+use Rattle.branching.proofs.Order.{AreKeysBut, keys_all, keys_skip, keys_take, sorted_keys}
+use Rattle.branching.proofs.choice.choices.Goals.{else-takes, then-takes+in_ok-push}
 use Rattle.branching.proofs.choice.choices.Goals as goal
 
-pub loop-i-init : goal.loop-i-init
-loop-i-init c =
-    let items = c.pairs-pairs.result.now in
-    let none : drop (length items) items ≡ [] = drop_of_length-le items (omega arith) in
-    c.new-keys.ensures.empty ∙ sym (ap (keys_of c.args.view.now.instance.now c.args.view.now.claim.now) none)
-
-pub takes-requires-clause-pair_in : goal.takes-requires-clause-pair_in
-takes-requires-clause-pair_in c =
-    place_in c.args.view.now.claim.now c.pairs-pairs.result.now (c.loop-i.i - 1) c.pairs-pairs.ensures.value
-    (omega arith)
+pub takes-requires-clause-b_in : goal.takes-requires-clause-b_in
+takes-requires-clause-b_in c =
+    let left = c.left-b-items.result.now in
+    let i = c.loop-b.b-index in
+    c.left-b-items.ensures.some (slice_index left i) (in_at left i 0 c.loop-b-test.true)
 
 pub key_of-requires : goal.key_of-requires
 key_of-requires c =
-    place_in c.args.view.now.claim.now c.pairs-pairs.result.now (c.loop-i.i - 1) c.pairs-pairs.ensures.value
-    (omega arith)
+    let left = c.left-b-items.result.now in
+    let i = c.loop-b.b-index in
+    c.left-b-items.ensures.some (slice_index left i) (in_at left i 0 c.loop-b-test.true)
 
-pub loop-i-preserved-in_ok-insert : goal.loop-i-preserved-in_ok-insert
-loop-i-preserved-in_ok-insert c =
-    let I = c.args.view.now.instance.now in
-    let l = c.args.view.now.claim.now in
-    let items = c.pairs-pairs.result.now in
-    let q = c.pairs-pairs.ensures.value in
-    let r = c.pairs-pairs.ensures.kept.rises in
-    let j = c.loop-i.i - 1 in
-    let lt : j < length items = omega arith in
-    let m : c.loop-i.i ≡ j + 1 = omega arith in
-    let k = keys_take_at I l items c.loop-i.i j m lt _ refl
-    (subst (λ (k : Claim). Rises (buffers_of k)) (sym q) r) (sym c.takes.ensures ∙ c.if-takes.true) in
-    c.in_ok-insert.ensures.keys ∙ (rw (c.loop-i.invariant, c.key_of.ensures) k)
-
-pub loop-i-preserved : goal.loop-i-preserved
-loop-i-preserved c =
-    let I = c.args.view.now.instance.now in
-    let l = c.args.view.now.claim.now in
-    let items = c.pairs-pairs.result.now in
-    let r = c.pairs-pairs.ensures.kept.rises in
-    let j = c.loop-i.i - 1 in
-    let lt : j < length items = omega arith in
-    let m : c.loop-i.i ≡ j + 1 = omega arith in
-    c.loop-i.invariant ∙ keys_exclude_at I l items c.loop-i.i j m lt _ refl (sym c.takes.ensures ∙ c.if-takes.false)
+pub loop-b-preserved : goal.loop-b-preserved
+loop-b-preserved c = λ l h.
+    let I = c.args.task.now.instance.now in
+    let left = c.left-b-items.result.now in
+    let i = c.loop-b.b-index in
+    let e = entry_of l (slice_index left i) in
+    let s = left_next I l _ left h c.left-b-items.ensures i c.loop-b-test.true in
+    let takes = c.takes.ensures l h (c.least_end-least.ensures l h) in
+    elim c.if-takes.branch [
+      | then-takes+in_ok-push w ↦ subst (AreKeysBut I l (drop (i + 1) l)) (ap (λ v. v.items) (sym w.keys-is))
+          (keys_take I l (drop i l) (drop (i + 1) l) e _ s (c.loop-b.invariant l h) _ _ (sym takes ∙ w.if-takes.true)
+          (w.key_of.ensures I l h) w.in_ok-push.ensures.items)
+      | else-takes w ↦ subst (AreKeysBut I l (drop (i + 1) l)) (ap (λ v. v.items) (sym w.keys-is))
+          (keys_skip I l (drop i l) (drop (i + 1) l) e _ s (c.loop-b.invariant l h) (sym takes ∙ w.if-takes.false))
+    ]
 
 pub returns : goal.returns
-returns c =
-    let I = c.args.view.now.instance.now in
-    let l = c.args.view.now.claim.now in
-    let zero : c.loop-i.i ≡ 0 = omega arith in
-    let whole : drop c.loop-i.i c.pairs-pairs.result.now ≡ l =
-    ap (λ (n : ℕ). drop n c.pairs-pairs.result.now) zero ∙ c.pairs-pairs.ensures.value in
-    let items : c.in_ok-collect.field-0.items ≡ map (λ (k : ℕ × ℕ). k.1) c.loop-i.keys.keys = search rules in
-    rw (items, c.loop-i.invariant, whole) (all_keys I l c.pairs-pairs.ensures.kept.rises)
+returns c = λ l h.
+    let items : c.in_ok-collect.field-0.items ≡ map (λ (k : ℕ × ℕ). k.1) c.deref.result.now = search rules in
+    let I = c.args.task.now.instance.now in
+    let i = c.loop-b.b-index in
+    let law = c.choices_are_in_order.ensures in
+    let past = left_past I l _ c.left-b-items.result.now h c.left-b-items.ensures i c.loop-b-test.false in
+    let all = keys_all I l (drop i l) _ past (c.loop-b.invariant l h) in
+    ap (map (entry_of l)) (items ∙ ap (map (λ (k : ℕ × ℕ). k.1)) c.deref.ensures.value)
+    ∙ sorted_keys I l _ _ h.claim all c.sort_unstable.ensures.permutation c.sort_unstable.ensures.sorted
+    (law.order I (not_excluded I) l h.claim) (law.members I (not_excluded I) l) (law.one I)

@@ -1,6 +1,8 @@
-use Rattle.std.proofs.Common.{◌≡◌, drop}
-use Rattle.branching.proofs.Order.{keys_of}
+use Rattle.std.proofs.Common.{drop}
+use Rattle.branching.proofs.Words.{Claim, AreLevels}
+use Rattle.branching.proofs.Order.{AreKeysBut}
 use Rattle.branching.proofs.choice.choices.Given as goal
 
-abbrev pub invariant-loop-i : goal.invariant-loop-i
-invariant-loop-i l = l.keys.keys ≡ keys_of l.view.instance.now l.view.claim.now (drop l.i l.pairs)
+abbrev pub invariant-loop-b : goal.invariant-loop-b
+invariant-loop-b l = (k : Claim) → AreLevels l.task.instance.now k l.levels →
+    AreKeysBut l.task.instance.now k (drop l.b-index k) l.keys.items

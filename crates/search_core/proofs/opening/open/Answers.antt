@@ -3,7 +3,7 @@ use Rattle.search_core.proofs.Words.{watched_none, last_claim}
 use Rattle.dsa_search_laws.proofs.Search.{first_empty}
 use Rattle.branching.specs.Branches.{order_of}
 use Rattle.branching.proofs.Descent.{is_instance}
-use Rattle.branching.proofs.LiftedChoices.{order_entries}
+use Rattle.branching.proofs.ChoiceEntries.{order_entries}
 use Rattle.branching.proofs.Searching.{are_choices}
 use Rattle.branching.proofs.Uncovered.{covered_has_none, covers_less}
 use Rattle.search_core.proofs.Counting.{counted_one_more}

@@ -5,8 +5,7 @@ use Rattle.claim_levels.proofs.Lifting.{lifted_at_lows}
 use Rattle.branching.specs.Trying.{refuted_buffer}
 use Rattle.branching.proofs.Descent.{is_instance}
 use Rattle.branching.proofs.Growing.{extends_none}
-use Rattle.branching.proofs.LiftedChoices.{lifted_nothing}
-use Rattle.branching.proofs.LiftedClaims.{covered_from_lifted, lifted_covered, lifted_extends, lifted_fresh, lifted_noted, lifted_stands}
+use Rattle.branching.proofs.LiftedClaims.{covered_from_lifted, lifted_covered, lifted_extends, lifted_fresh, lifted_noted, lifted_stands, lifted_nothing}
 use Rattle.branching.proofs.Searching.{all_refuted, chosen_in, each_noted, one_is_left, refuted_in}
 use Rattle.search_core.specs.Walks.{place_on}
 use Rattle.search_core.proofs.Descending.{ahead_covered, ahead_deeper}
