@@ -3,8 +3,10 @@ pub mod Looking
 pub mod Rising
 pub mod Finding
 pub mod WatchLemmas
-mod NoteLemmas
-pub mod WatchRows
+mod ItemLemmas
+mod WatchRows
+mod RowSearch
 pub mod WatchFacts
-pub mod WatchTableFacts
+mod RowFacts
+mod WatchingFacts
 mod ExampleFacts

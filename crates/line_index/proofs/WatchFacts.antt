@@ -4,9 +4,10 @@ use Rattle.dsa_terms.specs.Claims.{Claim, Entry, IsIn}
 use Rattle.dsa_terms.specs.Logs.{Line, Over, claim_of}
 use Rattle.dsa_terms.proofs.Lists.{same_some}
 use Rattle.canonical_order.specs.Claims.{HasBuffer}
+use Rattle.line_index.specs.declared.watch_row.Mark.{Mark}
 use Rattle.line_index.specs.declared.look.Look.TheVariants.{Covers, Unmet, Lacks}
 use Rattle.line_index.specs.Looks.{IsLacked, IsLook, IsUnmet}
-use Rattle.line_index.specs.Watches.{AreNoted, AreRaised, AreTheRaised, AreWatched, Fails, HasBufferAt, HasLevels, LineWatches, RulesOut}
+use Rattle.line_index.specs.Watches.{AreNoted, AreRaised, AreTheRaised, AreWatched, Fails, HasLevels, IsNoted, LineWatches, RulesOut}
 
 -- the line has the bounds 2 of buffer 0 and 5 of buffer 1
 abbrev pub claim : Claim
@@ -131,40 +132,53 @@ no_entry_of_it r = go r.among
     go (inr (inr j)) = j
 
 -- ---- notes
-has_either : (b : ℕ) → (b ≡ 0) ⊎ (b ≡ 1) → HasBufferAt lines 0 b
-has_either b either line at = subst (λ (x : Line). HasBuffer (claim_of x) b) (same_some at) (has either)
+-- a mark of line k at the bound of buffer 1
+abbrev mark : ℕ → ℕ → Mark
+mark k note = record { bound = 5; line = k; note = note }
+
+noted_by : (b : ℕ) → (b ≡ 0) ⊎ (b ≡ 1) → IsNoted lines (mark 0 b)
+noted_by b either = record { line = Over claim 0 5 1; stands = refl; has = has either }
   where
     has : (b ≡ 0) ⊎ (b ≡ 1) → HasBuffer claim b
     has (inl q) = inl q
     has (inr q) = inr (inl q)
 
-has_no_third : HasBufferAt lines 0 2 → ⊥
-has_no_third h = elim (h (Over claim 0 5 1) refl) [
+-- the line has no third buffer
+not_noted_by : IsNoted lines (mark 0 2) → ⊥
+not_noted_by n = elim (subst (λ (x : Line). HasBuffer (claim_of x) 2) (same_some (sym n.stands)) n.has) [
   | inl q ↦ absurd (omega (arith, q))
   | inr i ↦ elim i [ inl q ↦ absurd (omega (arith, q)) | inr j ↦ j ]
 ]
 
-noted : (b : ℕ) → (b ≡ 0) ⊎ (b ≡ 1) → AreNoted lines (b ∷ []) 1
-noted b either zero lt line at = (b, refl, has_either b either line at)
-noted b either (suc k) lt line at = absurd (omega arith)
+-- the log has no second line
+not_noted_past : IsNoted lines (mark 1 0) → ⊥
+not_noted_past n = let e = n.stands in absurd cc
 
-not_noted : AreNoted lines (2 ∷ []) 1 → ⊥
-not_noted h = let n = h 0 (omega arith) (Over claim 0 5 1) refl in
-    absurd (elim n.2 [
-      | inl q ↦ (let b : 2 ≡ n.0 = same_some n.1 in omega arith)
-      | inr i ↦ elim i [ inl q ↦ (let b : 2 ≡ n.0 = same_some n.1 in omega arith) | inr j ↦ j ]
-    ])
+noted : (b : ℕ) → (b ≡ 0) ⊎ (b ≡ 1) → AreNoted lines ((mark 0 b ∷ []) ∷ [])
+noted b either zero m (inl q) = subst (IsNoted lines) (sym q) (noted_by b either)
+noted b either zero m (inr j) = absurd j
+noted b either (suc p) m i = absurd i
+
+second_not_noted : AreNoted lines ((mark 0 1 ∷ mark 0 2 ∷ []) ∷ []) → ⊥
+second_not_noted h = not_noted_by (h 0 (mark 0 2) (inr (inl refl)))
 
 -- ---- all of it
-abbrev pub watches_of : List Entry → List ℕ → LineWatches
-watches_of entries notes = record { entries = entries; notes = notes }
+abbrev pub watches_of : List Entry → List Mark → LineWatches
+watches_of entries row = record { entries = entries; rows = row ∷ [] }
 
--- the watch is the bound of buffer 1, and so is the note
+-- the watch is the bound of buffer 1, which is the note of its mark
 abbrev pub by_one : LineWatches
-by_one = watches_of ((1, 5) ∷ []) (1 ∷ [])
+by_one = watches_of ((1, 5) ∷ []) (mark 0 1 ∷ [])
 
-without_note : AreWatched lines (watches_of ((1, 5) ∷ []) []) low 1 → ⊥
-without_note w = let n = w.noted 0 (omega arith) (Over claim 0 5 1) refl in cc
+-- the note is no buffer of the line
+abbrev pub by_third : LineWatches
+by_third = watches_of ((1, 5) ∷ []) (mark 0 2 ∷ [])
+
+pub foreign : AreNoted lines by_third.rows → ⊥
+foreign h = not_noted_by (h 0 (mark 0 2) (inl refl))
+
+not_by_third : AreWatched lines by_third low 1 → ⊥
+not_by_third w = foreign w.noted
 
 pub watched_at_low : AreWatched lines by_one low 1
 watched_at_low = record { within = omega arith; noted = noted 1 (inr refl); each = each }

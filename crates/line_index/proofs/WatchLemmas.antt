@@ -7,6 +7,7 @@ use Rattle.dsa_terms.specs.Claims.{Claim, Entry, IsIn}
 use Rattle.dsa_terms.specs.Logs.{Line, claim_of}
 use Rattle.canonical_order.specs.Levels.{AreLevels}
 use Rattle.dsa_terms.proofs.NumberTests.{below_or_from, same_or_not}
+use Rattle.line_index.specs.declared.watch_row.Mark.{Mark}
 use Rattle.line_index.specs.Covered.{IsCoveredBy, NoneCovers}
 use Rattle.line_index.specs.Looks.{IsLacked, IsUnmet}
 use Rattle.line_index.specs.Watches.{AreNoted, AreRaised, AreWatched, Fails, HasLevels, LineWatches, RulesOut}
@@ -24,11 +25,21 @@ watched_none I lines watches l levels h w k line at covers =
     (let z : f.1 < slice_index levels f.0 = is_met I l _ h f (covers f i) in omega arith)) in
     absurd (omega arith)
 
+pub noted_more : (lines more : List Line) (rows : List (List Mark)) → AreNoted lines rows →
+    AreNoted (lines ++ more) rows
+noted_more lines more rows h p m i =
+    let r = h p m i in
+    record {
+      line = r.line;
+      stands = get_before lines more m.line (slice_get_within lines m.line r.line r.stands) ∙ r.stands;
+      has = r.has;
+    }
+
 pub watched_more : (lines more : List Line) (watches : LineWatches) (levels : List ℕ) (n : ℕ) →
     AreWatched lines watches levels n → AreWatched (lines ++ more) watches levels n
 watched_more lines more watches levels n w = record {
   within = (let le = w.within in let q = length-append lines more in omega arith);
-  noted = λ k lt line at. w.noted k lt line (sym (get_before lines more k (let le = w.within in omega arith)) ∙ at);
+  noted = noted_more lines more watches.rows w.noted;
   each = λ k line lt at. w.each k line lt
       (sym (get_before lines more k (let le = w.within in omega arith)) ∙ at);
 }
@@ -171,7 +182,7 @@ module _ (lines : List Line) (levels : List ℕ) where
   pub all_watched : (before : List ℕ) (old new : LineWatches) (n : ℕ) → length levels ≤ n →
       AreMoved lines levels old.entries new.entries →
       ((b : ℕ) → b < n → FailAt lines new.entries levels b (slice_index before b)) → AreRaised before levels →
-      AreNoted lines new.notes (length lines) → AreWatched lines old before (length lines) →
+      AreNoted lines new.rows → AreWatched lines old before (length lines) →
       AreWatched lines new levels (length lines)
   all_watched before old new n le h fail raised noted w = record {
     within = w.within;
@@ -198,7 +209,7 @@ module _ (lines : List Line) (levels : List ℕ) where
   -- what was asked before stays watched, and the lines from n on were asked now
   pub watched_from : (old now : LineWatches) (n : ℕ) → AreOwnMoved lines levels old.entries now.entries →
       ((k : ℕ) → n ≤ k → k < length lines → IsWatched lines now.entries levels k) →
-      AreNoted lines now.notes (length lines) → AreWatched lines old levels n →
+      AreNoted lines now.rows → AreWatched lines old levels n →
       AreWatched lines now levels (length lines)
   watched_from old now n moved new noted w = record {
     within = omega arith;
@@ -217,7 +228,7 @@ module _ (lines : List Line) (levels : List ℕ) where
 
   -- at a claim above, what was watched stays so
   pub kept_above : (above : List ℕ) (old now : LineWatches) (n : ℕ) → AreRaised above levels →
-      AreOwnMoved lines levels old.entries now.entries → AreNoted lines now.notes n → AreWatched lines old above n →
+      AreOwnMoved lines levels old.entries now.entries → AreNoted lines now.rows → AreWatched lines old above n →
       AreWatched lines now above n
   kept_above above old now n raised moved noted w = record {
     within = w.within;

@@ -1,4 +1,5 @@
 pub mod Covered
 pub mod Watches
+pub mod Rows
 pub mod Watching
 pub mod Looks

@@ -1,14 +1,19 @@
--- Watches and notes: for each line of a log one entry of its claim, which shows that the line does not cover a claim,
--- and one buffer of its claim.
-use Rattle.std.specs.Prelude.{◌≡◌, ℕ, ◌<◌, ◌≤◌, List, length, slice_get, slice_index, Some}
+-- Watches and marks: for each line of a log one entry of its claim, which shows that the line does not cover a claim,
+-- and marks of lines in rows, each with the number of a buffer of its line's claim.
+use Rattle.std.specs.Prelude.{◌≡◌, ℕ, ◌<◌, ◌≤◌, List, [], length, slice_get, slice_index, slice_index_or, Some}
 use Rattle.dsa_terms.specs.Claims.{Claim, Entry, IsIn}
 use Rattle.dsa_terms.specs.Logs.{Line, claim_of}
 use Rattle.canonical_order.specs.Claims.{HasBuffer}
+use Rattle.line_index.specs.declared.watch_row.Mark.{Mark}
 
--- the watches and the notes by line, each note the number of a buffer
+-- the watches by line, and the marks by row
 pub record LineWatches : Type 0 where
   pub entries : List Entry
-  pub notes : List ℕ
+  pub rows : List (List Mark)
+
+-- the marks of the row of that number
+abbrev pub row_at : List (List Mark) → ℕ → List Mark
+row_at rows p = slice_index_or rows p []
 
 -- each buffer of k has a level
 abbrev pub HasLevels : List ℕ → Claim → Type 0
@@ -23,24 +28,21 @@ pub record RulesOut (levels : List ℕ) (k : Claim) (e : Entry) : Type 0 where
   pub among : IsIn e k
   pub unmet : Fails levels k e
 
--- the line of that number has the buffer in its claim
-abbrev pub HasBufferAt : List Line → ℕ → ℕ → Type 0
-HasBufferAt lines k b = (line : Line) → slice_get lines k ≡ Some line → HasBuffer (claim_of line) b
+-- the mark is of a line of the log, and its note is a buffer of that line's claim
+pub record IsNoted (lines : List Line) (m : Mark) : Type 0 where
+  pub line : Line
+  pub stands : slice_get lines m.line ≡ Some line
+  pub has : HasBuffer (claim_of line) m.note
 
--- the line of that number has a note, of a buffer of its claim
-abbrev pub IsNoted : List Line → List ℕ → ℕ → Type 0
-IsNoted lines notes k = (line : Line) → slice_get lines k ≡ Some line →
-    (b : ℕ) × (slice_get notes k ≡ Some b) × HasBuffer (claim_of line) b
+-- each mark is such a one
+abbrev pub AreNoted : List Line → List (List Mark) → Type 0
+AreNoted lines rows = (p : ℕ) (m : Mark) → IsIn m (row_at rows p) → IsNoted lines m
 
--- each of the first n lines has one
-abbrev pub AreNoted : List Line → List ℕ → ℕ → Type 0
-AreNoted lines notes n = (k : ℕ) → k < n → IsNoted lines notes k
-
--- there are n lines at least, each of the first n has a note, and its watch rules out that it covers the claim of the
--- levels
+-- each mark has a note of its line; there are n lines at least, and the watch of each of the first n rules out that it
+-- covers the claim of the levels
 pub record AreWatched (lines : List Line) (watches : LineWatches) (levels : List ℕ) (n : ℕ) : Type 0 where
   pub within : n ≤ length lines
-  pub noted : AreNoted lines watches.notes n
+  pub noted : AreNoted lines watches.rows
   pub each : (k : ℕ) (line : Line) → k < n → slice_get lines k ≡ Some line →
       (e : Entry) × (slice_get watches.entries k ≡ Some e) × RulesOut levels (claim_of line) e
 

@@ -4,8 +4,8 @@
 mod child_cover;
 mod levels;
 mod look;
-mod notes;
 mod recent;
+mod row_search;
 mod watch_row;
 mod watch_table;
 mod watches;

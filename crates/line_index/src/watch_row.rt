@@ -1,8 +1,9 @@
-//! The lines that watch a bound of one buffer.
+//! The lines that watch a bound of one buffer and group.
 
-ghost use Rattle.std.specs.Prelude.{◌≡◌, ◌<◌, [], ◌∷◌, ◌++◌, OnErr, OnOk, Some, length, slice_get};
+ghost use Rattle.std.specs.Prelude.{◌≡◌, ◌<◌, [], ◌∷◌, ◌++◌, OnErr, OnOk, Some, length, slice_get, slice_set};
 ghost use Rattle.std.specs.List.{swap_remove};
 ghost use Rattle.line_index.specs.declared.watch_row.Mark.{Mark as MarkTerm};
+ghost use Rattle.line_index.specs.Rows.{with_note};
 
 use dsa_model::NoMemory;
 use std::alloc::Global;
@@ -15,9 +16,12 @@ pub(crate) struct Mark {
     pub(crate) bound: u64,
     /// The number of the line.
     pub(crate) line: u64,
+    /// The note, a buffer of the line: the one that a claim was last found to lack, and any until
+    /// then. The line covers no claim that lacks it.
+    pub(crate) note: u32,
 }
 
-/// Marks of one buffer. Contracts see the list.
+/// Marks of one buffer and group. Contracts see the list.
 #[derive(Drop)]
 pub(crate) struct Row {
     marks: Vec<Mark>,
@@ -64,6 +68,16 @@ impl Row {
     {
         self.marks.push(mark)?;
         Ok(())
+    }
+
+    /// Gives the mark at a place, which is below `len`, another note.
+    pub(crate) fn set_note(&mut self, i: usize, note: u32)
+        requires { i < length self.old }
+        ensures { (m : MarkTerm) → slice_get self.old i ≡ Some m →
+            self.new ≡ slice_set self.old i (with_note m note) }
+    {
+        let Mark { bound, line, .. } = self.marks[i];
+        self.marks[i] = Mark { bound, line, note };
     }
 
     /// Takes the mark at a place out, which is below `len`. The last one comes there.

@@ -1,53 +1,62 @@
-//! The watches of the lines of a log, by line and by buffer.
+//! The watches of the lines of a log, by line and in rows.
 
-ghost use Rattle.std.specs.Prelude.{◌≡◌, ◌<◌, [], IfOk, OnOk, Some, length, slice_get, slice_set, take};
+ghost use Rattle.std.specs.Prelude.{◌≡◌, ◌<◌, ◌≤◌, ℕ, [], IfOk, OnOk, Some, length, slice_get, slice_set, take};
 ghost use Rattle.dsa_terms.specs.Claims.{IsIn};
-ghost use Rattle.dsa_model.specs.Buffer.{buffer_limit};
-ghost use Rattle.line_index.specs.Watching.{AreAppended, AreExtended, AreFiled, IsUnwatched, row_at};
+ghost use Rattle.line_index.specs.declared.watch_row.Mark.{Mark as MarkTerm};
+ghost use Rattle.line_index.specs.Rows.{AreAmong, AreAppended, AreFiled, AreWith, IsUnwatched, mark_of, row_of, with_note};
+ghost use Rattle.line_index.specs.Watches.{row_at};
+ghost use Rattle.line_index.specs.Watching.{AreExtended};
 
 use crate::watch_row::{Mark, Row};
 use dsa_model::{BUFFER_LIMIT, NoMemory};
 use std::alloc::Global;
 use std::marker::Model;
 
-/// How many rows there are: no instance has more buffers.
-const ROWS: usize = BUFFER_LIMIT as usize;
+/// How many groups the bounds of a buffer have.
+const GROUPS: u64 = 16;
 
 /// What lines have for a watch until they are looked at: of no buffer.
-const NO_WATCH: (u32, u64) = (ROWS as u32, 0);
+const NO_WATCH: (u32, u64) = (BUFFER_LIMIT, 0);
 
-/// For each line its watch, a pair of buffer and bound in bytes, and for each buffer a row of
-/// marks, of the lines that watch a bound of it. A row may have marks of lines that watch another
-/// bound by now. Contracts see the watches by line and the rows by buffer.
+/// For each line its watch, a pair of buffer and bound in bytes, and for each buffer and group of
+/// its bounds a row of marks, of the lines that watch such a bound. A row may have marks of lines
+/// that watch another bound by now. Rows are made as they are needed. Contracts see the watches by
+/// line, the rows by number, and the width of a group in bytes.
 #[derive(Drop)]
 pub(crate) struct WatchTable {
+    alloc: Global,
+    width: u64,
     watches: Vec<(u32, u64)>,
     rows: Vec<Row>,
 }
 
 impl Model for WatchTable {
-    ghost use Rattle.line_index.specs.Watching.{AreFiled, WatchedLines};
+    ghost use Rattle.line_index.specs.Rows.{AreFiled, WatchedLines};
 
     ghost Value = { WatchedLines };
 
-    ghost view = { λ t. record { watches = t.watches.items; rows = t.rows.items } };
+    ghost view = { λ t. record {
+      watches = t.watches.items;
+      rows = t.rows.items;
+      width = t.width;
+    } };
 
-    ghost invariant = { λ t. AreFiled t.watches.items t.rows.items };
+    ghost invariant = { λ t. AreFiled t.watches.items t.rows.items t.width };
 }
 
 impl WatchTable {
-    /// No watches.
-    pub(crate) fn new(alloc: Global) -> Result<WatchTable, NoMemory>
-        ensures { IfOk result (λ table. table.watches ≡ []) }
+    /// No watches, for bounds that are mostly at most the capacity in bytes: it says how wide the
+    /// groups are, and nothing else.
+    pub(crate) fn new(alloc: Global, capacity: u64) -> WatchTable
+        ensures watches { result.watches ≡ [] }
+        ensures rows { result.rows ≡ [] }
     {
-        let mut rows = Vec::with_capacity(alloc, ROWS)?;
-        for _ in 0..ROWS {
-            rows.push(Row::new(alloc))?;
-        }
-        Ok(WatchTable {
+        WatchTable {
+            alloc,
+            width: capacity / GROUPS + 1,
             watches: Vec::new(alloc),
-            rows,
-        })
+            rows: Vec::new(alloc),
+        }
     }
 
     /// How many lines have a watch.
@@ -67,7 +76,8 @@ impl WatchTable {
 
     /// Gives the first so many lines a watch, of no buffer, if they have none.
     pub(crate) fn extend(&mut self, count: u64) -> Result<(), NoMemory>
-        ensures { OnOk result (AreExtended self.old.watches self.new.watches count) }
+        ensures extended { OnOk result (AreExtended self.old.watches self.new.watches count) }
+        ensures rows { self.new.rows ≡ self.old.rows }
     {
         for _ in self.len()..count {
             self.watches.push(NO_WATCH)?;
@@ -75,56 +85,103 @@ impl WatchTable {
         Ok(())
     }
 
-    /// Takes the mark into the row of the buffer, if it has one.
-    fn add(&mut self, b: u32, mark: Mark) -> Result<(), NoMemory>
-        ensures watches { self.new.watches ≡ self.old.watches }
-        ensures rows { AreAppended self.old.rows self.new.rows }
-        ensures added { b < buffer_limit → OnOk result (IsIn mark (row_at self.new.rows b)) }
+    /// The number of the row of the pair. Groups of bounds are equally wide, and the last one has
+    /// all higher bounds too.
+    pub(crate) fn row_of(&self, b: u32, bound: u64) -> usize
+        ensures value { result ≡ row_of self.now.width (b, bound) }
+        ensures filed { AreFiled self.now.watches self.now.rows self.now.width }
     {
-        if (b as usize) < ROWS {
-            let row = &mut self.rows[b as usize];
-            row.push(mark)?;
+        let group = (bound / self.width).min(GROUPS - 1);
+        b as usize * GROUPS as usize + group as usize
+    }
+
+    /// Makes the rows below that number, if they are not there.
+    fn make_rows(&mut self, count: usize) -> Result<(), NoMemory>
+        ensures watches { self.new.watches ≡ self.old.watches }
+        ensures rows { (p : ℕ) → row_at self.new.rows p ≡ row_at self.old.rows p }
+        ensures width { self.new.width ≡ self.old.width }
+        ensures count { OnOk result (count ≤ length self.new.rows) }
+    {
+        for _ in self.rows.len()..count {
+            self.rows.push(Row::new(self.alloc))?;
         }
         Ok(())
     }
 
-    /// Gives the line of that number, which is below `len`, another watch.
-    pub(crate) fn file(&mut self, k: u64, watch: (u32, u64)) -> Result<(), NoMemory>
+    /// Takes the mark into the row of the buffer and of its bound.
+    fn add(&mut self, b: u32, mark: Mark) -> Result<(), NoMemory>
+        ensures watches { self.new.watches ≡ self.old.watches }
+        ensures rows { AreAppended self.old.rows self.new.rows }
+        ensures width { self.new.width ≡ self.old.width }
+        ensures with { AreWith mark self.old.rows self.new.rows }
+        ensures added { OnOk result
+            (IsIn mark (row_at self.new.rows (row_of self.new.width (b, mark.bound)))) }
+    {
+        let p = self.row_of(b, mark.bound);
+        self.make_rows(p + 1)?;
+        let row = &mut self.rows[p];
+        row.push(mark)?;
+        Ok(())
+    }
+
+    /// Gives the line of that number, which is below `len`, another watch, and its mark that note.
+    pub(crate) fn file(&mut self, k: u64, watch: (u32, u64), note: u32) -> Result<(), NoMemory>
         requires { k < length self.old.watches }
         ensures watches { OnOk result (self.new.watches ≡ slice_set self.old.watches k watch) }
         ensures rows { OnOk result (AreAppended self.old.rows self.new.rows) }
+        ensures width { OnOk result (self.new.width ≡ self.old.width) }
+        ensures with { OnOk result (AreWith (mark_of k watch.1 note) self.old.rows self.new.rows) }
     {
         let (b, bound) = watch;
         let line = k;
-        self.add(b, Mark { bound, line })?;
+        self.add(b, Mark { bound, line, note })?;
         self.watches[k as usize] = watch;
         Ok(())
     }
 
-    /// How many marks the row of the buffer has.
-    pub(crate) fn row_len(&self, b: usize) -> usize
-        ensures value { result ≡ length (row_at self.now.rows b) }
-        ensures filed { AreFiled self.now.watches self.now.rows }
+    /// How many marks the row has.
+    pub(crate) fn row_len(&self, p: usize) -> usize
+        ensures value { result ≡ length (row_at self.now.rows p) }
+        ensures filed { AreFiled self.now.watches self.now.rows self.now.width }
     {
-        if b < ROWS { self.rows[b].len() } else { 0 }
+        if p < self.rows.len() {
+            self.rows[p].len()
+        } else {
+            0
+        }
     }
 
     /// The mark at a place of the row, which is below `row_len`.
-    pub(crate) fn mark(&self, b: usize, i: usize) -> Mark
-        requires { i < length (row_at self.now.rows b) }
-        ensures { slice_get (row_at self.now.rows b) i ≡ Some result }
+    pub(crate) fn mark(&self, p: usize, i: usize) -> Mark
+        requires { i < length (row_at self.now.rows p) }
+        ensures { slice_get (row_at self.now.rows p) i ≡ Some result }
     {
-        self.rows[b].at(i)
+        self.rows[p].at(i)
+    }
+
+    /// Gives the mark at a place of the row, which is below `row_len`, another note.
+    pub(crate) fn set_note(&mut self, p: usize, i: usize, note: u32)
+        requires { i < length (row_at self.old.rows p) }
+        ensures watches { self.new.watches ≡ self.old.watches }
+        ensures before { take i (row_at self.new.rows p) ≡ take i (row_at self.old.rows p) }
+        ensures width { self.new.width ≡ self.old.width }
+        ensures with { (m : MarkTerm) → slice_get (row_at self.old.rows p) i ≡ Some m →
+            AreWith (with_note m note) self.old.rows self.new.rows }
+    {
+        let row = &mut self.rows[p];
+        row.set_note(i, note);
     }
 
     /// Takes the mark at a place out of the row. It is below `row_len`, and no line has that watch.
-    pub(crate) fn take(&mut self, b: usize, i: usize)
-        requires in_row { i < length (row_at self.old.rows b) }
-        requires unwatched { IsUnwatched self.old b i }
+    pub(crate) fn take(&mut self, p: usize, i: usize)
+        requires in_row { i < length (row_at self.old.rows p) }
+        requires unwatched { IsUnwatched self.old p i }
         ensures watches { self.new.watches ≡ self.old.watches }
-        ensures before { take i (row_at self.new.rows b) ≡ take i (row_at self.old.rows b) }
+        ensures before { take i (row_at self.new.rows p) ≡ take i (row_at self.old.rows p) }
+        ensures width { self.new.width ≡ self.old.width }
+        ensures among { AreAmong self.old.rows self.new.rows }
     {
-        let row = &mut self.rows[b];
+        let row = &mut self.rows[p];
         row.take(i);
     }
 }

@@ -1,6 +1,6 @@
 -- What is found where claims are opened of a buffer of size 3 and one of size 1 that stands at multiples of 4 alone.
-use Rattle.std.proofs.Common.{◌≡◌, ◌<◌, ℕ, zero, suc, List, [], ◌∷◌, slice_get, Some, inl, refl, sym, ◌∙◌, subst, arith}
-use Rattle.search_core.proofs.Words.{buffer, have_same_moments, is_live, some_before, Entry, up, Line, claim_of, ends_below, is_twin, comes_before, first, small_below, same_some, HasBuffer, AreNoted, LineWatches, RulesOut}
+use Rattle.std.proofs.Common.{◌≡◌, ◌<◌, ℕ, zero, suc, List, [], ◌∷◌, slice_get, Some, inl, inr, refl, sym, ◌∙◌, subst, arith}
+use Rattle.search_core.proofs.Words.{buffer, have_same_moments, is_live, some_before, Entry, up, Line, claim_of, ends_below, is_twin, comes_before, first, small_below, same_some, AreNoted, IsNoted, LineWatches, RulesOut}
 use Rattle.claim_levels.proofs.LevelFacts.{rest, root}
 use Rattle.branching.specs.declared.fresh.Fresh.{Fresh}
 use Rattle.branching.proofs.KnownFacts.{rest_known, root_layout}
@@ -16,16 +16,17 @@ fresh n = record { levels = 1 ∷ 1 ∷ []; chosen = 0; asked = n }
 
 -- ---- lines that were asked, and are watched
 abbrev of_buffer_1 : LineWatches
-of_buffer_1 = record { entries = (1, 4) ∷ []; notes = 1 ∷ [] }
+of_buffer_1 = record { entries = (1, 4) ∷ []; rows = (record { bound = 4; line = 0; note = 1 } ∷ []) ∷ [] }
 
 asked_and_watched : AreAllAsked (over ∷ []) of_buffer_1 (fresh 1)
 asked_and_watched =
     record { asked = refl; watched = record { within = omega arith; noted = noted; each = each } }
   where
-    noted : AreNoted (over ∷ []) (1 ∷ []) 1
-    noted zero lt line at =
-        (1, refl, subst (λ (x : Line). HasBuffer (claim_of x) 1) (same_some at) (inl refl))
-    noted (suc k) lt line at = absurd (omega arith)
+    noted : AreNoted (over ∷ []) of_buffer_1.rows
+    noted zero m (inl q) = subst (IsNoted (over ∷ [])) (sym q)
+        (record { line = over; stands = refl; has = inl refl })
+    noted zero m (inr j) = absurd j
+    noted (suc p) m i = absurd i
 
     each : (k : ℕ) (line : Line) → k < 1 → slice_get (over ∷ []) k ≡ Some line →
         (e : Entry) × (slice_get ((1, 4) ∷ []) k ≡ Some e) × RulesOut (1 ∷ 1 ∷ []) (claim_of line) e
@@ -40,7 +41,7 @@ asked_and_watched =
 not_all_asked : AreAllAsked (over ∷ []) of_buffer_1 (fresh 0) → ⊥
 not_all_asked h = let k = h.asked in omega arith
 
-asked_without_watch : AreAllAsked (over ∷ []) (record { entries = []; notes = [] }) (fresh 1) → ⊥
+asked_without_watch : AreAllAsked (over ∷ []) (record { entries = []; rows = [] }) (fresh 1) → ⊥
 asked_without_watch h = let r = h.watched.each 0 over (omega arith) refl in let e = r.1 in absurd cc
 
 -- ---- what is found

@@ -54,10 +54,10 @@ module _ (walk : Walk) (units : Units) where
 
   -- ---- a line that was asked, and is not watched
   abbrev none : LineWatches
-  none = record { entries = []; notes = [] }
+  none = record { entries = []; rows = [] }
 
   not_watched : walk.path.frames ≡ both_left 1 ∷ [] → walk.watches ≡ none → HasWatches (over ∷ []) walk → ⊥
   not_watched e w h =
       let k : AreWatchedAt (over ∷ []) none (both_left 1 ∷ []) = rw (e, w) at h in
-      let r = (k 0 (both_left 1) (omega arith)).each 0 over (omega arith) refl in
+      let r = (k.each 0 (both_left 1) (omega arith)).each 0 over (omega arith) refl in
       cc

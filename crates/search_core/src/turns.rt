@@ -133,7 +133,7 @@ pub(crate) fn search(
 {
     let sky = Skyline::new(alloc, task.instance, sections, members)?;
     let recent = Recent::new(alloc, task.instance.len())?;
-    let watches = Watches::new(alloc)?;
+    let watches = Watches::new(alloc, task.capacity);
     let mut walk = Walk {
         path: Path::new(alloc, sky),
         line: None,

@@ -94,7 +94,7 @@ fn replayed(
 ) -> Result<Tally, Fail<Reason>>
     requires sections { AreSectionsOf instance.now sections.now }
 {
-    let mut replay = Replay::new(alloc, instance, closed, tally)?;
+    let mut replay = Replay::new(alloc, instance, closed, tally);
     replay_parts(alloc, instance, sections, &mut replay)?;
     Ok(replay.tally)
 }

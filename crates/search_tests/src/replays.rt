@@ -90,16 +90,16 @@ impl<'a> Replay<'a> {
         instance: &'a Instance,
         closed: &'a ClosedLog,
         tally: Tally,
-    ) -> Result<Replay<'a>, NoMemory> {
-        Ok(Replay {
+    ) -> Replay<'a> {
+        Replay {
             alloc,
             instance,
             closed,
             lemmas: Lemmas::new(alloc, Log::new(alloc, instance, closed.capacity())),
-            watches: Watches::new(alloc)?,
+            watches: Watches::new(alloc, closed.capacity()),
             draws: Draws::new(closed.len()),
             tally,
-        })
+        }
     }
 
     /// How many lines were learned.

@@ -3,7 +3,7 @@ use Rattle.search_core.proofs.Words.{in_at, AreLevels, last_claim}
 use Rattle.branching.specs.Tries.{Tried}
 use Rattle.search_core.specs.Descents.{IsUnder}
 use Rattle.search_core.proofs.MadeAgain.{child_under, low_child}
-use Rattle.search_core.proofs.Watched.{all_watched_still, watched_above}
+use Rattle.search_core.proofs.Watched.{all_watched_still, watched_above, watched_nowhere}
 use Rattle.search_core.proofs.opening.enter.Goals.{In_ok-line-in-Some}
 use Rattle.search_core.proofs.opening.enter.Goals as goal
 
@@ -53,6 +53,11 @@ returns-in_ok-line-in-Some-clause-watched c =
     all_watched_still _ _ c.find.new.self _ _ (c.requires.raised c.in_ok-child-in-Some.child.levels
     (under (goal.at.returns-in_ok-line-in-Some-clause-watched c).In_ok-line-in-Some))
     (rw c.as_slice-now.ensures.value at c.in_ok-line-in-Some.ensures.kept) c.requires.watched
+
+pub returns-in_ok-line-in-None-clause-none : goal.returns-in_ok-line-in-None-clause-none
+returns-in_ok-line-in-None-clause-none c =
+    (rw c.as_slice.ensures.value at c.in_ok-line-in-None.ensures.none)
+    (watched_nowhere _ _ c.in_ok-levels-in-None.levels c.requires.watched.noted)
 
 pub returns-in_ok-line-in-None-clause-watched : goal.returns-in_ok-line-in-None-clause-watched
 returns-in_ok-line-in-None-clause-watched c =

@@ -7,7 +7,7 @@ use Rattle.search_core.proofs.Taking.{more_still, unless_along, unless_always}
 use Rattle.search_core.proofs.turns.search.Goals as goal
 
 pub turns-init : goal.turns-init
-turns-init c = rw (c.new-4.ensures, c.in_ok-sky.ensures) (search rules)
+turns-init c = rw (c.new-3.ensures, c.in_ok-sky.ensures, c.new-watches.ensures) (search rules)
 
 pub turns-preserved : goal.turns-preserved
 turns-preserved c =

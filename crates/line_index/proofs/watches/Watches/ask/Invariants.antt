@@ -1,5 +1,5 @@
 use Rattle.std.proofs.Common.{ℕ, ◌<◌, ◌≤◌, length}
-use Rattle.line_index.specs.Watches.{AreNoted, IsNoted}
+use Rattle.line_index.specs.Watches.{AreNoted}
 use Rattle.line_index.specs.Watching.{AreOwnMoved, IsWatched}
 use Rattle.line_index.proofs.watches.Watches.ask.Given as goal
 
@@ -9,7 +9,5 @@ invariant-loop-k l = record {
   count : length l.log.lines ≤ length l.self-inside.table.watches;
   watched : (j : ℕ) → l.k ≤ j → j < length l.log.lines →
       IsWatched l.log.lines l.self-inside.table.watches l.levels j;
-  notes : length l.log.lines ≤ length l.self-inside.notes;
-  kept : (n : ℕ) → AreNoted l.log.lines l.fn.self.notes n → AreNoted l.log.lines l.self-inside.notes n;
-  noted : (j : ℕ) → l.k ≤ j → j < length l.log.lines → IsNoted l.log.lines l.self-inside.notes j;
+  noted : AreNoted l.log.lines l.fn.self.rows → AreNoted l.log.lines l.self-inside.table.rows;
 }

@@ -13,7 +13,7 @@ loop-number-init c =
     record {
       moved = subst (λ (w : LineWatches). AreMoved lines c.args.now.now w.entries new) c.self.view_is
           (moved_refl lines c.args.now.now new);
-      noted = λ n h. subst (λ (w : LineWatches). AreNoted c.args.log.now.lines w.notes n) (sym c.self.view_is) h;
+      noted = λ h. subst (λ (w : LineWatches). AreNoted c.args.log.now.lines w.rows) (sym c.self.view_is) h;
       fail = λ known b i. inl i;
     }
 
@@ -28,10 +28,10 @@ loop-number-preserved c =
     let found = c.in_ok-found.ensures in
     record {
       moved = moved_trans _ _ _ _ _ c.loop-number.invariant.moved found.moved;
-      noted = λ n h. found.noted n (c.loop-number.invariant.noted n h);
+      noted = λ h. found.noted (c.loop-number.invariant.noted h);
       fail = λ known. fail_next _ _ _ _ _ _ x _ (drop (i + 1) items) (next_of items i 0 c.loop-number-test.true)
           found.moved (subst (FailAt lines new now x) c.level_at-low.ensures.value
-          (from_none _ (sym c.if-is_some.ensures) (found.none (c.loop-number.invariant.noted _ known))))
+          (from_none _ (sym c.if-is_some.ensures) (found.none (c.loop-number.invariant.noted known))))
           (c.loop-number.invariant.fail known);
     }
 
@@ -42,11 +42,11 @@ returns-clause-none c = λ above all w.
     let before = c.args.before.now in
     let items = c.args.raised.now in
     let inside = c.loop-number.self-inside in
-    let watches : LineWatches = record { entries = inside.table.watches; notes = inside.notes } in
+    let watches : LineWatches = record { entries = inside.table.watches; rows = inside.table.rows } in
     all_watched lines now before c.args.self.now watches (length now) (omega arith) c.loop-number.invariant.moved
     (λ b lt. fail_at_all _ _ _ _ _ _
     (drop_of_length-le items c.loop-number-test.false) all (c.loop-number.invariant.fail w.noted) b) above
-    (c.loop-number.invariant.noted _ w.noted) w
+    (c.loop-number.invariant.noted w.noted) w
 
 pub returns-clause-uncovered : goal.returns-clause-uncovered
 returns-clause-uncovered c = λ I l h above all w. watched_none I _ _ l _ h (returns-clause-none c above all w)
@@ -56,10 +56,10 @@ returns-then-is_some-clause-kept c = λ above n raised w.
     let i = c.loop-number.invariant in
     let found = c.in_ok-found.ensures in
     kept_above c.args.log.now.lines c.args.now.now above _ _ n raised
-    (own_of_moved _ _ _ _ (moved_trans _ _ _ _ _ i.moved found.moved)) (found.noted n (i.noted n w.noted)) w
+    (own_of_moved _ _ _ _ (moved_trans _ _ _ _ _ i.moved found.moved)) (found.noted (i.noted w.noted)) w
 
 pub returns-clause-kept : goal.returns-clause-kept
 returns-clause-kept c = λ above n raised w.
     let i = c.loop-number.invariant in
     kept_above c.args.log.now.lines c.args.now.now above _ _ n raised (own_of_moved _ _ _ _ i.moved)
-    (i.noted n w.noted) w
+    (i.noted w.noted) w

@@ -1,4 +1,4 @@
-use Rattle.std.proofs.Common.{ℕ, drop, length}
+use Rattle.std.proofs.Common.{drop}
 use Rattle.line_index.specs.Watches.{AreNoted}
 use Rattle.line_index.specs.Watching.{AreMoved}
 use Rattle.line_index.proofs.Finding.{FailBut}
@@ -7,7 +7,7 @@ use Rattle.line_index.proofs.watches.Watches.find.Given as goal
 abbrev pub invariant-loop-number : goal.invariant-loop-number
 invariant-loop-number l = record {
   moved : AreMoved l.log.lines l.now l.fn.self.entries l.self-inside.table.watches;
-  noted : (n : ℕ) → AreNoted l.log.lines l.fn.self.notes n → AreNoted l.log.lines l.self-inside.notes n;
-  fail : AreNoted l.log.lines l.fn.self.notes (length l.log.lines) →
+  noted : AreNoted l.log.lines l.fn.self.rows → AreNoted l.log.lines l.self-inside.table.rows;
+  fail : AreNoted l.log.lines l.fn.self.rows →
       FailBut l.log.lines l.before l.now l.self-inside.table.watches l.raised (drop l.number-index l.raised);
 }

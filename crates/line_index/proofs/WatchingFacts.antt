@@ -1,13 +1,13 @@
--- Worked facts: two lines and their watches, by line and in rows.
-use Rattle.std.proofs.Common.{◌≡◌, ℕ, zero, suc, ◌<◌, List, [], ◌∷◌, Some, inl, inr, length, slice_get, slice_index, slice_index_or, refl, sym, ap, subst, arith}
+-- Worked facts: what becomes of the watch of a line.
+use Rattle.std.proofs.Common.{◌≡◌, ℕ, zero, suc, List, [], ◌∷◌, Some, inl, inr, slice_get, slice_index, refl, sym, ap, ◌∙◌, subst, arith}
 use Rattle.dsa_terms.specs.Claims.{Entry, IsIn}
 use Rattle.dsa_terms.specs.Logs.{Line, Over, claim_of}
 use Rattle.dsa_terms.proofs.Lists.{same_some}
 use Rattle.dsa_model.specs.Buffer.{buffer_limit}
-use Rattle.line_index.specs.declared.watch_row.Mark.{Mark}
 use Rattle.line_index.specs.Looks.{IsUnmet}
+use Rattle.line_index.specs.Rows.{mark_of, row_of}
 use Rattle.line_index.specs.Watches.{Fails, RulesOut}
-use Rattle.line_index.specs.Watching.{AreAppended, AreExtended, AreFiled, AreMoved, AreOwnMoved, FailAt, FailsAtMark, IsUnwatched, IsWatched, WatchedLines, mark_of, row_at}
+use Rattle.line_index.specs.Watching.{AreExtended, AreMoved, AreOwnMoved, FailAt, FailInRow, FailsAtMark, IsWatched}
 use Rattle.line_index.proofs.WatchFacts.{met_at_other, other}
 
 abbrev first_line : Line
@@ -16,68 +16,9 @@ first_line = Over ((0, 2) ∷ (1, 5) ∷ []) 0 5 1
 abbrev lines : List Line
 lines = first_line ∷ []
 
--- the first line watches the bound 5 of buffer 1, and once watched the bound 2 of buffer 0
+-- the line watches the bound 5 of buffer 1
 abbrev watches : List Entry
 watches = (1, 5) ∷ []
-
-abbrev table : WatchedLines
-table = record { watches = watches; rows = (mark_of 0 2 ∷ []) ∷ (mark_of 0 5 ∷ []) ∷ [] }
-
-same_mark : {x y : Mark} → Some x ≡ Some y → x ≡ y
-same_mark q = cc
-
--- ---- rows
-row_of_the_second : row_at table.rows 1 ≡ mark_of 0 5 ∷ []
-row_of_the_second = refl
-
-row_of_none : row_at table.rows 2 ≡ []
-row_of_none = refl
-
-bound_of_mark : (mark_of 3 7).bound ≡ 7
-bound_of_mark = refl
-
-line_of_mark : (mark_of 3 7).line ≡ 3
-line_of_mark = refl
-
--- there are too few rows
-not_filed : AreFiled watches table.rows → ⊥
-not_filed h = absurd (let k = h.count in omega arith)
-
-filed : (rows : List (List Mark)) → length rows ≡ 4094 → AreFiled watches ([] ∷ (mark_of 0 5 ∷ []) ∷ rows)
-filed rows q = record { count = omega (arith, q); filed = in_row }
-  where
-    in_row : (k : ℕ) (e : Entry) → slice_get watches k ≡ Some e → e.0 < buffer_limit →
-        IsIn (mark_of k e.1) (row_at ([] ∷ (mark_of 0 5 ∷ []) ∷ rows) e.0)
-    in_row zero e at lt = subst (λ (e : Entry). IsIn (mark_of 0 e.1) (row_at ([] ∷ (mark_of 0 5 ∷ []) ∷ rows) e.0))
-        (same_some at) (inl refl)
-    in_row (suc k) e at lt = absurd cc
-
-in_another_row : (rows : List (List Mark)) → AreFiled watches ((mark_of 0 5 ∷ []) ∷ [] ∷ rows) → ⊥
-in_another_row rows h = h.filed 0 (1, 5) refl (omega arith)
-
-appended : AreAppended table.rows ((mark_of 0 2 ∷ mark_of 1 3 ∷ []) ∷ (mark_of 0 5 ∷ []) ∷ [])
-appended zero = (mark_of 1 3 ∷ [], refl)
-appended (suc zero) = ([], refl)
-appended (suc (suc b)) = ([], refl)
-
-not_put_before : AreAppended ((mark_of 0 2 ∷ []) ∷ []) ((mark_of 1 3 ∷ mark_of 0 2 ∷ []) ∷ []) → ⊥
-not_put_before h =
-    let q : slice_index_or ((mark_of 1 3 ∷ mark_of 0 2 ∷ []) ∷ []) 0 [] ≡ mark_of 0 2 ∷ (h 0).0 = (h 0).1 in
-    absurd (let k : 1 ≡ 0 = ap first_number q in omega arith)
-  where
-    first_number : List Mark → ℕ
-    first_number [] = 0
-    first_number (m ∷ ms) = m.line
-
-stale : IsUnwatched table 0 0
-stale m at is =
-    let number : m.line ≡ 0 = sym (ap (λ (m : Mark). m.line) (same_mark at)) in
-    let there : slice_get watches 0 ≡ Some (0, m.bound) =
-    subst (λ (k : ℕ). slice_get watches k ≡ Some (0, m.bound)) number is in
-    absurd (let k : 1 ≡ 0 = ap (λ (e : Entry). e.0) (same_some there) in omega arith)
-
-watched : IsUnwatched table 1 0 → ⊥
-watched h = h (mark_of 0 5) refl refl
 
 -- ---- watches
 extended : AreExtended watches ((1, 5) ∷ (buffer_limit, 0) ∷ []) 2
@@ -138,10 +79,24 @@ none_from_six zero line e at stands q from below has = absurd (let k : e.1 ≡ 5
     (same_some stands)) in omega arith)
 none_from_six (suc k) line e at stands q from below has = absurd cc
 
-stale_at_mark : FailsAtMark lines watches other 0 (mark_of 0 2)
+-- groups of 3 bytes: the bound 5 is in group 1 of buffer 1
+not_in_its_row : FailInRow lines watches 3 other 1 0 17 → ⊥
+not_in_its_row h = met_at_other (h 0 first_line (1, 5) refl refl refl (omega arith) (omega arith))
+
+none_in_another : FailInRow lines watches 3 other 1 0 16
+none_in_another zero line e at stands q from below has = absurd
+    (let k : 17 ≡ 16 = ap (row_of 3) (same_some stands) ∙ q in omega arith)
+none_in_another (suc k) line e at stands q from below has = absurd cc
+
+none_in_row_from_six : FailInRow lines watches 3 other 1 6 17
+none_in_row_from_six zero line e at stands q from below has = absurd (let k : e.1 ≡ 5 = sym (ap (λ (e : Entry). e.1)
+    (same_some stands)) in omega arith)
+none_in_row_from_six (suc k) line e at stands q from below has = absurd cc
+
+stale_at_mark : FailsAtMark lines watches other 0 (mark_of 0 2 0)
 stale_at_mark line at is has = absurd (let k : 1 ≡ 0 = ap (λ (e : Entry). e.0) (same_some is) in omega arith)
 
-not_stale_at_mark : FailsAtMark lines watches other 1 (mark_of 0 5) → ⊥
+not_stale_at_mark : FailsAtMark lines watches other 1 (mark_of 0 5 1) → ⊥
 not_stale_at_mark h = met_at_other (h first_line refl refl)
 
 is_watched : IsWatched lines watches low 0

@@ -2,14 +2,14 @@ use Rattle.std.proofs.Common.{◌<◌, List, arith, refl, slice_index, slice_set
 use Rattle.dsa_terms.specs.Claims.{Claim, Entry, IsIn}
 use Rattle.dsa_terms.specs.Logs.{claim_of}
 use Rattle.dsa_search_laws.proofs.Placing.{in_buffers}
-use Rattle.canonical_order.specs.Claims.{HasBuffer}
 use Rattle.refute_log.specs.Lines.{line_value}
 use Rattle.line_index.specs.Looks.{IsLacked, IsUnmet}
+use Rattle.line_index.specs.Rows.{mark_of}
 use Rattle.line_index.specs.Watching.{AreOwnMoved, IsWatched}
-use Rattle.line_index.proofs.NoteLemmas.{has_at}
+use Rattle.line_index.proofs.RowSearch.{noted_with}
 use Rattle.line_index.proofs.WatchLemmas.{covered_by_levels, get_set_same, lacked_rules_out, moved_set, own_of_moved, own_set, raised_refl, unmet_rules_out, watched_by}
-use Rattle.line_index.proofs.watches.note_at.Goals as goal
-use Rattle.line_index.proofs.watches.note_at.Goals.{In-Unmet, In-Lacks}
+use Rattle.line_index.proofs.watches.ask_line.Goals as goal
+use Rattle.line_index.proofs.watches.ask_line.Goals.{In-Unmet, In-Lacks}
 
 unmet : (c : In-Unmet) → IsUnmet (claim_of (line_value c.line.result.now)) c.args.levels.now
     (c.in-Unmet.b, c.in-Unmet.bound)
@@ -22,7 +22,7 @@ lacked c = subst (λ (k : Claim). IsLacked k c.args.levels.now (c.in-Lacks.b, c.
     c.in-Lacks.ensures
 
 pub returns-in-Covers-clause-covered : goal.returns-in-Covers-clause-covered
-returns-in-Covers-clause-covered c = λ I l h. covered_by_levels I l _ c.args.log.now.lines c.args.k
+returns-in-Covers-clause-covered c = λ I l h t. covered_by_levels I l _ c.args.log.now.lines c.args.k
     (line_value c.line.result.now)
     (let v = c.len-count.ensures.value in let n = c.len-count.ensures.limit in let t = c.requires.in_log in omega arith)
     c.line.ensures.value
@@ -30,7 +30,7 @@ returns-in-Covers-clause-covered c = λ I l h. covered_by_levels I l _ c.args.lo
     c.in-Covers.ensures) h
 
 pub returns-in_ok-file-in-Unmet-clause-watched : goal.returns-in_ok-file-in-Unmet-clause-watched
-returns-in_ok-file-in-Unmet-clause-watched c =
+returns-in_ok-file-in-Unmet-clause-watched c = λ t.
     let lines = c.args.log.now.lines in
     let levels = c.args.levels.now in
     let old = c.args.table.now.watches in
@@ -52,7 +52,7 @@ returns-in_ok-file-in-Unmet-clause-moved c =
     c.requires.in_table (unmet (goal.at.returns-in_ok-file-in-Unmet-clause-moved c).In-Unmet)))
 
 pub returns-in_ok-file-in-Lacks-clause-watched : goal.returns-in_ok-file-in-Lacks-clause-watched
-returns-in_ok-file-in-Lacks-clause-watched c =
+returns-in_ok-file-in-Lacks-clause-watched c = λ t.
     let lines = c.args.log.now.lines in
     let levels = c.args.levels.now in
     let old = c.args.table.now.watches in
@@ -75,7 +75,7 @@ returns-in_ok-file-in-Lacks-clause-moved c =
     (λ i. let t = c.if-not-has.ensures.1 (subst (IsIn watch) (sym c.claim-claim.ensures) i) in absurd cc))
 
 pub returns-else-not-has-clause-watched : goal.returns-else-not-has-clause-watched
-returns-else-not-has-clause-watched c =
+returns-else-not-has-clause-watched c = λ t.
     let lines = c.args.log.now.lines in
     let line = line_value c.line.result.now in
     let watch = c.watch-watch.result in
@@ -83,24 +83,23 @@ returns-else-not-has-clause-watched c =
     (lacked_rules_out _ _ watch _ (lacked (goal.at.returns-else-not-has-clause-watched c).In-Lacks)
     (subst (IsIn watch) c.claim-claim.ensures (c.if-not-has.ensures.0 refl)))
 
-pub returns-then-is_unmet-clause-noted : goal.returns-then-is_unmet-clause-noted
-returns-then-is_unmet-clause-noted c = has_at c.args.log.now.lines c.args.k _ (line_value c.line.result.now)
-    c.line.ensures.value (subst (λ (k : Claim). HasBuffer k c.own_note.result) c.claim-claim.ensures
-    (c.own_note.ensures (in_buffers _ _ (c.is_unmet.ensures c.if-is_unmet.true).among)))
-
+-- the new mark has the buffer of the watch for its note
 pub returns-in_ok-file-in-Unmet-clause-noted : goal.returns-in_ok-file-in-Unmet-clause-noted
-returns-in_ok-file-in-Unmet-clause-noted c =
+returns-in_ok-file-in-Unmet-clause-noted c = λ noted.
+    let u = unmet (goal.at.returns-in_ok-file-in-Unmet-clause-noted c).In-Unmet in
     let e : Entry = (c.in-Unmet.b, c.in-Unmet.bound) in
-    has_at c.args.log.now.lines c.args.k _ (line_value c.line.result.now) c.line.ensures.value
-    (subst (λ (k : Claim). HasBuffer k c.own_note-in-Unmet.result) c.claim-claim.ensures
-    (c.own_note-in-Unmet.ensures (in_buffers _ e c.in-Unmet.ensures.among)))
+    noted_with c.args.log.now.lines _ _ (mark_of c.args.k e.1 e.0) c.in_ok-file-in-Unmet.ensures.with (record {
+      line = line_value c.line.result.now;
+      stands = c.line.ensures.value;
+      has = in_buffers _ e u.among;
+    }) noted
 
 pub returns-in_ok-file-in-Lacks-clause-noted : goal.returns-in_ok-file-in-Lacks-clause-noted
-returns-in_ok-file-in-Lacks-clause-noted c =
+returns-in_ok-file-in-Lacks-clause-noted c = λ noted.
     let f = lacked (goal.at.returns-in_ok-file-in-Lacks-clause-noted c).In-Lacks in
-    has_at c.args.log.now.lines c.args.k _ (line_value c.line.result.now) c.line.ensures.value (in_buffers _ _ f.among)
-
-pub returns-else-not-has-clause-noted : goal.returns-else-not-has-clause-noted
-returns-else-not-has-clause-noted c =
-    let f = lacked (goal.at.returns-else-not-has-clause-noted c).In-Lacks in
-    has_at c.args.log.now.lines c.args.k _ (line_value c.line.result.now) c.line.ensures.value (in_buffers _ _ f.among)
+    let e : Entry = (c.in-Lacks.b, c.in-Lacks.bound) in
+    noted_with c.args.log.now.lines _ _ (mark_of c.args.k e.1 e.0) c.in_ok-file-in-Lacks.ensures.with (record {
+      line = line_value c.line.result.now;
+      stands = c.line.ensures.value;
+      has = in_buffers _ e f.among;
+    }) noted
