@@ -1,11 +1,10 @@
 -- The buffers that have a level: found one after another, and those that are left in a child.
 use Rattle.std.proofs.Common.{◌≡◌, ◌≢◌, ℕ, ◌+◌, ◌<◌, ◌≤◌, inl, inr, true, false, List, [], ◌∷◌, ◌++◌, length, slice_index, sym, ap, ◌∙◌, subst, arith}
-use Rattle.claim_levels.proofs.Words.{Instance, Claim, IsIn, Rises, child, has, from_append, has_in, in_has, left_append, right_append, below_or_last, entry_of, AreLevels, from_child, in_child_by, has_level, level_inside}
+use Rattle.claim_levels.proofs.Words.{IsIn, Rises, has, from_append, has_in, in_has, left_append, right_append, below_or_last}
 use Rattle.dsa_terms.proofs.Ranges.{rises-push}
 use Rattle.lifetime.specs.Switching.{IsSwitched}
-use Rattle.claim_levels.specs.Levels.{AreLeft, HasLowChild}
-use Rattle.claim_levels.specs.Raisings.{IsRaised}
-use Rattle.claim_levels.proofs.ChildLevels.{child_levels}
+use Rattle.claim_levels.specs.Children.{AreOfChild}
+use Rattle.claim_levels.specs.Levels.{AreLeft}
 use Rattle.claim_levels.proofs.Grounding.{some_within}
 
 -- the buffers below n that have a level, rising
@@ -57,34 +56,21 @@ module _ (levels : List ℕ) where
   left_within left b a i = some_within levels b (a.some b i)
 
 -- ---- all but the one that was chosen
-pub child_left : (I : Instance) (levels numbers left others : List ℕ) (b : ℕ) → HasLowChild I levels b →
-    AreLeft levels left → IsSwitched left b false others → length numbers ≡ length levels →
-    ((c : ℕ) → slice_index levels c ≡ 0 → slice_index numbers c ≡ 0) → ((c : ℕ) → IsRaised I levels b numbers c) →
-    AreLeft numbers others
-child_left I levels numbers left others b low a sw count outside done = record {
+pub child_left : (levels numbers left others : List ℕ) (b top : ℕ) → AreOfChild levels b numbers top →
+    AreLeft levels left → IsSwitched left b false others → AreLeft numbers others
+child_left levels numbers left others b top h a sw = record {
   rises = sw.rises;
   some = λ c i.
       let ne = other c i in
-      let m = a.some c (has_in c left (sym (sw.others c ne) ∙ in_has c others i)) in
-      let k = level_inside I M _ are c (in_child_by I l b c (has_level I l levels low.are c m) ne) in
-      omega (arith, k);
-  all = λ c more.
-      let r = from_child I l b c (has_level I M numbers are c more) in
-      let k = level_inside I l _ low.are c r.0 in
-      has_in c others (sw.others c r.1 ∙ in_has c left (a.all c (omega (arith, k))));
+      h.all c ne (a.some c (has_in c left (sym (sw.others c ne) ∙ in_has c others i)));
+  all = λ c more. has_in c others (sw.others c (apart c more) ∙ in_has c left (a.all c (h.some c more)));
 }
   where
-    l : Claim
-    l = low.above
-
-    M : Claim
-    M = child I l (entry_of l b)
-
-    are : AreLevels I M numbers
-    are = child_levels I l _ b low.are numbers count outside (λ c more. done c more l low.are)
-
     other : (c : ℕ) → IsIn c others → c ≢ b
     other c i q =
         let t : has b others ≡ true = in_has b others (subst (λ (c : ℕ). IsIn c others) q i) in
         let f = sw.own in
         absurd cc
+
+    apart : (c : ℕ) → 0 < slice_index numbers c → c ≢ b
+    apart c more q = let p = ap (slice_index numbers) q in let z = h.own in omega (arith, p, z, more)

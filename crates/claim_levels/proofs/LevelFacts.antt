@@ -1,7 +1,8 @@
 -- Levels of a buffer of size 3 beside one of size 1 that stands at multiples of 4 alone: in the claim of both without
 -- bounds, and in what is left of it where the first one stands at 0.
-use Rattle.std.proofs.Common.{◌≡◌, ◌+◌, ◌^◌, ◌<◌, ℕ, zero, suc, List, [], ◌∷◌, length, slice_index, slice_index_or, ◌≤◌, inl, inr, refl, sym, arith}
+use Rattle.std.proofs.Common.{◌≡◌, ◌≢◌, ◌+◌, ◌^◌, ◌<◌, ℕ, zero, suc, List, [], ◌∷◌, length, slice_index, slice_index_or, ◌≤◌, inl, inr, refl, sym, arith}
 use Rattle.claim_levels.proofs.Words.{buffer, do_share, is_live, some_before, Claim, Entry, IsClaim, IsIn, child, step, up, small_below, HasBuffer, entry_of, AreLevels, IsLevel, entry_in}
+use Rattle.claim_levels.specs.Children.{AreOfChild}
 use Rattle.claim_levels.specs.Levels.{AreKept, HasLowChild, level_of, levels_of}
 use Rattle.claim_levels.specs.Lifted.{lifted}
 
@@ -112,6 +113,38 @@ not_without_it : HasLowChild small_below (0 ∷ 5 ∷ []) 0 → ⊥
 not_without_it h = let k = (h.are.each 0 (h.are.claim.in_range (entry_of h.above 0) (entry_in h.above 0 h.has))).inside
     h.has in
     omega (arith, k)
+
+-- its levels: the second buffer alone has one
+second_left : AreOfChild (1 ∷ 1 ∷ []) 0 (0 ∷ 5 ∷ []) 5
+second_left =
+    record { few = omega arith; own = refl; some = some; all = all; under = under; limit = omega arith }
+  where
+    some : (c : ℕ) → 0 < slice_index (0 ∷ 5 ∷ []) c → 0 < slice_index (1 ∷ 1 ∷ []) c
+    some zero lt = absurd (omega arith)
+    some (suc zero) lt = omega arith
+    some (suc (suc c)) lt = absurd (omega arith)
+
+    all : (c : ℕ) → c ≢ 0 → 0 < slice_index (1 ∷ 1 ∷ []) c → 0 < slice_index (0 ∷ 5 ∷ []) c
+    all zero ne lt = absurd (ne refl)
+    all (suc zero) ne lt = omega arith
+    all (suc (suc c)) ne lt = absurd (omega arith)
+
+    under : (c : ℕ) → slice_index (0 ∷ 5 ∷ []) c ≤ 5
+    under zero = omega arith
+    under (suc zero) = omega arith
+    under (suc (suc c)) = omega arith
+
+not_still_there : AreOfChild (1 ∷ 1 ∷ []) 0 (1 ∷ 5 ∷ []) 5 → ⊥
+not_still_there h = differ 0 1 (omega arith) (sym h.own)
+
+not_without_both : AreOfChild (1 ∷ 1 ∷ []) 0 (0 ∷ 0 ∷ []) 5 → ⊥
+not_without_both h = let k = h.all 1 (λ q. differ 0 1 (omega arith) (sym q)) (omega arith) in omega (arith, k)
+
+not_a_new_one : AreOfChild (1 ∷ 0 ∷ []) 0 (0 ∷ 5 ∷ []) 5 → ⊥
+not_a_new_one h = let k = h.some 1 (omega arith) in omega (arith, k)
+
+not_above_top : AreOfChild (1 ∷ 1 ∷ []) 0 (0 ∷ 6 ∷ []) 5 → ⊥
+not_above_top h = let k = h.under 1 in omega (arith, k)
 
 -- the bound 3 of a buffer that is aligned to four becomes 4
 lows_are_bounds : lifted small_below ((0, 0) ∷ (1, 3) ∷ []) ≡ (0, 0) ∷ (1, 4) ∷ []

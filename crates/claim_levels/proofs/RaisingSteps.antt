@@ -3,9 +3,10 @@ use Rattle.std.proofs.Common.{◌≡◌, ◌≢◌, ℕ, ◌+◌, ◌-◌, ◌<�
 use Rattle.std.proofs.lemmas.List.{get_or_past}
 use Rattle.std.specs.List.Sorted.{IsPermutation}
 use Rattle.std.proofs.lemmas.List.Sorted.{Contains-permutation}
-use Rattle.claim_levels.proofs.Words.{Instance, IsInstance, buffer, do_share, Claim, IsIn, child, step, true_or_false, sound, below_or_from, less, same_or_not, from_contains, to_contains, AreSectionsOf, SectionList, members_of, sections_of, entry_of, AreLevels, IsLevel, has_level, level_in_range, level_inside}
+use Rattle.claim_levels.proofs.Words.{Instance, IsInstance, buffer, do_share, Claim, IsIn, child, step, true_or_false, sound, below_or_from, less, same_or_not, from_contains, to_contains, AreSectionsOf, SectionList, members_of, sections_of, buffer_limit, entry_of, AreLevels, IsLevel, from_child, in_child_by, has_level, level_in_range, level_inside}
 use Rattle.skyline.proofs.SectionFacts.{listed_in, section_in_range, shared_sections}
 use Rattle.claim_levels.specs.declared.raising.Raising.{Raising}
+use Rattle.claim_levels.specs.Children.{AreOfChild}
 use Rattle.claim_levels.specs.Levels.{HasLowChild, IsLeastLevel}
 use Rattle.claim_levels.specs.Raisings.{IsRaised, IsRaising, IsReach}
 use Rattle.claim_levels.proofs.ChildLevels.{level_stays, set_cases}
@@ -174,3 +175,22 @@ module _ (I : Instance) (levels : List ℕ) (b c : ℕ) (r : Raising) (h : IsRai
 
       other : slice_index r.numbers.items c ≡ slice_index levels c → c ≢ b
       other same e = let p = ap (slice_index levels) e in let n = (sound I b s).0 in omega (arith, p, n, q, le, same)
+
+-- ---- all levels of a child
+pub raised_child : (I : Instance) (levels : List ℕ) (b : ℕ) (r : Raising) → HasLowChild I levels b →
+    length levels ≤ buffer_limit → IsRaising I levels b r → ((c : ℕ) → IsRaised I levels b r.numbers.items c) →
+    AreOfChild levels b r.numbers.items r.top
+raised_child I levels b r low few h done = record {
+  few = (let n = h.count in omega (arith, n, few));
+  own = (done b (let q = level_inside I l levels low.are b low.has in omega (arith, q)) l low.are).outside
+      (λ i. (from_child I l b b i).1 refl);
+  some = λ c. some_before I levels b c r h;
+  all = λ c ne more.
+      let k = (done c more l low.are).inside (in_child_by I l b c (has_level I l levels low.are c more) ne) in
+      omega (arith, k);
+  under = h.under;
+  limit = h.limit;
+}
+  where
+    l : Claim
+    l = low.above

@@ -1,3 +1,4 @@
+pub mod Children
 pub mod Firsts
 pub mod Levels
 pub mod Lifted

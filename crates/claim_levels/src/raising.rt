@@ -28,7 +28,7 @@ impl Raising {
         Ok(Raising {
             numbers,
             top: levels.top(),
-            raised: Vec::new(alloc),
+            raised: Vec::with_capacity(alloc, levels.left().len())?,
         })
     }
 

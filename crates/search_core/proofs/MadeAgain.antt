@@ -3,7 +3,7 @@ use Rattle.std.proofs.Common.{◌≡◌, ℕ, ◌+◌, ◌-◌, ◌<◌, ◌^◌
 use Rattle.search_core.proofs.Words.{Instance, Claim, child, in_at, HasBuffer, IsBoundedBy, entry_of, AreLevels, AreLow, last_claim}
 use Rattle.claim_levels.specs.Levels.{HasLowChild}
 use Rattle.claim_levels.proofs.AllLevels.{levels_are}
-use Rattle.branching.specs.Tries.{Tried, chosen_of}
+use Rattle.branching.specs.Tries.{Tried}
 use Rattle.branching.specs.Branches.{order_of, tried_of}
 use Rattle.branching.proofs.ChoiceEntries.{order_entries}
 use Rattle.branching.proofs.Searching.{chosen_at}
@@ -11,7 +11,7 @@ use Rattle.search_core.specs.declared.kept.Kept.{Kept}
 use Rattle.search_core.specs.declared.path.Above.{Above}
 use Rattle.search_core.specs.Ways.{AreKeptAlong, IsAbove, IsKeptOf, claim_no, notes_of, tries_of}
 use Rattle.search_core.proofs.Keeping.{set_kept, set_notes, tries_count, tries_get}
-use Rattle.search_core.specs.Descents.{IsUnder}
+use Rattle.search_core.specs.Descents.{IsUnder, IsUnderLast}
 
 -- ---- the child of one claim
 module _ (I : Instance) (l m : Claim) (levels : List ℕ) (k : Kept) (h : AreLevels I l levels) (o : IsKeptOf I l m k)
@@ -125,20 +125,24 @@ all_made I claims before kept i levels m n done =
     subst (λ (i : ℕ). AreLevels I (claim_no claims i) levels) e m.are
 
 -- ---- the claim that the search is at, under the last frame
-pub low_child : (I : Instance) (f : Tried) (levels : List ℕ) (b : ℕ) (l : Claim) → IsUnder I f l →
-    levels ≡ f.levels → b ≡ chosen_of f → IsBoundedBy (2 ^ 54) l → HasLowChild I levels b
-low_child I f levels b l u q e low = record {
-  above = u.above;
-  are = subst (AreLevels I u.above) (sym q) u.levels;
-  has = subst (λ (b : ℕ). HasBuffer u.above b) (sym e) u.has;
-  low = subst (IsBoundedBy (2 ^ 54)) (u.standing.is_child
-      ∙ ap (λ (b : ℕ). child I u.above (entry_of u.above b)) (sym e)) low;
-}
+module _ (I : Instance) (frames : List Tried) (l : Claim) (under : IsUnderLast I frames l) (a : Above)
+    (h : IsAbove frames a) where
+  last : IsUnder I h.f l
+  last = subst (λ (o : Option Tried). IfSome o (λ (f : Tried). IsUnder I f l)) h.last under
 
-pub child_under : (I : Instance) (f : Tried) (levels numbers : List ℕ) (b : ℕ) (l : Claim) → IsUnder I f l →
-    levels ≡ f.levels → b ≡ chosen_of f →
-    ((m : Claim) → AreLevels I m levels → AreLevels I (child I m (entry_of m b)) numbers) → AreLevels I l numbers
-child_under I f levels numbers b l u q e h =
-    subst (λ (l : Claim). AreLevels I l numbers)
-    (sym (u.standing.is_child ∙ ap (λ (b : ℕ). child I u.above (entry_of u.above b)) (sym e)))
-    (h u.above (subst (AreLevels I u.above) (sym q) u.levels))
+  is_child : l ≡ child I last.above (entry_of last.above a.chosen)
+  is_child = last.standing.is_child ∙ ap (λ (b : ℕ). child I last.above (entry_of last.above b)) (sym h.chosen)
+
+  pub low_child : IsBoundedBy (2 ^ 54) l → HasLowChild I a.levels.now a.chosen
+  low_child low = record {
+    above = last.above;
+    are = subst (AreLevels I last.above) (sym h.levels) last.levels;
+    has = subst (λ (b : ℕ). HasBuffer last.above b) (sym h.chosen) last.has;
+    low = subst (IsBoundedBy (2 ^ 54)) is_child low;
+  }
+
+  pub child_under : (numbers : List ℕ) →
+      ((m : Claim) → AreLevels I m a.levels.now → AreLevels I (child I m (entry_of m a.chosen)) numbers) →
+      AreLevels I l numbers
+  child_under numbers made = subst (λ (l : Claim). AreLevels I l numbers) (sym is_child)
+      (made last.above (subst (AreLevels I last.above) (sym h.levels) last.levels))

@@ -7,7 +7,8 @@ use Rattle.branching.proofs.KnownFacts.{rest_known, root_layout}
 use Rattle.branching.proofs.OverFacts.{over}
 use Rattle.branching.proofs.TryFacts.{choices_of_root}
 use Rattle.search_core.specs.Meters.{Units}
-use Rattle.search_core.specs.Opened.{AreAllAsked, IfChoices, IsOpened, UnlessUnopened, left_open}
+use Rattle.search_core.specs.Opened.{AreAllAsked, IfChoices, IsEntered, IsOpened, UnlessUnopened, left_open}
+use Rattle.search_core.specs.declared.opening.Entered.TheVariants as entered
 use Rattle.search_core.specs.declared.opening.Opened.TheVariants as opened
 
 -- the claim of both, just opened
@@ -43,6 +44,13 @@ not_all_asked h = let k = h.asked in omega arith
 
 asked_without_watch : AreAllAsked (over ∷ []) (record { entries = []; rows = [] }) (fresh 1) → ⊥
 asked_without_watch h = let r = h.watched.each 0 over (omega arith) refl in let e = r.1 in absurd cc
+
+-- ---- what is found on entering
+line_where_covered : IsEntered small_below (over ∷ []) rest of_buffer_1 (entered.Line 0)
+line_where_covered = rest_known.covered
+
+unasked : IsEntered small_below (over ∷ []) root (record { entries = []; rows = [] }) (entered.Levels (1 ∷ 1 ∷ [])) → ⊥
+unasked h = let r = h.1.each 0 over (omega arith) refl in let e = r.1 in absurd cc
 
 -- ---- what is found
 abbrev used : ℕ → Units

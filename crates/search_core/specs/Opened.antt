@@ -4,13 +4,22 @@ use Rattle.dsa_terms.specs.Buffers.{Instance}
 use Rattle.dsa_terms.specs.Claims.{Claim}
 use Rattle.dsa_terms.specs.Logs.{Line}
 use Rattle.dsa_terms.specs.Search.{first}
+use Rattle.canonical_order.specs.Levels.{AreLevels}
+use Rattle.line_index.specs.Covered.{IsCoveredBy}
 use Rattle.line_index.specs.Watches.{AreWatched, LineWatches}
 use Rattle.branching.specs.declared.fresh.Fresh.{Fresh}
 use Rattle.branching.specs.Trying.{IsKnown, AreChoices}
 use Rattle.branching.specs.Fresh.{IsFresh, tries_at}
+use Rattle.search_core.specs.declared.opening.Entered.{Entered}
 use Rattle.search_core.specs.declared.opening.Opened.{Opened}
 use Rattle.search_core.specs.Meters.{AreSpent, Units}
+use Rattle.search_core.specs.declared.opening.Entered.TheVariants as entered
 use Rattle.search_core.specs.declared.opening.Opened.TheVariants as opened
+
+-- a line that covers the claim, or its levels, at which all lines are watched
+abbrev pub IsEntered : Instance → List Line → Claim → LineWatches → Entered → Type 0
+IsEntered I lines l w (entered.Line k) = IsCoveredBy I lines l k
+IsEntered I lines l w (entered.Levels levels) = AreLevels I l levels × AreWatched lines w levels (length lines)
 
 -- all lines were asked at the claim of the choices, and are watched there
 pub record AreAllAsked (lines : List Line) (watches : LineWatches) (x : Fresh) : Type 0 where

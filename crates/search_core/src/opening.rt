@@ -1,13 +1,11 @@
 //! What the search does first at a claim.
 
-ghost use Rattle.std.specs.Prelude.{◌≡◌, ◌+◌, ◌≤◌, ℕ, [], List, length, IfNone, IfOk, IfSome, OnOk};
+ghost use Rattle.std.specs.Prelude.{◌≡◌, ◌+◌, ◌≤◌, ℕ, [], List, length, IfOk, OnOk};
 ghost use Rattle.canonical_order.specs.Levels.{AreLevels};
-ghost use Rattle.line_index.specs.Covered.{IsCoveredBy};
-ghost use Rattle.line_index.specs.Watches.{AreWatched};
 ghost use Rattle.branching.specs.Logs.{Extends, IsSearchLog};
 ghost use Rattle.search_core.specs.Descents.{HasAskedAll, IsUnderLast};
 ghost use Rattle.search_core.specs.Meters.{AreCounted, AreMore};
-ghost use Rattle.search_core.specs.Opened.{AreAllAsked, IfChoices, IsOpened, UnlessUnopened, left_open};
+ghost use Rattle.search_core.specs.Opened.{AreAllAsked, IfChoices, IsEntered, IsOpened, UnlessUnopened, left_open};
 ghost use Rattle.search_core.specs.Watches.{AreRaisedFrom, AreWatchedAt};
 ghost use Rattle.skyline.specs.Skies.{last_claim};
 
@@ -35,15 +33,18 @@ pub(crate) enum Opened {
     Spent,
 }
 
-/// The levels of a claim, and the number of a line that covers it, if one is found.
+/// What is found where the search comes to a claim.
 #[derive(Drop)]
-struct Entered {
-    levels: Levels,
-    line: Option<u64>,
+enum Entered {
+    /// The number of a line that covers it.
+    Line(u64),
+    /// Its levels, where no line is found.
+    Levels(Levels),
 }
 
-/// The levels of the last claim, from those of the claim above it, if these are at hand, and a line
-/// that covers it. All lines are watched there, if there is none.
+/// A line that covers the last claim, or its levels where none is found: then all lines are watched
+/// there. Levels are made from those of the claim above, if these are at hand, and what is kept
+/// beside them only where no line is found.
 fn enter(
     alloc: Global,
     instance: &Instance,
@@ -59,12 +60,8 @@ fn enter(
         AreLevels instance.now (last_claim path.now.sky.claims) levels →
         AreRaisedFrom path.now.frames levels }
     requires latest { HasAskedAll log.now.lines path.now.frames }
-    ensures levels { let l = last_claim path.now.sky.claims in
-        IfOk result (λ entered. AreLevels instance.now l entered.levels) }
-    ensures none { IfOk result (λ entered. IfNone entered.line
-        (AreWatched log.now.lines watches.new entered.levels (length log.now.lines))) }
-    ensures some { let l = last_claim path.now.sky.claims in
-        IfOk result (λ entered. IfSome entered.line (IsCoveredBy instance.now log.now.lines l)) }
+    ensures entered { let l = last_claim path.now.sky.claims in
+        IfOk result (IsEntered instance.now log.now.lines l watches.new) }
     ensures watched { OnOk result (AreWatchedAt log.now.lines watches.new path.now.frames) }
 {
     let _depth = path.sky().depth();
@@ -72,17 +69,18 @@ fn enter(
         Some(above) => {
             let sections = path.sky().sections();
             let child = above.levels.child(alloc, instance, sections, above.chosen)?;
-            let (before, now) = (above.levels.as_slice(), child.levels.as_slice());
-            let line = watches.find(log, before, now, &child.raised)?;
-            Ok(Entered {
-                levels: child.levels,
-                line,
-            })
+            let before = above.levels.as_slice();
+            match watches.find(log, before, &child.numbers, &child.raised)? {
+                Some(line) => Ok(Entered::Line(line)),
+                None => Ok(Entered::Levels(above.levels.below(alloc, child, above.chosen)?)),
+            }
         }
         None => {
             let levels = Levels::of(alloc, path.sky())?;
-            let line = watches.ask(log, levels.as_slice(), 0)?;
-            Ok(Entered { levels, line })
+            match watches.ask(log, levels.as_slice(), 0)? {
+                Some(line) => Ok(Entered::Line(line)),
+                None => Ok(Entered::Levels(levels)),
+            }
         }
     }
 }
@@ -123,11 +121,10 @@ pub(crate) fn open(
         (length log.old.lines) (length log.new.lines + left_open o)) }
 {
     let _count = path.instance().len();
-    let entered = enter(alloc, task.instance, log.log(), watches, path)?;
-    if let Some(line) = entered.line {
-        return Ok(Opened::Line(line));
-    }
-    let levels = entered.levels;
+    let levels = match enter(alloc, task.instance, log.log(), watches, path)? {
+        Entered::Line(line) => return Ok(Opened::Line(line)),
+        Entered::Levels(levels) => levels,
+    };
     let taken = meter.take();
     if !taken {
         return Ok(Opened::Spent);

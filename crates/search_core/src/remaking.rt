@@ -29,7 +29,7 @@ fn nearest(
         if let Some(levels) = &kept[i].levels {
             let chosen = kept[i].chosen;
             let child = levels.child(alloc, task.instance, sky.sections(), chosen)?;
-            return Ok(Some((i + 1, child.levels)));
+            return Ok(Some((i + 1, levels.below(alloc, child, chosen)?)));
         }
     }
     Ok(None)
@@ -57,8 +57,9 @@ pub(crate) fn made_again(
             for i in first..kept.len() {
                 let chosen = kept[i].chosen;
                 let child = levels.child(alloc, task.instance, sky.sections(), chosen)?;
+                let next = levels.below(alloc, child, chosen)?;
                 kept[i].remember(levels);
-                levels = child.levels;
+                levels = next;
             }
             Ok(levels)
         }

@@ -33,9 +33,10 @@ loop-i-preserved c =
       order = k.order;
       levels = Some c.loop-i.levels;
     } in r) (sym c.index-kept-i-in-loop-i.is))
-    (child_made _ c.args.task.now.instance.now _ _ c.requires.subject c.loop-i.invariant.along c.depth-depth.ensures.low
-    i _ (slice_index_or c.loop-i.kept i c.index-kept-i.result) c.index-kept-i.result lt refl c.loop-i.invariant.are
-    c.in_ok-child-in-Some.child.levels c.in_ok-child-in-Some.ensures.levels)
+    (rw c.in_ok-next-in-Some.ensures (child_made _ c.args.task.now.instance.now _ _ c.requires.subject
+    c.loop-i.invariant.along c.depth-depth.ensures.low i _ (slice_index_or c.loop-i.kept i c.index-kept-i.result)
+    c.index-kept-i.result lt refl c.loop-i.invariant.are c.in_ok-child-in-Some.child.numbers.items
+    c.in_ok-child-in-Some.ensures.levels))
 
 pub returns-after-loop-i-clause-levels : goal.returns-after-loop-i-clause-levels
 returns-after-loop-i-clause-levels c =

@@ -18,7 +18,7 @@ returns-in-Some c =
     let levels = kept_levels _ _ _ i c.in-Some.levels c.index-kept-i.result
     c.requires.along lt c.in-Some.is in (
       omega arith,
-      child_made _ c.args.task.now.instance.now _ _ c.requires.subject c.requires.along c.depth-depth.ensures.low i _
-          (slice_index_or c.args.kept.now i c.index-kept-i-in-Some.result) c.index-kept-i-in-Some.result lt refl levels
-          c.in_ok-child.child.levels c.in_ok-child.ensures.levels,
+      rw c.in_ok-below.ensures (child_made _ c.args.task.now.instance.now _ _ c.requires.subject c.requires.along
+          c.depth-depth.ensures.low i _ (slice_index_or c.args.kept.now i c.index-kept-i-in-Some.result)
+          c.index-kept-i-in-Some.result lt refl levels c.in_ok-child.child.numbers.items c.in_ok-child.ensures.levels),
     )
