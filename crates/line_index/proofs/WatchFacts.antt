@@ -177,11 +177,11 @@ by_third = watches_of ((1, 5) ∷ []) (mark 0 2 ∷ [])
 pub foreign : AreNoted lines by_third.rows → ⊥
 foreign h = not_noted_by (h 0 (mark 0 2) (inl refl))
 
-not_by_third : AreWatched lines by_third low 1 → ⊥
-not_by_third w = foreign w.noted
+pub noted_by_one : AreNoted lines by_one.rows
+noted_by_one = noted 1 (inr refl)
 
 pub watched_at_low : AreWatched lines by_one low 1
-watched_at_low = record { within = omega arith; noted = noted 1 (inr refl); each = each }
+watched_at_low = record { within = omega arith; each = each }
   where
     each : (k : ℕ) (line : Line) → k < 1 → slice_get lines k ≡ Some line →
         (e : Entry) × (slice_get ((1, 5) ∷ []) k ≡ Some e) × RulesOut low (claim_of line) e

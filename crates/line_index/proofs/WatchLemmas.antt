@@ -39,7 +39,6 @@ pub watched_more : (lines more : List Line) (watches : LineWatches) (levels : Li
     AreWatched lines watches levels n → AreWatched (lines ++ more) watches levels n
 watched_more lines more watches levels n w = record {
   within = (let le = w.within in let q = length-append lines more in omega arith);
-  noted = noted_more lines more watches.rows w.noted;
   each = λ k line lt at. w.each k line lt
       (sym (get_before lines more k (let le = w.within in omega arith)) ∙ at);
 }
@@ -182,11 +181,9 @@ module _ (lines : List Line) (levels : List ℕ) where
   pub all_watched : (before : List ℕ) (old new : LineWatches) (n : ℕ) → length levels ≤ n →
       AreMoved lines levels old.entries new.entries →
       ((b : ℕ) → b < n → FailAt lines new.entries levels b (slice_index before b)) → AreRaised before levels →
-      AreNoted lines new.rows → AreWatched lines old before (length lines) →
-      AreWatched lines new levels (length lines)
-  all_watched before old new n le h fail raised noted w = record {
+      AreWatched lines old before (length lines) → AreWatched lines new levels (length lines)
+  all_watched before old new n le h fail raised w = record {
     within = w.within;
-    noted = noted;
     each = λ k line lt at.
         (let r = w.each k line lt at in elim (h k line at) [
           | inl q ↦ (r.0, q ∙ r.1, record { among = r.2.among; unmet = unmet k line r.0 at (q ∙ r.1) r.2 })
@@ -209,11 +206,9 @@ module _ (lines : List Line) (levels : List ℕ) where
   -- what was asked before stays watched, and the lines from n on were asked now
   pub watched_from : (old now : LineWatches) (n : ℕ) → AreOwnMoved lines levels old.entries now.entries →
       ((k : ℕ) → n ≤ k → k < length lines → IsWatched lines now.entries levels k) →
-      AreNoted lines now.rows → AreWatched lines old levels n →
-      AreWatched lines now levels (length lines)
-  watched_from old now n moved new noted w = record {
+      AreWatched lines old levels n → AreWatched lines now levels (length lines)
+  watched_from old now n moved new w = record {
     within = omega arith;
-    noted = noted;
     each = λ k line lt at.
         (elim (below_or_from k n) [
           | inr from ↦ new k from lt line at
@@ -228,11 +223,9 @@ module _ (lines : List Line) (levels : List ℕ) where
 
   -- at a claim above, what was watched stays so
   pub kept_above : (above : List ℕ) (old now : LineWatches) (n : ℕ) → AreRaised above levels →
-      AreOwnMoved lines levels old.entries now.entries → AreNoted lines now.rows → AreWatched lines old above n →
-      AreWatched lines now above n
-  kept_above above old now n raised moved noted w = record {
+      AreOwnMoved lines levels old.entries now.entries → AreWatched lines old above n → AreWatched lines now above n
+  kept_above above old now n raised moved w = record {
     within = w.within;
-    noted = noted;
     each = λ k line lt at.
         (let r = w.each k line lt at in elim (moved k line r.0 at r.1 r.2.among) [
           | inl same ↦ (r.0, same, r.2)

@@ -38,11 +38,9 @@ pub record IsNoted (lines : List Line) (m : Mark) : Type 0 where
 abbrev pub AreNoted : List Line → List (List Mark) → Type 0
 AreNoted lines rows = (p : ℕ) (m : Mark) → IsIn m (row_at rows p) → IsNoted lines m
 
--- each mark has a note of its line; there are n lines at least, and the watch of each of the first n rules out that it
--- covers the claim of the levels
+-- there are n lines at least, and the watch of each of the first n rules out that it covers the claim of the levels
 pub record AreWatched (lines : List Line) (watches : LineWatches) (levels : List ℕ) (n : ℕ) : Type 0 where
   pub within : n ≤ length lines
-  pub noted : AreNoted lines watches.rows
   pub each : (k : ℕ) (line : Line) → k < n → slice_get lines k ≡ Some line →
       (e : Entry) × (slice_get watches.entries k ≡ Some e) × RulesOut levels (claim_of line) e
 

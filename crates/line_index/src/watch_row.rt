@@ -16,8 +16,8 @@ pub(crate) struct Mark {
     pub(crate) bound: u64,
     /// The number of the line.
     pub(crate) line: u64,
-    /// The note, a buffer of the line: the one that a claim was last found to lack, and any until
-    /// then. The line covers no claim that lacks it.
+    /// The note, a buffer of the line: the one that a claim which met the mark was last found to
+    /// lack, and any until then. The line covers no claim that lacks it.
     pub(crate) note: u32,
 }
 

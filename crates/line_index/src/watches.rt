@@ -1,4 +1,4 @@
-//! One watched bound for each line of a log, and a noted buffer.
+//! One watched bound for each line of a log, and a noted buffer for each mark.
 
 ghost use Rattle.std.specs.Prelude.{◌≡◌, ◌≤◌, ◌<◌, ◌↔◌, ℕ, [], List, true, false, IfNone, IfOk, IfSome, IsTrue, OnOk, length};
 ghost use Rattle.dsa_terms.specs.Buffers.{Instance};
@@ -88,9 +88,9 @@ fn ask_line(table: &mut WatchTable, log: &Log, levels: &[u64], k: u64) -> Result
 /// The lines that watch a bound of a buffer have marks in the rows of that buffer, one row for each
 /// group of bounds. Groups are equally wide in bytes and share the capacity out, and the last one
 /// has all higher bounds too. So only the groups are looked through that the level rose through. A
-/// mark holds a note, one of its line's buffers: the one that a claim was last found to lack, and
-/// any until then. A child without it is not covered by the line, which is not read. Contracts see
-/// the watches by line and the marks by row.
+/// mark holds a note, one of its line's buffers: the one that a claim which met the mark was last
+/// found to lack, and any until then. A child without it is not covered by the line, which is not
+/// read. Contracts see the watches by line and the marks by row.
 ///
 /// A claim is given by its levels: for each buffer of the instance one more than its low in bytes,
 /// and 0 where it is not in the claim.
@@ -121,7 +121,7 @@ impl Watches {
     /// A line that covers the claim of the levels, looked for from line `asked` on: all lines are
     /// asked where that is 0. If none is found, and the first `asked` lines are watched there, then
     /// all are, and none covers the claim. As many first lines as are watched at a claim above stay
-    /// watched there.
+    /// watched there. Where each mark has a note of its line, each still has one.
     pub fn ask(&mut self, log: &Log, levels: &[u64], asked: u64) -> Result<Option<u64>, NoMemory>
         ensures none { AreWatched log.now.lines self.old levels.now asked →
             IfOk result (λ found. IfNone found
@@ -134,6 +134,8 @@ impl Watches {
         ensures kept { (above : List ℕ) (n : ℕ) → AreRaised above levels.now →
             AreWatched log.now.lines self.old above n →
             IfOk result (λ _. AreWatched log.now.lines self.new above n) }
+        ensures noted { AreNoted log.now.lines self.old.rows →
+            OnOk result (AreNoted log.now.lines self.new.rows) }
     {
         self.table.extend(log.len())?;
         for k in (asked..log.len()).rev() {
@@ -147,9 +149,10 @@ impl Watches {
 
     /// A line that covers the claim of the levels `now`, a child of the one of the levels `before`,
     /// looked for at the buffers whose levels are higher now. If none is found, these are all such
-    /// buffers, no level fell, no buffer is new, and all lines are watched at the claim before,
-    /// then all are at the claim now, and none covers it. As many first lines as are watched at a
-    /// claim above stay watched there. There are at most `BUFFER_LIMIT` levels.
+    /// buffers, no level fell, no buffer is new, each mark has a note of its line, and all lines are
+    /// watched at the claim before, then all are at the claim now, and none covers it. As many first
+    /// lines as are watched at a claim above stay watched there. Where each mark has a note of its
+    /// line, each still has one. There are at most `BUFFER_LIMIT` levels.
     pub fn find(
         &mut self,
         log: &Log,
@@ -158,13 +161,14 @@ impl Watches {
         raised: &[u32],
     ) -> Result<Option<u64>, NoMemory>
         requires few { length now.now ≤ buffer_limit }
-        ensures none { AreRaised before.now now.now →
+        ensures none { AreNoted log.now.lines self.old.rows →
+            AreRaised before.now now.now →
             AreTheRaised before.now now.now raised.now →
             AreWatched log.now.lines self.old before.now (length log.now.lines) →
             IfOk result (λ found. IfNone found
             (AreWatched log.now.lines self.new now.now (length log.now.lines))) }
         ensures uncovered { (I : Instance) (l : ClaimTerm) → AreLevels I l now.now →
-            AreRaised before.now now.now → AreTheRaised before.now now.now raised.now →
+            AreNoted log.now.lines self.old.rows → AreRaised before.now now.now → AreTheRaised before.now now.now raised.now →
             AreWatched log.now.lines self.old before.now (length log.now.lines) →
             IfOk result (λ found. IfNone found (NoneCovers I log.now.lines l)) }
         ensures some { (I : Instance) (l : ClaimTerm) → AreLevels I l now.now →
@@ -172,6 +176,8 @@ impl Watches {
         ensures kept { (above : List ℕ) (n : ℕ) → AreRaised above now.now →
             AreWatched log.now.lines self.old above n →
             IfOk result (λ _. AreWatched log.now.lines self.new above n) }
+        ensures noted { AreNoted log.now.lines self.old.rows →
+            OnOk result (AreNoted log.now.lines self.new.rows) }
     {
         for number in raised {
             let b = *number;

@@ -1,6 +1,6 @@
 -- What is found where claims are opened of a buffer of size 3 and one of size 1 that stands at multiples of 4 alone.
-use Rattle.std.proofs.Common.{◌≡◌, ◌<◌, ℕ, zero, suc, List, [], ◌∷◌, slice_get, Some, inl, inr, refl, sym, ◌∙◌, subst, arith}
-use Rattle.search_core.proofs.Words.{buffer, have_same_moments, is_live, some_before, Entry, up, Line, claim_of, ends_below, is_twin, comes_before, first, small_below, same_some, AreNoted, IsNoted, LineWatches, RulesOut}
+use Rattle.std.proofs.Common.{◌≡◌, ◌<◌, ℕ, zero, suc, List, [], ◌∷◌, slice_get, Some, inl, refl, sym, ◌∙◌, subst, arith}
+use Rattle.search_core.proofs.Words.{buffer, have_same_moments, is_live, some_before, Entry, up, Line, claim_of, ends_below, is_twin, comes_before, first, small_below, same_some, LineWatches, RulesOut}
 use Rattle.claim_levels.proofs.LevelFacts.{rest, root}
 use Rattle.branching.specs.declared.fresh.Fresh.{Fresh}
 use Rattle.branching.proofs.KnownFacts.{rest_known, root_layout}
@@ -21,14 +21,8 @@ of_buffer_1 = record { entries = (1, 4) ∷ []; rows = (record { bound = 4; line
 
 asked_and_watched : AreAllAsked (over ∷ []) of_buffer_1 (fresh 1)
 asked_and_watched =
-    record { asked = refl; watched = record { within = omega arith; noted = noted; each = each } }
+    record { asked = refl; watched = record { within = omega arith; each = each } }
   where
-    noted : AreNoted (over ∷ []) of_buffer_1.rows
-    noted zero m (inl q) = subst (IsNoted (over ∷ [])) (sym q)
-        (record { line = over; stands = refl; has = inl refl })
-    noted zero m (inr j) = absurd j
-    noted (suc p) m i = absurd i
-
     each : (k : ℕ) (line : Line) → k < 1 → slice_get (over ∷ []) k ≡ Some line →
         (e : Entry) × (slice_get ((1, 4) ∷ []) k ≡ Some e) × RulesOut (1 ∷ 1 ∷ []) (claim_of line) e
     each zero line lt at = (

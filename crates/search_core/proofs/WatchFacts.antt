@@ -2,12 +2,12 @@
 use Rattle.std.proofs.Common.{zero, suc, [], ◌∷◌, arith}
 use Rattle.std.specs.List.{All}
 use Rattle.line_index.specs.Watches.{AreWatched}
-use Rattle.line_index.proofs.WatchFacts.{by_one, by_third, fallen, foreign, high, lines, low, met_by_high, raised, watched_at_low}
+use Rattle.line_index.proofs.WatchFacts.{by_one, by_third, fallen, foreign, high, lines, low, met_by_high, noted_by_one, raised, watched_at_low}
 use Rattle.branching.specs.Tries.{Tried, untried}
 use Rattle.search_core.specs.Watches.{AreRaisedFrom, AreWatchedAt}
 
 watched_at_one : AreWatchedAt lines by_one (untried (0 ∷ []) low 1 ∷ [])
-watched_at_one = record { noted = watched_at_low.noted; each = each }
+watched_at_one = record { noted = noted_by_one; each = each }
   where
     each : All (λ (f : Tried). AreWatched lines by_one f.levels f.asked) (untried (0 ∷ []) low 1 ∷ [])
     each zero d lt = watched_at_low

@@ -1,8 +1,8 @@
 -- What is watched at the claims of all frames.
-use Rattle.std.proofs.Common.{◌≡◌, ℕ, ◌-◌, List, [], ◌∷◌, ◌++◌, length, slice_index_or, Option, Some, IfSome, arith, subst, sym}
+use Rattle.std.proofs.Common.{◌≡◌, ℕ, ◌-◌, List, [], ◌∷◌, ◌++◌, length, slice_index_or, Option, Some, IfSome, subst, sym}
 use Rattle.std.proofs.lemmas.List.Elements.{All-pop, All-push, All-weaker}
 use Rattle.std.proofs.lemmas.Option.{get_or_from_slice_get, slice_get_within}
-use Rattle.search_core.proofs.Words.{Claim, Line, AreNoted, AreRaised, AreWatched, LineWatches, noted_more, raised_refl, watched_more}
+use Rattle.search_core.proofs.Words.{Claim, Line, AreNoted, AreRaised, AreWatched, LineWatches, noted_more, watched_more}
 use Rattle.branching.specs.Logs.{Extends}
 use Rattle.branching.specs.Tries.{Tried}
 use Rattle.search_core.specs.declared.path.Above.{Above}
@@ -22,19 +22,14 @@ all_watched_more l lines after watches frames grown h = record {
       (watched_more _ grown.more _ _ _ w)) frames h.each;
 }
 
--- where no line was asked, the notes alone are asked for
-pub watched_nowhere : (lines : List Line) (watches : LineWatches) (levels : List ℕ) → AreNoted lines watches.rows →
-    AreWatched lines watches levels 0
-watched_nowhere lines watches levels noted =
-    record { within = omega arith; noted = noted; each = λ k line lt at. absurd (omega arith) }
-
--- and so do watches that move, where each claim above keeps what is watched there
+-- and so do watches that move, where notes and each claim above keep what is known
 pub all_watched_still : (lines : List Line) (before after : LineWatches) (levels : List ℕ) (frames : List Tried) →
     AreRaisedFrom frames levels →
     ((above : List ℕ) (n : ℕ) → AreRaised above levels → AreWatched lines before above n →
-    AreWatched lines after above n) → AreWatchedAt lines before frames → AreWatchedAt lines after frames
-all_watched_still lines before after levels frames raised kept watched = record {
-  noted = (kept levels 0 (raised_refl levels) (watched_nowhere lines before levels watched.noted)).noted;
+    AreWatched lines after above n) → (AreNoted lines before.rows → AreNoted lines after.rows) →
+    AreWatchedAt lines before frames → AreWatchedAt lines after frames
+all_watched_still lines before after levels frames raised kept noted watched = record {
+  noted = noted watched.noted;
   each = λ k d lt. kept _ _ (raised k d lt) (watched.each k d lt);
 }
 

@@ -25,7 +25,7 @@ unfoldable pub use Rattle.dsa_terms.specs.Parts.{part_of, parts, searched, whole
 pub use Rattle.dsa_terms.specs.Search.{choices, first_of, first_some, not_excluded, seated}
 unfoldable pub use Rattle.dsa_terms.specs.Search.{comes_before, first, is_tall, work}
 pub use Rattle.line_index.proofs.Finding.{next_of}
-pub use Rattle.line_index.proofs.WatchLemmas.{noted_more, raised_refl, raised_trans, watched_more, watched_none}
+pub use Rattle.line_index.proofs.WatchLemmas.{noted_more, raised_trans, watched_more, watched_none}
 pub use Rattle.line_index.specs.Covered.{IsCoveredBy}
 pub use Rattle.line_index.specs.Watches.{AreNoted, AreRaised, AreWatched, IsNoted, LineWatches, RulesOut}
 pub use Rattle.refute_log.specs.Logs.{OpenLog, ended}

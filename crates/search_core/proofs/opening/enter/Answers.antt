@@ -23,7 +23,8 @@ under c = child_under _ _ _ c.requires.under _ (rw c.in-Some.is at c.above.ensur
 
 still : (c : In_ok-line-in-Some) → AreWatchedAt c.args.log.now.lines c.find.new.self c.args.path.now.frames
 still c = all_watched_still _ _ c.find.new.self _ _ (c.requires.raised c.in_ok-child-in-Some.child.numbers.items
-    (under c)) (rw c.deref.ensures.value at c.in_ok-line-in-Some.ensures.kept) c.requires.watched
+    (under c)) (rw c.deref.ensures.value at c.in_ok-line-in-Some.ensures.kept) c.in_ok-line-in-Some.ensures.noted
+    c.requires.watched
 
 pub returns-in-Some-2-clause-entered : goal.returns-in-Some-2-clause-entered
 returns-in-Some-2-clause-entered c =
@@ -39,7 +40,8 @@ returns-in_ok-below-in-None-2-clause-entered c =
     let w = watched_above _ _ _ _ _ (rw c.in-Some.is at c.above.ensures) c.requires.watched
     (c.requires.raised c.in_ok-child-in-Some.child.numbers.items k) c.requires.latest in
     let none = rw (c.as_slice-before.ensures.value, c.deref.ensures.value) at c.in_ok-line-in-Some.ensures.none in
-    let all = none w.0 (rw c.deref-in-Some.ensures.value c.in_ok-child-in-Some.ensures.raised) w.1 in
+    let all = none c.requires.watched.noted w.0
+    (rw c.deref-in-Some.ensures.value c.in_ok-child-in-Some.ensures.raised) w.1 in
     rw c.in_ok-below-in-None-2.ensures (k, rw c.in-None-2.is at all)
 
 pub returns-in_ok-below-in-None-2-clause-watched : goal.returns-in_ok-below-in-None-2-clause-watched
@@ -51,7 +53,8 @@ kept : (c : In_ok-line-in-None) → AreWatchedAt c.args.log.now.lines c.ask.new.
 kept c =
     let levels = rw (c.sky-in-None.ensures, c.requires.subject) at c.in_ok-levels-in-None.ensures in
     all_watched_still _ _ c.ask.new.self _ _ (c.requires.raised c.in_ok-levels-in-None.levels levels)
-    (rw c.as_slice.ensures.value at c.in_ok-line-in-None.ensures.kept) c.requires.watched
+    (rw c.as_slice.ensures.value at c.in_ok-line-in-None.ensures.kept) c.in_ok-line-in-None.ensures.noted
+    c.requires.watched
 
 pub returns-in-Some-3-clause-entered : goal.returns-in-Some-3-clause-entered
 returns-in-Some-3-clause-entered c =

@@ -8,7 +8,7 @@ pub returns-clause-none : goal.returns-clause-none
 returns-clause-none c = λ w.
     let i = c.loop-k.invariant in
     let done = c.loop-k-test.false in
-    watched_from _ _ _ _ _ i.moved (λ k from lt. i.watched k (omega arith) lt) (i.noted w.noted) w
+    watched_from _ _ _ _ _ i.moved (λ k from lt. i.watched k (omega arith) lt) w
 
 pub returns-clause-uncovered : goal.returns-clause-uncovered
 returns-clause-uncovered c = λ I l h w. watched_none I _ _ l _ h (returns-clause-none c w)
@@ -17,12 +17,12 @@ pub returns-then-covers-clause-kept : goal.returns-then-covers-clause-kept
 returns-then-covers-clause-kept c = λ above n raised w.
     let i = c.loop-k.invariant in
     kept_above c.args.log.now.lines c.args.levels.now above _ _ n raised
-    (own_trans _ _ _ _ _ i.moved c.in_ok-covers.ensures.moved) (c.in_ok-covers.ensures.noted (i.noted w.noted)) w
+    (own_trans _ _ _ _ _ i.moved c.in_ok-covers.ensures.moved) w
 
 pub returns-clause-kept : goal.returns-clause-kept
 returns-clause-kept c = λ above n raised w.
     let i = c.loop-k.invariant in
-    kept_above c.args.log.now.lines c.args.levels.now above _ _ n raised i.moved (i.noted w.noted) w
+    kept_above c.args.log.now.lines c.args.levels.now above _ _ n raised i.moved w
 
 pub loop-k-preserved : goal.loop-k-preserved
 loop-k-preserved c =

@@ -36,7 +36,7 @@ loop-number-preserved c =
     }
 
 pub returns-clause-none : goal.returns-clause-none
-returns-clause-none c = λ above all w.
+returns-clause-none c = λ noted above all w.
     let lines = c.args.log.now.lines in
     let now = c.args.now.now in
     let before = c.args.before.now in
@@ -45,21 +45,20 @@ returns-clause-none c = λ above all w.
     let watches : LineWatches = record { entries = inside.table.watches; rows = inside.table.rows } in
     all_watched lines now before c.args.self.now watches (length now) (omega arith) c.loop-number.invariant.moved
     (λ b lt. fail_at_all _ _ _ _ _ _
-    (drop_of_length-le items c.loop-number-test.false) all (c.loop-number.invariant.fail w.noted) b) above
-    (c.loop-number.invariant.noted w.noted) w
+    (drop_of_length-le items c.loop-number-test.false) all (c.loop-number.invariant.fail noted) b) above w
 
 pub returns-clause-uncovered : goal.returns-clause-uncovered
-returns-clause-uncovered c = λ I l h above all w. watched_none I _ _ l _ h (returns-clause-none c above all w)
+returns-clause-uncovered c = λ I l h noted above all w.
+    watched_none I _ _ l _ h (returns-clause-none c noted above all w)
 
 pub returns-then-is_some-clause-kept : goal.returns-then-is_some-clause-kept
 returns-then-is_some-clause-kept c = λ above n raised w.
     let i = c.loop-number.invariant in
     let found = c.in_ok-found.ensures in
     kept_above c.args.log.now.lines c.args.now.now above _ _ n raised
-    (own_of_moved _ _ _ _ (moved_trans _ _ _ _ _ i.moved found.moved)) (found.noted (i.noted w.noted)) w
+    (own_of_moved _ _ _ _ (moved_trans _ _ _ _ _ i.moved found.moved)) w
 
 pub returns-clause-kept : goal.returns-clause-kept
 returns-clause-kept c = λ above n raised w.
     let i = c.loop-number.invariant in
-    kept_above c.args.log.now.lines c.args.now.now above _ _ n raised (own_of_moved _ _ _ _ i.moved)
-    (i.noted w.noted) w
+    kept_above c.args.log.now.lines c.args.now.now above _ _ n raised (own_of_moved _ _ _ _ i.moved) w

@@ -27,7 +27,8 @@ returns-in-Some c =
           (record { none = covered_has_none I C l _ _ s c.requires.log h; covered = h });
       watched = λ watched held. all_watched_still _ _ c.ask.new.self _ _
           (are_raised I C _ l _ _ frames (is_instance I l s) o.path.descends o.trying.levels)
-          (rw (c.as_slice-levels.ensures.value, c.levels.ensures, c.log.ensures) at c.in_ok-line.ensures.kept) watched;
+          (rw (c.as_slice-levels.ensures.value, c.levels.ensures, c.log.ensures) at c.in_ok-line.ensures.kept)
+          (rw c.log.ensures at c.in_ok-line.ensures.noted) watched;
       counted = omega arith;
     }
 
@@ -65,7 +66,8 @@ returns c =
       ahead = record { place = ahead.place; root = ahead.root; owed = ahead.owed; turns = ahead.turns };
       watched = λ watched held. on.watched (all_watched_still _ _ c.ask.new.self _ _
           (are_raised I C _ l _ _ frames (is_instance I l s) o.path.descends o.trying.levels)
-          (rw (c.as_slice-levels.ensures.value, c.levels.ensures, c.log.ensures) at c.in_ok-line.ensures.kept) watched)
+          (rw (c.as_slice-levels.ensures.value, c.levels.ensures, c.log.ensures) at c.in_ok-line.ensures.kept)
+          (rw c.log.ensures at c.in_ok-line.ensures.noted) watched)
           (rw c.ask_to.ensures (watched_to _ _ _ c.len.result (rw c.log-2.ensures at c.len.ensures.value) (k held)));
       counted = on.counted;
     }
