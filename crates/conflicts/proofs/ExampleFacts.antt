@@ -1,5 +1,5 @@
 -- Worked lines: how low an Over line may be, lowered claims, and cites of other buffers.
-use Rattle.std.proofs.Common.{◌≡◌, ◌∙◌, ◌≤◌, ℕ, false, true, inl, inr, [], ◌∷◌, map, length, List, Some, None, refl, sym, ap, subst, lit≤, arith}
+use Rattle.std.proofs.Common.{◌≡◌, ◌∙◌, ◌≤◌, ℕ, zero, suc, false, true, inl, inr, [], ◌∷◌, map, length, List, Some, None, refl, sym, ap, subst, lit≤, arith}
 use Rattle.dsa_terms.specs.Buffers.{Buffer, Instance, is_live, buffer, have_same_moments, some_before}
 use Rattle.dsa_terms.specs.Claims.{Claim, Covers, Entry, up}
 use Rattle.dsa_terms.specs.Logs.{ByLine, Below, Twin, Cases, Over, Line, claim_of, ends_below, is_stacked, is_twin, rounded, rounding}
@@ -7,7 +7,7 @@ use Rattle.conflicts.specs.Covering.{IsCoveringLine}
 use Rattle.conflicts.specs.Eased.{HasNoOwn, IsLower, IsLowerCases, IsNoHigher, IsOwnOf, cut, eased_over, from_height, least_height, least_over, lowered, reach}
 use Rattle.conflicts.specs.Easing.{IsEasedFrom}
 use Rattle.conflicts.specs.Ends.{IsLeastEnd, end_of}
-use Rattle.conflicts.specs.Walks.{IsWalk}
+use Rattle.conflicts.specs.Walks.{IsMarked, IsWalk}
 
 abbrev pub plain : ℕ → ℕ → ℕ → ℕ → Buffer
 plain lower upper size alignment = record {
@@ -164,11 +164,31 @@ no_other_buffer h = let q = h.each (2, 0) (inl refl) in elim q.1 [ inl k ↦ (le
 lower_line_is_cases : (l : Claim) → IsLowerCases four [] l (Over ((2, 3) ∷ []) 0 3 1) → ⊥
 lower_line_is_cases l h = let k = h.is in cc
 
-one_met : IsWalk four ((1, 1) ∷ (2, 1) ∷ []) (false ∷ true ∷ false ∷ false ∷ []) (1 ∷ [])
-one_met = record { count = refl; of_claim = λ k d lt. let q : k ≡ 0 = omega arith in rw q (inl refl) }
+only_two : (b : ℕ) → IsMarked (false ∷ false ∷ true ∷ false ∷ []) b → b ≡ 2
+only_two zero m = absurd cc
+only_two (suc zero) m = absurd cc
+only_two (suc (suc zero)) m = refl
+only_two (suc (suc (suc zero))) m = absurd cc
+only_two (suc (suc (suc (suc b)))) m = absurd cc
 
-not_of_the_claim : IsWalk four ((1, 1) ∷ []) (false ∷ false ∷ true ∷ false ∷ []) (2 ∷ []) → ⊥
-not_of_the_claim h = elim (h.of_claim 0 0 (omega arith)) [ inl q ↦ cc | inr n ↦ absurd n ]
+one_met : IsWalk four ((1, 1) ∷ (2, 1) ∷ []) (false ∷ false ∷ true ∷ false ∷ []) (1 ∷ [])
+one_met = record {
+  count = refl;
+  of_claim = λ b i. elim i [ inl q ↦ inl q | inr n ↦ absurd n ];
+  marked = λ b m.
+      let two = only_two b m in
+      (inr (inl two), λ i. elim i [ inl one ↦ (let q = sym two ∙ one in cc) | inr n ↦ n ]);
+  each = λ b i. elim i [ inl one ↦ inr (inl one) | inr j ↦ elim j [ inl two ↦ inl (rw two refl) | inr n ↦ absurd n ] ];
+}
+
+met_and_marked : IsWalk four ((1, 1) ∷ []) (false ∷ true ∷ false ∷ false ∷ []) (1 ∷ []) → ⊥
+met_and_marked h = (h.marked 1 refl).1 (inl refl)
+
+neither_met_nor_marked : IsWalk four ((1, 1) ∷ []) (false ∷ false ∷ false ∷ false ∷ []) [] → ⊥
+neither_met_nor_marked h = elim (h.each 1 (inl refl)) [ inl q ↦ cc | inr n ↦ n ]
+
+not_of_the_claim : IsWalk four ((1, 1) ∷ []) (false ∷ true ∷ false ∷ false ∷ []) (2 ∷ []) → ⊥
+not_of_the_claim h = elim (h.of_claim 2 (inl refl)) [ inl q ↦ cc | inr n ↦ absurd n ]
 
 too_few_marks : IsWalk four ((1, 1) ∷ []) (false ∷ true ∷ false ∷ []) (1 ∷ []) → ⊥
 too_few_marks h = let k = h.count in cc

@@ -111,7 +111,7 @@ pub(crate) fn eased_cites(alloc: Global, lows: &LowTable, cites: &[Cite]) -> Res
 {
     let least = least_end(lows);
     let pairs = lows.claim.pairs();
-    let mut eased = Vec::new(alloc);
+    let mut eased = Vec::with_capacity(alloc, cites.len())?;
     for place in 0..cites.len() {
         eased.push(eased_cite(lows, least, pairs[place].0, cites[place]))?;
     }

@@ -26,9 +26,9 @@ pub(crate) fn lowered(alloc: Global, instance: &Instance, claim: &Claim) -> Resu
     requires bounds { IsBoundedBy (2 ^ 60) claim.now }
     ensures { IfOk result (λ made. made ≡ map (lowered instance.now) claim.now) }
 {
-    let mut pairs = Vec::new(alloc);
+    let mut pairs = Vec::with_capacity(alloc, claim.pairs().len())?;
     for pair in claim.pairs() {
         pairs.push((pair.0, least_bound(instance.buffer(pair.0), pair.1)))?;
     }
-    Claim::from_pairs(alloc, &pairs)
+    Ok(Claim::from_vec(pairs))
 }

@@ -129,11 +129,11 @@ fn cut(alloc: Global, instance: &Instance, claim: &Claim, needs: &[u64]) -> Resu
     requires each { length needs.now ≡ length instance.now }
     ensures { IfOk result (λ made. made ≡ map (cut needs.now) claim.now) }
 {
-    let mut pairs = Vec::new(alloc);
+    let mut pairs = Vec::with_capacity(alloc, claim.pairs().len())?;
     for pair in claim.pairs() {
         pairs.push((pair.0, needs[pair.0 as usize].min(pair.1)))?;
     }
-    Claim::from_pairs(alloc, &pairs)
+    Ok(Claim::from_vec(pairs))
 }
 
 /// The claim with what its cites, eased, need of each buffer for its bound, where that is lower.

@@ -1,9 +1,11 @@
 //! Small parts of a claim whose cites need no other buffer.
 
-ghost use Rattle.std.specs.Prelude.{◌≡◌, ◌^◌, ◌<◌, IfOk, OnOk, length};
+ghost use Rattle.std.specs.Prelude.{◌≡◌, ◌^◌, ◌<◌, ◌↔◌, ◌⊎◌, ℕ, false, [], IfOk, OnOk};
+ghost use Rattle.std.specs.Prelude.{length, slice_index_or};
+ghost use Rattle.dsa_terms.specs.Claims.{IsIn};
 ghost use Rattle.canonical_order.specs.Claims.{IsBoundedBy};
 ghost use Rattle.conflicts.specs.Eased.{IsLower};
-ghost use Rattle.conflicts.specs.Walks.{IsWalk};
+ghost use Rattle.conflicts.specs.Walks.{AreOf, IsMarked, IsWalk};
 
 use crate::cites::end;
 use canonical_order::{Claim, LowTable, Lows};
@@ -25,7 +27,6 @@ pub(crate) struct Draft {
 /// that their cites need.
 #[derive(Drop)]
 struct Walk {
-    marks: Vec<bool>,
     met: Vec<u32>,
     least_end: u64,
 }
@@ -43,42 +44,75 @@ fn by_buffer(alloc: Global, lows: &LowTable, cites: &[Cite]) -> Result<Vec<Cite>
     Ok(all)
 }
 
-/// Meets the buffer, where it is in the claim and new.
-fn meet(lows: &LowTable, walk: &mut Walk, b: u32) -> Result<(), AllocError>
-    requires { IsWalk lows.now.instance.now lows.now.claim.now
-        walk.old.marks.items walk.old.met.items }
-    ensures { OnOk result (IsWalk lows.now.instance.now lows.now.claim.now
-        walk.new.marks.items walk.new.met.items) }
+/// Whether the buffer has a mark. One that the instance does not have has none.
+fn is_marked(marks: &[bool], b: u32) -> bool
+    ensures { result ≡ slice_index_or marks.now b false }
 {
-    if !lows.is_free(b) {
+    let place = b as usize;
+    place < marks.len() && marks[place]
+}
+
+/// Marks the buffers.
+fn mark(marks: &mut [bool], buffers: &[u32])
+    requires { (b : ℕ) → IsIn b buffers.now → b < length marks.old }
+    ensures count { length marks.new ≡ length marks.old }
+    ensures each { (b : ℕ) →
+        IsMarked marks.new b ↔ (IsMarked marks.old b ⊎ IsIn b buffers.now) }
+{
+    for b in buffers {
+        marks[*b as usize] = true;
+    }
+}
+
+/// The marks of the claim's buffers, none of which is met yet.
+fn all_unmet(alloc: Global, lows: &LowTable) -> Result<Vec<bool>, AllocError>
+    ensures { IfOk result (λ unmet.
+        IsWalk lows.now.instance.now lows.now.claim.now unmet.items []) }
+{
+    let mut unmet = vec![in alloc; false; lows.instance.len() as usize]?;
+    for pair in lows.claim.pairs() {
+        unmet[pair.0 as usize] = true;
+    }
+    Ok(unmet)
+}
+
+/// Meets the buffer, where it is in the claim and new.
+fn meet(lows: &LowTable, unmet: &mut [bool], walk: &mut Walk, b: u32) -> Result<(), AllocError>
+    requires { IsWalk lows.now.instance.now lows.now.claim.now unmet.old walk.old.met.items }
+    ensures { OnOk result
+        (IsWalk lows.now.instance.now lows.now.claim.now unmet.new walk.new.met.items) }
+{
+    if !is_marked(unmet, b) {
         return Ok(());
     }
-    if walk.marks[b as usize] {
-        return Ok(());
-    }
-    walk.marks[b as usize] = true;
+    unmet[b as usize] = false;
     walk.least_end = walk.least_end.min(end(lows, b));
     walk.met.push(b)?;
     Ok(())
 }
 
 /// Meets what the cite needs, but for the buffer of a below cite.
-fn meet_cited(log: &Log, lows: &LowTable, walk: &mut Walk, cite: Cite) -> Result<(), AllocError>
-    requires { IsWalk lows.now.instance.now lows.now.claim.now
-        walk.old.marks.items walk.old.met.items }
-    ensures { OnOk result (IsWalk lows.now.instance.now lows.now.claim.now
-        walk.new.marks.items walk.new.met.items) }
+fn meet_cited(
+    log: &Log,
+    lows: &LowTable,
+    unmet: &mut [bool],
+    walk: &mut Walk,
+    cite: Cite,
+) -> Result<(), AllocError>
+    requires { IsWalk lows.now.instance.now lows.now.claim.now unmet.old walk.old.met.items }
+    ensures { OnOk result
+        (IsWalk lows.now.instance.now lows.now.claim.now unmet.new walk.new.met.items) }
 {
     match cite {
         Cite::Line(k) => {
             if k < log.len() {
                 for pair in log.line(k).claim().pairs() {
-                    meet(lows, walk, pair.0)?;
+                    meet(lows, unmet, walk, pair.0)?;
                 }
             }
         }
         Cite::Below(_) => {}
-        Cite::Twin(c) => meet(lows, walk, c)?,
+        Cite::Twin(c) => meet(lows, unmet, walk, c)?,
     }
     Ok(())
 }
@@ -86,8 +120,7 @@ fn meet_cited(log: &Log, lows: &LowTable, walk: &mut Walk, cite: Cite) -> Result
 /// The buffer of a below cite that is needed: no buffer that was met ends below the one that has
 /// the cite.
 fn needed_below(lows: &LowTable, walk: &Walk, cites: &[Cite]) -> Option<u32>
-    requires walk { IsWalk lows.now.instance.now lows.now.claim.now
-        walk.now.marks.items walk.now.met.items }
+    requires of_claim { AreOf lows.now.claim.now walk.now.met.items }
     requires each { length cites.now ≡ length lows.now.instance.now }
 {
     for b in walk.met.as_slice() {
@@ -100,26 +133,28 @@ fn needed_below(lows: &LowTable, walk: &Walk, cites: &[Cite]) -> Option<u32>
     None
 }
 
-/// The walk from a buffer of the claim, up to the limit of buffers to meet.
+/// The walk from a buffer of the claim, up to the limit of buffers to meet. All buffers of the
+/// claim are unmet before it, and again after it.
 fn walk_from(
     alloc: Global,
     log: &Log,
     lows: &LowTable,
     cites: &[Cite],
+    unmet: &mut [bool],
     start: u32,
     limit: usize,
 ) -> Result<Walk, AllocError>
-    requires { length cites.now ≡ length lows.now.instance.now }
-    ensures { IfOk result (λ walk. IsWalk lows.now.instance.now lows.now.claim.now
-        walk.marks.items walk.met.items) }
+    requires each { length cites.now ≡ length lows.now.instance.now }
+    requires unmet { IsWalk lows.now.instance.now lows.now.claim.now unmet.old [] }
+    ensures unmet { OnOk result (IsWalk lows.now.instance.now lows.now.claim.now unmet.new []) }
+    ensures of_claim { IfOk result (λ walk. AreOf lows.now.claim.now walk.met.items) }
 {
     let count = lows.instance.len() as usize;
     let mut walk = Walk {
-        marks: vec![in alloc; false; count]?,
-        met: Vec::new(alloc),
+        met: Vec::with_capacity(alloc, limit.min(lows.claim.pairs().len()))?,
         least_end: u64::MAX,
     };
-    meet(lows, &mut walk, start)?;
+    meet(lows, unmet, &mut walk, start)?;
     let mut turn = 0;
     for _ in 0..2 * count {
         if limit <= walk.met.len() {
@@ -127,15 +162,16 @@ fn walk_from(
         }
         if turn < walk.met.len() {
             let b = walk.met[turn];
-            meet_cited(log, lows, &mut walk, cites[b as usize])?;
+            meet_cited(log, lows, unmet, &mut walk, cites[b as usize])?;
             turn += 1;
         } else {
             match needed_below(lows, &walk, cites) {
-                Some(c) => meet(lows, &mut walk, c)?,
+                Some(c) => meet(lows, unmet, &mut walk, c)?,
                 None => break,
             }
         }
     }
+    mark(unmet, walk.met.as_slice());
     Ok(walk)
 }
 
@@ -153,19 +189,23 @@ fn small_part(
 {
     let cites = by_buffer(alloc, lows, cites)?;
     let first = lows.claim.pair(0).0;
-    let mut best = walk_from(alloc, log, lows, &cites, first, usize::MAX)?;
+    let mut marks = all_unmet(alloc, lows)?;
+    let unmet = marks.as_mut_slice();
+    let mut best = walk_from(alloc, log, lows, &cites, unmet, first, usize::MAX)?;
     for back in 1..=MORE_WALKS {
         let fewest = best.met.len();
         if fewest < back {
             break;
         }
         let start = best.met[fewest - back];
-        let walk = walk_from(alloc, log, lows, &cites, start, fewest)?;
+        let walk = walk_from(alloc, log, lows, &cites, unmet, start, fewest)?;
         if walk.met.len() < fewest {
             best = walk;
         }
     }
-    Ok(best.marks)
+    unmet.fill(false);
+    mark(unmet, best.met.as_slice());
+    Ok(marks)
 }
 
 /// The claim with the marked buffers alone, each with its cite.
@@ -182,15 +222,15 @@ fn restricted(
     ensures each { IfOk result (λ draft. length draft.cites.items ≡ length draft.claim) }
 {
     let all = lows.claim.pairs();
-    let mut pairs = Vec::new(alloc);
-    let mut kept = Vec::new(alloc);
+    let mut pairs = Vec::with_capacity(alloc, all.len())?;
+    let mut kept = Vec::with_capacity(alloc, all.len())?;
     for place in 0..cites.len() {
         if marks[all[place].0 as usize] {
             pairs.push(all[place])?;
             kept.push(cites[place])?;
         }
     }
-    let claim = Claim::from_pairs(alloc, &pairs)?;
+    let claim = Claim::from_vec(pairs);
     Ok(Draft { claim, cites: kept })
 }
 

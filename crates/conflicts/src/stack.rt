@@ -43,7 +43,7 @@ fn stack_of(
     ensures most { let s = stacked instance.now claim.now moment height modulus in
         IfOk result (λ stack. stack.most ≡ greatest (map (rounding instance.now modulus) s)) }
 {
-    let mut members = Vec::new(alloc);
+    let mut members = Vec::with_capacity(alloc, claim.pairs().len())?;
     let mut sum = 0;
     let mut most = 0;
     for pair in claim.pairs() {
@@ -89,7 +89,7 @@ pub(crate) fn ease_over(
     let above = (capacity + 1).saturating_sub(stack.sum - stack.most);
     let height = above.next_multiple_of(modulus);
     let pairs = from_height(alloc, &stack.members, height)?;
-    let claim = Claim::from_pairs(alloc, &pairs)?;
+    let claim = Claim::from_vec(pairs);
     Ok(Line::Over {
         claim,
         moment,

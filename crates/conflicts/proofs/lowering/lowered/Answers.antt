@@ -1,4 +1,4 @@
-use Rattle.std.proofs.Common.{◌≡◌, ◌∙◌, map, slice_index_or}
+use Rattle.std.proofs.Common.{◌≡◌, map, slice_index_or}
 use Rattle.conflicts.specs.Eased.{lowered}
 use Rattle.conflicts.proofs.LeastBounds.{lowered_is, lowered_is_lower}
 use Rattle.conflicts.proofs.ListSteps.{mapped_all, mapped_next}
@@ -23,20 +23,20 @@ loop-pair-preserved c =
     c.least_bound.ensures)
     c.in_ok-push.ensures.items c.loop-pair.invariant
 
-all_mapped : (c : goal.After-deref) →
-    c.deref.result.now ≡ map (lowered c.args.instance.now) c.args.claim.now
+all_mapped : (c : goal.After-loop-pair) →
+    c.loop-pair.pairs.items ≡ map (lowered c.args.instance.now) c.args.claim.now
 all_mapped c =
-    c.deref.ensures.value ∙ mapped_all (lowered c.args.instance.now) c.args.claim.now c.loop-pair.pair-index _
+    mapped_all (lowered c.args.instance.now) c.args.claim.now c.loop-pair.pair-index _
     (rw c.pairs-pair-items.ensures.value at c.loop-pair-test.false) c.loop-pair.invariant
 
-pub from_pairs-requires-clause-rises : goal.from_pairs-requires-clause-rises
-from_pairs-requires-clause-rises c =
+pub from_vec-requires-clause-rises : goal.from_vec-requires-clause-rises
+from_vec-requires-clause-rises c =
     let I = c.args.instance.now in
     let l = c.args.claim.now in
     rw (all_mapped c) (lower_stands I l _ c.requires.stands (lowered_is_lower I l c.requires.stands)).claim.rises
 
-pub from_pairs-requires-clause-bounds : goal.from_pairs-requires-clause-bounds
-from_pairs-requires-clause-bounds c =
+pub from_vec-requires-clause-bounds : goal.from_vec-requires-clause-bounds
+from_vec-requires-clause-bounds c =
     let I = c.args.instance.now in
     let l = c.args.claim.now in
     rw (all_mapped c)

@@ -1,5 +1,9 @@
-use Rattle.conflicts.specs.Walks.{IsWalk}
+use Rattle.std.proofs.Common.{[]}
+use Rattle.conflicts.specs.Walks.{AreOf, IsWalk}
 use Rattle.conflicts.proofs.parts.small_part.Given as goal
 
 abbrev pub invariant-loop-back : goal.invariant-loop-back
-invariant-loop-back l = IsWalk l.lows.instance.now l.lows.claim.now l.best.marks.items l.best.met.items
+invariant-loop-back l = record {
+  unmet : IsWalk l.lows.instance.now l.lows.claim.now l.unmet [];
+  of_claim : AreOf l.lows.claim.now l.best.met.items;
+}

@@ -9,36 +9,27 @@ overflow_sub-stack c =
     (most_within c.args.instance.now c.args.moment c.args.modulus
     (stacked c.args.instance.now c.args.claim.now c.args.moment c.args.height c.args.modulus))
 
-pub from_pairs-requires-clause-rises : goal.from_pairs-requires-clause-rises
-from_pairs-requires-clause-rises c =
-    rw (
-      c.deref-2.ensures.value,
-      pairs_are c.next_multiple_of-height.result
-          (stacked c.args.instance.now c.args.claim.now c.args.moment c.args.height c.args.modulus) _ _
-          (c.deref.ensures.value ∙ c.in_ok-stack.ensures.members) c.in_ok-pairs.ensures,
-    )
+pub from_vec-claim-requires-clause-rises : goal.from_vec-claim-requires-clause-rises
+from_vec-claim-requires-clause-rises c =
+    rw (pairs_are c.next_multiple_of-height.result
+    (stacked c.args.instance.now c.args.claim.now c.args.moment c.args.height c.args.modulus) _ _
+    (c.deref.ensures.value ∙ c.in_ok-stack.ensures.members) c.in_ok-pairs.ensures)
     (from_is_claim c.args.instance.now c.args.capacity c.args.claim.now c.args.moment c.args.height c.args.modulus
     c.requires.stands c.requires.over c.next_multiple_of-height.result).rises
 
-pub from_pairs-requires-clause-count : goal.from_pairs-requires-clause-count
-from_pairs-requires-clause-count c =
-    rw (
-      c.deref-2.ensures.value,
-      pairs_are c.next_multiple_of-height.result
-          (stacked c.args.instance.now c.args.claim.now c.args.moment c.args.height c.args.modulus) _ _
-          (c.deref.ensures.value ∙ c.in_ok-stack.ensures.members) c.in_ok-pairs.ensures,
-    )
+pub from_vec-claim-requires-clause-count : goal.from_vec-claim-requires-clause-count
+from_vec-claim-requires-clause-count c =
+    rw (pairs_are c.next_multiple_of-height.result
+    (stacked c.args.instance.now c.args.claim.now c.args.moment c.args.height c.args.modulus) _ _
+    (c.deref.ensures.value ∙ c.in_ok-stack.ensures.members) c.in_ok-pairs.ensures)
     (from_count c.args.instance.now c.args.capacity c.args.claim.now c.args.moment c.args.height c.args.modulus
     c.requires.stands c.requires.over c.next_multiple_of-height.result)
 
-pub from_pairs-requires-clause-bounds : goal.from_pairs-requires-clause-bounds
-from_pairs-requires-clause-bounds c =
-    rw (
-      c.deref-2.ensures.value,
-      pairs_are c.next_multiple_of-height.result
-          (stacked c.args.instance.now c.args.claim.now c.args.moment c.args.height c.args.modulus) _ _
-          (c.deref.ensures.value ∙ c.in_ok-stack.ensures.members) c.in_ok-pairs.ensures,
-    )
+pub from_vec-claim-requires-clause-bounds : goal.from_vec-claim-requires-clause-bounds
+from_vec-claim-requires-clause-bounds c =
+    rw (pairs_are c.next_multiple_of-height.result
+    (stacked c.args.instance.now c.args.claim.now c.args.moment c.args.height c.args.modulus) _ _
+    (c.deref.ensures.value ∙ c.in_ok-stack.ensures.members) c.in_ok-pairs.ensures)
     (from_bounds c.args.instance.now c.args.capacity c.args.claim.now c.args.moment c.args.height c.args.modulus
     c.requires.stands c.requires.over _ c.next_multiple_of-height.result
     (height_is c.args.instance.now c.args.capacity c.args.modulus
@@ -54,4 +45,4 @@ returns c =
     c.in_ok-stack.ensures.most c.saturating_sub-above.ensures c.next_multiple_of-height.ensures.value in
     let p = pairs_are c.next_multiple_of-height.result s _ _
     (c.deref.ensures.value ∙ c.in_ok-stack.ensures.members) c.in_ok-pairs.ensures in
-    rw (c.in_ok-claim.ensures, c.deref-2.ensures.value, p, h) refl
+    rw (c.from_vec-claim.ensures, p, h) refl
