@@ -2,7 +2,7 @@
 use Rattle.std.proofs.Common.{◌≡◌, ℕ, List, [], ◌∷◌, map, inl, inr, refl, sym, ap, ◌∙◌}
 use Rattle.branching.proofs.Words.{Instance, Claim, Entry, IsIn, Rises, buffers_of, choices, not_excluded, entry_of, is_entry}
 use Rattle.dsa_search_laws.proofs.Complete.{from_choices}
-use Rattle.branching.specs.Branches.{order_of}
+use Rattle.branching.specs.Tries.{order_of}
 
 pub buffers_of_entries : (l : Claim) (bs : List ℕ) → buffers_of (map (entry_of l) bs) ≡ bs
 buffers_of_entries l [] = refl

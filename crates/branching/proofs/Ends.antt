@@ -64,12 +64,11 @@ and_false : (b : Bool) → (b && false) ≡ false
 and_false true = refl
 and_false false = refl
 
-module _ (I : Instance) (l : Claim) (x : Ending) (b : ℕ) (s : IsInstance I) (claim : IsClaim I l) (i : HasBuffer l b)
-    (h : IsLeastEnding I l (length I) x) where
-  pub least_is_below : x.end ≤ up I (entry_of l b) → up I (entry_of l b) < 2 ^ 62 →
+module _ (I : Instance) (l : Claim) (x : Ending) (b : ℕ) (h : IsLeastEnding I l (length I) x) where
+  pub least_is_below : IsInstance I → x.end ≤ up I (entry_of l b) → up I (entry_of l b) < 2 ^ 62 →
       (f : Entry) × IsIn f l × (f.0 ≡ x.buffer) × (ends_below I f (entry_of l b) ≡ true)
   unfolding ends_below end_of
-  least_is_below le limit =
+  least_is_below s le limit =
       let r = h.is_end (omega arith) in
       let e = r.1 in
       let t : nat_le (up I (entry_of l x.buffer) + (buffer I x.buffer).size) (up I (entry_of l b)) ≡ true =
@@ -84,9 +83,10 @@ module _ (I : Instance) (l : Claim) (x : Ending) (b : ℕ) (s : IsInstance I) (c
           let n = (sound I x.buffer s).0 in
           omega arith
 
-  pub none_is_below : up I (entry_of l b) < x.end → list_any (λ f. ends_below I f (entry_of l b)) l ≡ false
+  pub none_is_below : IsClaim I l → up I (entry_of l b) < x.end →
+      list_any (λ f. ends_below I f (entry_of l b)) l ≡ false
   unfolding ends_below end_of
-  none_is_below lt = no_any (λ f. ends_below I f (entry_of l b)) l (λ f j.
+  none_is_below claim lt = no_any (λ f. ends_below I f (entry_of l b)) l (λ f j.
       let k = h.least f j (claim.in_range f j) in
       let t : nat_le (up I f + (buffer I f.0).size) (up I (entry_of l b)) ≡ false =
       not_at_most (up I f + (buffer I f.0).size) (up I (entry_of l b)) (omega arith) in

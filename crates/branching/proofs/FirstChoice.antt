@@ -5,7 +5,7 @@ use Rattle.branching.proofs.Words.{Instance, IsInstance, Claim, Entry, IsIn, buf
 use Rattle.dsa_terms.specs.Sorts.{ordered_by, put_by}
 use Rattle.dsa_search_laws.proofs.Moves.{below_is, twin_is}
 use Rattle.claim_levels.specs.Firsts.{IsBefore, IsFirst}
-use Rattle.branching.specs.Branches.{order_of}
+use Rattle.branching.specs.Tries.{IsLeft, chosen_of, order_of, untried}
 use Rattle.branching.proofs.Ends.{no_any}
 use Rattle.branching.proofs.Least.{no_rule_excludes}
 
@@ -106,8 +106,13 @@ module _ (I : Instance) (l : Claim) (b : ℕ) (s : IsInstance I) (h : IsFirst I 
       (no_any (λ g. is_twin I g h.f) l no_twin)))
       (λ e i. h.before e (from_filter (not_excluded I l) l e i).0)
 
-  pub some_choice : 0 < length (order_of I l)
+  some_choice : 0 < length (order_of I l)
   some_choice = let q = ap (λ (es : List Entry). length (buffers_of es)) head.1 in omega (arith, q)
 
-  pub first_is : b ≡ slice_index (order_of I l) 0
+  first_is : b ≡ slice_index (order_of I l) 0
   first_is = sym h.is ∙ sym (ap (λ (es : List Entry). slice_index (buffers_of es) 0) head.1)
+
+-- a claim that has a first buffer has a choice, and that buffer is the first one
+pub first_choice : (I : Instance) (l : Claim) (b n : ℕ) → IsInstance I → IsFirst I l b →
+    IsLeft (untried (order_of I l) n) × (b ≡ chosen_of (untried (order_of I l) n))
+first_choice I l b n s h = (some_choice I l b s h, first_is I l b s h)

@@ -1,5 +1,5 @@
 -- The least buffer that passes a test, and what it excludes.
-use Rattle.std.proofs.Common.{◌≡◌, ℕ, Bool, true, false, not, cond, ◌||◌, [], ◌∷◌, Some, None, find, option_map, inl, inr, sym, refl}
+use Rattle.std.proofs.Common.{◌≡◌, ℕ, Bool, true, false, cond, ◌||◌, [], ◌∷◌, Some, None, find, option_map, inl, inr, sym, refl}
 use Rattle.std.specs.List.{list_any}
 use Rattle.branching.proofs.Words.{Instance, Claim, Entry, IsIn, ends_below, is_twin, not_excluded, any_from, least_buffer}
 
@@ -36,7 +36,3 @@ twin_excludes I l e f n i h = rw (n, any_from (λ f. is_twin I f e) l f i h) ref
 pub no_rule_excludes : (I : Instance) (l : Claim) (e : Entry) → list_any (λ f. ends_below I f e) l ≡ false →
     list_any (λ f. is_twin I f e) l ≡ false → not_excluded I l e ≡ true
 no_rule_excludes I l e n m = rw (n, m) refl
-
-pub unless_twin : (I : Instance) (l : Claim) (e : Entry) (twin : Bool) → list_any (λ f. ends_below I f e) l ≡ false →
-    twin ≡ list_any (λ f. is_twin I f e) l → not twin ≡ not_excluded I l e
-unless_twin I l e twin n q = rw (n, q) refl

@@ -5,6 +5,10 @@ use Rattle.lifetime.proofs.Among.{same_members}
 use Rattle.claim_levels.specs.Levels.{AreLeft}
 use Rattle.branching.proofs.Words.{Instance, Claim, Entry, buffers_of, HasBuffer, entry_of, is_entry, in_at, next_of, AreLevels, has_level, level_inside}
 
+pub left_some : (levels left : List ℕ) → AreLeft levels left → (i : ℕ) → i < length left →
+    0 < slice_index levels (slice_index left i)
+left_some levels left a i lt = a.some (slice_index left i) (in_at left i 0 lt)
+
 module _ (I : Instance) (l : Claim) (levels left : List ℕ) (h : AreLevels I l levels) (a : AreLeft levels left) where
   left_is : left ≡ buffers_of l
   left_is = same_members left (buffers_of l) a.rises h.claim.rises
@@ -28,7 +32,7 @@ module _ (I : Instance) (l : Claim) (levels left : List ℕ) (h : AreLevels I l 
       next_of l i (0, 0) within ∙ ap (λ (x : Entry). x ∷ drop (i + 1) l) (left_at i within)
 
   pub left_has : (i : ℕ) → i < length left → HasBuffer l (slice_index left i)
-  left_has i lt = has_level I l levels h (slice_index left i) (a.some (slice_index left i) (in_at left i 0 lt))
+  left_has i lt = has_level I l levels h (slice_index left i) (left_some levels left a i lt)
 
   pub left_past : (i : ℕ) → length left ≤ i → drop i l ≡ []
   left_past i le = drop_of_length-le l (let n = left_count in omega arith)

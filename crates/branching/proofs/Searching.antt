@@ -3,15 +3,13 @@ use Rattle.std.proofs.Common.{◌≡◌, ◌≢◌, length-append, ℕ, ◌+◌,
 use Rattle.std.proofs.lemmas.Bool.Decides.{nat_tests}
 use Rattle.std.proofs.lemmas.List.{length-map, map-append}
 use Rattle.std.proofs.Math.ListN.{drop_of_length-le}
-use Rattle.branching.proofs.Words.{Instance, buffer, Claim, Entry, IsIn, IsClaim, Covers, child, up, choices, first, is_tall, not_excluded, seated, into_map, from_append, from_map, left_append, in_at, in_buffers, HasBuffer, entry_of, least_buffer, AreLevels, Line, NoneCovers, next_of}
+use Rattle.branching.proofs.Words.{Instance, buffer, Claim, Entry, IsIn, IsClaim, Covers, child, up, choices, first, is_tall, not_excluded, seated, into_map, from_append, from_map, left_append, in_at, in_buffers, HasBuffer, entry_of, least_buffer, Line, NoneCovers, next_of}
 use Rattle.dsa_search_laws.proofs.Complete.{from_choices, into_choices, tall_is}
 use Rattle.dsa_search_laws.proofs.Search.{first_equation}
 use Rattle.branching.specs.declared.notes.Refuted.{Refuted}
-use Rattle.branching.specs.declared.fresh.Fresh.{Fresh}
 use Rattle.branching.specs.Cites.{IsChildCovered}
 use Rattle.branching.specs.Logs.{Extends}
 use Rattle.branching.specs.Trying.{IsKnown, IsTrying, refuted_buffer, AreChoices}
-use Rattle.branching.specs.Fresh.{IsFresh, tries_at}
 use Rattle.branching.specs.Tries.{IsLeft, Tried, asked_to, chosen_of, later_of, noted_by, rest_of, untried}
 use Rattle.branching.proofs.Growing.{covered_still}
 use Rattle.branching.proofs.Least.{least_passes, none_least}
@@ -67,25 +65,24 @@ pub none_is_left : (f : Tried) → length f.refuted ≡ length f.order → rest_
 none_is_left f e = drop_of_length-le f.order (omega arith)
 
 module _ (I : Instance) (C : ℕ) (l : Claim) where
-  pub trying_start : (lines : List Line) (order levels : List ℕ) (n : ℕ) → IsClaim I l → l ≢ [] →
+  pub trying_start : (lines : List Line) (order : List ℕ) (n : ℕ) → IsClaim I l → l ≢ [] →
       None ≡ least_buffer (is_tall I C) l → map (entry_of l) order ≡ choices I (not_excluded I) l →
-      AreLevels I l levels → IsTrying I C lines l (untried order levels n)
-  trying_start lines order levels n c ne none q are_levels = record {
+      IsTrying I C lines l (untried order n)
+  trying_start lines order n c ne none q = record {
     order = q;
     noted = sym (drop_zero order);
     covered = λ r i. absurd i;
     left = first_equation I C l c ne ∙ (rw (none_least (is_tall I C) l none, ← q, drop_zero order) refl);
-    levels = are_levels;
   }
 
   -- each choice is in the claim
   pub chosen_in : (lines : List Line) (f : Tried) → IsTrying I C lines l f → IsLeft f → HasBuffer l (chosen_of f)
   chosen_in lines f t lt = chosen_at I l f.order (length f.refuted) t.order lt
 
-  -- and so is the first one of a claim just opened
-  pub first_in : (lines : List Line) (x : Fresh) → IsFresh I l x → IsTrying I C lines l (tries_at I l x) →
-      HasBuffer l x.chosen
-  first_in lines x h t = subst (HasBuffer l) (sym h.chosen) (chosen_in lines (tries_at I l x) t h.left)
+  -- and so is a buffer that is the next choice
+  pub first_in : (lines : List Line) (f : Tried) (b : ℕ) → IsLeft f → b ≡ chosen_of f → IsTrying I C lines l f →
+      HasBuffer l b
+  first_in lines f b left q t = subst (HasBuffer l) (sym q) (chosen_in lines f t left)
 
   -- and each that was refuted
   pub refuted_in : (lines : List Line) (f : Tried) → IsTrying I C lines l f → (r : Refuted) → IsIn r f.refuted →
@@ -120,7 +117,6 @@ module _ (I : Instance) (C : ℕ) (l : Claim) where
       ]
     ];
     left = t.left ∙ (rw (next_choice f lt, known.none, rest_of_noted f k) refl);
-    levels = t.levels;
   }
 
   -- more lines are asked
@@ -131,7 +127,6 @@ module _ (I : Instance) (C : ℕ) (l : Claim) where
     noted = t.noted;
     covered = t.covered;
     left = t.left;
-    levels = t.levels;
   }
 
   -- a log that grows keeps what is known
@@ -142,7 +137,6 @@ module _ (I : Instance) (C : ℕ) (l : Claim) where
     noted = t.noted;
     covered = λ r i. covered_still I k _ _ _ _ grown (t.covered r i);
     left = t.left;
-    levels = t.levels;
   }
 
   -- no choice is left
@@ -172,12 +166,12 @@ module _ (I : Instance) (C : ℕ) (l : Claim) where
       less m n le h = grind (arith, nat_tests)
 
   -- the choices of a claim that has some buffers, none of which is tall
-  pub are_choices : (lines : List Line) (order levels : List ℕ) (n : ℕ) → IsClaim I l → l ≢ [] →
+  pub are_choices : (lines : List Line) (order : List ℕ) (n : ℕ) → IsClaim I l → l ≢ [] →
       None ≡ least_buffer (is_tall I C) l → map (entry_of l) order ≡ choices I (not_excluded I) l →
-      AreLevels I l levels → NoneCovers I lines l → AreChoices I C lines l (untried order levels n)
-  are_choices lines order levels n c ne none q are_levels fresh = record {
+      NoneCovers I lines l → AreChoices I C lines l (untried order n)
+  are_choices lines order n c ne none q fresh = record {
     not_empty = ne;
     fresh = fresh;
-    trying = trying_start lines order levels n c ne none q are_levels;
+    trying = trying_start lines order n c ne none q;
     work = work_is I C l c ne none ∙ (rw (drop_zero order, q) refl);
   }

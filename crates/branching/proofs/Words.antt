@@ -9,16 +9,19 @@ pub use Rattle.dsa_model.specs.Buffer.{IsBuffer}
 pub use Rattle.dsa_search_laws.proofs.Claims.{rises-filter}
 pub use Rattle.dsa_search_laws.proofs.Placing.{in_buffers, up_at_or_above}
 pub use Rattle.dsa_terms.proofs.Examples.{small_below, two_of_four}
-pub use Rattle.dsa_terms.proofs.Lists.{any_from, any_gives, from_append, from_filter, from_map, from_ordered_by, into_filter, into_map, left_append, same_some, some_answer, true_or_false}
+pub use Rattle.dsa_terms.proofs.Lists.{any_from, any_gives, from_append, from_filter, from_map, from_ordered_by}
+pub use Rattle.dsa_terms.proofs.Lists.{into_filter, into_map, left_append, same_some, some_answer, true_or_false}
 pub use Rattle.dsa_terms.proofs.Moments.{and_true, live_before, sound}
-pub use Rattle.dsa_terms.proofs.NumberTests.{apart, below_or_from, is_at_most, is_below, less, not_at_most, not_below, same}
+pub use Rattle.dsa_terms.proofs.NumberTests.{apart, below_or_from, is_at_most, is_below, less}
+pub use Rattle.dsa_terms.proofs.NumberTests.{not_at_most, not_below, same}
 pub use Rattle.dsa_terms.proofs.Places.{in_at}
 pub use Rattle.dsa_terms.specs.Buffers.{Buffer, Instance, IsInstance, IsLive}
 unfoldable pub use Rattle.dsa_terms.specs.Buffers.{buffer, do_share, have_same_moments, is_live, some_before}
 pub use Rattle.dsa_terms.specs.Claims.{Claim, Covers, Entry, IsClaim, IsIn, IsRefuted, Rises, buffers_of}
 unfoldable pub use Rattle.dsa_terms.specs.Claims.{child, step, up}
 pub use Rattle.dsa_terms.specs.Lean.{IsLeanLine}
-pub use Rattle.dsa_terms.specs.Logs.{Below, ByLine, Cases, Cite, IsLegal, IsLegalCite, Line, Over, Twin, claim_of, greatest}
+pub use Rattle.dsa_terms.specs.Logs.{Below, ByLine, Cases, Cite, IsLegal, IsLegalCite, Line, Over, Twin}
+pub use Rattle.dsa_terms.specs.Logs.{claim_of, greatest}
 unfoldable pub use Rattle.dsa_terms.specs.Logs.{ends_below, is_stacked, is_twin, rounded, rounding}
 pub use Rattle.dsa_terms.specs.Parts.{numbers}
 unfoldable pub use Rattle.dsa_terms.specs.Parts.{is_cut, last_cut, part_of, parts, searched}

@@ -1,7 +1,5 @@
-pub mod Branches
 pub mod Cites
 pub mod Endings
-pub mod Fresh
 pub mod Keys
 pub mod Logs
 pub mod Overs

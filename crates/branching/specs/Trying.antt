@@ -5,7 +5,6 @@ use Rattle.dsa_terms.specs.Claims.{Claim, Entry, IsIn, child}
 use Rattle.dsa_terms.specs.Logs.{Line}
 use Rattle.dsa_terms.specs.Search.{choices, first, first_some, not_excluded, seated, work, work_through}
 use Rattle.canonical_order.specs.Claims.{entry_of}
-use Rattle.canonical_order.specs.Levels.{AreLevels}
 use Rattle.line_index.specs.Covered.{IsCoveredBy, NoneCovers}
 use Rattle.branching.specs.declared.notes.Refuted.{Refuted}
 use Rattle.branching.specs.Cites.{IsChildCovered}
@@ -24,13 +23,12 @@ abbrev pub refuted_buffer : Refuted → ℕ
 refuted_buffer r = r.buffer
 
 -- the choices are those of the claim, in order; the first of them are refuted, each by a line, and the claim's first
--- layout is the one that the others give; the levels are the claim's
+-- layout is the one that the others give
 pub record IsTrying (I : Instance) (C : ℕ) (lines : List Line) (l : Claim) (f : Tried) : Type 0 where
   pub order : map (entry_of l) f.order ≡ choices I (not_excluded I) l
   pub noted : f.order ≡ map refuted_buffer f.refuted ++ rest_of f
   pub covered : (r : Refuted) → IsIn r f.refuted → IsChildCovered I lines l r
   pub left : first I C l ≡ first_some (try_of I C l) (map (entry_of l) (rest_of f))
-  pub levels : AreLevels I l f.levels
 
 -- the claim has no layout, and the line of that number covers it
 pub record IsKnown (I : Instance) (C : ℕ) (lines : List Line) (l : Claim) (k : ℕ) : Type 0 where

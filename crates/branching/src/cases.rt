@@ -17,7 +17,7 @@ use crate::lines::append;
 use crate::notes::Refuted;
 use crate::task::Task;
 use canonical_order::Claim;
-use claim_levels::{Leveled, Levels};
+use claim_levels::Levels;
 use conflicts::Lemmas;
 use dsa_model::NoMemory;
 use refute_log::Line;
@@ -50,11 +50,6 @@ pub fn refute(
     ensures covered { IfOk result (IsCoveredBy task.now.instance.now log.new.lines claim) }
     ensures counted { OnOk result (length log.new.lines ≡ length log.old.lines + 1) }
 {
-    let view = Leveled {
-        instance: task.instance,
-        claim: &claim,
-        levels,
-    };
-    let cites = cites(alloc, &view, task.twins, refuted)?;
+    let cites = cites(alloc, task, &claim, levels, refuted)?;
     append(alloc, task, log, Line::Cases { claim, cites })
 }

@@ -1,7 +1,8 @@
 //! The buffer of a claim that ends lowest.
 
 ghost use Rattle.std.specs.Prelude.{◌≡◌, ◌^◌, ◌<◌, length, slice_index};
-ghost use Rattle.dsa_terms.specs.Claims.{Claim as ClaimTerm};
+ghost use Rattle.dsa_terms.specs.Buffers.{Instance as InstanceTerm};
+ghost use Rattle.dsa_terms.specs.Claims.{Claim as ClaimTerm, up};
 ghost use Rattle.canonical_order.specs.Claims.{entry_of};
 ghost use Rattle.canonical_order.specs.Levels.{AreLevels};
 ghost use Rattle.conflicts.specs.Ends.{end_of};
@@ -17,6 +18,16 @@ pub(crate) struct Ending {
     pub(crate) end: u64,
 }
 
+/// The low of the buffer in the claim of the levels, which has it.
+pub(crate) fn low_of(levels: &Levels, b: u32) -> u64
+    requires { 0 < slice_index levels.now b }
+    ensures value { (I : InstanceTerm) (l : ClaimTerm) → AreLevels I l levels.now →
+        result ≡ up I (entry_of l b) }
+    ensures limit { result < 2 ^ 62 }
+{
+    levels.at(b as usize) - 1
+}
+
 /// Where the buffer ends at its low in the claim of the levels, which has it.
 fn end_of(instance: &Instance, levels: &Levels, b: u32) -> u64
     requires count { length levels.now ≡ length instance.now }
@@ -25,8 +36,7 @@ fn end_of(instance: &Instance, levels: &Levels, b: u32) -> u64
         result ≡ end_of I (entry_of l b) }
     ensures limit { result < 2 ^ 63 }
 {
-    let low = levels.at(b as usize) - 1;
-    low + instance.buffer(b).size()
+    low_of(levels, b) + instance.buffer(b).size()
 }
 
 /// The buffer that ends lowest of the claim of the levels, and of these the one of least number.

@@ -1,66 +1,54 @@
 //! The choices of a claim, taken one after another.
 
 ghost use Rattle.std.specs.Prelude.{◌≡◌, OnOk, length, ◌==◌};
-ghost use Rattle.branching.specs.Branches.{tried_by};
-ghost use Rattle.branching.specs.Tries.{IsLeft, asked_to, chosen_of, noted_by, untried};
+ghost use Rattle.branching.specs.Tries.{IsLeft, asked_to, chosen_of, noted_by, tried_by, untried};
 
-use crate::branches::Branches;
 use crate::notes::{Notes, Refuted};
-use claim_levels::Levels;
 use dsa_model::NoMemory;
 use std::alloc::Global;
 use std::marker::Model;
 
 /// The choices of a claim in order, and for the first ones of them the lines by which they are
-/// refuted; and the levels of the claim. Below the number `asked` no line of the log covers the
-/// claim.
+/// refuted. Below the number `asked` no line of the log covers the claim.
 #[derive(Drop)]
 pub struct Frame {
-    branches: Branches,
+    order: Vec<u32>,
     notes: Notes,
 }
 
 impl Model for Frame {
-    ghost use Rattle.branching.specs.Tries.{Tried};
-    ghost use Rattle.branching.specs.Branches.{tried_by};
+    ghost use Rattle.branching.specs.Tries.{Tried, tried_by};
 
     ghost Value = { Tried };
 
-    ghost view = { λ f. tried_by f.branches f.notes };
+    ghost view = { λ f. tried_by f.order.items f.notes };
 }
 
 impl Frame {
     /// These choices of a claim, none of them refuted. The first `asked` lines do not cover the
     /// claim.
-    pub fn new(alloc: Global, branches: Branches, asked: u64) -> Frame
-        ensures { result ≡ untried branches.order.items branches.levels asked }
+    pub fn new(alloc: Global, order: Vec<u32>, asked: u64) -> Frame
+        ensures { result ≡ untried order.items asked }
     {
         let notes = Notes {
             refuted: Vec::new(alloc),
             asked,
         };
-        Frame { branches, notes }
+        Frame { order, notes }
     }
 
     /// These choices of a claim, with what is noted of them.
-    pub fn of(branches: Branches, notes: Notes) -> Frame
-        ensures { result ≡ tried_by branches notes }
+    pub fn of(order: Vec<u32>, notes: Notes) -> Frame
+        ensures { result ≡ tried_by order.items notes }
     {
-        Frame { branches, notes }
+        Frame { order, notes }
     }
 
     /// The choices, and what is noted of them.
-    pub fn parts(self) -> (Branches, Notes)
-        ensures { self ≡ tried_by result.0 result.1 }
+    pub fn parts(self) -> (Vec<u32>, Notes)
+        ensures { self ≡ tried_by result.0.items result.1 }
     {
-        (self.branches, self.notes)
-    }
-
-    /// The levels of the claim.
-    pub fn levels(&self) -> &Levels
-        ensures { result.now ≡ self.now.levels }
-    {
-        &self.branches.levels
+        (self.order, self.notes)
     }
 
     /// How many lines need not be asked again whether they cover the claim.
@@ -81,7 +69,7 @@ impl Frame {
     pub fn is_done(&self) -> bool
         ensures { result ≡ (length self.now.refuted == length self.now.order) }
     {
-        self.notes.refuted.len() == self.branches.order.len()
+        self.notes.refuted.len() == self.order.len()
     }
 
     /// The first choice that is not refuted. The caller sees to it that one is left.
@@ -89,7 +77,7 @@ impl Frame {
         requires { IsLeft self.now }
         ensures { result ≡ chosen_of self.now }
     {
-        self.branches.order[self.notes.refuted.len()]
+        self.order[self.notes.refuted.len()]
     }
 
     /// Notes the line by which that choice is refuted. The caller sees to it that one is left.

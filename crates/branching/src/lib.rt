@@ -1,23 +1,20 @@
 //! The choices of a claim in order, what is noted of them, and the line that ends the claim.
 #![tactic(auto)]
 
-mod branches;
 mod cases;
 mod choice;
 mod cites;
 mod ending;
 mod frame;
-mod fresh;
 mod lines;
 mod notes;
 mod over;
 mod task;
 mod twin_marks;
 
-pub use branches::Branches;
 pub use cases::refute;
+pub use choice::choices;
 pub use frame::Frame;
-pub use fresh::Fresh;
 pub use lines::append;
 pub use notes::{Notes, Refuted};
 pub use over::over_line;

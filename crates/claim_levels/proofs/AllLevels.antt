@@ -1,7 +1,7 @@
 -- The levels of a claim are all there are.
 use Rattle.std.proofs.Common.{◌≡◌, ℕ, ◌+◌, ◌<◌, ◌==◌, Bool, true, false, cond, List, [], ◌∷◌, length, slice_index_or, inl, inr, refl, sym, ap, ◌∙◌, arith, ext_get_or}
 use Rattle.std.proofs.lemmas.List.FromFn.{get_or-map-range_with_len, length-map-range_with_len}
-use Rattle.claim_levels.proofs.Words.{Instance, Claim, number_of, up, equal, same, HasBuffer, entry_of, AreLevels, has_or_not}
+use Rattle.claim_levels.proofs.Words.{Instance, Claim, IsClaim, number_of, up, equal, same, HasBuffer, entry_of, AreLevels, has_or_not}
 use Rattle.claim_levels.specs.Levels.{level_of, levels_of}
 
 level_inside : (I : Instance) (l : Claim) (b : ℕ) → HasBuffer l b → level_of I l b ≡ up I (entry_of l b) + 1
@@ -37,3 +37,17 @@ levels_are I l levels h =
           | inl i ↦ (h.each b within).inside i ∙ sym (level_inside I l b i) ∙ sym made
           | inr n ↦ (h.each b within).outside n ∙ sym (level_outside I l b n) ∙ sym made
         ]
+
+-- and these are levels of the claim
+pub levels_of_are : (I : Instance) (l : Claim) → IsClaim I l → AreLevels I l (levels_of I l)
+levels_of_are I l claim = record {
+  claim = claim;
+  count = length-map-range_with_len (level_of I l) 0 (length I);
+  each = λ b within.
+      let made : slice_index_or (levels_of I l) b 0 ≡ level_of I l b =
+      get_or-map-range_with_len (level_of I l) 0 (length I) b b 0 within (omega arith) in
+      record {
+        inside = λ i. made ∙ level_inside I l b i;
+        outside = λ n. made ∙ level_outside I l b n;
+      };
+}

@@ -1,8 +1,8 @@
 -- The entry of a claim that is before all others, by its levels.
-use Rattle.std.proofs.Common.{◌≡◌, ◌≢◌, ◌⊎◌, ℕ, ◌<◌, ◌≤◌, inl, inr, List, [], ◌∷◌, slice_index, refl, ap, ◌∙◌, arith}
-use Rattle.claim_levels.proofs.Words.{Instance, Claim, Entry, IsIn, up, in_buffers, same_or_not, HasBuffer, entry_of, AreLevels, entry_in, is_entry, has_level, level_inside}
+use Rattle.std.proofs.Common.{◌≡◌, ◌≢◌, ◌⊎◌, ℕ, ◌<◌, ◌≤◌, inl, inr, List, [], ◌∷◌, ◌==◌, true, false, length, refl, ap, sym, ◌∙◌, subst, arith}
+use Rattle.claim_levels.proofs.Words.{Instance, Claim, Entry, IsIn, up, in_buffers, equal, same, same_or_not, HasBuffer, entry_of, AreLevels, entry_in, is_entry, has_level, level_inside}
 use Rattle.claim_levels.specs.Firsts.{IsBefore, IsFirst}
-use Rattle.claim_levels.specs.Levels.{IsLeastLevel}
+use Rattle.claim_levels.specs.Levels.{AreLeft, IsLeastLevel}
 
 -- ---- the first one by levels
 some_entry : (l : Claim) → l ≢ [] → (e : Entry) × IsIn e l
@@ -41,11 +41,23 @@ first_by_level I l levels b h least some = record {
         apart : (c : ℕ) → c ≢ b → b ≤ c → b < c
         apart c ne le = grind arith
 
--- a claim without a level has no buffer
-pub nothing_by_level : (I : Instance) (l : Claim) (levels : List ℕ) (b : ℕ) → AreLevels I l levels →
-    IsLeastLevel levels b → slice_index levels b ≡ 0 → l ≡ []
-nothing_by_level I [] levels b h least none = refl
-nothing_by_level I (x ∷ xs) levels b h least none = absurd (
-    let q = level_inside I _ _ h x.0 (inl refl) in
-    let more = least.some x.0 (omega (arith, q)) in
-    omega (arith, none, more))
+-- ---- whether a claim has a buffer
+pub nothing_left : (I : Instance) (l : Claim) (levels left : List ℕ) → AreLevels I l levels → AreLeft levels left →
+    left ≡ [] → l ≡ []
+nothing_left I [] levels left h a q = refl
+nothing_left I (x ∷ xs) levels left h a q = absurd (
+    let p = level_inside I _ _ h x.0 (inl refl) in
+    subst (IsIn x.0) q (a.all x.0 (omega (arith, p))))
+
+pub something_left : (I : Instance) (l : Claim) (levels left : List ℕ) → AreLevels I l levels → AreLeft levels left →
+    left ≢ [] → l ≢ []
+something_left I l levels [] h a some q = some refl
+something_left I l levels (b ∷ bs) h a some q =
+    subst (λ (l : Claim). HasBuffer l b) q (has_level I l levels h b (a.some b (inl refl)))
+
+pub is_nothing : (left : List ℕ) → (length left == 0) ≡ true → left ≡ []
+is_nothing [] q = refl
+is_nothing (b ∷ bs) q = absurd (let k = equal (length (b ∷ bs)) 0 q in omega (arith, k))
+
+pub is_something : (left : List ℕ) → (length left == 0) ≡ false → left ≢ []
+is_something left f q = let t = same (length left) 0 (ap length q) in let k = sym t ∙ f in absurd cc

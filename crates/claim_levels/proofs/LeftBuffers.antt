@@ -1,6 +1,6 @@
 -- The buffers that have a level: found one after another, and those that are left in a child.
 use Rattle.std.proofs.Common.{◌≡◌, ◌≢◌, ℕ, ◌+◌, ◌<◌, ◌≤◌, inl, inr, true, false, List, [], ◌∷◌, ◌++◌, length, slice_index, sym, ap, ◌∙◌, subst, arith}
-use Rattle.claim_levels.proofs.Words.{IsIn, Rises, has, from_append, has_in, in_has, left_append, right_append, below_or_last}
+use Rattle.claim_levels.proofs.Words.{IsIn, Rises, has, from_append, has_in, in_has, left_append, right_append, below_or_last, same_or_not}
 use Rattle.dsa_terms.proofs.Ranges.{rises-push}
 use Rattle.lifetime.specs.Switching.{IsSwitched}
 use Rattle.claim_levels.specs.Children.{AreOfChild}
@@ -55,22 +55,36 @@ module _ (levels : List ℕ) where
   pub left_within : (left : List ℕ) (b : ℕ) → AreLeft levels left → IsIn b left → b < length levels
   left_within left b a i = some_within levels b (a.some b i)
 
--- ---- all but the one that was chosen
-pub child_left : (levels numbers left others : List ℕ) (b top : ℕ) → AreOfChild levels b numbers top →
-    AreLeft levels left → IsSwitched left b false others → AreLeft numbers others
-child_left levels numbers left others b top h a sw = record {
-  rises = sw.rises;
-  some = λ c i.
-      let ne = other c i in
-      h.all c ne (a.some c (has_in c left (sym (sw.others c ne) ∙ in_has c others i)));
-  all = λ c more. has_in c others (sw.others c (apart c more) ∙ in_has c left (a.all c (h.some c more)));
-}
-  where
-    other : (c : ℕ) → IsIn c others → c ≢ b
-    other c i q =
-        let t : has b others ≡ true = in_has b others (subst (λ (c : ℕ). IsIn c others) q i) in
-        let f = sw.own in
-        absurd cc
+-- ---- all but the one that was chosen, and all again
+module _ (levels numbers left others : List ℕ) (b : ℕ) (h : AreOfChild levels b numbers) where
+  apart : (c : ℕ) → 0 < slice_index numbers c → c ≢ b
+  apart c more q = let p = ap (slice_index numbers) q in let z = h.own in omega (arith, p, z, more)
 
-    apart : (c : ℕ) → 0 < slice_index numbers c → c ≢ b
-    apart c more q = let p = ap (slice_index numbers) q in let z = h.own in omega (arith, p, z, more)
+  pub child_left : AreLeft levels left → IsSwitched left b false others → AreLeft numbers others
+  child_left a sw = record {
+    rises = sw.rises;
+    some = λ c i.
+        let ne = other c i in
+        h.all c ne (a.some c (has_in c left (sym (sw.others c ne) ∙ in_has c others i)));
+    all = λ c more. has_in c others (sw.others c (apart c more) ∙ in_has c left (a.all c (h.some c more)));
+  }
+    where
+      other : (c : ℕ) → IsIn c others → c ≢ b
+      other c i q =
+          let t : has b others ≡ true = in_has b others (subst (λ (c : ℕ). IsIn c others) q i) in
+          let f = sw.own in
+          absurd cc
+
+  pub claim_left : 0 < slice_index levels b → AreLeft numbers others → IsSwitched others b true left →
+      AreLeft levels left
+  claim_left own a sw = record {
+    rises = sw.rises;
+    some = λ c i. elim (same_or_not c b) [
+      | inl q ↦ subst (λ (c : ℕ). 0 < slice_index levels c) (sym q) own
+      | inr ne ↦ h.some c (a.some c (has_in c others (sym (sw.others c ne) ∙ in_has c left i)))
+    ];
+    all = λ c more. elim (same_or_not c b) [
+      | inl q ↦ subst (λ (c : ℕ). IsIn c left) (sym q) (has_in b left sw.own)
+      | inr ne ↦ has_in c left (sw.others c ne ∙ in_has c others (a.all c (h.all c ne more)))
+    ];
+  }

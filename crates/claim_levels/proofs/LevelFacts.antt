@@ -115,9 +115,8 @@ not_without_it h = let k = (h.are.each 0 (h.are.claim.in_range (entry_of h.above
     omega (arith, k)
 
 -- its levels: the second buffer alone has one
-second_left : AreOfChild (1 ∷ 1 ∷ []) 0 (0 ∷ 5 ∷ []) 5
-second_left =
-    record { few = omega arith; own = refl; some = some; all = all; under = under; limit = omega arith }
+pub second_left : AreOfChild (1 ∷ 1 ∷ []) 0 (0 ∷ 5 ∷ [])
+second_left = record { own = refl; some = some; all = all }
   where
     some : (c : ℕ) → 0 < slice_index (0 ∷ 5 ∷ []) c → 0 < slice_index (1 ∷ 1 ∷ []) c
     some zero lt = absurd (omega arith)
@@ -129,22 +128,14 @@ second_left =
     all (suc zero) ne lt = omega arith
     all (suc (suc c)) ne lt = absurd (omega arith)
 
-    under : (c : ℕ) → slice_index (0 ∷ 5 ∷ []) c ≤ 5
-    under zero = omega arith
-    under (suc zero) = omega arith
-    under (suc (suc c)) = omega arith
-
-not_still_there : AreOfChild (1 ∷ 1 ∷ []) 0 (1 ∷ 5 ∷ []) 5 → ⊥
+not_still_there : AreOfChild (1 ∷ 1 ∷ []) 0 (1 ∷ 5 ∷ []) → ⊥
 not_still_there h = differ 0 1 (omega arith) (sym h.own)
 
-not_without_both : AreOfChild (1 ∷ 1 ∷ []) 0 (0 ∷ 0 ∷ []) 5 → ⊥
+not_without_both : AreOfChild (1 ∷ 1 ∷ []) 0 (0 ∷ 0 ∷ []) → ⊥
 not_without_both h = let k = h.all 1 (λ q. differ 0 1 (omega arith) (sym q)) (omega arith) in omega (arith, k)
 
-not_a_new_one : AreOfChild (1 ∷ 0 ∷ []) 0 (0 ∷ 5 ∷ []) 5 → ⊥
+not_a_new_one : AreOfChild (1 ∷ 0 ∷ []) 0 (0 ∷ 5 ∷ []) → ⊥
 not_a_new_one h = let k = h.some 1 (omega arith) in omega (arith, k)
-
-not_above_top : AreOfChild (1 ∷ 1 ∷ []) 0 (0 ∷ 6 ∷ []) 5 → ⊥
-not_above_top h = let k = h.under 1 in omega (arith, k)
 
 -- the bound 3 of a buffer that is aligned to four becomes 4
 lows_are_bounds : lifted small_below ((0, 0) ∷ (1, 3) ∷ []) ≡ (0, 0) ∷ (1, 4) ∷ []

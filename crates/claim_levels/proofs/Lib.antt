@@ -1,5 +1,6 @@
 pub mod AllLevels
 pub mod ChildLevels
+pub mod FirstFacts
 pub mod FirstLevel
 pub mod Grounding
 pub mod Leading
@@ -7,5 +8,10 @@ pub mod LeftBuffers
 pub mod LevelFacts
 pub mod Leveling
 pub mod Lifting
+pub mod PlacedLevels
+pub mod RaisingFacts
 pub mod RaisingSteps
+pub mod TrailFacts
+pub mod Trailing
+pub mod Undoing
 pub mod Words

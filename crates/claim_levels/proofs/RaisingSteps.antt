@@ -1,15 +1,19 @@
 -- The levels of a child in the making, one buffer after another.
-use Rattle.std.proofs.Common.{◌≡◌, ◌≢◌, ℕ, ◌+◌, ◌-◌, ◌<◌, ◌≤◌, ◌^◌, ◌⊎◌, inl, inr, List, All, Bool, true, false, cond, nat_lt, length, slice_index, slice_set, ap, sym, ◌∙◌, subst, refl, arith, length-set}
+use Rattle.std.proofs.Common.{◌≡◌, ◌≢◌, ℕ, ◌+◌, ◌-◌, ◌<◌, ◌≤◌, ◌^◌, ◌⊎◌, inl, inr, List, [], ◌∷◌, ◌++◌, max, All, Bool, true, false, cond, nat_lt, length, slice_index, slice_set, ap, sym, ◌∙◌, subst, refl, arith, length-set}
 use Rattle.std.proofs.lemmas.List.{get_or_past}
 use Rattle.std.specs.List.Sorted.{IsPermutation}
-use Rattle.std.proofs.lemmas.List.Sorted.{Contains-permutation}
-use Rattle.claim_levels.proofs.Words.{Instance, IsInstance, buffer, do_share, Claim, IsIn, child, step, true_or_false, sound, below_or_from, less, same_or_not, from_contains, to_contains, AreSectionsOf, SectionList, members_of, sections_of, buffer_limit, entry_of, AreLevels, IsLevel, from_child, in_child_by, has_level, level_in_range, level_inside}
+use Rattle.std.proofs.lemmas.List.Sorted.{IsPermutation-refl, IsPermutation-sym}
+use Rattle.dsa_terms.proofs.Places.{in_permutation}
+use Rattle.claim_levels.proofs.Words.{Instance, IsInstance, buffer, do_share, Claim, Entry, IsIn, child, step, true_or_false, sound, below_or_from, less, same_or_not, left_append, right_append, from_append, AreSectionsOf, SectionList, members_of, sections_of, entry_of, AreLevels, IsLevel, from_child, in_child_by, has_level, level_in_range, level_inside}
 use Rattle.skyline.proofs.SectionFacts.{listed_in, section_in_range, shared_sections}
+use Rattle.claim_levels.specs.declared.placed.Placed.{Placed}
 use Rattle.claim_levels.specs.declared.raising.Raising.{Raising}
+use Rattle.claim_levels.specs.Placings.{IsPlaced}
 use Rattle.claim_levels.specs.Children.{AreOfChild}
 use Rattle.claim_levels.specs.Levels.{HasLowChild, IsLeastLevel}
-use Rattle.claim_levels.specs.Raisings.{IsRaised, IsRaising, IsReach}
+use Rattle.claim_levels.specs.Raisings.{IsRaised, IsRaising}
 use Rattle.claim_levels.proofs.ChildLevels.{level_stays, set_cases}
+use Rattle.claim_levels.proofs.Grounding.{some_within}
 
 -- what holds of each number of a list that none is above
 pub under_each : (levels : List ℕ) (top : ℕ) → All (λ level. level ≤ top) levels → (c : ℕ) → slice_index levels c ≤ top
@@ -30,26 +34,19 @@ module _ (I : Instance) (levels : List ℕ) (b : ℕ) where
     raised_here d e p = λ more l a. subst (λ (n : ℕ). IsLevel I (child I l (entry_of l b)) n (slice_index new d))
         (sym e) (subst (IsLevel I (child I l (entry_of l b)) c) (sym p) (is l a))
 
-    pub raised_written : IsRaised I levels b new c
-    raised_written = elim (written c) [
-      | inl r ↦ raised_here c refl r.1
-      | inr r ↦ absurd (r.0 refl)
-    ]
-
     pub raised_still : (d : ℕ) → IsRaised I levels b old d → IsRaised I levels b new d
     raised_still d h = elim (written d) [
       | inl r ↦ raised_here d r.0 r.1
       | inr r ↦ (λ more l a. subst (IsLevel I (child I l (entry_of l b)) d) (sym r.1) (h more l a))
     ]
 
+  -- the level in the claim is noted, and that in the child written in its place
   pub raising_next : (old new : Raising) (c v : ℕ) → c < length old.numbers.items →
-      new.numbers.items ≡ slice_set old.numbers.items c v →
+      new.numbers.items ≡ slice_set old.numbers.items c v → new.top ≡ max old.top v →
+      new.changes.items ≡ old.changes.items ++ (c, slice_index levels c) ∷ [] →
       ((l : Claim) → AreLevels I l levels → IsLevel I (child I l (entry_of l b)) c v) →
-      0 < slice_index levels c → (v ≤ new.top) × (old.top ≤ new.top) → new.top ≤ 2 ^ 55 →
-      (slice_index levels c < v → IsIn c new.raised.items) →
-      ((d : ℕ) → IsIn d old.raised.items → IsIn d new.raised.items) →
-      IsRaising I levels b old → IsRaising I levels b new
-  raising_next old new c v lt q is more tops limit now kept h = record {
+      0 < slice_index levels c → v ≤ 2 ^ 55 → IsRaising I levels b old → IsRaising I levels b new
+  raising_next old new c v lt q t n is more low h = record {
     count = ap length q ∙ length-set old.numbers.items c v ∙ h.count;
     outside = λ d z. elim (at d) [
       | inl r ↦ absurd (let p = ap (slice_index levels) r.0 in omega (arith, p, z, more))
@@ -63,14 +60,22 @@ module _ (I : Instance) (levels : List ℕ) (b : ℕ) where
       ]
     ];
     under = λ d. elim (at d) [
-      | inl r ↦ (let p = r.1 in let t = tops.0 in omega (arith, p, t))
-      | inr r ↦ (let p = r.1 in let t = tops.1 in let k = h.under d in omega (arith, p, t, k))
+      | inl r ↦ (let p = r.1 in omega (arith, p, t))
+      | inr r ↦ (let p = r.1 in let k = h.under d in omega (arith, p, t, k))
     ];
-    limit = limit;
-    raised = λ d above. elim (at d) [
-      | inl r ↦ subst (λ (n : ℕ). IsIn n new.raised.items) (sym r.0)
-          (now (let p = r.1 in let k = ap (slice_index levels) r.0 in omega (arith, p, k, above)))
-      | inr r ↦ kept d (h.raised d (let p = r.1 in omega (arith, p, above)))
+    limit = (let k = h.limit in omega (arith, k, t, low));
+    noted = λ d ne. elim (at d) [
+      | inl r ↦ onto (d, slice_index levels d)
+          (inr (ap (λ (d : ℕ). let e : Entry = (d, slice_index levels d) in e) r.0))
+      | inr r ↦ onto (d, slice_index levels d) (inl (h.noted d (λ e. ne (r.1 ∙ e))))
+    ];
+    were = λ e i. elim (from e i) [
+      | inl j ↦ h.were e j
+      | inr p ↦ subst (λ (e : Entry). e.1 ≡ slice_index levels e.0) (sym p) refl
+    ];
+    some = λ e i. elim (from e i) [
+      | inl j ↦ h.some e j
+      | inr p ↦ subst (λ (e : Entry). 0 < slice_index levels e.0) (sym p) more
     ];
   }
     where
@@ -78,20 +83,63 @@ module _ (I : Instance) (levels : List ℕ) (b : ℕ) where
           ⊎ ((d ≢ c) × (slice_index new.numbers.items d ≡ slice_index old.numbers.items d))
       at d = written old.numbers.items new.numbers.items c v lt q is d
 
-  -- the raised ones in another order
+      onto : (e : Entry) → IsIn e old.changes.items ⊎ (e ≡ (c, slice_index levels c)) → IsIn e new.changes.items
+      onto e h = subst (IsIn e) (sym n) (elim h [
+        | inl i ↦ left_append old.changes.items ((c, slice_index levels c) ∷ []) e i
+        | inr p ↦ right_append old.changes.items ((c, slice_index levels c) ∷ []) e (inl p)
+      ])
+
+      from : (e : Entry) → IsIn e new.changes.items → IsIn e old.changes.items ⊎ (e ≡ (c, slice_index levels c))
+      from e i = elim (from_append old.changes.items ((c, slice_index levels c) ∷ []) e (subst (IsIn e) n i)) [
+        | inl j ↦ inl j
+        | inr j ↦ elim j [ inl p ↦ inr p | inr z ↦ absurd z ]
+      ]
+
+  -- the same numbers, with the same changes in another order
   pub raising_sorted : (old new : Raising) → new.numbers.items ≡ old.numbers.items → new.top ≡ old.top →
-      IsPermutation old.raised.items new.raised.items → IsRaising I levels b old → IsRaising I levels b new
+      IsPermutation old.changes.items new.changes.items → IsRaising I levels b old → IsRaising I levels b new
   raising_sorted old new q t p h = record {
     count = ap length q ∙ h.count;
-    outside = λ c z. ap (λ (xs : List ℕ). slice_index xs c) q ∙ h.outside c z;
+    outside = λ c z. at c ∙ h.outside c z;
     each = λ c. subst (λ (xs : List ℕ). (slice_index xs c ≡ slice_index levels c) ⊎ IsRaised I levels b xs c) (sym q)
         (h.each c);
-    under = λ c. (let k = h.under c in let e = ap (λ (xs : List ℕ). slice_index xs c) q in omega (arith, k, e, t));
+    under = λ c. (let k = h.under c in let e = at c in omega (arith, k, e, t));
     limit = (let k = h.limit in omega (arith, k, t));
-    raised = λ c above. from_contains new.raised.items c (Contains-permutation old.raised.items new.raised.items c p
-        (to_contains old.raised.items c
-        (h.raised c (let e = ap (λ (xs : List ℕ). slice_index xs c) q in omega (arith, e, above)))));
+    noted = λ c ne. in_permutation old.changes.items new.changes.items (c, slice_index levels c) p
+        (h.noted c (λ e. ne (at c ∙ e)));
+    were = λ e i. h.were e (back e i);
+    some = λ e i. h.some e (back e i);
   }
+    where
+      at : (c : ℕ) → slice_index new.numbers.items c ≡ slice_index old.numbers.items c
+      at c = ap (λ (xs : List ℕ). slice_index xs c) q
+
+      back : (e : Entry) → IsIn e new.changes.items → IsIn e old.changes.items
+      back e i = in_permutation new.changes.items old.changes.items e
+          (IsPermutation-sym old.changes.items new.changes.items p) i
+
+  -- the levels of the claim, of which none has changed
+  pub raising_first : (r : Raising) → r.numbers.items ≡ levels → r.changes.items ≡ [] →
+      All (λ level. level ≤ r.top) levels → r.top ≤ 2 ^ 55 → IsRaising I levels b r
+  raising_first r q n under limit = record {
+    count = ap length q;
+    outside = λ c z. at c ∙ z;
+    each = λ c. inl (at c);
+    under = λ c. (let k = under_each levels r.top under c in let e = at c in omega (arith, k, e));
+    limit = limit;
+    noted = λ c ne. absurd (ne (at c));
+    were = λ e i. absurd (subst (IsIn e) n i);
+    some = λ e i. absurd (subst (IsIn e) n i);
+  }
+    where
+      at : (c : ℕ) → slice_index r.numbers.items c ≡ slice_index levels c
+      at c = ap (λ (xs : List ℕ). slice_index xs c) q
+
+  -- one that did not change
+  pub raising_still : (old new : Raising) → (new.numbers.items ≡ old.numbers.items) × (new.top ≡ old.top)
+      × (new.changes.items ≡ old.changes.items) → IsRaising I levels b old → IsRaising I levels b new
+  raising_still old new q h = raising_sorted old new q.0 q.1
+      (subst (IsPermutation old.changes.items) (sym q.2) (IsPermutation-refl old.changes.items)) h
 
 -- ---- where the buffer is the first choice
 -- a buffer that shares no moment with it is high enough
@@ -133,9 +181,6 @@ raised_near I S levels b r s low p first h near own c = elim (h.each c) [
 ]
 
 -- ---- what is passed by
-pub some_level : (n m : ℕ) → n ≡ m → n ≢ 0 → 0 < m
-some_level n m q h = elim (below_or_from 0 m) [ inl lt ↦ lt | inr le ↦ absurd (h (omega (arith, q, le))) ]
-
 step_within : (I : Instance) (b c : ℕ) → IsInstance I → step I b c ≤ (buffer I b).size
 unfolding step
 step_within I b c s = go (do_share (buffer I b) (buffer I c)) (nat_lt c b)
@@ -161,35 +206,92 @@ module _ (I : Instance) (levels : List ℕ) (b c : ℕ) (r : Raising) (h : IsRai
     | inr done ↦ done
   ]
 
-  pub raised_high : (reach : ℕ) → IsInstance I → HasLowChild I levels b → IsReach I levels b reach →
-      reach ≤ slice_index r.numbers.items c → IsRaised I levels b r.numbers.items c
-  raised_high reach s low q le = elim (h.each c) [
+  pub raised_high : (end : ℕ) → IsInstance I → slice_index levels b + (buffer I b).size ≡ end + 1 →
+      0 < slice_index levels b → end < slice_index r.numbers.items c → IsRaised I levels b r.numbers.items c
+  raised_high end s q some le = elim (h.each c) [
     | inl same ↦ λ more l a. subst (IsLevel I (child I l (entry_of l b)) c) (sym same)
         (level_stays I l _ b a c (slice_index levels b - 1 + step I b c) s (has_level I l levels a b some) more
         (other same) refl (let k = step_within I b c s in omega (arith, k, q, le, same, some)))
     | inr done ↦ done
   ]
     where
-      some : 0 < slice_index levels b
-      some = let p = level_inside I _ _ low.are b low.has in omega (arith, p)
-
       other : slice_index r.numbers.items c ≡ slice_index levels c → c ≢ b
       other same e = let p = ap (slice_index levels) e in let n = (sound I b s).0 in omega (arith, p, n, q, le, same)
 
+-- a buffer that is not in the claim, or stands at or above the end of the placed one, has its level in the child
+pub raised_already : (I : Instance) (levels : List ℕ) (p : Placed) (c now : ℕ) (r : Raising) → IsInstance I →
+    IsPlaced I levels p → IsRaising I levels p.buffer r → now ≡ slice_index r.numbers.items c →
+    (0 < now → now ≤ p.end → ⊥) → IsRaised I levels p.buffer r.numbers.items c
+raised_already I levels p c now r s placed h at none = elim (below_or_from 0 now) [
+  | inl some ↦ elim (below_or_from p.end now) [
+    | inl high ↦ raised_high I levels p.buffer c r h p.end s
+        (let o = placed.offset in let e = placed.end in omega (arith, o, e))
+        (let o = placed.offset in omega (arith, o)) (omega (arith, at, high))
+    | inr low ↦ absurd (none some low)
+  ]
+  | inr le ↦ raised_without I levels p.buffer c r h (omega (arith, at, le))
+]
+
+-- one buffer after another
+abbrev pub AreRaisedBut : Instance → List ℕ → ℕ → Raising → List ℕ → List ℕ → Type 0
+AreRaisedBut I levels b r buffers left = (c : ℕ) → IsIn c buffers → IsIn c left ⊎ IsRaised I levels b r.numbers.items c
+
+pub raised_next : (I : Instance) (levels : List ℕ) (b : ℕ) (old new : Raising) (buffers left rest : List ℕ) (x : ℕ) →
+    left ≡ x ∷ rest → IsRaised I levels b new.numbers.items x →
+    ((d : ℕ) → IsRaised I levels b old.numbers.items d → IsRaised I levels b new.numbers.items d) →
+    AreRaisedBut I levels b old buffers left → AreRaisedBut I levels b new buffers rest
+raised_next I levels b old new buffers left rest x q here kept h c i = elim (h c i) [
+  | inl there ↦ elim (subst (IsIn c) q there) [
+    | inl is ↦ inr (subst (IsRaised I levels b new.numbers.items) (sym is) here)
+    | inr later ↦ inl later
+  ]
+  | inr done ↦ inr (kept c done)
+]
+
+-- ---- where a level is put
+module _ (I : Instance) (levels : List ℕ) (b : ℕ) (old : Raising) (c now v : ℕ)
+    (at : now ≡ slice_index old.numbers.items c) (some : 0 < now) (low : HasLowChild I levels b)
+    (level : (l : Claim) → AreLevels I l levels → now ≡ slice_index levels c →
+    IsLevel I (child I l (entry_of l b)) c v)
+    (again : (l : Claim) → AreLevels I l levels → IsLevel I (child I l (entry_of l b)) c now → v ≡ now)
+    (h : IsRaising I levels b old) where
+  more : 0 < slice_index levels c
+  more = some_before I levels b c old h (omega (arith, at, some))
+
+  within : c < length old.numbers.items
+  within = let lt = some_within levels c more in let n = h.count in omega (arith, lt, n)
+
+  put_before : now ≢ v → now ≡ slice_index levels c
+  put_before ne = elim (h.each c) [
+    | inl same ↦ at ∙ same
+    | inr done ↦ absurd (ne (sym (again low.above low.are
+        (subst (IsLevel I (child I low.above (entry_of low.above b)) c) (sym at) (done more low.above low.are)))))
+  ]
+
+  module _ (new : Raising) (ne : now ≢ v) (q : new.numbers.items ≡ slice_set old.numbers.items c v) where
+    put_is : (l : Claim) → AreLevels I l levels → IsLevel I (child I l (entry_of l b)) c v
+    put_is l a = level l a (put_before ne)
+
+    pub put_raising : new.top ≡ max old.top v → new.changes.items ≡ old.changes.items ++ (c, now) ∷ [] →
+        (now ≡ slice_index levels c → v ≤ 2 ^ 55) → IsRaising I levels b new
+    put_raising t n limit = raising_next I levels b old new c v within q t
+        (n ∙ ap (λ (m : ℕ). let cs : List Entry = old.changes.items ++ (c, m) ∷ [] in cs) (put_before ne))
+        put_is more (limit (put_before ne)) h
+
+    pub put_kept : (d : ℕ) → IsRaised I levels b old.numbers.items d → IsRaised I levels b new.numbers.items d
+    put_kept = raised_still I levels b old.numbers.items new.numbers.items c v within q put_is
+
 -- ---- all levels of a child
 pub raised_child : (I : Instance) (levels : List ℕ) (b : ℕ) (r : Raising) → HasLowChild I levels b →
-    length levels ≤ buffer_limit → IsRaising I levels b r → ((c : ℕ) → IsRaised I levels b r.numbers.items c) →
-    AreOfChild levels b r.numbers.items r.top
-raised_child I levels b r low few h done = record {
-  few = (let n = h.count in omega (arith, n, few));
+    IsRaising I levels b r → ((c : ℕ) → IsRaised I levels b r.numbers.items c) →
+    AreOfChild levels b r.numbers.items
+raised_child I levels b r low h done = record {
   own = (done b (let q = level_inside I l levels low.are b low.has in omega (arith, q)) l low.are).outside
       (λ i. (from_child I l b b i).1 refl);
   some = λ c. some_before I levels b c r h;
   all = λ c ne more.
       let k = (done c more l low.are).inside (in_child_by I l b c (has_level I l levels low.are c more) ne) in
       omega (arith, k);
-  under = h.under;
-  limit = h.limit;
 }
   where
     l : Claim

@@ -35,8 +35,8 @@ pub record AreLeft (levels left : List ℕ) : Type 0 where
   -- and each that has one is among them
   pub all : (b : ℕ) → 0 < slice_index levels b → IsIn b left
 
--- levels, beside the buffers that have one, the buffer that is before all others, and a number that no level is above
-pub record AreLed (levels left : List ℕ) (first top : ℕ) : Type 0 where
+-- levels, beside the buffers that have one, and a number that no level is above
+pub record AreLed (levels left : List ℕ) (top : ℕ) : Type 0 where
   -- there are no more than buffers may be
   pub few : length levels ≤ buffer_limit
   -- none is above 2^55
@@ -46,7 +46,6 @@ pub record AreLed (levels left : List ℕ) (first top : ℕ) : Type 0 where
   -- which is low itself
   pub limit : top ≤ 2 ^ 55
   pub listed : AreLeft levels left
-  pub least : IsLeastLevel levels first
 
 -- the levels are those of a claim that has the buffer, and no bound of the child by it is above 2^54
 pub record HasLowChild (I : Instance) (levels : List ℕ) (b : ℕ) : Type 0 where

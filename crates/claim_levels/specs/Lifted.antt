@@ -1,6 +1,5 @@
 -- A claim with the lows of its buffers as bounds.
 use Rattle.std.specs.Prelude.{◌≡◌, map}
-use Rattle.std.specs.Coded.{Coded-set, coded_ℕ}
 use Rattle.dsa_terms.specs.Buffers.{Instance}
 use Rattle.dsa_terms.specs.Claims.{Claim, Entry, IsIn, up}
 
@@ -11,10 +10,6 @@ lift I e = (e.0, up I e)
 -- each bound of the claim is the up of its buffer
 pub record IsAtLows (I : Instance) (l : Claim) : Type 0 where
   pub each : (e : Entry) → IsIn e l → up I e ≡ e.1
-
--- of which there is at most one proof
-pub IsAtLows-prop : {I : Instance} {l : Claim} → IsProp (IsAtLows I l)
-IsAtLows-prop f g = λ i. record { each = λ e h. Coded-set coded_ℕ _ _ (f.each e h) (g.each e h) i }
 
 -- the claim with the up of each buffer as its bound
 abbrev pub lifted : Instance → Claim → Claim

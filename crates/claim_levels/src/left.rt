@@ -1,6 +1,6 @@
 //! The buffers that have a level.
 
-ghost use Rattle.std.specs.Prelude.{◌≤◌, false, IfOk, length};
+ghost use Rattle.std.specs.Prelude.{◌≡◌, ◌≤◌, false, true, IfOk, OnErr, OnOk, length};
 ghost use Rattle.dsa_terms.specs.Claims.{Rises};
 ghost use Rattle.dsa_model.specs.Buffer.{buffer_limit};
 ghost use Rattle.lifetime.specs.Switching.{IsSwitched};
@@ -23,17 +23,27 @@ pub(crate) fn left_of(alloc: Global, levels: &[u64]) -> Result<Vec<u32>, NoMemor
     Ok(left)
 }
 
-/// The buffers of a rising list without this one.
-pub(crate) fn without(alloc: Global, left: &[u32], b: u32) -> Result<Vec<u32>, NoMemory>
-    requires { Rises left.now }
-    ensures { IfOk result (λ others. IsSwitched left.now b false others.items) }
+/// Takes the buffer out of the rising list.
+pub(crate) fn take_out(left: &mut Vec<u32>, b: u32)
+    requires { Rises left.old.items }
+    ensures { IsSwitched left.old.items b false left.new.items }
 {
-    let mut others = left.to_vec(alloc)?;
-    match others.binary_search(&b) {
+    match left.binary_search(&b) {
         Ok(place) => {
-            others.remove(place);
+            left.remove(place);
         }
         Err(_) => {}
     }
-    Ok(others)
+}
+
+/// Puts the buffer into the rising list.
+pub(crate) fn put_in(left: &mut Vec<u32>, b: u32) -> Result<(), NoMemory>
+    requires { Rises left.old.items }
+    ensures switched { OnOk result (IsSwitched left.old.items b true left.new.items) }
+    ensures unchanged { OnErr result (left.new.items ≡ left.old.items) }
+{
+    match left.binary_search(&b) {
+        Ok(_) => Ok(()),
+        Err(place) => Ok(left.insert(place, b)?),
+    }
 }

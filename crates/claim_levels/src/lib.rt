@@ -1,14 +1,14 @@
-//! The levels of a claim, which say its lows, and those of a child, made from them.
+//! The levels of a claim, which say its lows, and those of a child, made from them in place.
 #![tactic(auto)]
 
-mod child;
 mod grounds;
 mod left;
-mod leveled;
 mod levels;
+mod placed;
 mod raising;
+mod root;
 mod spreading;
+mod trail;
 
-pub use child::Child;
-pub use leveled::Leveled;
 pub use levels::Levels;
+pub use trail::Trail;

@@ -1,56 +1,45 @@
 //! The levels of a child in the making.
 
-ghost use Rattle.std.specs.Prelude.{◌≡◌, ℕ, ◌<◌, ◌≤◌, ◌^◌, IfOk, OnOk, length, slice_set};
-ghost use Rattle.std.specs.List.{All};
-ghost use Rattle.dsa_terms.specs.Claims.{IsIn};
+ghost use Rattle.std.specs.Prelude.{◌≡◌, ◌∷◌, ◌++◌, ◌<◌, [], OnErr, OnOk, length, max, slice_set};
+ghost use Rattle.dsa_terms.specs.Claims.{Entry, IsIn};
+ghost use Rattle.claim_levels.specs.Trails.{undone};
 
-use crate::levels::Levels;
 use dsa_model::NoMemory;
-use std::alloc::Global;
 
 /// The levels of a claim, of which some are those of a child by now; a number that none of them is
-/// above; and the buffers that are higher than in the claim.
+/// above; and the buffers whose levels were written, each with its level in the claim.
 #[derive(Drop)]
 pub(crate) struct Raising {
     pub(crate) numbers: Vec<u64>,
     pub(crate) top: u64,
-    pub(crate) raised: Vec<u32>,
+    pub(crate) changes: Vec<(u32, u64)>,
 }
 
 impl Raising {
-    /// The levels of the claim.
-    pub(crate) fn of(alloc: Global, levels: &Levels) -> Result<Raising, NoMemory>
-        ensures numbers { IfOk result (λ raising. raising.numbers.items ≡ levels.now) }
-        ensures top { IfOk result (λ raising. All (λ level. level ≤ raising.top) levels.now) }
-        ensures limit { IfOk result (λ raising. raising.top ≤ 2 ^ 55) }
-    {
-        let numbers = levels.as_slice().to_vec(alloc)?;
-        Ok(Raising {
-            numbers,
-            top: levels.top(),
-            raised: Vec::with_capacity(alloc, levels.left().len())?,
-        })
-    }
-
-    /// Writes the level of the buffer in the child, beside that in the claim.
+    /// Notes the level of the buffer in the claim, and writes that in the child in its place.
     pub(crate) fn put(&mut self, b: u32, before: u64, level: u64) -> Result<(), NoMemory>
         requires { b < length self.old.numbers.items }
         ensures numbers { OnOk result (self.new.numbers.items
             ≡ slice_set self.old.numbers.items b level) }
-        ensures top { OnOk result ((level ≤ self.new.top) × (self.old.top ≤ self.new.top)) }
-        ensures limit { (most : ℕ) → self.old.top ≤ most → level ≤ most →
-            OnOk result (self.new.top ≤ most) }
-        ensures raised { before < level → OnOk result (IsIn b self.new.raised.items) }
-        ensures kept { (c : ℕ) → IsIn c self.old.raised.items →
-            OnOk result (IsIn c self.new.raised.items) }
+        ensures top { OnOk result (self.new.top ≡ max self.old.top level) }
+        ensures changes { OnOk result (self.new.changes.items
+            ≡ self.old.changes.items ++ (b, before) ∷ []) }
+        ensures unchanged { OnErr result ((self.new.numbers.items ≡ self.old.numbers.items)
+            × (self.new.top ≡ self.old.top) × (self.new.changes.items ≡ self.old.changes.items)) }
     {
+        self.changes.push((b, before))?;
         self.numbers[b as usize] = level;
-        if self.top < level {
-            self.top = level;
-        }
-        if before < level {
-            self.raised.push(b)?;
-        }
+        self.top = self.top.max(level);
         Ok(())
+    }
+}
+
+/// Puts these levels back, each in its place.
+pub(crate) fn put_back(levels: &mut [u64], changes: &[(u32, u64)])
+    requires { (e : Entry) → IsIn e changes.now → e.0 < length levels.old }
+    ensures { levels.new ≡ undone changes.now levels.old }
+{
+    for &(b, level) in changes {
+        levels[b as usize] = level;
     }
 }

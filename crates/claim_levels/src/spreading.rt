@@ -1,73 +1,74 @@
 //! The levels of a child, one buffer after another.
 
-ghost use Rattle.std.specs.Prelude.{◌≡◌, ℕ, ◌<◌, OnOk};
+ghost use Rattle.std.specs.Prelude.{◌≡◌, ◌≤◌, ◌^◌, ℕ, ◌<◌, List, OnErr, OnOk, slice_index, true};
 ghost use Rattle.std.specs.List.{All};
 ghost use Rattle.dsa_terms.specs.Claims.{IsIn};
 ghost use Rattle.lifetime.specs.SectionList.{AreSectionsOf, count_of, members_of, sections_of};
-ghost use Rattle.claim_levels.specs.Levels.{HasLowChild, IsLeastLevel};
-ghost use Rattle.claim_levels.specs.Raisings.{IsRaised, IsRaising, IsReach};
+ghost use Rattle.claim_levels.specs.Levels.{AreLeft, HasLowChild, IsLeastLevel};
+ghost use Rattle.claim_levels.specs.Placings.{IsPlaced};
+ghost use Rattle.claim_levels.specs.Raisings.{IsRaised, IsRaising};
 
-use crate::levels::{Levels, child_level};
-use crate::raising::Raising;
+use crate::placed::Placed;
+use crate::raising::{Raising, put_back};
 use dsa_model::{Instance, NoMemory};
 use lifetime::Sections;
 use line_index::level_at;
 
-/// Writes the level of c in the child by b, if c is in the claim. The reach of b is the sum of its
-/// level and its size: a buffer whose level is as high as that stands at or above the end of b, and
-/// does not rise. So most are passed by with one look.
+/// Writes the level of c in the child; it has the level `now` as yet, and is in the claim.
 fn raise(
     raising: &mut Raising,
     instance: &Instance,
-    levels: &Levels,
-    b: u32,
-    reach: u64,
+    placed: Placed,
     c: u32,
+    now: u64,
 ) -> Result<(), NoMemory>
-    requires low { HasLowChild instance.now levels.now b }
-    requires reach { IsReach instance.now levels.now b reach }
-    requires raising { IsRaising instance.now levels.now b raising.old }
-    ensures raising { OnOk result (IsRaising instance.now levels.now b raising.new) }
-    ensures done { OnOk result (IsRaised instance.now levels.now b raising.new.numbers.items c) }
-    ensures kept { (d : ℕ) → IsRaised instance.now levels.now b raising.old.numbers.items d →
-        OnOk result (IsRaised instance.now levels.now b raising.new.numbers.items d) }
+    ghost levels: { List ℕ }
+    requires placed { IsPlaced instance.now levels placed }
+    requires low { HasLowChild instance.now levels placed.buffer }
+    requires raising { IsRaising instance.now levels placed.buffer raising.old }
+    requires now { now ≡ slice_index raising.old.numbers.items c }
+    requires some { 0 < now }
+    ensures raising { IsRaising instance.now levels placed.buffer raising.new }
+    ensures done { OnOk result
+        (IsRaised instance.now levels placed.buffer raising.new.numbers.items c) }
+    ensures kept { (d : ℕ) →
+        IsRaised instance.now levels placed.buffer raising.old.numbers.items d →
+        OnOk result (IsRaised instance.now levels placed.buffer raising.new.numbers.items d) }
 {
     let _count = instance.len();
-    let now = level_at(&raising.numbers, c as usize);
-    if now == 0 {
-        return Ok(());
-    }
-    if reach <= now {
-        return Ok(());
-    }
-    let before = levels.at(c as usize);
-    let level = child_level(instance, levels, b, c, before);
+    let level = placed.level_of(instance, c, now);
     if now != level {
-        raising.put(c, before, level)?;
+        raising.put(c, now, level)?;
     }
     Ok(())
 }
 
-/// Writes the levels of these buffers.
+/// Writes the levels of these buffers, as far as they are in the claim. A buffer whose level is
+/// above the end of the one that is placed does not rise, so most are passed by with one look.
 fn raise_each(
     raising: &mut Raising,
     instance: &Instance,
-    levels: &Levels,
-    b: u32,
-    reach: u64,
+    placed: Placed,
     buffers: &[u32],
 ) -> Result<(), NoMemory>
-    requires low { HasLowChild instance.now levels.now b }
-    requires reach { IsReach instance.now levels.now b reach }
-    requires raising { IsRaising instance.now levels.now b raising.old }
-    ensures raising { OnOk result (IsRaising instance.now levels.now b raising.new) }
+    ghost levels: { List ℕ }
+    requires placed { IsPlaced instance.now levels placed }
+    requires low { HasLowChild instance.now levels placed.buffer }
+    requires raising { IsRaising instance.now levels placed.buffer raising.old }
+    ensures raising { IsRaising instance.now levels placed.buffer raising.new }
     ensures done { OnOk result ((c : ℕ) → IsIn c buffers.now →
-        IsRaised instance.now levels.now b raising.new.numbers.items c) }
-    ensures kept { (d : ℕ) → IsRaised instance.now levels.now b raising.old.numbers.items d →
-        OnOk result (IsRaised instance.now levels.now b raising.new.numbers.items d) }
+        IsRaised instance.now levels placed.buffer raising.new.numbers.items c) }
+    ensures kept { (d : ℕ) →
+        IsRaised instance.now levels placed.buffer raising.old.numbers.items d →
+        OnOk result (IsRaised instance.now levels placed.buffer raising.new.numbers.items d) }
 {
+    let _count = instance.len();
     for i in 0..buffers.len() {
-        raise(raising, instance, levels, b, reach, buffers[i])?;
+        let c = buffers[i];
+        let now = level_at(&raising.numbers, c as usize);
+        if 0 < now && now <= placed.end {
+            raise(raising, instance, placed, c, now)?;
+        }
     }
     Ok(())
 }
@@ -76,29 +77,21 @@ fn raise_each(
 fn raise_near(
     raising: &mut Raising,
     instance: &Instance,
-    levels: &Levels,
-    b: u32,
-    reach: u64,
+    placed: Placed,
     sections: &Sections,
     own: &[u32],
 ) -> Result<(), NoMemory>
-    requires low { HasLowChild instance.now levels.now b }
-    requires reach { IsReach instance.now levels.now b reach }
-    requires raising { IsRaising instance.now levels.now b raising.old }
+    ghost levels: { List ℕ }
+    requires placed { IsPlaced instance.now levels placed }
+    requires low { HasLowChild instance.now levels placed.buffer }
+    requires raising { IsRaising instance.now levels placed.buffer raising.old }
     requires own { All (λ s. s < count_of sections.now) own.now }
-    ensures raising { OnOk result (IsRaising instance.now levels.now b raising.new) }
+    ensures raising { IsRaising instance.now levels placed.buffer raising.new }
     ensures done { OnOk result ((s c : ℕ) → IsIn s own.now → IsIn c (members_of sections.now s) →
-        IsRaised instance.now levels.now b raising.new.numbers.items c) }
+        IsRaised instance.now levels placed.buffer raising.new.numbers.items c) }
 {
     for i in 0..own.len() {
-        raise_each(
-            raising,
-            instance,
-            levels,
-            b,
-            reach,
-            sections.members(own[i]),
-        )?;
+        raise_each(raising, instance, placed, sections.members(own[i]))?;
     }
     Ok(())
 }
@@ -114,58 +107,80 @@ fn are_few(sections: &Sections, own: &[u32], most: usize) -> bool
     count < most
 }
 
-/// Writes the levels where b is the first choice: only buffers that share a moment with it rise, so
-/// only the members of its sections are gone over. They are listed in rising order.
-fn raise_by_first(
+/// Writes each level of the child. Where the placed buffer is the first choice, only buffers that
+/// share a moment with it rise, so the members of its sections alone are gone over, if these are
+/// fewer than the buffers that are left.
+fn raise_all(
     raising: &mut Raising,
     instance: &Instance,
-    levels: &Levels,
-    b: u32,
-    reach: u64,
+    placed: Placed,
     sections: &Sections,
-    own: &[u32],
+    left: &[u32],
+    is_first: bool,
 ) -> Result<(), NoMemory>
-    requires low { HasLowChild instance.now levels.now b }
-    requires reach { IsReach instance.now levels.now b reach }
-    requires raising { IsRaising instance.now levels.now b raising.old }
+    ghost levels: { List ℕ }
+    requires placed { IsPlaced instance.now levels placed }
+    requires low { HasLowChild instance.now levels placed.buffer }
+    requires raising { IsRaising instance.now levels placed.buffer raising.old }
     requires sections { AreSectionsOf instance.now sections.now }
-    requires own { own.now ≡ sections_of sections.now b }
-    requires places { All (λ s. s < count_of sections.now) own.now }
-    requires first { IsLeastLevel levels.now b }
-    ensures raising { OnOk result (IsRaising instance.now levels.now b raising.new) }
+    requires left { AreLeft levels left.now }
+    requires first { is_first ≡ true → IsLeastLevel levels placed.buffer }
+    ensures raising { IsRaising instance.now levels placed.buffer raising.new }
     ensures done { OnOk result ((c : ℕ) →
-        IsRaised instance.now levels.now b raising.new.numbers.items c) }
+        IsRaised instance.now levels placed.buffer raising.new.numbers.items c) }
 {
     let _count = instance.len();
-    raise_near(raising, instance, levels, b, reach, sections, own)?;
-    raise(raising, instance, levels, b, reach, b)?;
-    raising.raised.sort_unstable();
+    let own = sections.sections_of(placed.buffer);
+    if is_first && are_few(sections, own, left.len()) {
+        raise_near(raising, instance, placed, sections, own)?;
+        raise_each(raising, instance, placed, &[placed.buffer])?;
+        return Ok(());
+    }
+    raise_each(raising, instance, placed, left)?;
     Ok(())
 }
 
-/// Writes all levels of the child by b.
+/// Makes the levels of a claim those of its child by b, and notes what changes; the changes are
+/// sorted, so that lines are looked for in a fixed order. After an `Err` they are those of the
+/// claim.
 pub(crate) fn raise_child(
     raising: &mut Raising,
     instance: &Instance,
-    levels: &Levels,
-    b: u32,
     sections: &Sections,
+    left: &[u32],
+    b: u32,
+    is_first: bool,
 ) -> Result<(), NoMemory>
-    requires low { HasLowChild instance.now levels.now b }
-    requires raising { IsRaising instance.now levels.now b raising.old }
+    requires low { HasLowChild instance.now raising.old.numbers.items b }
+    requires under { All (λ level. level ≤ raising.old.top) raising.old.numbers.items }
+    requires limit { raising.old.top ≤ 2 ^ 55 }
     requires sections { AreSectionsOf instance.now sections.now }
-    ensures raising { OnOk result (IsRaising instance.now levels.now b raising.new) }
+    requires left { AreLeft raising.old.numbers.items left.now }
+    requires first { is_first ≡ true → IsLeastLevel raising.old.numbers.items b }
+    ensures raising { OnOk result
+        (IsRaising instance.now raising.old.numbers.items b raising.new) }
     ensures done { OnOk result ((c : ℕ) →
-        IsRaised instance.now levels.now b raising.new.numbers.items c) }
+        IsRaised instance.now raising.old.numbers.items b raising.new.numbers.items c) }
+    ensures unchanged { OnErr result ((raising.new.numbers.items ≡ raising.old.numbers.items)
+        × (raising.new.top ≡ raising.old.top)) }
 {
-    let _count = instance.len();
-    let reach = levels.at(b as usize) + instance.buffer(b).size();
-    let own = sections.sections_of(b);
-    let left = levels.left();
-    if b == levels.first() && are_few(sections, own, left.len()) {
-        raise_by_first(raising, instance, levels, b, reach, sections, own)?;
-        return Ok(());
+    let top = raising.top;
+    let offset = raising.numbers[b as usize] - 1;
+    let placed = Placed {
+        buffer: b,
+        offset,
+        end: offset + instance.buffer(b).size(),
+    };
+    raising.changes.clear();
+    match raise_all(raising, instance, placed, sections, left, is_first) {
+        Ok(()) => {
+            raising.changes.sort_unstable();
+            Ok(())
+        }
+        Err(fault) => {
+            put_back(&mut raising.numbers, &raising.changes);
+            raising.top = top;
+            Err(fault)
+        }
     }
-    raise_each(raising, instance, levels, b, reach, left)?;
-    Ok(())
 }

@@ -1,5 +1,5 @@
 -- Worked facts: a line of two bounds, and what it is watched by at some levels.
-use Rattle.std.proofs.Common.{◌≡◌, ℕ, zero, suc, ◌<◌, ◌≤◌, ◌⊎◌, List, [], ◌∷◌, Some, inl, inr, slice_get, slice_index, refl, sym, ap, subst, arith}
+use Rattle.std.proofs.Common.{◌≡◌, ℕ, zero, suc, ◌+◌, ◌<◌, ◌≤◌, ◌⊎◌, List, [], ◌∷◌, Some, inl, inr, slice_get, slice_index, refl, sym, ap, subst, arith}
 use Rattle.dsa_terms.specs.Claims.{Claim, Entry, IsIn}
 use Rattle.dsa_terms.specs.Logs.{Line, Over, claim_of}
 use Rattle.dsa_terms.proofs.Lists.{same_some}
@@ -67,13 +67,23 @@ come_new : AreRaised lone low → ⊥
 come_new h = absurd (let k : 0 < slice_index lone 1 = (h 1 (omega arith)).0 in omega arith)
 
 -- buffer 1 alone is higher
-the_raised : AreTheRaised low high (1 ∷ [])
+the_raised : AreTheRaised low high ((1, slice_index low 1) ∷ [])
 the_raised zero lt = absurd (omega arith)
 the_raised (suc zero) lt = inl refl
 the_raised (suc (suc b)) lt = absurd (omega arith)
 
-not_left_out : AreTheRaised low high (0 ∷ []) → ⊥
-not_left_out h = elim (h 1 (omega arith)) [ inl q ↦ absurd (omega (arith, q)) | inr j ↦ absurd j ]
+not_left_out : AreTheRaised low high ((0, slice_index low 0) ∷ []) → ⊥
+not_left_out h = elim (h 1 (omega arith)) [
+  | inl q ↦ absurd (let k = ap (λ (e : Entry). e.0) q in omega (arith, k))
+  | inr j ↦ absurd j
+]
+
+-- nor with another level before
+not_from_another : AreTheRaised low high ((1, slice_index low 1 + 1) ∷ []) → ⊥
+not_from_another h = elim (h 1 (omega arith)) [
+  | inl q ↦ absurd (let k = ap (λ (e : Entry). e.1) q in omega (arith, k))
+  | inr j ↦ absurd j
+]
 
 -- ---- what is seen of the claim
 unmet_at_low : IsUnmet claim low (1, 5)

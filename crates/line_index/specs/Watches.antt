@@ -49,6 +49,7 @@ abbrev pub AreRaised : List ℕ → List ℕ → Type 0
 AreRaised before now = (b : ℕ) → 0 < slice_index now b →
     (0 < slice_index before b) × (slice_index before b ≤ slice_index now b)
 
--- these are the buffers whose levels are higher now than before, and maybe more
-abbrev pub AreTheRaised : List ℕ → List ℕ → List ℕ → Type 0
-AreTheRaised before now raised = (b : ℕ) → slice_index before b < slice_index now b → IsIn b raised
+-- these are the buffers whose levels are higher now than before, each with its level before, and maybe more
+abbrev pub AreTheRaised : List ℕ → List ℕ → List Entry → Type 0
+AreTheRaised before now raised = (b : ℕ) → slice_index before b < slice_index now b →
+    IsIn (b, slice_index before b) raised

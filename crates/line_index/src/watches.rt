@@ -147,29 +147,29 @@ impl Watches {
         Ok(None)
     }
 
-    /// A line that covers the claim of the levels `now`, a child of the one of the levels `before`,
-    /// looked for at the buffers whose levels are higher now. If none is found, these are all such
-    /// buffers, no level fell, no buffer is new, each mark has a note of its line, and all lines are
-    /// watched at the claim before, then all are at the claim now, and none covers it. As many first
-    /// lines as are watched at a claim above stay watched there. Where each mark has a note of its
-    /// line, each still has one. There are at most `BUFFER_LIMIT` levels.
+    /// A line that covers the claim of the levels `now`, a child of one whose levels are `before`,
+    /// looked for at the buffers that are higher now, each of which is given with its level before.
+    /// If none is found, these are all such buffers, no level fell, no buffer is new, each mark has a
+    /// note of its line, and all lines are watched at the claim before, then all are at the claim
+    /// now, and none covers it. As many first lines as are watched at a claim above stay watched
+    /// there. Where each mark has a note of its line, each still has one. There are at most
+    /// `BUFFER_LIMIT` levels.
     pub fn find(
         &mut self,
         log: &Log,
-        before: &[u64],
         now: &[u64],
-        raised: &[u32],
+        raised: &[(u32, u64)],
     ) -> Result<Option<u64>, NoMemory>
         requires few { length now.now ≤ buffer_limit }
-        ensures none { AreNoted log.now.lines self.old.rows →
-            AreRaised before.now now.now →
-            AreTheRaised before.now now.now raised.now →
-            AreWatched log.now.lines self.old before.now (length log.now.lines) →
+        ensures none { (before : List ℕ) → AreNoted log.now.lines self.old.rows →
+            AreRaised before now.now → AreTheRaised before now.now raised.now →
+            AreWatched log.now.lines self.old before (length log.now.lines) →
             IfOk result (λ found. IfNone found
             (AreWatched log.now.lines self.new now.now (length log.now.lines))) }
         ensures uncovered { (I : Instance) (l : ClaimTerm) → AreLevels I l now.now →
-            AreNoted log.now.lines self.old.rows → AreRaised before.now now.now → AreTheRaised before.now now.now raised.now →
-            AreWatched log.now.lines self.old before.now (length log.now.lines) →
+            (before : List ℕ) → AreNoted log.now.lines self.old.rows →
+            AreRaised before now.now → AreTheRaised before now.now raised.now →
+            AreWatched log.now.lines self.old before (length log.now.lines) →
             IfOk result (λ found. IfNone found (NoneCovers I log.now.lines l)) }
         ensures some { (I : Instance) (l : ClaimTerm) → AreLevels I l now.now →
             IfOk result (λ found. IfSome found (IsCoveredBy I log.now.lines l)) }
@@ -179,10 +179,8 @@ impl Watches {
         ensures noted { AreNoted log.now.lines self.old.rows →
             OnOk result (AreNoted log.now.lines self.new.rows) }
     {
-        for number in raised {
-            let b = *number;
-            let low = level_at(before, b as usize);
-            let found = find_in(&mut self.table, log, b, low, now)?;
+        for pair in raised {
+            let found = find_in(&mut self.table, log, pair.0, pair.1, now)?;
             if found.is_some() {
                 return Ok(found);
             }

@@ -1,36 +1,23 @@
 -- Steps of the search: a choice deeper, and back.
-use Rattle.std.proofs.Common.{◌≡◌, ◌≢◌, ℕ, ◌+◌, ◌-◌, ◌*◌, ◌<◌, cond, List, [], ◌∷◌, ◌++◌, length, map, reverse, Option, Some, None, IfSome, IfNone, slice_get, slice_index_or, suc, is_some, refl, sym, ap, ◌∙◌, subst, arith, length-append}
-use Rattle.std.proofs.lemmas.List.{get_or-reverse, length-reverse, nil_from_length}
-use Rattle.std.proofs.lemmas.List.Elements.{All-cons, All-nil, All-weaker}
-use Rattle.std.proofs.lemmas.Option.{slice_get-get_or}
-use Rattle.search_core.proofs.Words.{Instance, IsInstance, Claim, Entry, child, Line, first, work, HasBuffer, entry_of, AreLevels, last_claim, AreRaised, raised_trans}
-use Rattle.line_index.proofs.Rising.{child_raised}
+use Rattle.std.proofs.Common.{◌≡◌, ◌≢◌, ℕ, ◌+◌, ◌*◌, ◌<◌, cond, List, [], ◌∷◌, ◌++◌, length, map, reverse, Option, Some, None, IfSome, IfNone, is_some, refl, sym, ap, ◌∙◌, subst, arith, length-append}
+use Rattle.search_core.proofs.Words.{Instance, Claim, Entry, IsClaim, child, Line, first, work, HasBuffer, entry_of, last_claim}
+use Rattle.line_index.specs.Covered.{NoneCovers}
 use Rattle.skyline.proofs.Carrying.{last_of_append}
 use Rattle.branching.specs.Trying.{IsKnown, IsTrying, through}
 use Rattle.branching.specs.Logs.{Extends}
 use Rattle.branching.specs.Tries.{IsLeft, Tried, chosen_of, later_of, noted_by, rest_of}
 use Rattle.branching.proofs.Descent.{child_within}
-use Rattle.branching.proofs.Growing.{get_new}
 use Rattle.branching.proofs.Searching.{choice_refuted, chosen_in, next_choice, rest_of_noted, trying_still}
 use Rattle.branching.proofs.Working.{through_next}
-use Rattle.search_core.specs.Descents.{Descends, HasAskedAll, IsPath, IsPlace, IsStanding, IsUnder, IsUnderLast, Place, above_of, claim_at, left_of, owed, root_of, sky_root, turns_left}
+use Rattle.search_core.specs.Descents.{Descends, IsPath, IsPlace, IsStanding, Place, above_of, claim_at, left_of, owed, root_of, sky_root, turns_left}
 use Rattle.search_core.specs.Turns.{IsAhead, debt_of}
-use Rattle.search_core.specs.Watches.{AreRaisedFrom}
-use Rattle.search_core.proofs.Stacks.{above_pushed, all_reversed, count_above, reverse_push}
+use Rattle.search_core.proofs.Stacks.{above_pushed, count_above, reverse_push}
 
 -- what holds of three things holds of their equals
-carried : {X Y Z : Type 0} (P : X → Y → Z → Type 0) {a x : X} {b y : Y} {c z : Z} → a ≡ x → b ≡ y → c ≡ z → P x y z →
-    P a b c
+pub carried : {X Y Z : Type 0} (P : X → Y → Z → Type 0) {a x : X} {b y : Y} {c z : Z} → a ≡ x → b ≡ y → c ≡ z →
+    P x y z → P a b c
 carried P {a = a} {x = x} {b = b} {y = y} {c = c} {z = z} e f g h =
     subst (λ s. P s b c) (sym e) (subst (λ t. P x t c) (sym f) (subst (λ u. P x y u) (sym g) h))
-
--- the frame that was put last is the last one
-last_asked : (lines : List Line) (frames : List Tried) (f : Tried) → f.asked ≡ length lines →
-    HasAskedAll lines (frames ++ f ∷ [])
-last_asked lines frames f e =
-    let n : length (frames ++ f ∷ []) - 1 ≡ length frames = let k = length-append frames (f ∷ []) in omega arith in
-    subst (λ (o : Option Tried). IfSome o (λ (f : Tried). f.asked ≡ length lines))
-    (sym (ap (slice_get (frames ++ f ∷ [])) n ∙ get_new frames f)) e
 
 -- the place with that line known
 abbrev pub with_line : Place → ℕ → Place
@@ -66,76 +53,25 @@ module _ (I : Instance) (C : ℕ) where
   no_above lines l [] d = refl
   no_above lines l (p ∷ ps) d = absurd d
 
-  -- no low falls on the way down
-  raised_down : (lines : List Line) (l : Claim) (levels : List ℕ) (ps : List Claim) (fs : List Tried) → IsInstance I →
-      Descends I C lines l ps fs → AreLevels I l levels → AreRaisedFrom fs levels
-  raised_down lines l levels [] [] s d a = All-nil (λ (f : Tried). AreRaised f.levels levels)
-  raised_down lines l levels [] (f ∷ fs) s d a = absurd d
-  raised_down lines l levels (p ∷ ps) [] s d a = absurd d
-  raised_down lines l levels (p ∷ ps) (f ∷ fs) s d a =
-      let r : AreRaised f.levels levels =
-      child_raised I p (chosen_of f) _ levels s d.1.levels
-      (subst (λ (k : Claim). AreLevels I k levels) d.0.is_child a) in
-      All-cons (λ (f : Tried). AreRaised f.levels levels) f fs r
-      (All-weaker (λ (g : Tried). AreRaised g.levels f.levels) (λ (g : Tried). AreRaised g.levels levels)
-      (λ g q. raised_trans _ _ _ q r) fs (raised_down lines p f.levels ps fs s d.2 d.1.levels))
-
-  pub are_raised : (lines : List Line) (l : Claim) (levels : List ℕ) (ps : List Claim) (frames : List Tried) →
-      IsInstance I → Descends I C lines l ps (reverse frames) → AreLevels I l levels → AreRaisedFrom frames levels
-  are_raised lines l levels ps frames s d a =
-      all_reversed (λ (f : Tried). AreRaised f.levels levels) frames
-      (raised_down lines l levels ps (reverse frames) s d a)
-
-  -- the last claim is under the last frame
-  under_first : (lines : List Line) (l : Claim) (ps : List Claim) (f : Tried) (fs : List Tried) →
-      Descends I C lines l ps (f ∷ fs) → IsUnder I f l
-  under_first lines l [] f fs d = absurd d
-  under_first lines l (p ∷ ps) f fs d = record {
-    above = p;
-    levels = d.1.levels;
-    has = chosen_in I C p _ f d.1 d.0.is_left;
-    standing = d.0;
-  }
-
-  pub under_last : (lines : List Line) (l : Claim) (ps : List Claim) (frames : List Tried) →
-      Descends I C lines l ps (reverse frames) → IsUnderLast I frames l
-  under_last lines l ps frames d = go (reverse frames) refl
-    where
-      go : (fs : List Tried) → reverse frames ≡ fs → IsUnderLast I frames l
-      go [] q =
-          let n : length frames ≡ 0 = sym (length-reverse frames) ∙ ap length q in
-          subst (λ (xs : List Tried). IsUnderLast I xs l) (sym (nil_from_length frames n)) tt
-      go (f ∷ fs) q =
-          let n : length frames ≡ suc (length fs) = sym (length-reverse frames) ∙ ap length q in
-          let lt : 0 < length frames = omega arith in
-          let last : length frames - 1 < length frames = omega arith in
-          let same : length frames - 1 ≡ length frames - 1 - 0 = omega arith in
-          let head : slice_index_or frames (length frames - 1) f ≡ f =
-          ap (λ (n : ℕ). slice_index_or frames n f) same ∙ sym (get_or-reverse frames 0 f lt)
-          ∙ ap (λ (xs : List Tried). slice_index_or xs 0 f) q in
-          let got : slice_get frames (length frames - 1) ≡ Some f =
-          slice_get-get_or frames (length frames - 1) f last ∙ ap (λ (x : Tried). Some x) head in
-          subst (λ (o : Option Tried). IfSome o (λ (f : Tried). IsUnder I f l)) (sym got)
-          (under_first lines l ps f fs (subst (Descends I C lines l ps) q d))
-
   -- ---- a choice deeper
   pub ahead_deeper : (lines : List Line) (before after : Place) (f : Tried) → IsPath I C lines before →
-      IsTrying I C lines (claim_at before) f → IsLeft f → f.asked ≡ length lines →
+      IsClaim I (claim_at before) → IsTrying I C lines (claim_at before) f → IsLeft f →
+      NoneCovers I lines (child I (claim_at before) (entry_of (claim_at before) (chosen_of f))) →
       after.sky.instance ≡ before.sky.instance →
       after.sky.claims ≡ before.sky.claims
       ++ child I (claim_at before) (entry_of (claim_at before) (chosen_of f)) ∷ [] →
       after.frames ≡ before.frames ++ f ∷ [] → after.line ≡ None → IsAhead I C lines before f after
-  ahead_deeper lines before after f p trying lt asked i claims pushed none = record {
+  ahead_deeper lines before after f p claim trying lt fresh i claims pushed none = record {
     place = record {
       path = record {
         subject = i ∙ p.subject;
         some = let n = ap length claims in let k = length-append before.sky.claims (x ∷ []) in omega arith;
         descends = carried (λ (l : Claim) (ps : List Claim) (fs : List Tried). Descends I C lines l ps fs) last above
-            rest (record { is_left = lt; is_child = refl }, trying, p.descends);
+            rest (record { claim = claim; is_left = lt; is_child = refl }, trying, p.descends);
       };
       known = subst (λ o. IfSome o (IsKnown I C lines (claim_at after))) (sym none) tt;
-      latest = subst (λ o. IfNone o (HasAskedAll lines after.frames)) (sym none)
-          (subst (HasAskedAll lines) (sym pushed) (last_asked lines before.frames f asked));
+      fresh = subst (λ o. IfNone o (NoneCovers I lines (claim_at after))) (sym none)
+          (subst (NoneCovers I lines) (sym last) fresh);
     };
     root = ap (λ (l : Claim). root_of l (above_of after.sky.claims)) last ∙ ap (root_of x) above;
     owed = omega (arith, debt);
@@ -191,7 +127,7 @@ module _ (I : Instance) (C : ℕ) where
     path = let q = path_still k lines after here grown p in
         record { subject = q.subject; some = q.some; descends = q.descends };
     known = known;
-    latest = tt;
+    fresh = tt;
   }
 
   pub ahead_covered : (k : Claim) (lines after : List Line) (here : Place) (f : Tried) (n : ℕ) →

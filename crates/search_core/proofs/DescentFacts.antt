@@ -1,14 +1,14 @@
 -- Where a search is that puts a buffer of size 3 at 0, and looks at what is left of one of size 1 that stands at
 -- multiples of 4 alone.
-use Rattle.std.proofs.Common.{◌≡◌, ℕ, List, [], ◌∷◌, length, Option, Some, None, refl, sym, ap, arith}
+use Rattle.std.proofs.Common.{◌≡◌, ℕ, List, [], ◌∷◌, length, Option, Some, None, inl, refl, sym, ap, arith}
 use Rattle.search_core.proofs.Words.{buffer, do_share, is_live, some_before, Claim, child, step, up, Line, small_below, Sky}
-use Rattle.claim_levels.proofs.LevelFacts.{differ, rest, root}
+use Rattle.claim_levels.proofs.LevelFacts.{differ, rest, root, root_is_claim}
 use Rattle.branching.specs.Tries.{Tried}
 use Rattle.branching.proofs.Computing.{computing_work}
 use Rattle.branching.proofs.KnownFacts.{rest_known}
-use Rattle.branching.proofs.OverFacts.{over}
+use Rattle.branching.proofs.OverFacts.{over, over_covers}
 use Rattle.branching.proofs.TryFacts.{both_left, one_left, trying_both, trying_one}
-use Rattle.search_core.specs.Descents.{Descends, IsPath, IsPlace, IsStanding, Place, claim_at, left_of, sky_root, turns_left, HasAskedAll}
+use Rattle.search_core.specs.Descents.{Descends, IsPath, IsPlace, IsStanding, Place, claim_at, left_of, sky_root, turns_left}
 
 abbrev pub sky_of : List Claim → Sky
 sky_of claims = record {
@@ -24,11 +24,11 @@ other = (0, 1) ∷ []
 -- ---- the choice that stands
 pub first_stands : (n : ℕ) → IsStanding small_below root (both_left n) rest
 unfolding child step do_share some_before is_live up buffer
-first_stands n = record { is_left = omega arith; is_child = refl }
+first_stands n = record { claim = root_is_claim; is_left = omega arith; is_child = refl }
 
 second_stands : IsStanding small_below root one_left other
 unfolding child step do_share some_before is_live up buffer
-second_stands = record { is_left = omega arith; is_child = refl }
+second_stands = record { claim = root_is_claim; is_left = omega arith; is_child = refl }
 
 abbrev first_buffer : Claim → ℕ
 first_buffer [] = 0
@@ -38,6 +38,10 @@ first_buffer (e ∷ es) = e.0
 first_does_not : IsStanding small_below root one_left rest → ⊥
 unfolding child step do_share some_before is_live up buffer
 first_does_not s = differ 0 1 (omega arith) (sym (ap first_buffer s.is_child))
+
+-- there is no third buffer
+no_claim_stands : (f : Tried) (l : Claim) → IsStanding small_below ((2, 0) ∷ []) f l → ⊥
+no_claim_stands f l s = let k = s.claim.in_range (2, 0) (inl refl) in omega arith
 
 -- ---- the claims down to the last one
 down_one : (lines : List Line) (n : ℕ) → Descends small_below 4 lines rest (root ∷ []) (both_left n ∷ [])
@@ -100,14 +104,14 @@ of_another_instance p = let e = ap length p.subject in omega arith
 
 -- ---- the place
 pub before_line : IsPlace small_below 4 [] (below_root 0 None)
-before_line = record { path = on_the_way [] 0 None; known = tt; latest = refl }
+before_line = record { path = on_the_way [] 0 None; known = tt; fresh = λ k line at covers. absurd cc }
 
 pub after_line : IsPlace small_below 4 (over ∷ []) (below_root 0 (Some 0))
-after_line = record { path = on_the_way (over ∷ []) 0 (Some 0); known = rest_known; latest = tt }
+after_line = record { path = on_the_way (over ∷ []) 0 (Some 0); known = rest_known; fresh = tt }
 
--- the line is not asked at the claim above
-not_asked : IsPlace small_below 4 (over ∷ []) (below_root 0 None) → ⊥
-not_asked p = let k = p.latest in omega arith
+-- the line covers the last claim
+not_fresh : IsPlace small_below 4 (over ∷ []) (below_root 0 None) → ⊥
+not_fresh p = p.fresh 0 over refl over_covers
 
 -- the line is not there
 not_known : IsPlace small_below 4 [] (below_root 0 (Some 0)) → ⊥
@@ -119,13 +123,3 @@ nowhere frames p = let k = p.path.some in omega arith
 
 not_below : IsPlace small_below 4 [] (record { sky = sky_of (root ∷ rest ∷ []); frames = []; line = None }) → ⊥
 not_below p = p.path.descends
-
--- ---- lines that were asked
-asked_by_the_last : HasAskedAll (over ∷ []) (both_left 0 ∷ both_left 1 ∷ [])
-asked_by_the_last = refl
-
-not_by_the_first_alone : HasAskedAll (over ∷ []) (both_left 1 ∷ both_left 0 ∷ []) → ⊥
-not_by_the_first_alone e = omega (arith, e)
-
-by_none : HasAskedAll (over ∷ []) []
-by_none = tt

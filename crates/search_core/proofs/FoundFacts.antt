@@ -6,10 +6,9 @@ use Rattle.search_core.proofs.Words.{Entry, Line, small_below}
 use Rattle.claim_levels.proofs.LevelFacts.{differ, rest, root}
 use Rattle.branching.proofs.OverFacts.{over}
 use Rattle.branching.proofs.KnownFacts.{root_layout, rest_has_none, rest_covered}
-use Rattle.search_core.specs.Found.{IfFoundSpent, IsFound, UnlessFoundSpent}
+use Rattle.search_core.specs.Found.{IsFound}
 use Rattle.search_core.specs.declared.found.Found.TheVariants as found
 
--- ---- what is found
 abbrev first_offset : Option (List Entry) → ℕ
 first_offset None = 0
 first_offset (Some []) = 0
@@ -26,30 +25,8 @@ module _ (lines : List Line) (seats : Vec (ℕ × ℕ)) where
   no_seats_for_rest : IsFound small_below 4 rest lines (found.Seats seats) → ⊥
   no_seats_for_rest h = let q = sym rest_has_none ∙ h in absurd cc
 
-  -- ---- facts that hold in some cases alone
-  seats_are_not_spent : IfFoundSpent ⊥ (found.Seats seats)
-  seats_are_not_spent = tt
-
-  holds_with_seats : UnlessFoundSpent ⊥ (found.Seats seats) → ⊥
-  holds_with_seats h = h
-
 line_found : IsFound small_below 4 rest (over ∷ []) (found.Line 0)
 line_found = (rest_has_none, rest_covered)
 
 no_line_for_root : (lines : List Line) (k : ℕ) → IsFound small_below 4 root lines (found.Line k) → ⊥
 no_line_for_root lines k h = let e = sym root_layout ∙ h.0 in absurd cc
-
-nothing_found : IsFound small_below 4 root [] found.Spent
-nothing_found = tt
-
-a_line_is_not_spent : IfFoundSpent ⊥ (found.Line 0)
-a_line_is_not_spent = tt
-
-holds_when_spent : IfFoundSpent ⊥ found.Spent → ⊥
-holds_when_spent h = h
-
-holds_with_line : UnlessFoundSpent ⊥ (found.Line 0) → ⊥
-holds_with_line h = h
-
-nothing_once_spent : UnlessFoundSpent ⊥ found.Spent
-nothing_once_spent = tt

@@ -1,16 +1,16 @@
 -- A layout of the first claim, from offsets that are written on the way back from an empty one.
 use Rattle.std.proofs.Common.{◌≡◌, ℕ, ◌<◌, List, [], length, reverse, Some, None, slice_set, refl, sym, ap, ◌∙◌, subst, arith, length-set}
-use Rattle.search_core.proofs.Words.{Instance, Claim, child, up, Line, first, seated, HasBuffer, entry_of, Stands, in_range, last_claim}
+use Rattle.search_core.proofs.Words.{Instance, Claim, Entry, child, up, Line, first, seated, HasBuffer, entry_of, Stands, in_range, last_claim}
 use Rattle.dsa_search_laws.proofs.Search.{first_empty}
-use Rattle.branching.specs.Tries.{Tried, chosen_of}
-use Rattle.branching.proofs.Searching.{chosen_in, layout_found}
+use Rattle.branching.specs.Tries.{Tried, chosen_of, tried_of}
+use Rattle.branching.proofs.Searching.{first_in, layout_found}
+use Rattle.search_core.specs.declared.kept.Kept.{Kept}
 use Rattle.search_core.specs.Descents.{Descends, IsPath, above_of, sky_root}
 use Rattle.search_core.specs.Seats.{seats_by}
 use Rattle.search_core.specs.Walks.{place_on}
 use Rattle.search_core.specs.Ways.{IsBackBy, Way}
-use Rattle.search_core.proofs.Descending.{IsBack, no_above}
+use Rattle.search_core.proofs.Descending.{IsBack, is_back, no_above}
 use Rattle.search_core.proofs.Seating.{seated_by, seats_of_none}
-use Rattle.search_core.proofs.Stepping.{is_back_from}
 
 -- the last claim of the way
 abbrev last_on : Way → Claim
@@ -37,47 +37,50 @@ module _ (I : Instance) (C : ℕ) (lines : List Line) where
   }
 
   -- a step back
-  module _ (top : Claim) (before after : Way) (offsets : List ℕ) (b : ℕ) (g : IsGathering top before offsets)
-      (h : IsBackBy before after b) where
-    back : IsBack I C lines (place_on before None) (place_on after None) h.f
-    back = is_back_from I C _ _ _ None _ g.path h.back
+  module _ (top : Claim) (before after : Way) (offsets : List ℕ) (k : Kept) (g : IsGathering top before offsets)
+      (h : IsBackBy before after k) where
+    -- the tries of the claim above
+    abbrev f : Tried
+    f = tried_of after.sky.instance (last_on after) k.notes
 
-    pub gathering_has : HasBuffer (last_claim after.sky.claims) b
-    gathering_has = subst (HasBuffer (last_on after)) (sym h.chosen)
-        (chosen_in I C _ _ _ back.trying back.standing.is_left)
+    back : IsBack I C lines (place_on before None) (place_on after None) f
+    back = is_back I C lines _ _ f g.path h.frames h.instance h.claims
 
-    pub gathering_within : Stands after.sky.instance (last_claim after.sky.claims) → b < length offsets
+    pub gathering_has : HasBuffer (last_claim after.sky.claims) k.chosen
+    gathering_has = first_in I C _ lines f k.chosen back.standing.is_left h.kept.chosen back.trying
+
+    pub gathering_within : Stands after.sky.instance (last_claim after.sky.claims) → k.chosen < length offsets
     gathering_within s =
-        let lt = in_range after.sky.instance (last_on after) b s gathering_has in
+        let lt = in_range after.sky.instance (last_on after) k.chosen s gathering_has in
         let n = g.count in
         let m = ap length back.path.subject in
         omega (arith, lt, n, m)
 
     pub gathering_next : (low : ℕ) → Stands after.sky.instance (last_claim after.sky.claims) →
-        low ≡ up after.sky.instance (entry_of (last_claim after.sky.claims) b) →
-        IsGathering top after (slice_set offsets b low)
+        low ≡ up after.sky.instance (entry_of (last_claim after.sky.claims) k.chosen) →
+        IsGathering top after (slice_set offsets k.chosen low)
     gathering_next low s e = record {
       path = back.path;
       root = sym back.root ∙ g.root;
-      count = length-set offsets b low ∙ g.count;
-      found = layout_found I C l _ _ (seats_by offsets (child I l (entry_of l (chosen_of h.f))))
-          (seats_by (slice_set offsets b low) l) back.trying back.standing.is_left
+      count = length-set offsets k.chosen low ∙ g.count;
+      found = layout_found I C l _ _ (seats_by offsets (child I l (entry_of l (chosen_of f))))
+          (seats_by (slice_set offsets k.chosen low) l) back.trying back.standing.is_left
           (subst (λ (m : Claim). first I C m ≡ Some (seats_by offsets m)) back.standing.is_child g.found)
           (subst (λ (c : ℕ). seated I l (entry_of l c) (Some (seats_by offsets (child I l (entry_of l c))))
-          ≡ Some (seats_by (slice_set offsets b low) l)) h.chosen
-          (seated_by I l offsets b low (gathering_within s) low_is));
+          ≡ Some (seats_by (slice_set offsets k.chosen low) l)) h.kept.chosen
+          (seated_by I l offsets k.chosen low (gathering_within s) low_is));
     }
       where
         l : Claim
         l = last_on after
 
-        low_is : low ≡ up I (entry_of l b)
-        low_is = e ∙ ap (λ (J : Instance). up J (entry_of l b)) back.path.subject
+        low_is : low ≡ up I (entry_of l k.chosen)
+        low_is = e ∙ ap (λ (J : Instance). up J (entry_of l k.chosen)) back.path.subject
 
-  pub all_gathered : (top : Claim) (way : Way) (offsets : List ℕ) → IsGathering top way offsets → way.frames ≡ [] →
-      first I C top ≡ Some (seats_by offsets (last_claim way.sky.claims))
-  all_gathered top way offsets g e =
-      subst (λ (l : Claim). first I C l ≡ Some (seats_by offsets (last_on way)))
+  pub all_gathered : (top : Claim) (way : Way) (offsets : List ℕ) (seats : List Entry) → IsGathering top way offsets →
+      way.frames ≡ [] → seats ≡ seats_by offsets (last_claim way.sky.claims) → first I C top ≡ Some seats
+  all_gathered top way offsets seats g e q =
+      subst (λ (l : Claim). first I C l ≡ Some seats)
       (sym (no_above I C lines (last_on way) (above_of way.sky.claims)
       (subst (λ (fs : List Tried). Descends I C lines (last_on way) (above_of way.sky.claims) (reverse fs)) e
-      g.path.descends)) ∙ g.root) g.found
+      g.path.descends)) ∙ g.root) (rw (← q) at g.found)

@@ -1,11 +1,18 @@
 -- The answers of parts, put together one after another.
-use Rattle.std.proofs.Common.{◌≡◌, ℕ, ◌+◌, ◌<◌, ◌≤◌, List, [], ◌++◌, length, drop, slice_index_or, Option, Some, None, sum_by, sym, subst, refl, ap, ◌∙◌, arith, append_assoc, append-nil}
+use Rattle.std.proofs.Common.{◌≡◌, ℕ, ◌+◌, ◌<◌, ◌≤◌, List, [], ◌∷◌, ◌++◌, length, drop, slice_index_or, Option, Some, None, sum_by, sym, subst, refl, ap, ◌∙◌, arith, append_assoc, append-nil}
 use Rattle.std.proofs.lemmas.List.Sums.{sum_by-cons}
 use Rattle.std.proofs.Math.ListN.{drop_of_length-le}
-use Rattle.search_core.proofs.Words.{Instance, Entry, IsIn, first_of_all, join, offsets_of, parts, searched, whole, whole_work, first, work, in_at, next_of}
+use Rattle.search_core.proofs.Words.{Instance, Entry, IsIn, first_of_all, join, members, offsets_of, part_is_in, part_of, parts, searched, whole, whole_work, first, work, in_at, next_of}
 use Rattle.search_core.specs.Meters.{AreMore, Units}
 use Rattle.search_core.proofs.Counting.{more_by_after}
-use Rattle.search_core.proofs.Taking.{some_part}
+
+-- an instance with a buffer has a part
+some_part : (I : Instance) → 0 < length I → 0 < length (parts I)
+some_part I lt = some (parts I) (members I (part_of I 0)) (part_is_in I 0 lt)
+  where
+    some : (ps : List (List ℕ)) (p : List ℕ) → IsIn p ps → 0 < length ps
+    some [] p i = absurd i
+    some (q ∷ ps) p i = omega arith
 
 -- the work of these parts
 abbrev pub work_of_parts : Instance → ℕ → List (List ℕ) → ℕ

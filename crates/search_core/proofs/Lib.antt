@@ -6,11 +6,8 @@ mod DescentFacts
 mod ExampleFacts
 mod FoundFacts
 pub mod Gathering
-pub mod Going
 pub mod Joining
 pub mod Keeping
-mod LowFacts
-pub mod MadeAgain
 mod OpenedFacts
 mod OutcomeFacts
 pub mod Parting
@@ -20,8 +17,8 @@ mod RefutationFacts
 mod SeatFacts
 pub mod Seating
 pub mod Stacks
+pub mod Starting
 pub mod Stepping
-pub mod Taking
 mod TurnFacts
 mod WalkFacts
 mod WatchFacts

@@ -5,7 +5,7 @@ use Rattle.search_core.proofs.Words.{Log, searched, whole, first}
 use Rattle.branching.proofs.Computing.{computing_first, computing_searched}
 use Rattle.search_core.specs.Meters.{Units}
 use Rattle.search_core.specs.Outcomes.{IsDecided}
-use Rattle.search_core.specs.Pieces.{IfPieceSpent, IsPiece, PieceIsCounted, UnlessPieceSpent}
+use Rattle.search_core.specs.Pieces.{IsPiece, PieceIsCounted}
 use Rattle.search_core.proofs.RefutationFacts.{from_zero, found_at_3, log_of, lone, none_at_3, refuted_at_2}
 use Rattle.refute_log.specs.declared.decided.Decided.TheVariants as decided
 use Rattle.search_core.specs.declared.part.Piece.TheVariants as piece
@@ -33,12 +33,6 @@ module _ (seats : Vec (ℕ × ℕ)) where
   no_seats_at_2 : IsPiece lone 2 (0 ∷ []) (piece.Seats seats) → ⊥
   no_seats_at_2 h = let e = sym not_seated_at_2 ∙ h in absurd cc
 
-  seats_are_not_spent : IfPieceSpent ⊥ (piece.Seats seats)
-  seats_are_not_spent = tt
-
-  holds_with_seats : UnlessPieceSpent ⊥ (piece.Seats seats) → ⊥
-  holds_with_seats h = h
-
 log_at_2 : IsPiece lone 2 (0 ∷ []) (piece.Refuted refutation)
 log_at_2 = (not_seated_at_2, refuted_at_2)
 
@@ -48,21 +42,6 @@ no_log_at_3 log h = none_at_3 _ h.1
 -- the log is one at 2
 another_log_at_1 : IsPiece lone 1 (0 ∷ []) (piece.Refuted refutation) → ⊥
 another_log_at_1 h = let k = h.1.capacity in omega arith
-
-nothing_once_spent : IsPiece lone 3 (0 ∷ []) piece.Spent
-nothing_once_spent = tt
-
-a_log_is_not_spent : (log : Log) → IfPieceSpent ⊥ (piece.Refuted log)
-a_log_is_not_spent log = tt
-
-holds_when_spent : IfPieceSpent ⊥ piece.Spent → ⊥
-holds_when_spent h = h
-
-holds_with_log : (log : Log) → UnlessPieceSpent ⊥ (piece.Refuted log) → ⊥
-holds_with_log log h = h
-
-no_claim_once_spent : UnlessPieceSpent ⊥ piece.Spent
-no_claim_once_spent = tt
 
 -- ---- units for its lines
 abbrev used : ℕ → Units

@@ -1,7 +1,6 @@
 -- Lists that are read from their end.
-use Rattle.std.proofs.Common.{◌≡◌, suc, ◌+◌, ◌<◌, List, [], ◌∷◌, ◌++◌, length, drop, reverse, Some, refl, sym, ap, ◌∙◌, arith, All}
+use Rattle.std.proofs.Common.{◌≡◌, suc, ◌+◌, ◌<◌, List, [], ◌∷◌, ◌++◌, length, drop, reverse, refl, sym, ap, ◌∙◌, arith}
 use Rattle.std.proofs.lemmas.List.{reverse-append, length-reverse}
-use Rattle.std.proofs.lemmas.List.Elements.{All-cons, All-nil, All-pop}
 use Rattle.search_core.proofs.Words.{Claim, last_claim}
 use Rattle.skyline.proofs.Carrying.{last_of_append}
 use Rattle.search_core.specs.Descents.{above_of}
@@ -32,10 +31,3 @@ count_above ls lt =
     let a : length (reverse ls) ≡ suc (length (above_of ls)) = ap length (reverse_is ls lt) in
     let b : length (reverse ls) ≡ length ls = length-reverse ls in
     omega arith
-
--- what holds of each element from the last one on holds of each from the first one on
-pub all_reversed : {X : Type 0} (P : X → Type 0) (xs : List X) → All P (reverse xs) → All P xs
-all_reversed P [] h = All-nil P
-all_reversed P (x ∷ xs) h =
-    let r = All-pop P (reverse (x ∷ xs)) (reverse xs) (Some x) (reverse-append (x ∷ []) xs) h in
-    All-cons P x xs r.1 (all_reversed P xs r.0)

@@ -1,17 +1,22 @@
 -- One step of the search, as a whole.
 use Rattle.std.proofs.Common.{◌≡◌, ℕ, ◌+◌, ◌*◌, ◌≤◌, cond, List, [], ◌∷◌, ◌++◌, length, reverse, Option, Some, None, IfNone, IfSome, is_some, refl, sym, ap, ◌∙◌, subst, arith, length-append}
-use Rattle.search_core.proofs.Words.{Instance, Claim, IsClaim, Line, first, work, IsCoveredBy}
+use Rattle.search_core.proofs.Words.{Instance, Claim, IsClaim, Line, first, work, last_claim, IsCoveredBy}
+use Rattle.line_index.specs.Covered.{NoneCovers}
 use Rattle.branching.specs.Trying.{IsKnown}
 use Rattle.branching.specs.Logs.{Extends}
-use Rattle.branching.specs.Tries.{Tried, noted_by}
+use Rattle.branching.specs.Tries.{Tried, noted_by, tried_of}
 use Rattle.branching.proofs.Growing.{extends_along, extends_none}
 use Rattle.branching.proofs.Working.{some_work}
-use Rattle.search_core.specs.Descents.{Descends, HasAskedAll, IsPath, IsPlace, Place, above_of, claim_at, left_of, owed, sky_root, turns_left}
+use Rattle.search_core.specs.declared.kept.Kept.{Kept}
+use Rattle.search_core.specs.declared.walk.Walk.{Walk}
+use Rattle.search_core.specs.Descents.{Descends, IsPath, IsPlace, Place, above_of, claim_at, left_of, owed, sky_root, turns_left}
 use Rattle.search_core.specs.Meters.{Units}
 use Rattle.search_core.specs.Turns.{IsAhead, IsOn, debt_of}
-use Rattle.search_core.specs.Walks.{place_on}
-use Rattle.search_core.specs.Ways.{IsBackFrom, Way}
-use Rattle.search_core.proofs.Descending.{IsBack, back_debt, is_back, no_above, place_with_line, root_has, with_line}
+use Rattle.search_core.specs.Walks.{HasWatches, place_of, place_on, tracks_below, tracks_of}
+use Rattle.search_core.specs.Watches.{AreWatchedAlong, AreWatchedTo}
+use Rattle.search_core.specs.Ways.{IsBackBy, Way}
+use Rattle.search_core.proofs.Descending.{IsBack, back_debt, carried, is_back, no_above, place_with_line, root_has, with_line}
+use Rattle.search_core.proofs.Stacks.{reverse_push}
 
 -- lines that have only buffers of the last claim have only buffers of the first one
 pub grown_below : (I : Instance) (C : ℕ) (lines after : List Line) (here : Place) → IsPath I C lines here →
@@ -26,9 +31,9 @@ module _ (I : Instance) (C : ℕ) (lines : List Line) (here : Place) (p : IsPlac
   pub known_line : (k : ℕ) → here.line ≡ Some k → IsKnown I C lines (claim_at here) k
   known_line k e = subst (λ o. IfSome o (IsKnown I C lines (claim_at here))) e p.known
 
-  -- where no line is known, the claim above has asked all lines
-  pub asked_above : here.line ≡ None → HasAskedAll lines here.frames
-  asked_above e = subst (λ o. IfNone o (HasAskedAll lines here.frames)) e p.latest
+  -- where no line is known, none covers the claim
+  pub none_here : here.line ≡ None → NoneCovers I lines (claim_at here)
+  none_here e = subst (λ o. IfNone o (NoneCovers I lines (claim_at here))) e p.fresh
 
   -- where no line is known, the last claim is left to look at
   none_known : here.line ≡ None → owed I C here ≡ work I C (claim_at here)
@@ -97,9 +102,34 @@ module _ (I : Instance) (C : ℕ) (lines : List Line) (here : Place) (p : IsPlac
         subst (λ (l : Claim). IsCoveredBy I lines l k) (sym r) known.covered,
       )
 
--- what was popped
-pub is_back_from : (I : Instance) (C : ℕ) (lines : List Line) (before after : Way) (line : Option ℕ) (f : Tried) →
-    IsPath I C lines (place_on before line) → IsBackFrom before after f →
-    IsBack I C lines (place_on before line) (place_on after line) f
-is_back_from I C lines before after line f p b =
-    is_back I C _ _ (place_on after line) f p b.frames b.instance b.claims
+-- ---- back by what was kept
+module _ (I : Instance) (C : ℕ) (lines : List Line) (walk : Walk) (way : Way) (kept : Kept)
+    (p : IsPlace I C lines (place_of walk)) (b : IsBackBy walk.path way kept) where
+  subject : way.sky.instance ≡ I
+  subject = b.instance ∙ p.path.subject
+
+  -- the claim above, and its choices
+  abbrev above : Claim
+  above = last_claim way.sky.claims
+
+  abbrev tried : Tried
+  tried = tried_of I above kept.notes
+
+  pub parted : walk.path.frames ≡ way.frames ++ tried ∷ []
+  parted = rw (← subject) b.frames
+
+  pub is_back_from : IsBack I C lines (place_of walk) (place_on way walk.line) tried
+  is_back_from = is_back I C lines (place_of walk) (place_on way walk.line) tried p.path parted b.instance b.claims
+
+  module _ (h : HasWatches lines walk) where
+    pub tracks_back : (below : List ℕ) × (walk.trail ≡ tracks_below way below)
+    tracks_back = ((tracks_of walk.path).last, h.tracks ∙ (rw (is_back_from.above, b.instance) refl))
+
+    -- what is watched from there on
+    along : AreWatchedAlong way.sky.instance lines walk.watches (above ∷ above_of way.sky.claims)
+        (tried ∷ reverse way.frames)
+    along = carried (λ (J : Instance) (ps : List Claim) (fs : List Tried). AreWatchedAlong J lines walk.watches ps fs)
+        b.instance (sym is_back_from.above) (sym (ap reverse parted ∙ reverse_push way.frames tried)) h.above.along
+
+    pub held_there : AreWatchedTo lines walk.watches way kept.notes.asked
+    held_there = along.0

@@ -10,7 +10,7 @@ use Rattle.branching.proofs.KnownFacts.{root_layout}
 use Rattle.branching.proofs.OverFacts.{over}
 use Rattle.branching.proofs.TryFacts.{both_left, one_left, trying_both}
 use Rattle.search_core.specs.Descents.{Place, owed}
-use Rattle.search_core.specs.Turns.{IfOn, IsAhead, IsOn, IsAtChoices, IsUncovered, IsTurned, Stage, UnlessTurnSpent, debt_of}
+use Rattle.search_core.specs.Turns.{IfOn, IsAhead, IsOn, IsAtChoices, IsUncovered, IsTurned, Stage, debt_of}
 use Rattle.search_core.proofs.DescentFacts.{after_line, before_line, below_root, seven_turns, six_turns, sky_of}
 use Rattle.search_core.specs.declared.found.Found.TheVariants as found
 use Rattle.search_core.specs.declared.turns.Turn.TheVariants as turn
@@ -114,38 +114,19 @@ module _ (seats : Vec (ℕ × ℕ)) where
   -- what is found is the root's layout, and not that of the last claim
   done_with_both : seats.items ≡ (0, 1) ∷ (1, 0) ∷ [] →
       IsTurned small_below 4 [] (stage None 1) (stage None 2) (turn.Done (found.Seats seats))
-  done_with_both e = record { found = root_layout ∙ ap Some (sym e); spent = tt }
+  done_with_both e = root_layout ∙ ap Some (sym e)
 
   not_done_with_one : seats.items ≡ (0, 1) ∷ [] →
       IsTurned small_below 4 [] (stage None 1) (stage None 2) (turn.Done (found.Seats seats)) → ⊥
-  not_done_with_one e h = let q = sym root_layout ∙ h.found ∙ ap Some e in absurd cc
-
-  holds_with_seats : UnlessTurnSpent ⊥ (turn.Done (found.Seats seats)) → ⊥
-  holds_with_seats h = h
+  not_done_with_one e h = let q = sym root_layout ∙ h ∙ ap Some e in absurd cc
 
 -- the line covers the last claim, and not the root
 not_done_with_line : IsTurned small_below 4 (over ∷ []) (stage None 1) (stage None 2) (turn.Done (found.Line 0)) → ⊥
-not_done_with_line h = let e = sym root_layout ∙ h.found.0 in absurd cc
+not_done_with_line h = let e = sym root_layout ∙ h.0 in absurd cc
 
-spent : IsTurned small_below 4 [] (stage None 7) (stage None 7) (turn.Done found.Spent)
-spent = record { found = tt; spent = (refl, (let e = three_owed in omega arith)) }
-
-not_spent : IsTurned small_below 4 [] (stage None 6) (stage None 6) (turn.Done found.Spent) → ⊥
-not_spent h = let k = h.spent.0 in omega arith
-
--- as many units as were owed are not all used up before the end
-not_spent_at_the_end : IsTurned small_below 4 [] (stage None 4) (stage None 7) (turn.Done found.Spent) → ⊥
-not_spent_at_the_end h = let k = h.spent.1 in let e = three_owed in omega arith
-
--- ---- facts that hold in some cases alone
+-- ---- facts that hold where the search goes on
 holds_where_it_goes_on : IfOn ⊥ turn.On → ⊥
 holds_where_it_goes_on h = h
 
-nothing_once_done : IfOn ⊥ (turn.Done found.Spent)
+nothing_once_done : IfOn ⊥ (turn.Done (found.Line 0))
 nothing_once_done = tt
-
-holds_on_the_way : UnlessTurnSpent ⊥ turn.On → ⊥
-holds_on_the_way h = h
-
-nothing_once_spent : UnlessTurnSpent ⊥ (turn.Done found.Spent)
-nothing_once_spent = tt

@@ -1,18 +1,26 @@
--- A search that is at what is left of one buffer, below a root of two.
-use Rattle.std.proofs.Common.{◌≡◌, ℕ, [], ◌∷◌, Some, None, length, refl, ap, arith}
-use Rattle.search_core.proofs.Words.{Instance, LineWatches, OpenLog}
-use Rattle.claim_levels.proofs.LevelFacts.{rest, root}
+-- A search that is at what is left of one buffer, below a root of two, or at that root.
+use Rattle.std.proofs.Common.{◌≡◌, ◌∙◌, ℕ, List, [], ◌∷◌, Some, None, length, slice_index, refl, sym, ap, arith}
+use Rattle.claim_levels.proofs.LevelFacts.{differ, rest, root}
+use Rattle.claim_levels.specs.Trails.{Tracks}
 use Rattle.branching.specs.Tries.{Tried}
-use Rattle.branching.proofs.OverFacts.{over}
+use Rattle.branching.proofs.KnownFacts.{rest_covered}
+use Rattle.branching.proofs.OverFacts.{over, over_covers}
 use Rattle.branching.proofs.TryFacts.{both_left}
 use Rattle.search_core.specs.declared.walk.Walk.{Walk}
 use Rattle.search_core.specs.Meters.{Units}
-use Rattle.search_core.specs.Walks.{GoesOn, HasWatches, due_lines, place_of, place_on, stage_of}
-use Rattle.search_core.specs.Watches.{AreWatchedAt}
+use Rattle.search_core.specs.Walks.{GoesOn, HasWatches, IsHeld, IsLookedUp, child_by, due_lines, place_of, place_on, stage_of, tracks_below, tracks_of}
+use Rattle.search_core.specs.Watches.{AreWatchedAbove, AreWatchedTo}
 use Rattle.search_core.specs.Ways.{Way}
+use Rattle.search_core.proofs.WatchFacts.{by_four, not_at_the_rest}
+use Rattle.search_core.proofs.Words.{buffer, child, do_share, is_live, some_before, step, up, AreWatched, Instance, OpenLog, small_below}
+
+-- the levels at what is left and at the root
+abbrev both : Tracks
+both = record { last = 0 ∷ 5 ∷ []; above = (1 ∷ 1 ∷ []) ∷ [] }
 
 module _
     (path : Way)
+    (i : path.sky.instance ≡ small_below)
     (claims : path.sky.claims ≡ root ∷ rest ∷ [])
     (frames : path.frames ≡ both_left 0 ∷ [])
   where
@@ -29,6 +37,11 @@ module _
     -- ---- one line, and one to come
     two_due : due_lines (over ∷ []) path ≡ 2
     two_due = let m : length path.frames ≡ 1 = ap length frames in omega arith
+
+    -- ---- levels along it
+    its_levels : tracks_of path ≡ both
+    unfolding up buffer
+    its_levels = rw (i, claims) refl
 
 -- two lines at once are too many
 not_two_lines : (I : Instance) (C : ℕ) (f : Tried) (before after : OpenLog) (walk : Walk) → before.lines ≡ [] →
@@ -49,15 +62,58 @@ module _ (walk : Walk) (units : Units) where
   at_its_place : (stage_of walk units).place ≡ place_of walk
   at_its_place = refl
 
-  its_watches : AreWatchedAt (over ∷ []) walk.watches walk.path.frames → HasWatches (over ∷ []) walk
-  its_watches h = h
+-- ---- at what is left
+module _ (walk : Walk) (i : walk.path.sky.instance ≡ small_below)
+    (claims : walk.path.sky.claims ≡ root ∷ rest ∷ []) where
+  its_watches : walk.trail ≡ both → AreWatchedAbove (over ∷ []) walk.watches walk.path → HasWatches (over ∷ []) walk
+  unfolding up buffer
+  its_watches e h = record { tracks = rw (i, claims) e; above = h }
 
-  -- ---- a line that was asked, and is not watched
-  abbrev none : LineWatches
-  none = record { entries = []; rows = [] }
+  -- the levels are not those of the root
+  not_of_the_root : walk.trail.last ≡ 1 ∷ 1 ∷ [] → HasWatches [] walk → ⊥
+  unfolding up buffer
+  not_of_the_root e h = differ 1 5 (omega arith) (ap (λ (xs : List ℕ). slice_index xs 1)
+      (sym e ∙ ap (λ (t : Tracks). t.last) (rw (i, claims) at h.tracks)))
 
-  not_watched : walk.path.frames ≡ both_left 1 ∷ [] → walk.watches ≡ none → HasWatches (over ∷ []) walk → ⊥
-  not_watched e w h =
-      let k : AreWatchedAt (over ∷ []) none (both_left 1 ∷ []) = rw (e, w) at h in
-      let r = (k.each 0 (both_left 1) (omega arith)).each 0 over (omega arith) refl in
-      cc
+  -- a line is watched there, unless one is known that covers it
+  held_where_known : walk.line ≡ Some 0 → IsHeld (over ∷ []) walk
+  held_where_known e = rw e tt
+
+  not_held : walk.line ≡ None → walk.watches ≡ by_four → IsHeld (over ∷ []) walk → ⊥
+  not_held e w h = not_at_the_rest (rw (e, w, i, claims) at h)
+
+-- ---- at the root, whose first child is looked up
+module _ (walk next : Walk) (i : walk.path.sky.instance ≡ small_below) (claims : walk.path.sky.claims ≡ root ∷ []) where
+  its_child : child_by small_below walk 0 ≡ rest
+  unfolding child step do_share some_before is_live up buffer
+  its_child = rw claims refl
+
+  levels_below : tracks_below walk.path (0 ∷ 5 ∷ []) ≡ both
+  unfolding up buffer
+  levels_below = rw (i, claims) refl
+
+  -- a line covers it
+  found : HasWatches (over ∷ []) next → AreWatchedTo (over ∷ []) next.watches walk.path 1 →
+      IsLookedUp small_below (over ∷ []) 0 walk next (Some 0)
+  found h held = record { covered = rw its_child rest_covered; watched = h; held = held }
+
+  not_fresh : IsLookedUp small_below (over ∷ []) 0 walk next None → ⊥
+  not_fresh b = (rw its_child at b.fresh) 0 over refl over_covers
+
+  -- where there are no lines, none does
+  below : next.trail ≡ both → next.watches ≡ record { entries = []; rows = [] } →
+      IsLookedUp small_below [] 0 walk next None
+  unfolding up buffer
+  below e w = record {
+    fresh = λ k line at covers. absurd cc;
+    trail = rw its_child (e ∙ sym levels_below);
+    child = none_watched _;
+    held = none_watched _;
+    above = rw (w, claims) (record { noted = λ p m j. absurd j; along = tt });
+  }
+    where
+      none_watched : (levels : List ℕ) → AreWatched [] next.watches levels 0
+      none_watched levels = record { within = omega arith; each = λ k line lt. absurd (omega arith) }
+
+  not_by_no_line : IsLookedUp small_below [] 0 walk next (Some 0) → ⊥
+  not_by_no_line c = let e = c.covered.stands in absurd cc

@@ -1,71 +1,122 @@
--- What is watched at the claims of all frames.
-use Rattle.std.proofs.Common.{◌≡◌, ℕ, ◌-◌, List, [], ◌∷◌, ◌++◌, length, slice_index_or, Option, Some, IfSome, subst, sym}
-use Rattle.std.proofs.lemmas.List.Elements.{All-pop, All-push, All-weaker}
-use Rattle.std.proofs.lemmas.Option.{get_or_from_slice_get, slice_get_within}
-use Rattle.search_core.proofs.Words.{Claim, Line, AreNoted, AreRaised, AreWatched, LineWatches, noted_more, watched_more}
+-- What is watched at the claims above the one that the search is at, and the levels of all of them.
+use Rattle.std.proofs.Common.{◌≡◌, ℕ, ◌<◌, List, [], ◌∷◌, ◌++◌, length, reverse, Option, refl, sym, ap, ◌∙◌, subst}
+use Rattle.skyline.proofs.Carrying.{last_of_append}
+use Rattle.line_index.proofs.Rising.{child_raised}
+use Rattle.claim_levels.proofs.AllLevels.{levels_are, levels_of_are}
+use Rattle.claim_levels.specs.Levels.{levels_of}
+use Rattle.claim_levels.specs.Trails.{Tracks}
 use Rattle.branching.specs.Logs.{Extends}
-use Rattle.branching.specs.Tries.{Tried}
-use Rattle.search_core.specs.declared.path.Above.{Above}
-use Rattle.search_core.specs.Descents.{HasAskedAll}
-use Rattle.search_core.specs.Watches.{AreRaisedFrom, AreWatchedAt}
-use Rattle.search_core.specs.Ways.{IsAbove}
+use Rattle.branching.specs.Tries.{Tried, chosen_of}
+use Rattle.branching.proofs.Descent.{is_instance}
+use Rattle.search_core.specs.Descents.{Descends, IsPath, above_of, claim_at}
+use Rattle.search_core.specs.Walks.{HasWatches, child_by, place_of, place_on, tracks_below, tracks_of}
+use Rattle.search_core.specs.Watches.{AreWatchedAbove, AreWatchedAlong, AreWatchedTo}
+use Rattle.search_core.specs.Ways.{Way}
+use Rattle.search_core.specs.declared.walk.Walk.{Walk}
+use Rattle.search_core.proofs.Descending.{carried}
+use Rattle.search_core.proofs.Stacks.{above_pushed, reverse_push}
+use Rattle.search_core.proofs.Words.{Instance, IsInstance, Claim, IsClaim, Line, AreLevels, Stands, last_claim, AreNoted, AreRaised, AreWatched, LineWatches, noted_more, raised_trans, watched_more}
 
--- a log that grows keeps what is watched
-pub all_watched_more : (l : Claim) (lines after : List Line) (watches : LineWatches) (frames : List Tried) →
-    Extends l lines after → AreWatchedAt lines watches frames → AreWatchedAt after watches frames
-all_watched_more l lines after watches frames grown h = record {
-  noted = subst (λ (xs : List Line). AreNoted xs watches.rows) (sym grown.is)
-      (noted_more lines grown.more watches.rows h.noted);
-  each = All-weaker (λ (f : Tried). AreWatched lines watches f.levels f.asked)
-      (λ (f : Tried). AreWatched after watches f.levels f.asked)
-      (λ f w. subst (λ (xs : List Line). AreWatched xs watches f.levels f.asked) (sym grown.is)
-      (watched_more _ grown.more _ _ _ w)) frames h.each;
+-- ---- a log that grows keeps what is watched
+pub more_watched : (l : Claim) (lines after : List Line) (w : LineWatches) (levels : List ℕ) (n : ℕ) →
+    Extends l lines after → AreWatched lines w levels n → AreWatched after w levels n
+more_watched l lines after w levels n grown h =
+    subst (λ (xs : List Line). AreWatched xs w levels n) (sym grown.is) (watched_more lines grown.more w levels n h)
+
+along_more : (I : Instance) (l : Claim) (lines after : List Line) (w : LineWatches) (ps : List Claim)
+    (fs : List Tried) → Extends l lines after → AreWatchedAlong I lines w ps fs → AreWatchedAlong I after w ps fs
+along_more I l lines after w [] fs grown h = tt
+along_more I l lines after w (p ∷ ps) [] grown h = tt
+along_more I l lines after w (p ∷ ps) (f ∷ fs) grown h =
+    (more_watched l lines after w _ _ grown h.0, along_more I l lines after w ps fs grown h.1)
+
+pub above_more : (l : Claim) (lines after : List Line) (w : LineWatches) (way : Way) → Extends l lines after →
+    AreWatchedAbove lines w way → AreWatchedAbove after w way
+above_more l lines after w way grown h = record {
+  noted = subst (λ (xs : List Line). AreNoted xs w.rows) (sym grown.is) (noted_more lines grown.more w.rows h.noted);
+  along = along_more _ l lines after w (above_of way.sky.claims) (reverse way.frames) grown h.along;
 }
 
--- and so do watches that move, where notes and each claim above keep what is known
-pub all_watched_still : (lines : List Line) (before after : LineWatches) (levels : List ℕ) (frames : List Tried) →
-    AreRaisedFrom frames levels →
-    ((above : List ℕ) (n : ℕ) → AreRaised above levels → AreWatched lines before above n →
-    AreWatched lines after above n) → (AreNoted lines before.rows → AreNoted lines after.rows) →
-    AreWatchedAt lines before frames → AreWatchedAt lines after frames
-all_watched_still lines before after levels frames raised kept noted watched = record {
-  noted = noted watched.noted;
-  each = λ k d lt. kept _ _ (raised k d lt) (watched.each k d lt);
-}
+-- ---- and so do watches that move at levels which no claim has higher ones than
+module _ (I : Instance) (C : ℕ) (s : IsInstance I) (lines : List Line) (old new : LineWatches) (levels : List ℕ)
+    (kept : (above : List ℕ) (n : ℕ) → AreRaised above levels → AreWatched lines old above n →
+    AreWatched lines new above n) where
+  along_kept : (l : Claim) (ps : List Claim) (fs : List Tried) → IsClaim I l → AreRaised (levels_of I l) levels →
+      Descends I C lines l ps fs → AreWatchedAlong I lines old ps fs → AreWatchedAlong I lines new ps fs
+  along_kept l [] fs c r d h = tt
+  along_kept l (p ∷ ps) [] c r d h = tt
+  along_kept l (p ∷ ps) (f ∷ fs) c r d h =
+      let q : AreRaised (levels_of I p) levels = raised_trans _ _ _
+      (child_raised I p (chosen_of f) _ _ s (levels_of_are I p d.0.claim)
+      (subst (λ (k : Claim). AreLevels I k (levels_of I l)) d.0.is_child (levels_of_are I l c))) r in
+      (kept _ _ q h.0, along_kept p ps fs d.0.claim q d.2 h.1)
 
--- a frame is put last
-pub all_watched_push : (lines : List Line) (watches : LineWatches) (frames after : List Tried) (f : Tried) →
-    after ≡ frames ++ f ∷ [] → AreWatchedAt lines watches frames → AreWatched lines watches f.levels f.asked →
-    AreWatchedAt lines watches after
-all_watched_push lines watches frames after f e h w = subst (AreWatchedAt lines watches) (sym e) (record {
-  noted = h.noted;
-  each = All-push (λ (f : Tried). AreWatched lines watches f.levels f.asked) frames f h.each w;
-})
+  pub above_kept : (way : Way) (line : Option ℕ) → IsPath I C lines (place_on way line) →
+      IsClaim I (last_claim way.sky.claims) → AreRaised (levels_of I (last_claim way.sky.claims)) levels →
+      (AreNoted lines old.rows → AreNoted lines new.rows) →
+      AreWatchedAbove lines old way → AreWatchedAbove lines new way
+  above_kept way line p c r noted h = record {
+    noted = noted h.noted;
+    along = subst (λ (J : Instance). AreWatchedAlong J lines new (above_of way.sky.claims) (reverse way.frames))
+        (sym p.subject) (along_kept _ (above_of way.sky.claims) (reverse way.frames) c r p.descends
+        (subst (λ (J : Instance). AreWatchedAlong J lines old (above_of way.sky.claims) (reverse way.frames))
+        p.subject h.along));
+  }
 
--- the last frame is taken off
-pub all_watched_pop : (lines : List Line) (watches : LineWatches) (frames rest : List Tried) (f : Tried) →
-    frames ≡ rest ++ f ∷ [] → AreWatchedAt lines watches frames →
-    AreWatchedAt lines watches rest × AreWatched lines watches f.levels f.asked
-all_watched_pop lines watches frames rest f e h =
-    let r = All-pop (λ (f : Tried). AreWatched lines watches f.levels f.asked) frames rest (Some f) e h.each in
-    (record { noted = h.noted; each = r.0 }, r.1)
+-- ---- one claim more
+module _ (before after : Way) (x : Claim) (some : 0 < length before.sky.claims)
+    (i : after.sky.instance ≡ before.sky.instance) (q : after.sky.claims ≡ before.sky.claims ++ x ∷ []) where
+  last_is : last_claim after.sky.claims ≡ x
+  last_is = ap last_claim q ∙ last_of_append before.sky.claims x
 
--- the number of lines was read
-pub watched_to : (lines : List Line) (watches : LineWatches) (levels : List ℕ) (n : ℕ) → n ≡ length lines →
-    AreWatched lines watches levels (length lines) → AreWatched lines watches levels n
-watched_to lines watches levels n e w = subst (AreWatched lines watches levels) (sym e) w
+  above_is : above_of after.sky.claims ≡ last_claim before.sky.claims ∷ above_of before.sky.claims
+  above_is = ap above_of q ∙ above_pushed before.sky.claims x some
 
--- the claim above the last one asked all lines
-pub watched_above : (lines : List Line) (watches : LineWatches) (levels : List ℕ) (frames : List Tried)
-    (above : Above) →
-    IsAbove frames above → AreWatchedAt lines watches frames → AreRaisedFrom frames levels → HasAskedAll lines frames →
-    AreRaised above.levels.now levels × AreWatched lines watches above.levels.now (length lines)
-watched_above lines watches levels frames above a h raised latest =
-    let i = length frames - 1 in
-    let lt = slice_get_within frames i a.f a.last in
-    let got : slice_index_or frames i a.f ≡ a.f = get_or_from_slice_get frames i a.f a.f a.last in
-    let all : a.f.asked ≡ length lines = subst (λ (o : Option Tried). IfSome o (λ (f : Tried). f.asked ≡ length lines))
-    a.last latest in (
-      rw a.levels (subst (λ (f : Tried). AreRaised f.levels levels) got (raised i a.f lt)),
-      rw (a.levels, ← all) (subst (λ (f : Tried). AreWatched lines watches f.levels f.asked) got (h.each i a.f lt)),
+  pub tracks_pushed : tracks_of after ≡ tracks_below before (levels_of before.sky.instance x)
+  tracks_pushed = rw (i, last_is, above_is) refl
+
+  pub above_one_more : (lines : List Line) (w : LineWatches) (f : Tried) → after.frames ≡ before.frames ++ f ∷ [] →
+      AreWatchedAbove lines w before → AreWatchedTo lines w before f.asked → AreWatchedAbove lines w after
+  above_one_more lines w f e h k = record {
+    noted = h.noted;
+    along = carried (λ (J : Instance) (ps : List Claim) (fs : List Tried). AreWatchedAlong J lines w ps fs) i above_is
+        (ap reverse e ∙ reverse_push before.frames f) (k, h.along);
+  }
+
+-- ---- where the walk is
+module _ (I : Instance) (C : ℕ) (lines : List Line) (walk : Walk) (p : IsPath I C lines (place_of walk))
+    (h : HasWatches lines walk) where
+  -- its levels are those of its claim
+  pub last_levels : walk.trail.last ≡ levels_of I (claim_at (place_of walk))
+  last_levels = ap (λ (t : Tracks). t.last) h.tracks
+      ∙ ap (λ (J : Instance). levels_of J (claim_at (place_of walk))) p.subject
+
+  pub levels_here : IsClaim I (claim_at (place_of walk)) → AreLevels I (claim_at (place_of walk)) walk.trail.last
+  levels_here claim = rw last_levels (levels_of_are I (claim_at (place_of walk)) claim)
+
+  -- a child of it is looked up, where watches move
+  module _ (s : Stands I (claim_at (place_of walk))) (b : ℕ) (levels : List ℕ)
+      (child : AreLevels I (child_by I walk b) levels) where
+    pub raised_below : AreRaised walk.trail.last levels
+    raised_below = child_raised I (claim_at (place_of walk)) b _ _ (is_instance I _ s) (levels_here s.claim) child
+
+    pub looked_up : (new : LineWatches) → ((above : List ℕ) (n : ℕ) → AreRaised above levels →
+        AreWatched lines walk.watches above n → AreWatched lines new above n) →
+        (AreNoted lines walk.watches.rows → AreNoted lines new.rows) →
+        AreWatchedTo lines walk.watches walk.path (length lines) →
+        AreWatchedAbove lines new walk.path × AreWatchedTo lines new walk.path (length lines)
+    looked_up new kept noted held = (
+      above_kept I C (is_instance I _ s) lines walk.watches new levels kept walk.path walk.line p s.claim
+          (subst (λ (above : List ℕ). AreRaised above levels) last_levels raised_below) noted h.above,
+      kept _ _ (subst (λ (above : List ℕ). AreRaised above levels) (ap (λ (t : Tracks). t.last) h.tracks) raised_below)
+          held,
     )
+
+    pub all_below : AreWatchedTo lines walk.watches walk.path (length lines) →
+        AreWatched lines walk.watches walk.trail.last (length lines)
+    all_below held = subst (λ (above : List ℕ). AreWatched lines walk.watches above (length lines))
+        (sym (ap (λ (t : Tracks). t.last) h.tracks)) held
+
+    pub track_below : (t : Tracks) → t.last ≡ levels → t.above ≡ walk.trail.last ∷ walk.trail.above →
+        t ≡ tracks_below walk.path (levels_of I (child_by I walk b))
+    track_below t q e = rw (q ∙ levels_are I _ levels child, e, h.tracks) refl

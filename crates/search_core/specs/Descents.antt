@@ -1,34 +1,20 @@
 -- Where a search is: the claims that it goes down through, and what it knows of each.
-use Rattle.std.specs.Prelude.{◌≡◌, ℕ, ◌+◌, ◌-◌, ◌*◌, ◌<◌, ⊤, Option, is_some, IfSome, IfNone, cond, List, [], ◌∷◌, length, map, drop, reverse, slice_get}
+use Rattle.std.specs.Prelude.{◌≡◌, ℕ, ◌+◌, ◌*◌, ◌<◌, ⊤, Option, is_some, IfSome, IfNone, cond, List, [], ◌∷◌, length, map, drop, reverse}
 use Rattle.dsa_terms.specs.Buffers.{Instance}
-use Rattle.dsa_terms.specs.Claims.{Claim, child}
+use Rattle.dsa_terms.specs.Claims.{Claim, IsClaim, child}
 use Rattle.dsa_terms.specs.Logs.{Line}
 use Rattle.dsa_terms.specs.Search.{first, work}
-use Rattle.canonical_order.specs.Claims.{HasBuffer, entry_of}
-use Rattle.canonical_order.specs.Levels.{AreLevels}
+use Rattle.canonical_order.specs.Claims.{entry_of}
+use Rattle.line_index.specs.Covered.{NoneCovers}
 use Rattle.skyline.specs.Skies.{Sky, last_claim}
 use Rattle.branching.specs.Tries.{Tried, IsLeft, chosen_of, later_of}
 use Rattle.branching.specs.Trying.{through, IsTrying, IsKnown}
 
--- the last one of the frames has asked all lines, if there is one
-abbrev pub HasAskedAll : List Line → List Tried → Type 0
-HasAskedAll lines frames = IfSome (slice_get frames (length frames - 1)) (λ (f : Tried). f.asked ≡ length lines)
-
--- the claim is what is left of p by its first choice that is not refuted
+-- p is a claim of the instance, and l is what is left of it by its first choice that is not refuted
 pub record IsStanding (I : Instance) (p : Claim) (f : Tried) (l : Claim) : Type 0 where
+  pub claim : IsClaim I p
   pub is_left : IsLeft f
   pub is_child : l ≡ child I p (entry_of p (chosen_of f))
-
--- the claim is what is left of one that has the levels of f, by the first choice of f that is not refuted
-pub record IsUnder (I : Instance) (f : Tried) (l : Claim) : Type 0 where
-  pub above : Claim
-  pub levels : AreLevels I above f.levels
-  pub has : HasBuffer above (chosen_of f)
-  pub standing : IsStanding I above f l
-
--- the claim is under the last one of the frames, if there is one
-abbrev pub IsUnderLast : Instance → List Tried → Claim → Type 0
-IsUnderLast I frames l = IfSome (slice_get frames (length frames - 1)) (λ (f : Tried). IsUnder I f l)
 
 -- the claim l is reached from those above it, the last one first, by the choices that stand there
 abbrev pub Descends : Instance → ℕ → List Line → Claim → List Claim → List Tried → Type 0
@@ -84,8 +70,8 @@ pub record IsPath (I : Instance) (C : ℕ) (lines : List Line) (here : Place) : 
   pub some : 0 < length here.sky.claims
   pub descends : Descends I C lines (claim_at here) (above_of here.sky.claims) (reverse here.frames)
 
--- the search is there; where a line is known, it covers the claim, and else the claim above has asked all lines
+-- the search is there; where a line is known, it covers the claim, and else no line does
 pub record IsPlace (I : Instance) (C : ℕ) (lines : List Line) (here : Place) : Type 0 where
   pub path : IsPath I C lines here
   pub known : IfSome here.line (IsKnown I C lines (claim_at here))
-  pub latest : IfNone here.line (HasAskedAll lines here.frames)
+  pub fresh : IfNone here.line (NoneCovers I lines (claim_at here))

@@ -1,5 +1,5 @@
 -- What the search finds of a claim.
-use Rattle.std.specs.Prelude.{◌≡◌, ℕ, ⊤, List, Some, None}
+use Rattle.std.specs.Prelude.{◌≡◌, ℕ, List, Some, None}
 use Rattle.dsa_terms.specs.Buffers.{Instance}
 use Rattle.dsa_terms.specs.Claims.{Claim}
 use Rattle.dsa_terms.specs.Logs.{Line}
@@ -12,16 +12,3 @@ use Rattle.search_core.specs.declared.found.Found.TheVariants as found
 abbrev pub IsFound : Instance → ℕ → Claim → List Line → Found → Type 0
 IsFound I C l lines (found.Seats seats) = first I C l ≡ Some seats.items
 IsFound I C l lines (found.Line k) = (first I C l ≡ None) × IsCoveredBy I lines l k
-IsFound I C l lines found.Spent = ⊤
-
--- the fact holds where the budget is spent
-abbrev pub IfFoundSpent : Type 0 → Found → Type 0
-IfFoundSpent P (found.Seats seats) = ⊤
-IfFoundSpent P (found.Line k) = ⊤
-IfFoundSpent P found.Spent = P
-
--- the fact holds unless the budget is spent
-abbrev pub UnlessFoundSpent : Type 0 → Found → Type 0
-UnlessFoundSpent P (found.Seats seats) = P
-UnlessFoundSpent P (found.Line k) = P
-UnlessFoundSpent P found.Spent = ⊤

@@ -6,11 +6,10 @@ use Rattle.canonical_order.specs.Claims.{entry_of}
 use Rattle.line_index.specs.Covered.{NoneCovers}
 use Rattle.branching.specs.Trying.{IsTrying, through}
 use Rattle.branching.specs.Tries.{Tried, rest_of}
-use Rattle.search_core.specs.declared.found.Found.{Found}
 use Rattle.search_core.specs.declared.turns.Turn.{Turn}
 use Rattle.search_core.specs.Descents.{IsPath, IsPlace, Place, above_of, claim_at, left_of, owed, sky_root, turns_left}
-use Rattle.search_core.specs.Found.{IfFoundSpent, IsFound, UnlessFoundSpent}
-use Rattle.search_core.specs.Meters.{AreSpent, Units}
+use Rattle.search_core.specs.Found.{IsFound}
+use Rattle.search_core.specs.Meters.{Units}
 use Rattle.search_core.specs.declared.turns.Turn.TheVariants as turn
 
 -- how many claims are left to look at where the claim that the search is at is open and has these choices
@@ -52,23 +51,12 @@ pub record IsOn (I : Instance) (C : ℕ) (lines : List Line) (before after : Sta
   pub units : after.units.used + owed I C after.place ≤ before.units.used + owed I C before.place
   pub fewer : turns_left I C after.place < turns_left I C before.place
 
--- what was to be found of the root is found, or all units are used before as many as were owed
-pub record IsDone (I : Instance) (C : ℕ) (lines : List Line) (before : Stage) (after : Units) (what : Found) : Type 0
-  where
-    pub found : IsFound I C (sky_root before.place.sky) lines what
-    pub spent : IfFoundSpent (AreSpent after × (after.used < before.units.used + owed I C before.place)) what
-
--- the search goes on, or it is done
+-- the search goes on, or what was to be found of the root is found
 abbrev pub IsTurned : Instance → ℕ → List Line → Stage → Stage → Turn → Type 0
 IsTurned I C lines before after turn.On = IsOn I C lines before after
-IsTurned I C lines before after (turn.Done found) = IsDone I C lines before after.units found
+IsTurned I C lines before after (turn.Done found) = IsFound I C (sky_root before.place.sky) lines found
 
 -- the fact holds where the search goes on
 abbrev pub IfOn : Type 0 → Turn → Type 0
 IfOn P turn.On = P
 IfOn P (turn.Done found) = ⊤
-
--- the fact holds unless the budget is spent
-abbrev pub UnlessTurnSpent : Type 0 → Turn → Type 0
-UnlessTurnSpent P turn.On = P
-UnlessTurnSpent P (turn.Done found) = UnlessFoundSpent P found

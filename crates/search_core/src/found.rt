@@ -7,6 +7,4 @@ pub(crate) enum Found {
     Seats(Vec<(u32, u64)>),
     /// The number of a line of the log whose claim covers it: it has no layout.
     Line(u64),
-    /// Nothing, since the budget is spent.
-    Spent,
 }

@@ -43,7 +43,8 @@ pub(crate) fn seats(
     ensures emptied { OnOk result (path.new.frames ≡ []) }
 {
     let mut offsets = vec![in alloc; 0u64; task.instance.len() as usize]?;
-    while let Some(b) = path.leave() {
+    while let Some(kept) = path.go_back() {
+        let b = kept.chosen;
         offsets[b as usize] = path.sky().low(b);
     }
     gathered(alloc, path.sky(), &offsets)

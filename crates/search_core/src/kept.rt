@@ -1,51 +1,42 @@
-//! What is kept of a frame.
+//! What is kept of a claim from which the search went down.
 
-ghost use Rattle.std.specs.Prelude.{◌≡◌, None, Some};
+ghost use Rattle.std.specs.Prelude.{◌≡◌, IfOk, IfSome, length};
+ghost use Rattle.dsa_terms.specs.Claims.{Claim};
+ghost use Rattle.canonical_order.specs.Levels.{AreLevels};
+ghost use Rattle.branching.specs.Tries.{IsOrderOf, tried_of};
 
-use branching::Notes;
+use branching::{Frame, Notes, Task, choices};
 use claim_levels::Levels;
+use dsa_model::NoMemory;
+use std::alloc::Global;
 
-/// What is noted of the choices of a claim, the choice that was taken, all choices in order, where
-/// they were needed so far, and the claim's levels. Order and levels can be dropped, and made
-/// again.
+/// What is noted of the choices of a claim, the choice that was taken, and all choices in order.
+/// The order can be dropped, and made again.
 #[derive(Drop)]
 pub(crate) struct Kept {
     pub(crate) notes: Notes,
     pub(crate) chosen: u32,
     pub(crate) order: Option<Vec<u32>>,
-    pub(crate) levels: Option<Levels>,
 }
 
 impl Kept {
-    /// The choice that was taken.
-    pub(crate) fn taken(self) -> u32
-        ensures { result ≡ self.chosen }
+    /// The frame of the claim of the levels.
+    pub(crate) fn frame(
+        self,
+        alloc: Global,
+        task: &Task,
+        levels: &Levels,
+    ) -> Result<Frame, NoMemory>
+        requires { length levels.now ≡ length task.now.instance.now }
+        ensures { let I = task.now.instance.now in (l : Claim) → AreLevels I l levels.now →
+            IfSome self.order (IsOrderOf I l) →
+            IfOk result (λ frame. frame ≡ tried_of I l self.notes) }
     {
-        self.chosen
-    }
-
-    /// Drops the order and the levels.
-    pub(crate) fn forget(&mut self)
-        ensures { self.new ≡ record {
-          notes = self.old.notes;
-          chosen = self.old.chosen;
-          order = None;
-          levels = None;
-        } }
-    {
-        self.order = None;
-        self.levels = None;
-    }
-
-    /// Keeps the levels.
-    pub(crate) fn remember(&mut self, levels: Levels)
-        ensures { self.new ≡ record {
-          notes = self.old.notes;
-          chosen = self.old.chosen;
-          order = self.old.order;
-          levels = Some levels;
-        } }
-    {
-        self.levels = Some(levels);
+        let Kept { notes, order, .. } = self;
+        let order = match order {
+            Some(order) => order,
+            None => choices(alloc, task, levels)?,
+        };
+        Ok(Frame::of(order, notes))
     }
 }

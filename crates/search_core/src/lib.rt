@@ -10,7 +10,6 @@ mod meter;
 mod opening;
 mod part;
 mod path;
-mod remaking;
 mod search;
 mod turns;
 mod walk;

@@ -6,6 +6,10 @@ ghost use Rattle.search_core.specs.Meters.{AreSpent, AreWithin, HasUnit, units_c
 
 use std::marker::Model;
 
+/// All units of a budget are used, and one more claim has to be opened.
+#[derive(Clone, Copy)]
+pub(crate) struct Spent;
+
 /// The units of a budget, with those that are used.
 #[derive(Drop)]
 pub(crate) struct Meter {

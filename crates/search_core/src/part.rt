@@ -1,19 +1,20 @@
 //! The search through one part.
 
-ghost use Rattle.std.specs.Prelude.{◌≡◌, ◌+◌, ◌<◌, ◌≤◌, IfOk};
+ghost use Rattle.std.specs.Prelude.{◌≡◌, ◌+◌, ◌<◌, ◌≤◌, IfOk, OnOk};
 ghost use Rattle.dsa_terms.specs.Claims.{IsIn};
 ghost use Rattle.dsa_terms.specs.Parts.{parts, whole};
 ghost use Rattle.dsa_terms.specs.Search.{work};
+ghost use Rattle.dsa_model.specs.Fails.{UnlessNoMemory};
 ghost use Rattle.lifetime.specs.SectionList.{AreSectionsOf};
 ghost use Rattle.search_core.specs.Meters.{AreMore, AreSpent};
-ghost use Rattle.search_core.specs.Pieces.{IfPieceSpent, IsPiece, PieceIsCounted, UnlessPieceSpent};
+ghost use Rattle.search_core.specs.Pieces.{IsPiece, PieceIsCounted};
 
 use crate::found::Found;
-use crate::meter::Meter;
+use crate::meter::{Meter, Spent};
 use crate::turns::search;
 use branching::Task;
 use conflicts::Lemmas;
-use dsa_model::NoMemory;
+use dsa_model::Fail;
 use lifetime::Sections;
 use refute_log::{ClosedLog, Log};
 use std::alloc::Global;
@@ -25,8 +26,6 @@ pub(crate) enum Piece {
     Seats(Vec<(u32, u64)>),
     /// A log that refutes the capacity.
     Refuted(ClosedLog),
-    /// Nothing, since the budget is spent.
-    Spent,
 }
 
 /// Searches the whole claim of a part, with a log of its own.
@@ -36,7 +35,7 @@ pub(crate) fn search_part(
     meter: &mut Meter,
     sections: &Sections,
     members: &[u32],
-) -> Result<Piece, NoMemory>
+) -> Result<Piece, Fail<Spent>>
     requires sections { AreSectionsOf task.now.instance.now sections.now }
     requires part { IsIn members.now (parts task.now.instance.now) }
     ensures most { meter.new.most ≡ meter.old.most }
@@ -44,12 +43,12 @@ pub(crate) fn search_part(
     ensures used { let I = task.now.instance.now in
         let most = work I task.now.capacity (whole I members.now) in
         meter.new.used ≤ meter.old.used + most }
-    ensures spent { let I = task.now.instance.now in
-        let most = work I task.now.capacity (whole I members.now) in
-        IfOk result (IfPieceSpent (AreSpent meter.new × (meter.new.used < meter.old.used + most))) }
-    ensures taken { IfOk result (UnlessPieceSpent (AreMore meter.old meter.new)) }
+    ensures taken { OnOk result (AreMore meter.old meter.new) }
     ensures counted { IfOk result (PieceIsCounted meter.old meter.new) }
-    ensures found { IfOk result (IsPiece task.now.instance.now task.now.capacity members.now) }
+    ensures found { let I = task.now.instance.now in
+        let most = work I task.now.capacity (whole I members.now) in
+        UnlessNoMemory result (IsPiece I task.now.capacity members.now)
+        (λ _. AreSpent meter.new × (meter.new.used < meter.old.used + most)) }
 {
     let _count = task.instance.len();
     let mut log = Lemmas::new(alloc, Log::new(alloc, task.instance, task.capacity));
@@ -59,6 +58,5 @@ pub(crate) fn search_part(
             Ok(closed) => Ok(Piece::Refuted(closed)),
             Err(_) => unreachable!(),
         },
-        Found::Spent => Ok(Piece::Spent),
     }
 }

@@ -5,24 +5,26 @@ ghost use Rattle.std.specs.List.{All};
 ghost use Rattle.dsa_terms.specs.Claims.{Rises};
 ghost use Rattle.dsa_terms.specs.Parts.{whole};
 ghost use Rattle.dsa_terms.specs.Search.{work};
+ghost use Rattle.dsa_model.specs.Fails.{UnlessNoMemory};
 ghost use Rattle.lifetime.specs.SectionList.{AreSectionsOf};
 ghost use Rattle.branching.specs.Logs.{Extends, IsSearchLog};
 ghost use Rattle.search_core.specs.Descents.{IsPlace, owed, sky_root};
-ghost use Rattle.search_core.specs.Found.{IfFoundSpent, IsFound, UnlessFoundSpent};
-ghost use Rattle.search_core.specs.Meters.{AreCounted, AreMore, AreSpent};
-ghost use Rattle.search_core.specs.Turns.{IfOn, IsTurned, UnlessTurnSpent};
-ghost use Rattle.search_core.specs.Walks.{HasWatches, due_lines, place_of, stage_of};
+ghost use Rattle.search_core.specs.Found.{IsFound};
+ghost use Rattle.search_core.specs.Meters.{AreCounted, AreMore, AreMoreBy, AreSpent};
+ghost use Rattle.search_core.specs.Turns.{IfOn, IsTurned};
+ghost use Rattle.search_core.specs.Walks.{HasWatches, IsHeld, due_lines, place_of, stage_of};
 
 use crate::found::Found;
 use crate::gather::seats;
-use crate::meter::Meter;
+use crate::meter::{Meter, Spent};
 use crate::opening::{Opened, open};
 use crate::path::Path;
 use crate::walk::Walk;
 use branching::Task;
 use canonical_order::Lows;
+use claim_levels::Trail;
 use conflicts::Lemmas;
-use dsa_model::NoMemory;
+use dsa_model::Fail;
 use lifetime::Sections;
 use line_index::{Recent, Watches};
 use skyline::Skyline;
@@ -39,18 +41,19 @@ enum Turn {
 
 impl<'a> Walk<'a> {
     /// One step: down from the claim that the search is at, or back from it where a line is known
-    /// that covers it.
+    /// that covers it. After an `Err` nothing is said of the walk.
     fn step(
         &mut self,
         alloc: Global,
         task: &Task,
         log: &mut Lemmas,
         meter: &mut Meter,
-    ) -> Result<Turn, NoMemory>
+    ) -> Result<Turn, Fail<Spent>>
         requires log { IsSearchLog task.now.instance.now task.now.capacity log.old }
         requires place { let I = task.now.instance.now in
             IsPlace I task.now.capacity log.old.lines (place_of self.old) }
         requires watched { HasWatches log.old.lines self.old }
+        requires held { IsHeld log.old.lines self.old }
         ensures log { OnOk result (IsSearchLog task.now.instance.now task.now.capacity log.new) }
         ensures grown { let root = sky_root self.old.path.sky in
             OnOk result (Extends root log.old.lines log.new.lines) }
@@ -59,48 +62,53 @@ impl<'a> Walk<'a> {
         ensures used { let I = task.now.instance.now in
             let most = owed I task.now.capacity (place_of self.old) in
             meter.new.used ≤ meter.old.used + most }
-        ensures taken { self.old.line ≡ None → log.old.lines ≡ [] →
-            IfOk result (UnlessTurnSpent (AreMore meter.old meter.new)) }
+        ensures taken { self.old.line ≡ None → OnOk result (AreMore meter.old meter.new) }
         ensures turned { let I = task.now.instance.now in
             let before = stage_of self.old meter.old in let after = stage_of self.new meter.new in
-            IfOk result (IsTurned I task.now.capacity log.new.lines before after) }
+            let most = owed I task.now.capacity (place_of self.old) in
+            UnlessNoMemory result (IsTurned I task.now.capacity log.new.lines before after)
+            (λ _. AreSpent meter.new × (meter.new.used < meter.old.used + most)) }
         ensures watched { IfOk result (IfOn (HasWatches log.new.lines self.new)) }
+        ensures held { IfOk result (IfOn (IsHeld log.new.lines self.new)) }
         ensures counted { OnOk result (AreCounted meter.old meter.new
             (due_lines log.old.lines self.old.path) (due_lines log.new.lines self.new.path)) }
     {
         let _count = self.path.instance().len();
-        match self.line {
-            Some(k) => match self.path.go_back(alloc, task)? {
-                Some(mut frame) => {
-                    let _count = self.path.instance().len();
-                    self.recent.note(frame.chosen(), k);
-                    frame.note(k)?;
-                    self.resume(alloc, task, log, frame)?;
+        if let Some(k) = self.line {
+            return match self.path.go_back() {
+                Some(kept) => {
+                    self.resume(alloc, task, log, kept, k)?;
                     Ok(Turn::On)
                 }
                 None => Ok(Turn::Done(Found::Line(k))),
-            },
-            None => match open(alloc, task, log, meter, &mut self.watches, &self.path)? {
-                Opened::Line(k) => {
-                    self.line = Some(k);
-                    Ok(Turn::On)
-                }
-                Opened::Choices(fresh) => {
-                    self.begin(alloc, task, log, fresh)?;
-                    Ok(Turn::On)
-                }
-                Opened::Empty => {
-                    let seats = seats(alloc, task, &mut self.path)?;
-                    Ok(Turn::Done(Found::Seats(seats)))
-                }
-                Opened::Spent => Ok(Turn::Done(Found::Spent)),
-            },
+            };
+        }
+        match open(
+            alloc,
+            task,
+            log,
+            meter,
+            self.path.sky(),
+            &self.trail.levels(),
+        )? {
+            Opened::Line(k) => {
+                self.line = Some(k);
+                Ok(Turn::On)
+            }
+            Opened::Choices => {
+                self.begin(alloc, task, log)?;
+                Ok(Turn::On)
+            }
+            Opened::Empty => {
+                let seats = seats(alloc, task, &mut self.path)?;
+                Ok(Turn::Done(Found::Seats(seats)))
+            }
         }
     }
 }
 
 /// Searches the whole claim of the members, which rise and are in range: each choice in turn, and
-/// then what is left of the claim.
+/// then what is left of the claim. The log has no lines yet.
 pub(crate) fn search(
     alloc: Global,
     task: &Task,
@@ -108,34 +116,34 @@ pub(crate) fn search(
     meter: &mut Meter,
     sections: &Sections,
     members: &[u32],
-) -> Result<Found, NoMemory>
+) -> Result<Found, Fail<Spent>>
     requires sections { AreSectionsOf task.now.instance.now sections.now }
     requires rises { Rises members.now }
     requires in_range { All (λ b. b < length task.now.instance.now) members.now }
     requires log { IsSearchLog task.now.instance.now task.now.capacity log.old }
+    requires empty { log.old.lines ≡ [] }
     ensures log { OnOk result (IsSearchLog task.now.instance.now task.now.capacity log.new) }
     ensures grown { let I = task.now.instance.now in
-        OnOk result (Extends (whole I members.now) log.old.lines log.new.lines) }
+        OnOk result (Extends (whole I members.now) [] log.new.lines) }
     ensures most { meter.new.most ≡ meter.old.most }
     ensures units { meter.old.used ≤ meter.new.used }
     ensures used { let I = task.now.instance.now in
         let most = work I task.now.capacity (whole I members.now) in
         meter.new.used ≤ meter.old.used + most }
-    ensures spent { let I = task.now.instance.now in
-        let most = work I task.now.capacity (whole I members.now) in
-        IfOk result (IfFoundSpent (AreSpent meter.new × (meter.new.used < meter.old.used + most))) }
-    ensures taken { log.old.lines ≡ [] →
-        IfOk result (UnlessFoundSpent (AreMore meter.old meter.new)) }
+    ensures taken { OnOk result (AreMore meter.old meter.new) }
     ensures found { let I = task.now.instance.now in
-        IfOk result (IsFound I task.now.capacity (whole I members.now) log.new.lines) }
-    ensures counted { OnOk result (AreCounted meter.old meter.new
-        (length log.old.lines) (length log.new.lines)) }
+        let most = work I task.now.capacity (whole I members.now) in
+        UnlessNoMemory result (IsFound I task.now.capacity (whole I members.now) log.new.lines)
+        (λ _. AreSpent meter.new × (meter.new.used < meter.old.used + most)) }
+    ensures counted { OnOk result (AreMoreBy (length log.new.lines) meter.old meter.new) }
 {
     let sky = Skyline::new(alloc, task.instance, sections, members)?;
+    let trail = Trail::of(alloc, &sky)?;
     let recent = Recent::new(alloc, task.instance.len())?;
     let watches = Watches::new(alloc, task.capacity);
     let mut walk = Walk {
         path: Path::new(alloc, sky),
+        trail,
         line: None,
         recent,
         watches,

@@ -1,94 +1,115 @@
 //! A search on its way: where it is, and what it keeps at hand.
 
-ghost use Rattle.std.specs.Prelude.{◌≡◌, ◌≤◌, OnOk, map};
-ghost use Rattle.canonical_order.specs.Claims.{entry_of};
-ghost use Rattle.line_index.specs.Watches.{AreWatched};
-ghost use Rattle.branching.specs.Fresh.{IsFresh, tries_at};
+ghost use Rattle.std.specs.Prelude.{◌≡◌, ℕ, List, IfOk, OnOk, length, true};
+ghost use Rattle.canonical_order.specs.Claims.{HasBuffer};
+ghost use Rattle.line_index.specs.Covered.{IsCoveredBy};
+ghost use Rattle.claim_levels.specs.Levels.{IsLeastLevel};
 ghost use Rattle.branching.specs.Logs.{IsSearchLog};
-ghost use Rattle.branching.specs.Tries.{rest_of};
-ghost use Rattle.branching.specs.Trying.{IsTrying, through};
-ghost use Rattle.search_core.specs.Descents.{claim_at};
+ghost use Rattle.branching.specs.Tries.{noted_by, order_of, tried_of, untried};
+ghost use Rattle.search_core.specs.Descents.{IsPath, claim_at};
 ghost use Rattle.search_core.specs.Turns.{IsAtChoices, IsUncovered};
-ghost use Rattle.search_core.specs.Walks.{GoesOn, HasWatches, place_of};
+ghost use Rattle.search_core.specs.Walks.{GoesOn, HasWatches, IsLookedUp, child_by, place_of, tracks_below};
+ghost use Rattle.search_core.specs.Watches.{AreWatchedAbove, AreWatchedTo};
+ghost use Rattle.search_core.specs.Ways.{IsKeptAt};
 
+use crate::kept::Kept;
 use crate::path::Path;
-use branching::{Frame, Fresh, Task, refute};
+use branching::{Frame, Notes, Task, choices, refute};
 use canonical_order::Lows;
+use claim_levels::Trail;
 use conflicts::Lemmas;
 use dsa_model::NoMemory;
 use line_index::{Recent, Watches};
 use std::alloc::Global;
 
-/// Where a search is, the number of a line that covers the claim there, if one is known, the lines
-/// that covered last, and the watches of all lines.
+/// Where a search is, the levels of the claims down to that one, the number of a line that covers
+/// the claim there, if one is known, the lines that covered last, and the watches of all lines.
 #[derive(Drop)]
 pub(crate) struct Walk<'a> {
     pub(crate) path: Path<'a>,
+    pub(crate) trail: Trail,
     pub(crate) line: Option<u64>,
     pub(crate) recent: Recent,
     pub(crate) watches: Watches,
 }
 
 impl<'a> Walk<'a> {
-    /// Takes the next choice of the claim that the search is at, which no line covers and whose
-    /// choices are those of the frame; where none is left the claim is refuted by a line.
-    fn advance(
+    /// A line that covers the child by the buffer of the claim that the search is at. If none is
+    /// found, the levels are those of the child by then. Where `is_first` is yes, the buffer is the
+    /// one of least low, and of these the one of least number.
+    fn look_up(
+        &mut self,
+        alloc: Global,
+        task: &Task,
+        log: &Lemmas,
+        b: u32,
+        is_first: bool,
+    ) -> Result<Option<u64>, NoMemory>
+        requires path { let I = task.now.instance.now in
+            IsPath I task.now.capacity log.now.lines (place_of self.old) }
+        requires has { HasBuffer (claim_at (place_of self.old)) b }
+        requires first { is_first ≡ true → IsLeastLevel self.old.trail.last b }
+        requires watched { HasWatches log.now.lines self.old }
+        requires held { let n = length log.now.lines in
+            AreWatchedTo log.now.lines self.old.watches self.old.path n }
+        ensures path { self.new.path ≡ self.old.path }
+        ensures line { self.new.line ≡ self.old.line }
+        ensures found { let I = task.now.instance.now in
+            IfOk result (IsLookedUp I log.now.lines b self.old self.new) }
+    {
+        let _count = self.path.instance().len();
+        let levels = self.trail.levels();
+        if let Some(line) = self
+            .recent
+            .find(log.log(), task.instance, levels.as_slice(), b)
+        {
+            return Ok(Some(line));
+        }
+        let sections = self.path.sky().sections();
+        self.trail
+            .descend(alloc, task.instance, sections, b, is_first)?;
+        let levels = self.trail.levels();
+        match self
+            .watches
+            .find(log.log(), levels.as_slice(), self.trail.raised())?
+        {
+            Some(line) => {
+                self.trail.ascend()?;
+                self.recent.note(b, line);
+                Ok(Some(line))
+            }
+            None => Ok(None),
+        }
+    }
+
+    /// Refutes the claim that the search is at by a line: no line covers it, and each of its
+    /// choices is refuted.
+    fn refute(
         &mut self,
         alloc: Global,
         task: &Task,
         log: &mut Lemmas,
-        frame: Frame,
+        frame: &Frame,
     ) -> Result<(), NoMemory>
         requires log { IsSearchLog task.now.instance.now task.now.capacity log.old }
         requires ready { let I = task.now.instance.now in
-            IsUncovered I task.now.capacity log.old.lines (place_of self.old) frame }
+            IsUncovered I task.now.capacity log.old.lines (place_of self.old) frame.now }
+        requires done { length frame.now.refuted ≡ length frame.now.order }
+        requires watched { HasWatches log.old.lines self.old }
         ensures { let I = task.now.instance.now in let C = task.now.capacity in
-            OnOk result (GoesOn I C frame log.old log.new self.old self.new) }
+            OnOk result (GoesOn I C frame.now log.old log.new self.old self.new) }
     {
         let _count = self.path.instance().len();
-        if frame.is_done() {
-            let claim = frame.levels().ground(alloc)?;
-            let line = refute(alloc, task, log, claim, frame.levels(), frame.refuted())?;
-            self.line = Some(line);
-            return Ok(());
-        }
-        self.path.go_down(frame)?;
-        self.line = None;
+        let levels = self.trail.levels();
+        let claim = levels.ground(alloc)?;
+        let line = refute(alloc, task, log, claim, &levels, frame.refuted())?;
+        self.line = Some(line);
         Ok(())
     }
 
-    /// Notes lines for the next choices of the frame, as long as one is at hand that covers the
-    /// child. So these children need not be made. The frame is that of the claim that the search is
-    /// at.
-    fn pass_over(&self, task: &Task, log: &Lemmas, frame: &mut Frame) -> Result<(), NoMemory>
-        requires subject { self.now.path.sky.instance ≡ task.now.instance.now }
-        requires log { IsSearchLog task.now.instance.now task.now.capacity log.now }
-        requires trying { let l = claim_at (place_of self.now) in
-            IsTrying task.now.instance.now task.now.capacity log.now.lines l frame.old }
-        ensures trying { let I = task.now.instance.now in let l = claim_at (place_of self.now) in
-            OnOk result (IsTrying I task.now.capacity log.now.lines l frame.new) }
-        ensures levels { OnOk result (frame.new.levels ≡ frame.old.levels) }
-        ensures asked { OnOk result (frame.new.asked ≡ frame.old.asked) }
-        ensures less { let I = task.now.instance.now in let C = task.now.capacity in
-            let l = claim_at (place_of self.now) in
-            OnOk result (through I C l (map (entry_of l) (rest_of frame.new))
-            ≤ through I C l (map (entry_of l) (rest_of frame.old))) }
-    {
-        let _count = self.path.instance().len();
-        'choices: while !frame.is_done() {
-            let levels = frame.levels().as_slice();
-            match self
-                .recent
-                .find(log.log(), task.instance, levels, frame.chosen())
-            {
-                Some(line) => frame.note(line)?,
-                None => return Ok(()),
-            }
-        }
-        Ok(())
-    }
-
-    /// Takes the next choice of the claim for which no line is at hand, as `advance` does.
+    /// Goes down to the first child of the claim that the search is at that no line covers; where
+    /// each is covered, the claim is refuted by a line. No line covers the claim, and its choices
+    /// are those of the frame, the first of which is refuted already.
     fn proceed(
         &mut self,
         alloc: Global,
@@ -99,72 +120,113 @@ impl<'a> Walk<'a> {
         requires log { IsSearchLog task.now.instance.now task.now.capacity log.old }
         requires ready { let I = task.now.instance.now in
             IsUncovered I task.now.capacity log.old.lines (place_of self.old) frame }
+        requires watched { HasWatches log.old.lines self.old }
+        requires held { AreWatchedTo log.old.lines self.old.watches self.old.path frame.asked }
         ensures { let I = task.now.instance.now in let C = task.now.capacity in
             OnOk result (GoesOn I C frame log.old log.new self.old self.new) }
     {
-        self.pass_over(task, log, &mut frame)?;
-        self.advance(alloc, task, log, frame)?;
-        Ok(())
+        let _count = self.path.instance().len();
+        'choices: while !frame.is_done() {
+            let chosen = frame.chosen();
+            match self.look_up(alloc, task, log, chosen, false)? {
+                Some(line) => frame.note(line)?,
+                None => {
+                    let (order, notes) = frame.parts();
+                    self.path.go_down(Kept {
+                        notes,
+                        chosen,
+                        order: Some(order),
+                    })?;
+                    self.line = None;
+                    return Ok(());
+                }
+            }
+        }
+        self.refute(alloc, task, log, &frame)
     }
 
-    /// Takes the first choice of the claim that the search is at, which was just opened, or where a
-    /// line is at hand for it, the next choice for which there is none, as `advance` does.
+    /// Goes down to the child by the first choice of the claim that the search is at, which was
+    /// just opened, or where a line covers that, goes on as `proceed` does. The other choices are
+    /// not looked for before they are needed.
     pub(crate) fn begin(
         &mut self,
         alloc: Global,
         task: &Task,
         log: &mut Lemmas,
-        fresh: Fresh,
     ) -> Result<(), NoMemory>
         requires log { IsSearchLog task.now.instance.now task.now.capacity log.old }
-        requires first { IsFresh task.now.instance.now (claim_at (place_of self.old)) fresh }
         requires ready { let I = task.now.instance.now in
-            let f = tries_at I (claim_at (place_of self.old)) fresh in
+            let f = untried (order_of I (claim_at (place_of self.old))) (length log.old.lines) in
             IsUncovered I task.now.capacity log.old.lines (place_of self.old) f }
+        requires watched { HasWatches log.old.lines self.old }
+        requires held { let n = length log.old.lines in
+            AreWatchedTo log.old.lines self.old.watches self.old.path n }
         ensures { let I = task.now.instance.now in let C = task.now.capacity in
-            let f = tries_at I (claim_at (place_of self.old)) fresh in
+            let f = untried (order_of I (claim_at (place_of self.old))) (length log.old.lines) in
             OnOk result (GoesOn I C f log.old log.new self.old self.new) }
     {
         let _count = self.path.instance().len();
-        let levels = fresh.levels.as_slice();
-        let line = self
-            .recent
-            .find(log.log(), task.instance, levels, fresh.chosen);
-        if line.is_some() {
-            let frame = fresh.frame(alloc, task)?;
-            self.proceed(alloc, task, log, frame)?;
-            return Ok(());
+        let asked = log.log().len();
+        let chosen = self.trail.levels().first();
+        match self.look_up(alloc, task, log, chosen, true)? {
+            Some(line) => {
+                let order = choices(alloc, task, &self.trail.levels())?;
+                let mut frame = Frame::new(alloc, order, asked);
+                frame.note(line)?;
+                self.proceed(alloc, task, log, frame)
+            }
+            None => {
+                let refuted = Vec::new(alloc);
+                self.path.go_down(Kept {
+                    notes: Notes { refuted, asked },
+                    chosen,
+                    order: None,
+                })?;
+                self.line = None;
+                Ok(())
+            }
         }
-        self.path.go_first(alloc, fresh)?;
-        self.line = None;
-        Ok(())
     }
 
-    /// Goes on at the claim to which the search has returned: by a line that covers it, which was
-    /// made since it was asked for one, or else by its next choice.
+    /// Goes on at the claim to which the search has come back from the child by the choice that was
+    /// kept, which line k covers: by a line that covers the claim itself, which was made since it
+    /// was asked for one, or else by its next choice. The levels are still those of the child.
     pub(crate) fn resume(
         &mut self,
         alloc: Global,
         task: &Task,
         log: &mut Lemmas,
-        mut frame: Frame,
+        kept: Kept,
+        k: u64,
     ) -> Result<(), NoMemory>
         requires log { IsSearchLog task.now.instance.now task.now.capacity log.old }
         requires opened { let I = task.now.instance.now in
-            IsAtChoices I task.now.capacity log.old.lines (place_of self.old) frame }
-        requires watched { HasWatches log.old.lines self.old }
-        requires held { AreWatched log.old.lines self.old.watches frame.levels frame.asked }
+            let f = tried_of I (claim_at (place_of self.old)) kept.notes in
+            IsAtChoices I task.now.capacity log.old.lines (place_of self.old) f }
+        requires kept { let l = claim_at (place_of self.old) in
+            IsKeptAt task.now.instance.now l kept }
+        requires covered { let I = task.now.instance.now in
+            IsCoveredBy I log.old.lines (child_by I self.old kept.chosen) k }
+        requires trail { (below : List ℕ) × (self.old.trail ≡ tracks_below self.old.path below) }
+        requires above { AreWatchedAbove log.old.lines self.old.watches self.old.path }
+        requires held { let n = kept.notes.asked in
+            AreWatchedTo log.old.lines self.old.watches self.old.path n }
         ensures { let I = task.now.instance.now in let C = task.now.capacity in
-            OnOk result (GoesOn I C frame log.old log.new self.old self.new) }
+            let f = noted_by (tried_of I (claim_at (place_of self.old)) kept.notes) k in
+            OnOk result (GoesOn I C f log.old log.new self.old self.new) }
     {
         let _count = self.path.instance().len();
-        let levels = frame.levels().as_slice();
-        if let Some(line) = self.watches.ask(log.log(), levels, frame.asked())? {
+        self.trail.ascend()?;
+        self.recent.note(kept.chosen, k);
+        let levels = self.trail.levels();
+        let asked = kept.notes.asked;
+        if let Some(line) = self.watches.ask(log.log(), levels.as_slice(), asked)? {
             self.line = Some(line);
             return Ok(());
         }
+        let mut frame = kept.frame(alloc, task, &levels)?;
+        frame.note(k)?;
         frame.ask_to(log.log().len());
-        self.proceed(alloc, task, log, frame)?;
-        Ok(())
+        self.proceed(alloc, task, log, frame)
     }
 }

@@ -7,10 +7,10 @@ ghost use Rattle.refute_log.specs.Decided.{IfSpent};
 ghost use Rattle.search_core.specs.Meters.{AreMore, AreSpent};
 ghost use Rattle.search_core.specs.Outcomes.{IsDecided, LinesAreCounted, UnlessSpent};
 
-use crate::meter::Meter;
+use crate::meter::{Meter, Spent};
 use crate::part::{Piece, search_part};
 use branching::Task;
-use dsa_model::{Instance, NoMemory};
+use dsa_model::{Fail, Instance, NoMemory};
 use lifetime::Sections;
 use refute_log::Decided;
 use split_sections::Parts;
@@ -55,10 +55,11 @@ pub(crate) fn search_parts(
 {
     let mut seats = Vec::new(alloc);
     for p in 0..parts.count() {
-        match search_part(alloc, task, meter, sections, parts.members(p))? {
-            Piece::Seats(found) => seats.extend_from_slice(&found)?,
-            Piece::Refuted(log) => return Ok(Decided::Refuted(log)),
-            Piece::Spent => return Ok(Decided::Spent),
+        match search_part(alloc, task, meter, sections, parts.members(p)) {
+            Ok(Piece::Seats(found)) => seats.extend_from_slice(&found)?,
+            Ok(Piece::Refuted(log)) => return Ok(Decided::Refuted(log)),
+            Err(Fail::Fault(Spent)) => return Ok(Decided::Spent),
+            Err(Fail::NoMemory) => return Err(NoMemory),
         }
     }
     let offsets = offsets(alloc, task.instance, &seats)?;

@@ -1,1 +1,2 @@
 mod PreparedFacts
+mod SearchLowFacts

@@ -50,13 +50,18 @@ pub(crate) fn levels_of(alloc: Global, sky: &Skyline) -> Result<Vec<u64>, NoMemo
     Ok(levels)
 }
 
-/// The buffers below the count whose levels are higher now than before.
-fn raised(alloc: Global, count: u32, before: &[u64], now: &[u64]) -> Result<Vec<u32>, NoMemory> {
+/// The buffers below the count whose levels are higher now than before, each with that before.
+fn raised(
+    alloc: Global,
+    count: u32,
+    before: &[u64],
+    now: &[u64],
+) -> Result<Vec<(u32, u64)>, NoMemory> {
     let mut raised = Vec::new(alloc);
     for b in 0..count {
         let place = b as usize;
         if place < before.len() && place < now.len() && before[place] < now[place] {
-            raised.push(b)?;
+            raised.push((b, before[place]))?;
         }
     }
     Ok(raised)
@@ -147,9 +152,7 @@ impl<'a> Replay<'a> {
         sky.push(b);
         let levels = levels_of(self.alloc, sky)?;
         let raised = raised(self.alloc, self.instance.len(), above, &levels)?;
-        let found = self
-            .watches
-            .find(self.lemmas.log(), above, &levels, &raised)?;
+        let found = self.watches.find(self.lemmas.log(), &levels, &raised)?;
         if self.compare(sky, found) {
             Ok(None)
         } else {

@@ -2,7 +2,7 @@
 use Rattle.std.proofs.Common.{◌≡◌, ℕ, ◌<◌, ◌≤◌, ◌^◌, inl, inr, List, [], ◌∷◌, length, take, reverse, sym, ap, subst, arith, Bool}
 use Rattle.std.specs.List.{All}
 use Rattle.dsa_terms.specs.Buffers.{Instance, buffer}
-use Rattle.dsa_terms.specs.Claims.{Claim, Entry, IsIn, Rises}
+use Rattle.dsa_terms.specs.Claims.{Claim, Entry, IsIn, Rises, child}
 use Rattle.dsa_terms.specs.Parts.{whole}
 use Rattle.dsa_terms.proofs.Lists.{from_append}
 use Rattle.dsa_terms.proofs.Moments.{sound}
@@ -12,6 +12,7 @@ use Rattle.dsa_search_laws.proofs.Placing.{in_buffers, up_at_or_above}
 use Rattle.dsa_search_laws.proofs.Members.{buffers_of-whole}
 use Rattle.dsa_model.specs.Buffer.{IsBuffer, buffer_limit}
 use Rattle.lifetime.specs.SectionList.{AreSectionsOf, SectionList}
+use Rattle.canonical_order.specs.Claims.{HasBuffer, IsBoundedBy, entry_of}
 use Rattle.canonical_order.specs.Stands.{Stands}
 use Rattle.skyline.specs.Carried.{claims_of}
 use Rattle.skyline.specs.Skies.{AreLow, Sky, last_claim}
@@ -63,6 +64,24 @@ low_of_view I S members n stack ledges hs rows flags k e h =
     subst AreLow (ap (λ (k : Sky). k.claims) e)
     (all_low I members (reverse (take n stack)) h.carries.buffers h.carries.count h.carries.in_range h.carries.rise
     h.carries.stands)
+
+-- and so are those of each child of the last claim
+pub children_of_view : (I : Instance) (S : SectionList) (members : List ℕ) (n : ℕ) (stack ledges hs : List ℕ)
+    (rows : List (List ℕ)) (flags : List Bool) (k : Sky) (b : ℕ) →
+    record { instance = I; sections = S; claims = claims_of I (whole I members) (reverse (take n stack)) } ≡ k →
+    IsSkyline I S members n stack ledges hs rows flags → HasBuffer (last_claim k.claims) b →
+    IsBoundedBy (2 ^ 54) (child k.instance (last_claim k.claims) (entry_of (last_claim k.claims) b))
+children_of_view I S members n stack ledges hs rows flags k b e h =
+    subst (λ (k : Sky). HasBuffer (last_claim k.claims) b →
+    IsBoundedBy (2 ^ 54) (child k.instance (last_claim k.claims) (entry_of (last_claim k.claims) b))) e
+    (subst (λ (l : Claim). HasBuffer l b → IsBoundedBy (2 ^ 54) (child I l (entry_of l b)))
+    (sym (last_of_claims I (whole I members) bs)) (λ has e i.
+    let k = bound_low I members (b ∷ bs) e h.carries.buffers h.carries.count h.carries.in_range h.carries.rise
+    (has, h.carries.stands) i in
+    omega (arith, k)))
+  where
+    bs : List ℕ
+    bs = reverse (take n stack)
 
 pub belongs_of_view : (I : Instance) (S : SectionList) (members : List ℕ) (n : ℕ) (stack ledges hs : List ℕ)
     (rows : List (List ℕ)) (flags : List Bool) (k : Sky) →

@@ -1,10 +1,10 @@
 //! The skyline.
 
-ghost use Rattle.std.specs.Prelude.{◌≡◌, ◌+◌, ◌<◌, ◌^◌, ◌∷◌, ◌++◌, ◌↔◌, [], ◌≤◌, IfNone, IfOk, IfSome, IsTrue, Some, length};
+ghost use Rattle.std.specs.Prelude.{◌≡◌, ℕ, ◌+◌, ◌<◌, ◌^◌, ◌∷◌, ◌++◌, ◌↔◌, [], ◌≤◌, IfNone, IfOk, IfSome, IsTrue, Some, length};
 ghost use Rattle.std.specs.List.{All};
 ghost use Rattle.dsa_terms.specs.Claims.{Rises, child, up};
 ghost use Rattle.lifetime.specs.SectionList.{AreSectionsOf, count_of};
-ghost use Rattle.canonical_order.specs.Claims.{HasBuffer, entry_of};
+ghost use Rattle.canonical_order.specs.Claims.{HasBuffer, IsBoundedBy, entry_of};
 ghost use Rattle.canonical_order.specs.Levels.{AreLevels};
 ghost use Rattle.canonical_order.specs.Stands.{Stands};
 ghost use Rattle.skyline.specs.Overloads.{FitsFrom, least_up, over, overloaded};
@@ -190,10 +190,14 @@ impl<'a> Skyline<'a> {
         None
     }
 
-    /// The sections of the instance.
+    /// The sections of the instance. That no bound of a child of the last claim is above 2^54 stands
+    /// here, for those who go down to one by the sections.
     pub fn sections(&self) -> &Sections
         ensures value { result.now ≡ self.now.sections }
         ensures belongs { AreSectionsOf self.now.instance self.now.sections }
+        ensures below { (b : ℕ) → HasBuffer (last_claim self.now.claims) b →
+            let l = last_claim self.now.claims in
+            IsBoundedBy (2 ^ 54) (child self.now.instance l (entry_of l b)) }
     {
         self.sections
     }

@@ -1,21 +1,15 @@
-use Rattle.std.proofs.Common.{◌≡◌, ◌∙◌, ◌+◌, ℕ, ap, drop, map, rules, slice_index, subst, sym}
-use Rattle.branching.proofs.Words.{in_at, entry_of, not_excluded}
-use Rattle.branching.proofs.LeftEntries.{left_next, left_past}
+use Rattle.std.proofs.Common.{◌≡◌, ◌∙◌, ◌+◌, ℕ, Bool, true, false, ap, drop, map, not, rules, slice_index, subst, sym}
+use Rattle.branching.proofs.Words.{entry_of, not_excluded}
+use Rattle.branching.proofs.LeftEntries.{left_next, left_past, left_some}
 use Rattle.branching.proofs.Order.{AreKeysBut, keys_all, keys_skip, keys_take, sorted_keys}
-use Rattle.branching.proofs.choice.choices.Goals.{else-takes, then-takes+in_ok-push}
+use Rattle.branching.proofs.choice.choices.Goals.{else-is_none, then-is_none+in_ok-push}
 use Rattle.branching.proofs.choice.choices.Goals as goal
 
-pub takes-requires-clause-b_in : goal.takes-requires-clause-b_in
-takes-requires-clause-b_in c =
-    let left = c.left-b-items.result.now in
-    let i = c.loop-b.b-index in
-    c.left-b-items.ensures.some (slice_index left i) (in_at left i 0 c.loop-b-test.true)
+pub own_cite-requires-clause-b_in : goal.own_cite-requires-clause-b_in
+own_cite-requires-clause-b_in c = left_some _ _ c.left-b-items.ensures c.loop-b.b-index c.loop-b-test.true
 
-pub key_of-requires : goal.key_of-requires
-key_of-requires c =
-    let left = c.left-b-items.result.now in
-    let i = c.loop-b.b-index in
-    c.left-b-items.ensures.some (slice_index left i) (in_at left i 0 c.loop-b-test.true)
+pub low_of-requires : goal.low_of-requires
+low_of-requires c = left_some _ _ c.left-b-items.ensures c.loop-b.b-index c.loop-b-test.true
 
 pub loop-b-preserved : goal.loop-b-preserved
 loop-b-preserved c = λ l h.
@@ -24,13 +18,15 @@ loop-b-preserved c = λ l h.
     let i = c.loop-b.b-index in
     let e = entry_of l (slice_index left i) in
     let s = left_next I l _ left h c.left-b-items.ensures i c.loop-b-test.true in
-    let takes = c.takes.ensures l h (c.least_end-least.ensures l h) in
-    elim c.if-takes.branch [
-      | then-takes+in_ok-push w ↦ subst (AreKeysBut I l (drop (i + 1) l)) (ap (λ v. v.items) (sym w.keys-is))
-          (keys_take I l (drop i l) (drop (i + 1) l) e _ s (c.loop-b.invariant l h) _ _ (sym takes ∙ w.if-takes.true)
-          (w.key_of.ensures I l h) w.in_ok-push.ensures.items)
-      | else-takes w ↦ subst (AreKeysBut I l (drop (i + 1) l)) (ap (λ v. v.items) (sym w.keys-is))
-          (keys_skip I l (drop i l) (drop (i + 1) l) e _ s (c.loop-b.invariant l h) (sym takes ∙ w.if-takes.false))
+    let none = c.own_cite.ensures.none l h (c.least_end-least.ensures l h) in
+    let takes : (t : Bool) → c.is_none.result ≡ t → not_excluded I l e ≡ not (not t) =
+    λ t q. none ∙ ap not (c.is_none.ensures ∙ ap not q) in
+    elim c.if-is_none.branch [
+      | then-is_none+in_ok-push w ↦ subst (AreKeysBut I l (drop (i + 1) l)) (ap (λ v. v.items) (sym w.keys-is))
+          (keys_take I l (drop i l) (drop (i + 1) l) e _ s (c.loop-b.invariant l h) _ _ (takes true w.if-is_none.true)
+          (ap (λ (low : ℕ). let k : ℕ × ℕ = (low, e.0) in k) (w.low_of.ensures.value I l h)) w.in_ok-push.ensures.items)
+      | else-is_none w ↦ subst (AreKeysBut I l (drop (i + 1) l)) (ap (λ v. v.items) (sym w.keys-is))
+          (keys_skip I l (drop i l) (drop (i + 1) l) e _ s (c.loop-b.invariant l h) (takes false w.if-is_none.false))
     ]
 
 pub returns : goal.returns

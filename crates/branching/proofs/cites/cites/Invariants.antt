@@ -5,5 +5,5 @@ use Rattle.branching.specs.Cites.{IsCiteFor}
 use Rattle.branching.proofs.cites.cites.Given as goal
 
 abbrev pub invariant-loop-i : goal.invariant-loop-i
-invariant-loop-i l = AllZip (IsCiteFor l.view.instance.now l.view.claim.now l.refuted) (take l.i l.pairs)
+invariant-loop-i l = AllZip (IsCiteFor l.task.instance.now l.claim l.refuted) (take l.i l.pairs)
     (map cite_value l.cites.items)

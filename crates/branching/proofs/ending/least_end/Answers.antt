@@ -1,15 +1,12 @@
 use Rattle.std.proofs.Common.{◌+◌, arith, drop, refl, slice_index, subst, sym}
-use Rattle.branching.proofs.Words.{in_at, entry_in, entry_of}
+use Rattle.branching.proofs.Words.{entry_in, entry_of}
 use Rattle.branching.proofs.Ends.{IsLeastBut, least_keep, least_of_all, least_take}
-use Rattle.branching.proofs.LeftEntries.{left_has, left_next, left_past}
+use Rattle.branching.proofs.LeftEntries.{left_has, left_next, left_past, left_some}
 use Rattle.branching.proofs.ending.least_end.Goals.{else-end-least, then-end-least}
 use Rattle.branching.proofs.ending.least_end.Goals as goal
 
 pub end_of-end-requires-clause-b_in : goal.end_of-end-requires-clause-b_in
-end_of-end-requires-clause-b_in c =
-    let left = c.left-b-items.result.now in
-    let i = c.loop-b.b-index in
-    c.left-b-items.ensures.some (slice_index left i) (in_at left i 0 c.loop-b-test.true)
+end_of-end-requires-clause-b_in c = left_some _ _ c.left-b-items.ensures c.loop-b.b-index c.loop-b-test.true
 
 pub loop-b-preserved : goal.loop-b-preserved
 loop-b-preserved c = λ l h.

@@ -3,7 +3,7 @@ use Rattle.claim_levels.proofs.Words.{IsIn, members_of, next_of}
 use Rattle.claim_levels.proofs.spreading.raise_near.Goals as goal
 
 pub loop-i-preserved : goal.loop-i-preserved
-loop-i-preserved c = record {
+loop-i-preserved g c = record {
   raising = c.in_ok-raise_each.ensures.raising;
   done = λ s i. elim (c.loop-i.invariant.done s i) [
     | inl left ↦ elim (subst (IsIn s) (next_of c.args.own.now c.loop-i.i 0 c.loop-i-test.true) left) [
@@ -16,7 +16,7 @@ loop-i-preserved c = record {
 }
 
 pub returns-clause-done : goal.returns-clause-done
-returns-clause-done c = λ s x i j. elim (c.loop-i.invariant.done s i) [
+returns-clause-done g c = λ s x i j. elim (c.loop-i.invariant.done s i) [
   | inl left ↦ absurd (subst (IsIn s) (drop_of_length-le c.args.own.now c.loop-i-test.false) left)
   | inr done ↦ done x j
 ]

@@ -1,4 +1,4 @@
-use Rattle.std.proofs.Common.{◌∙◌, ◌<◌, ap, arith, length}
+use Rattle.std.proofs.Common.{◌<◌, arith, length, refl}
 use Rattle.search_core.proofs.Seating.{map_all, map_none, map_skip, map_take, seat_at}
 use Rattle.search_core.proofs.gather.gathered.Goals.{then-is_free+in_ok-push, else-is_free}
 use Rattle.search_core.proofs.gather.gathered.Goals as goal
@@ -15,11 +15,11 @@ loop-b-preserved g c =
     elim c.if-is_free.branch [
       | then-is_free+in_ok-push w ↦
           map_take f l _ c.loop-b.seats.items c.if-is_free.seats.items (c.is_free.ensures.stands).claim.rises
-          (c.is_free.ensures.value.0 w.if-is_free.true) (ap (λ v. v.items) w.seats-is ∙ w.in_ok-push.ensures.items)
+          (c.is_free.ensures.value.0 w.if-is_free.true) (rw w.seats-is w.in_ok-push.ensures.items)
           c.loop-b.invariant
       | else-is_free w ↦
           map_skip f l c.loop-b.b c.loop-b.seats.items c.if-is_free.seats.items
-          (λ h. let k = c.is_free.ensures.value.1 h in absurd cc) (ap (λ v. v.items) w.seats-is) c.loop-b.invariant
+          (λ h. let k = c.is_free.ensures.value.1 h in absurd cc) (rw w.seats-is refl) c.loop-b.invariant
     ]
 
 pub returns : goal.returns

@@ -1,8 +1,5 @@
-use Rattle.std.proofs.Common.{◌∙◌, length, ap}
-use Rattle.search_core.proofs.Words.{Log, OpenLog}
 use Rattle.dsa_search_laws.proofs.PartLists.{part_rises}
 use Rattle.dsa_model.proofs.Instances.{sound_instance}
-use Rattle.search_core.proofs.Counting.{counted_from_nothing}
 use Rattle.search_core.proofs.Parting.{part_in_range, refutes_part, whole_end}
 use Rattle.search_core.proofs.part.search_part.Goals as goal
 
@@ -22,18 +19,9 @@ unreachable-requires c =
 
 pub returns-in-Ok-clause-found : goal.returns-in-Ok-clause-found
 returns-in-Ok-clause-found c =
-    let empty = ap (λ (log : OpenLog). log.lines) (c.new-log.ensures ∙ c.new.ensures.value) in
     let found = rw c.in-Line.is at c.in_ok-seats.ensures.found in (
       found.0,
       refutes_part _ _ _ _ _ c.in-Line.end (sound_instance c.args.task.now.instance.now c.len-count.ensures.buffers)
-          c.requires.part c.in_ok-seats.ensures.log (rw empty at c.in_ok-seats.ensures.grown)
+          c.requires.part c.in_ok-seats.ensures.log c.in_ok-seats.ensures.grown
           (rw c.into_log.ensures at c.in-Ok.ensures.closed) c.in-Ok.ensures.accepted,
     )
-
-pub returns-in-Ok-clause-counted : goal.returns-in-Ok-clause-counted
-returns-in-Ok-clause-counted c =
-    let q = rw c.into_log.ensures at c.in-Ok.ensures.closed in
-    let n = ap (λ (log : Log). length log.lines) q in
-    rw n (counted_from_nothing c.args.meter.now c.search.new.meter (length c.new-log.result.lines)
-    (length c.search.new.log.lines) c.in_ok-seats.ensures.counted
-    (ap (λ (log : OpenLog). length log.lines) (c.new-log.ensures ∙ c.new.ensures.value)))

@@ -18,50 +18,50 @@ used c =
     let u = rw c.members.ensures.value at c.search_part.ensures.used in
     omega (arith, n, u)
 
-pub returns-in_err-found-clause-used : goal.returns-in_err-found-clause-used
-returns-in_err-found-clause-used c = used (goal.at.returns-in_err-found-clause-used c).After-search_part
+pub returns-in_err-extend_from_slice-in-Ok-Seats-clause-used :
+    goal.returns-in_err-extend_from_slice-in-Ok-Seats-clause-used
+returns-in_err-extend_from_slice-in-Ok-Seats-clause-used c =
+    used (goal.at.returns-in_err-extend_from_slice-in-Ok-Seats-clause-used c).After-search_part
 
-pub returns-in_err-extend_from_slice-in-Seats-clause-used : goal.returns-in_err-extend_from_slice-in-Seats-clause-used
-returns-in_err-extend_from_slice-in-Seats-clause-used c =
-    used (goal.at.returns-in_err-extend_from_slice-in-Seats-clause-used c).After-search_part
+pub returns-in-Ok-Refuted-clause-used : goal.returns-in-Ok-Refuted-clause-used
+returns-in-Ok-Refuted-clause-used c = used (goal.at.returns-in-Ok-Refuted-clause-used c).After-search_part
 
-pub returns-in-Refuted-clause-used : goal.returns-in-Refuted-clause-used
-returns-in-Refuted-clause-used c = used (goal.at.returns-in-Refuted-clause-used c).After-search_part
+pub returns-in-Err-Fault-clause-used : goal.returns-in-Err-Fault-clause-used
+returns-in-Err-Fault-clause-used c = used (goal.at.returns-in-Err-Fault-clause-used c).After-search_part
 
-pub returns-in-Spent-clause-used : goal.returns-in-Spent-clause-used
-returns-in-Spent-clause-used c = used (goal.at.returns-in-Spent-clause-used c).After-search_part
+pub returns-in-Err-NoMemory-clause-used : goal.returns-in-Err-NoMemory-clause-used
+returns-in-Err-NoMemory-clause-used c = used (goal.at.returns-in-Err-NoMemory-clause-used c).After-search_part
 
-pub returns-in-Spent-clause-spent : goal.returns-in-Spent-clause-spent
-returns-in-Spent-clause-spent c =
+pub returns-in-Err-Fault-clause-spent : goal.returns-in-Err-Fault-clause-spent
+returns-in-Err-Fault-clause-spent c =
     let n = part_work _ _ _ _ _ _ _ c.requires.parts (omega arith) c.loop-p.invariant in
-    let s = rw (c.in-Spent.is, c.members.ensures.value) at c.in_ok-found.ensures.spent in
+    let s = rw (c.in-Err-Fault.field-0-is, c.members.ensures.value) at c.in-Err-Fault.ensures.found in
     (s.0, omega (arith, n, s.1))
 
-pub returns-in-Refuted-clause-decided : goal.returns-in-Refuted-clause-decided
-returns-in-Refuted-clause-decided c =
-    let found = rw (c.in-Refuted.is, c.members.ensures.value) at c.in_ok-found.ensures.found in (
+pub returns-in-Ok-Refuted-clause-decided : goal.returns-in-Ok-Refuted-clause-decided
+returns-in-Ok-Refuted-clause-decided c =
+    let found = rw (c.in-Ok-Refuted.field-0-is, c.members.ensures.value) at c.in-Ok-Refuted.ensures.found in (
       part_refuted _ _ _ _ _ _ _ c.requires.parts (omega arith) c.loop-p.invariant found.0,
       found.1,
     )
 
-pub returns-in-Refuted-clause-taken : goal.returns-in-Refuted-clause-taken
-returns-in-Refuted-clause-taken c _ =
+pub returns-in-Ok-Refuted-clause-taken : goal.returns-in-Ok-Refuted-clause-taken
+returns-in-Ok-Refuted-clause-taken c _ =
     let j = c.loop-p.invariant in
-    more_by_after c.args.meter.now c.loop-p.meter c.search_part.new.meter 1 j.most j.units
-    (rw c.in-Refuted.is at c.in_ok-found.ensures.taken)
+    more_by_after c.args.meter.now c.loop-p.meter c.search_part.new.meter 1 j.most j.units c.in-Ok-Refuted.ensures.taken
 
-pub returns-in-Refuted-clause-counted : goal.returns-in-Refuted-clause-counted
-returns-in-Refuted-clause-counted c =
+pub returns-in-Ok-Refuted-clause-counted : goal.returns-in-Ok-Refuted-clause-counted
+returns-in-Ok-Refuted-clause-counted c =
     let j = c.loop-p.invariant in
-    more_by_after c.args.meter.now c.loop-p.meter c.search_part.new.meter (length c.in-Refuted.log.lines) j.most j.units
-    (rw c.in-Refuted.is at c.in_ok-found.ensures.counted)
+    more_by_after c.args.meter.now c.loop-p.meter c.search_part.new.meter (length c.in-Ok-Refuted.log.lines) j.most
+    j.units (rw c.in-Ok-Refuted.field-0-is at c.in-Ok-Refuted.ensures.counted)
 
 pub loop-p-preserved : goal.loop-p-preserved
 loop-p-preserved c =
-    let found = rw (c.in-Seats.is, c.members.ensures.value) at c.in_ok-found.ensures.found in
-    joining_next _ _ _ _ _ c.in-Seats.found.items c.extend_from_slice.new.self.items _ _ _ (omega arith)
-    c.loop-p.invariant found (c.in_ok-extend_from_slice-in-Seats.ensures.items ∙ (rw c.deref.ensures.value refl))
-    c.search_part.ensures.most c.search_part.ensures.units (rw c.in-Seats.is at c.in_ok-found.ensures.taken)
+    let found = rw (c.in-Ok-Seats.field-0-is, c.members.ensures.value) at c.in-Ok-Seats.ensures.found in
+    joining_next _ _ _ _ _ c.in-Ok-Seats.found.items c.extend_from_slice.new.self.items _ _ _ (omega arith)
+    c.loop-p.invariant found (c.in_ok-extend_from_slice-in-Ok-Seats.ensures.items ∙ (rw c.deref.ensures.value refl))
+    c.search_part.ensures.most c.search_part.ensures.units c.in-Ok-Seats.ensures.taken
     (rw c.members.ensures.value at c.search_part.ensures.used)
 
 pub returns-in_err-offsets-clause-used : goal.returns-in_err-offsets-clause-used

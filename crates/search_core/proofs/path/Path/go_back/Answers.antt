@@ -1,14 +1,15 @@
-use Rattle.std.proofs.Common.{arith}
+use Rattle.std.proofs.Common.{arith, subst}
 use Rattle.std.proofs.lemmas.List.{nil_from_length}
-use Rattle.search_core.proofs.Going.{back, nothing_popped}
+use Rattle.search_core.specs.Ways.{IsBackBy, Way}
+use Rattle.search_core.proofs.Keeping.{back, nothing_popped, way_of}
 use Rattle.search_core.proofs.path.Path.go_back.Goals as goal
 
-pub returns-in_ok-frame_of-in-Some-clause-some : goal.returns-in_ok-frame_of-in-Some-clause-some
-returns-in_ok-frame_of-in-Some-clause-some c =
-    back c.args.self.now c.frame_of.new.self c.self.inside.sky c.pop-in-Some.new.self _ c.pop.new.self.items
-    c.in-Some.kept c.in_ok-frame_of-in-Some.field-0 c.self.view_is c.frame_of.ensures.unchanged c.self.invariant
-    c.pop-in-Some.ensures.instance c.pop-in-Some.ensures.claims c.in-Some.ensures.items
-    c.in_ok-frame_of-in-Some.ensures.value
+pub returns-in-Some-clause-some : goal.returns-in-Some-clause-some
+returns-in-Some-clause-some c =
+    let after = way_of c.pop-in-Some.new.self c.pop.new.self.items in
+    subst (λ (w : Way). IsBackBy w after c.in-Some.kept) c.self.view_is
+    (back c.self.inside.sky c.pop-in-Some.new.self _ c.pop.new.self.items c.in-Some.kept c.self.invariant
+    c.pop-in-Some.ensures.instance c.pop-in-Some.ensures.claims c.in-Some.ensures.items)
 
 pub returns-in-None-clause-none : goal.returns-in-None-clause-none
 returns-in-None-clause-none c =

@@ -1,8 +1,0 @@
-use Rattle.std.proofs.Common.{drop}
-use Rattle.branching.proofs.Words.{Claim, entry_of, AreLevels}
-use Rattle.branching.proofs.TwinWalks.{IsNoTwinBut}
-use Rattle.branching.proofs.choice.has_twin.Given as goal
-
-abbrev pub invariant-loop-c : goal.invariant-loop-c
-invariant-loop-c l = (k : Claim) → AreLevels l.instance k l.levels →
-    IsNoTwinBut l.instance k (entry_of k l.b) (drop l.c-index k)
