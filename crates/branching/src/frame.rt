@@ -51,13 +51,6 @@ impl Frame {
         (self.order, self.notes)
     }
 
-    /// How many lines need not be asked again whether they cover the claim.
-    pub fn asked(&self) -> u64
-        ensures { result ≡ self.now.asked }
-    {
-        self.notes.asked
-    }
-
     /// Notes that so many lines were asked.
     pub fn ask_to(&mut self, asked: u64)
         ensures { self.new ≡ asked_to self.old asked }

@@ -1,9 +1,6 @@
 -- The levels of a child in the making, one buffer after another.
 use Rattle.std.proofs.Common.{◌≡◌, ◌≢◌, ℕ, ◌+◌, ◌-◌, ◌<◌, ◌≤◌, ◌^◌, ◌⊎◌, inl, inr, List, [], ◌∷◌, ◌++◌, max, All, Bool, true, false, cond, nat_lt, length, slice_index, slice_set, ap, sym, ◌∙◌, subst, refl, arith, length-set}
 use Rattle.std.proofs.lemmas.List.{get_or_past}
-use Rattle.std.specs.List.Sorted.{IsPermutation}
-use Rattle.std.proofs.lemmas.List.Sorted.{IsPermutation-refl, IsPermutation-sym}
-use Rattle.dsa_terms.proofs.Places.{in_permutation}
 use Rattle.claim_levels.proofs.Words.{Instance, IsInstance, buffer, do_share, Claim, Entry, IsIn, child, step, true_or_false, sound, below_or_from, less, same_or_not, left_append, right_append, from_append, AreSectionsOf, SectionList, members_of, sections_of, entry_of, AreLevels, IsLevel, from_child, in_child_by, has_level, level_in_range, level_inside}
 use Rattle.skyline.proofs.SectionFacts.{listed_in, section_in_range, shared_sections}
 use Rattle.claim_levels.specs.declared.placed.Placed.{Placed}
@@ -95,29 +92,6 @@ module _ (I : Instance) (levels : List ℕ) (b : ℕ) where
         | inr j ↦ elim j [ inl p ↦ inr p | inr z ↦ absurd z ]
       ]
 
-  -- the same numbers, with the same changes in another order
-  pub raising_sorted : (old new : Raising) → new.numbers.items ≡ old.numbers.items → new.top ≡ old.top →
-      IsPermutation old.changes.items new.changes.items → IsRaising I levels b old → IsRaising I levels b new
-  raising_sorted old new q t p h = record {
-    count = ap length q ∙ h.count;
-    outside = λ c z. at c ∙ h.outside c z;
-    each = λ c. subst (λ (xs : List ℕ). (slice_index xs c ≡ slice_index levels c) ⊎ IsRaised I levels b xs c) (sym q)
-        (h.each c);
-    under = λ c. (let k = h.under c in let e = at c in omega (arith, k, e, t));
-    limit = (let k = h.limit in omega (arith, k, t));
-    noted = λ c ne. in_permutation old.changes.items new.changes.items (c, slice_index levels c) p
-        (h.noted c (λ e. ne (at c ∙ e)));
-    were = λ e i. h.were e (back e i);
-    some = λ e i. h.some e (back e i);
-  }
-    where
-      at : (c : ℕ) → slice_index new.numbers.items c ≡ slice_index old.numbers.items c
-      at c = ap (λ (xs : List ℕ). slice_index xs c) q
-
-      back : (e : Entry) → IsIn e new.changes.items → IsIn e old.changes.items
-      back e i = in_permutation new.changes.items old.changes.items e
-          (IsPermutation-sym old.changes.items new.changes.items p) i
-
   -- the levels of the claim, of which none has changed
   pub raising_first : (r : Raising) → r.numbers.items ≡ levels → r.changes.items ≡ [] →
       All (λ level. level ≤ r.top) levels → r.top ≤ 2 ^ 55 → IsRaising I levels b r
@@ -138,8 +112,20 @@ module _ (I : Instance) (levels : List ℕ) (b : ℕ) where
   -- one that did not change
   pub raising_still : (old new : Raising) → (new.numbers.items ≡ old.numbers.items) × (new.top ≡ old.top)
       × (new.changes.items ≡ old.changes.items) → IsRaising I levels b old → IsRaising I levels b new
-  raising_still old new q h = raising_sorted old new q.0 q.1
-      (subst (IsPermutation old.changes.items) (sym q.2) (IsPermutation-refl old.changes.items)) h
+  raising_still old new q h = record {
+    count = ap length q.0 ∙ h.count;
+    outside = λ c z. at c ∙ h.outside c z;
+    each = λ c. subst (λ (xs : List ℕ). (slice_index xs c ≡ slice_index levels c) ⊎ IsRaised I levels b xs c)
+        (sym q.0) (h.each c);
+    under = λ c. (let k = h.under c in let e = at c in let t = q.1 in omega (arith, k, e, t));
+    limit = (let k = h.limit in let t = q.1 in omega (arith, k, t));
+    noted = λ c ne. subst (IsIn (c, slice_index levels c)) (sym q.2) (h.noted c (λ e. ne (at c ∙ e)));
+    were = λ e i. h.were e (subst (IsIn e) q.2 i);
+    some = λ e i. h.some e (subst (IsIn e) q.2 i);
+  }
+    where
+      at : (c : ℕ) → slice_index new.numbers.items c ≡ slice_index old.numbers.items c
+      at c = ap (λ (xs : List ℕ). slice_index xs c) q.0
 
 -- ---- where the buffer is the first choice
 -- a buffer that shares no moment with it is high enough

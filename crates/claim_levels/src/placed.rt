@@ -10,7 +10,7 @@ ghost use Rattle.claim_levels.specs.Placings.{IsPlaced};
 use canonical_order::step;
 use dsa_model::Instance;
 
-/// The buffer of a claim by which a child is left, and where it stands: its offset is its low in
+/// The buffer by which a claim is left for a child, and where it stands: its offset is its low in
 /// the claim, and its end the sum of that and its size, in bytes.
 #[derive(Clone, Copy)]
 pub(crate) struct Placed {

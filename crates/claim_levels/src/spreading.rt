@@ -140,9 +140,8 @@ fn raise_all(
     Ok(())
 }
 
-/// Makes the levels of a claim those of its child by b, and notes what changes; the changes are
-/// sorted, so that lines are looked for in a fixed order. After an `Err` they are those of the
-/// claim.
+/// Makes the levels of a claim those of its child by b, and notes what changes. After an `Err` they
+/// are those of the claim.
 pub(crate) fn raise_child(
     raising: &mut Raising,
     instance: &Instance,
@@ -173,10 +172,7 @@ pub(crate) fn raise_child(
     };
     raising.changes.clear();
     match raise_all(raising, instance, placed, sections, left, is_first) {
-        Ok(()) => {
-            raising.changes.sort_unstable();
-            Ok(())
-        }
+        Ok(()) => Ok(()),
         Err(fault) => {
             put_back(&mut raising.numbers, &raising.changes);
             raising.top = top;

@@ -33,10 +33,10 @@ pub(crate) struct Step {
 
 /// The levels of a claim and of those above it, from which it is left by one buffer after another.
 /// Only those of the last claim are written down: the way down to a child changes them in place and
-/// notes what it changed, and the way back up undoes that. Lists of changes that are no longer needed
-/// are kept as spares, so that going up and down takes no memory anew. All changes together take up
-/// to 16 bytes for each two buffers of the instance, and as much again for room. Contracts see all
-/// levels.
+/// notes what it changed, and the way back up undoes that. Lists of changes that are no longer
+/// needed are kept as spares, so that going up and down takes no memory anew. All changes together
+/// take up to 16 bytes for each pair of buffers, so 134 MB for 4,096, and as much again for room.
+/// Contracts see all levels.
 #[derive(Drop)]
 pub struct Trail {
     raising: Raising,
@@ -89,8 +89,7 @@ impl Trail {
     /// Goes down to the child by the buffer, which is in the last claim. No bound of the child may
     /// be above 2^54, and where `is_first` is yes, the buffer is the one of least low, and of these
     /// the one of least number: then only the members of its sections are gone over, where these are
-    /// fewer than the buffers that are left. After an `Err` all is as
-    /// before.
+    /// fewer than the buffers that are left. After an `Err` all is as before.
     pub fn descend(
         &mut self,
         alloc: Global,
@@ -132,7 +131,7 @@ impl Trail {
     }
 
     /// The buffers whose levels are higher in the last claim than in the one above it, and maybe
-    /// more, each with its level there.
+    /// more, each with its level in the one above.
     pub fn raised(&self) -> &[(u32, u64)]
         ensures { (before : List ℕ) (others : List (List ℕ)) →
             self.now.above ≡ before ∷ others → AreTheRaised before self.now.last result.now }

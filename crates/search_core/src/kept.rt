@@ -11,7 +11,7 @@ use dsa_model::NoMemory;
 use std::alloc::Global;
 
 /// What is noted of the choices of a claim, the choice that was taken, and all choices in order.
-/// The order can be dropped, and made again.
+/// The order may not be made yet, or be dropped again; it is made where the search comes back.
 #[derive(Drop)]
 pub(crate) struct Kept {
     pub(crate) notes: Notes,

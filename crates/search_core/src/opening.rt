@@ -30,7 +30,7 @@ pub(crate) enum Opened {
 }
 
 /// Opens the last claim, which no line covers and which has these levels. They say its lows, so
-/// that no rule needs to go over sections.
+/// that no low is found by a walk over sections.
 pub(crate) fn open(
     alloc: Global,
     task: &Task,

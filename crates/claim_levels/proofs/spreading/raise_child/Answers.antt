@@ -5,7 +5,7 @@ use Rattle.claim_levels.specs.Trails.{undone}
 use Rattle.claim_levels.proofs.Undoing.{undone_is}
 use Rattle.claim_levels.proofs.Words.{Buffer}
 use Rattle.claim_levels.proofs.PlacedLevels.{has_placed, in_instance, placed_is, read_level, read_some}
-use Rattle.claim_levels.proofs.RaisingSteps.{raising_first, raising_sorted, under_each}
+use Rattle.claim_levels.proofs.RaisingSteps.{raising_first, under_each}
 use Rattle.claim_levels.proofs.spreading.raise_child.Goals as goal
 
 pub index-requires : goal.index-requires
@@ -43,10 +43,6 @@ put_back-requires c = λ e i.
     let n = r.count in
     let m = c.deref_mut.ensures.len in
     omega (arith, lt, n, m)
-
-pub returns-in-Ok-clause-raising : goal.returns-in-Ok-clause-raising
-returns-in-Ok-clause-raising c =
-    raising_sorted _ _ _ _ _ refl refl c.sort_unstable.ensures.permutation c.in-Ok.ensures.raising
 
 pub returns-in-Err-clause-unchanged : goal.returns-in-Err-clause-unchanged
 returns-in-Err-clause-unchanged c =
