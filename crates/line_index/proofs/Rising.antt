@@ -30,28 +30,6 @@ meets_child I l levels b c bound low h lt ne q le =
     covers_entry I (child I l (entry_of l b)) (c, bound) (in_child_by I l b c (has_level I l levels h c lt) ne)
     (omega arith)
 
--- a bound that is no higher than what the bound of its buffer is raised to is met there, before it is rounded up
-pub meets_raised : (I : Instance) (l : Claim) (levels : List ℕ) (b c bound : ℕ) → IsInstance I → AreLevels I l levels →
-    0 < slice_index levels c → c ≢ b → bound ≤ max (up I (entry_of l c)) (up I (entry_of l b) + step I b c) →
-    CoversEntry I (child I l (entry_of l b)) (c, bound)
-meets_raised I l levels b c bound s h lt ne le =
-    let i : HasBuffer l c = has_level I l levels h c lt in
-    let m : (entry_of (child I l (entry_of l b)) c).1 ≡ max (up I (entry_of l c)) (up I (entry_of l b) + step I b c) =
-    ap (λ (e : Entry). e.1) (entry_of_child I l b c h.claim.rises i ne) in
-    let n : (entry_of (child I l (entry_of l b)) c).1 ≤ up I (entry_of (child I l (entry_of l b)) c) =
-    up_at_or_above I (entry_of (child I l (entry_of l b)) c) s in
-    covers_entry I (child I l (entry_of l b)) (c, bound) (in_child_by I l b c i ne) (omega arith)
-
--- a bound that the claim meets is met in the child, where no low falls
-pub meets_above : (I : Instance) (l : Claim) (levels : List ℕ) (b c bound level : ℕ) → IsInstance I →
-    AreLevels I l levels → c ≢ b → level ≡ slice_index levels c → 0 < level → bound < level →
-    CoversEntry I (child I l (entry_of l b)) (c, bound)
-meets_above I l levels b c bound level s h ne q pos lt =
-    let within : 0 < slice_index levels c = omega arith in
-    let k : slice_index levels c ≡ up I (entry_of l c) + 1 =
-    level_inside I l _ h c (has_level I l levels h c within) in
-    meets_raised I l levels b c bound s h within ne (omega arith)
-
 -- no low falls in the child
 pub child_raised : (I : Instance) (l : Claim) (b : ℕ) (before now : List ℕ) → IsInstance I → AreLevels I l before →
     AreLevels I (child I l (entry_of l b)) now → AreRaised before now

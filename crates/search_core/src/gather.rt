@@ -1,10 +1,11 @@
 //! The layout of the first claim, gathered on the way back from an empty one.
 
-ghost use Rattle.std.specs.Prelude.{◌≡◌, [], List, Some, None, IfOk, OnOk, length};
+ghost use Rattle.std.specs.Prelude.{◌≡◌, ◌<◌, [], List, Some, None, IfOk, OnOk, length, map};
+ghost use Rattle.std.specs.List.{All};
 ghost use Rattle.dsa_terms.specs.Logs.{Line};
 ghost use Rattle.dsa_terms.specs.Search.{first};
 ghost use Rattle.search_core.specs.Descents.{IsPath, sky_root};
-ghost use Rattle.search_core.specs.Seats.{seats_by};
+ghost use Rattle.search_core.specs.Seats.{seat_at};
 ghost use Rattle.search_core.specs.Walks.{place_on};
 ghost use Rattle.skyline.specs.Skies.{last_claim};
 
@@ -14,16 +15,14 @@ use canonical_order::Lows;
 use dsa_model::NoMemory;
 use std::alloc::Global;
 
-/// The buffers of the claim in rising order, each with its offset.
-fn gathered<L: Lows>(alloc: Global, lows: &L, offsets: &[u64]) -> Result<Vec<(u32, u64)>, NoMemory>
-    requires { length offsets.now ≡ length (L.subject lows.now) }
-    ensures { IfOk result (λ v. v.items ≡ seats_by offsets.now (L.claim lows.now)) }
+/// These buffers, each with its offset.
+fn gathered(alloc: Global, members: &[u32], offsets: &[u64]) -> Result<Vec<(u32, u64)>, NoMemory>
+    requires { All (λ b. b < length offsets.now) members.now }
+    ensures { IfOk result (λ v. v.items ≡ map (seat_at offsets.now) members.now) }
 {
     let mut seats = Vec::new(alloc);
-    for b in 0..lows.instance().len() {
-        if lows.is_free(b) {
-            seats.push((b, offsets[b as usize]))?;
-        }
+    for b in members {
+        seats.push((*b, offsets[*b as usize]))?;
     }
     Ok(seats)
 }
@@ -47,5 +46,5 @@ pub(crate) fn seats(
         let b = kept.chosen;
         offsets[b as usize] = path.sky().low(b);
     }
-    gathered(alloc, path.sky(), &offsets)
+    gathered(alloc, path.sky().members(), &offsets)
 }

@@ -1,15 +1,16 @@
 -- What a skyline's fields say of a buffer that is left.
-use Rattle.std.proofs.Common.{◌≡◌, ◌+◌, ◌-◌, ◌*◌, ◌<◌, ◌≤◌, ◌^◌, ℕ, zero, suc, Bool, true, false, List, [], ◌∷◌, length, max, take, reverse, slice_index, slice_index_or, ap, sym, subst, ◌∙◌, arith, ◌↔◌}
+use Rattle.std.proofs.Common.{◌≡◌, ◌+◌, ◌-◌, ◌*◌, ◌<◌, ◌≤◌, ◌^◌, ℕ, zero, suc, Bool, true, false, List, [], ◌∷◌, length, max, take, reverse, slice_index, slice_index_or, refl, ap, sym, subst, ◌∙◌, arith, ◌↔◌}
 use Rattle.std.specs.Int.{next_multiple_of}
 use Rattle.std.specs.List.{All}
-use Rattle.std.proofs.lemmas.List.{take_more, reverse-append, length-reverse, length-take-le}
+use Rattle.std.proofs.lemmas.List.{take_more, reverse-append, length-reverse, length-take-le, get_or_append_left}
 use Rattle.dsa_terms.specs.Buffers.{Instance, buffer}
-use Rattle.dsa_terms.specs.Claims.{Claim, up}
+use Rattle.dsa_terms.specs.Claims.{Claim, buffers_of, up}
 use Rattle.dsa_terms.specs.Logs.{greatest}
 use Rattle.dsa_terms.specs.Parts.{whole}
 use Rattle.dsa_terms.proofs.Numbers.{next_is_below}
 use Rattle.dsa_terms.proofs.Moments.{sound}
 use Rattle.dsa_terms.proofs.Places.{in_at}
+use Rattle.dsa_search_laws.proofs.Members.{buffers_of-whole}
 use Rattle.dsa_model.specs.Buffer.{buffer_limit}
 use Rattle.dsa_model.proofs.Instances.{sound_instance}
 use Rattle.lifetime.specs.SectionList.{count_of, sections_of, SectionList}
@@ -21,7 +22,7 @@ use Rattle.skyline.proofs.Standing.{has_lowests, offset_is_raised, raised_is_spl
 use Rattle.skyline.proofs.Tops.{heights_are_tops, length-heights_after}
 use Rattle.skyline.proofs.Carrying.{length-claims_of, last_of_claims, member_in_range, stack_in_range, has_place, ledge_is, low_is, raised_limited, alignment_limited}
 use Rattle.canonical_order.specs.Claims.{entry_of, HasBuffer}
-use Rattle.skyline.specs.Skies.{Sky, last_claim}
+use Rattle.skyline.specs.Skies.{Sky, first_claim, last_claim}
 use Rattle.skyline.proofs.SectionFacts.{members_few, section_in_range}
 
 -- one more item, the last one first
@@ -192,3 +193,19 @@ pub out_of_range : (I : Instance) (S : SectionList) (members : List ℕ) (n : �
 out_of_range I S members n stack ledges hs rows flags k b e h le i =
     let lt = (low_facts_of I S members n stack ledges hs rows flags k b e h i).in_range in let c =
     h.carries.free_count in omega arith
+
+-- the members, which are the buffers of the first claim
+first_of_claims : (I : Instance) (root : Claim) (bs : List ℕ) → first_claim (claims_of I root bs) ≡ root
+first_of_claims I root [] = refl
+first_of_claims I root (b ∷ bs) =
+    let n = length-claims_of I root bs in
+    get_or_append_left (claims_of I root bs) (claim_after I root (b ∷ bs) ∷ []) [] 0 (omega arith)
+    ∙ first_of_claims I root bs
+
+pub members_of_view : (I : Instance) (S : SectionList) (members : List ℕ) (n : ℕ) (stack : List ℕ) (k : Sky) →
+    record { instance = I; sections = S; claims = claims_of I (whole I members) (reverse (take n stack)) } ≡ k →
+    members ≡ buffers_of (first_claim k.claims)
+members_of_view I S members n stack k e =
+    let root = whole I members in
+    sym (buffers_of-whole I members) ∙ ap buffers_of (sym (first_of_claims I root (reverse (take n stack))))
+    ∙ ap (λ (x : Sky). buffers_of (first_claim x.claims)) e

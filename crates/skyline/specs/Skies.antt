@@ -15,6 +15,10 @@ pub record Sky : Type 0 where
 abbrev pub at_first : Instance → SectionList → List ℕ → Sky
 at_first I S members = record { instance = I; sections = S; claims = whole I members ∷ [] }
 
+-- the first claim of the list
+abbrev pub first_claim : List Claim → Claim
+first_claim claims = slice_index_or claims 0 []
+
 -- the last claim of the list
 abbrev pub last_claim : List Claim → Claim
 last_claim claims = slice_index_or claims (length claims - 1) []

@@ -2,13 +2,13 @@
 
 ghost use Rattle.std.specs.Prelude.{◌≡◌, ℕ, ◌+◌, ◌<◌, ◌^◌, ◌∷◌, ◌++◌, ◌↔◌, [], ◌≤◌, IfNone, IfOk, IfSome, IsTrue, Some, length};
 ghost use Rattle.std.specs.List.{All};
-ghost use Rattle.dsa_terms.specs.Claims.{Rises, child, up};
+ghost use Rattle.dsa_terms.specs.Claims.{Rises, buffers_of, child, up};
 ghost use Rattle.lifetime.specs.SectionList.{AreSectionsOf, count_of};
 ghost use Rattle.canonical_order.specs.Claims.{HasBuffer, IsBoundedBy, entry_of};
 ghost use Rattle.canonical_order.specs.Levels.{AreLevels};
 ghost use Rattle.canonical_order.specs.Stands.{Stands};
 ghost use Rattle.skyline.specs.Overloads.{FitsFrom, least_up, over, overloaded};
-ghost use Rattle.skyline.specs.Skies.{AreLow, at_first, last_claim};
+ghost use Rattle.skyline.specs.Skies.{AreLow, at_first, first_claim, last_claim};
 
 use crate::ledges::{ledge_above, lesser};
 use crate::lows_of::least_low;
@@ -200,6 +200,14 @@ impl<'a> Skyline<'a> {
             IsBoundedBy (2 ^ 54) (child self.now.instance l (entry_of l b)) }
     {
         self.sections
+    }
+
+    /// The buffers of the first claim, in rising order.
+    pub fn members(&self) -> &[u32]
+        ensures value { result.now ≡ buffers_of (first_claim self.now.claims) }
+        ensures in_range { All (λ b. b < length self.now.instance) result.now }
+    {
+        &self.members
     }
 
     /// The instance.

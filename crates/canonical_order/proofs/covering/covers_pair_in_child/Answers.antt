@@ -1,10 +1,9 @@
-use Rattle.std.proofs.Common.{◌≡◌, ◌≤◌, ◌∙◌, refl, sym, ap, arith, ℕ}
-use Rattle.dsa_terms.specs.Claims.{Entry, child, up}
+use Rattle.std.proofs.Common.{◌<◌, ◌+◌, ◌^◌, ap, arith}
+use Rattle.dsa_terms.specs.Claims.{child, up}
 use Rattle.dsa_search_laws.proofs.Claims.{rises-child}
 use Rattle.canonical_order.specs.Claims.{entry_of}
-use Rattle.canonical_order.proofs.CoverLemmas.{covers_entry, covers_test, covered_has, entry_of_child, from_child, in_child_by, low_stays, raised_stays}
-use Rattle.canonical_order.proofs.Entries.{in_range}
-use Rattle.dsa_terms.proofs.NumberTests.{is_at_most}
+use Rattle.canonical_order.proofs.CoverLemmas.{covers_entry, covered_has, entry_of_child, from_child, from_covered, in_child_by}
+use Rattle.canonical_order.proofs.Entries.{in_range, low_limit}
 use Rattle.canonical_order.proofs.covering.covers_pair_in_child.Goals as goal
 use Rattle.canonical_order.proofs.covering.covers_pair_in_child.Goals.{then-c-b-via-then-c-b, then-c-b-via-else-c-b+then-not-is_free}
 
@@ -18,40 +17,26 @@ returns-then-c-b g c = (
   ],
 )
 
-pub returns-then-bound-low : goal.returns-then-bound-low
-returns-then-bound-low g c =
-    let I = g.L.Lows.subject c.args.lows.now in
-    let l = g.L.Lows.claim c.args.lows.now in
+pub meets_in_child-requires : goal.meets_in_child-requires
+meets_in_child-requires g c =
     let h = c.is_free.ensures.value.0 c.if-not-is_free.false in
-    let k : up I (entry_of l c.args.c) ≤ up I (entry_of (child I l (entry_of l c.args.b)) c.args.c) =
-    low_stays I l c.args.b c.args.c c.low.ensures.stands h c.if-c-b.false in
-    let e = c.low.ensures.value in (
-      λ _. covers_entry _ _ _ (in_child_by _ _ _ _ h c.if-c-b.false) (omega arith),
-      λ _. refl,
-    )
+    let i = in_range _ _ _ c.instance.ensures.stands c.requires.b_in in
+    let j = in_range _ _ _ c.instance.ensures.stands h in
+    let k : c.low.result < 2 ^ 60 + 2 ^ 32 =
+    low_limit _ _ _ _ _ c.low.ensures.value c.low.ensures.stands c.requires.bounds c.requires.b_in in
+    let m : c.low-2.result < 2 ^ 60 + 2 ^ 32 =
+    low_limit _ _ _ _ _ c.low-2.ensures.value c.low-2.ensures.stands c.requires.bounds h in
+    record { b_in = i; c_in = j; limit_b = omega arith; limit_c = omega arith }
 
-pub buffer-requires : goal.buffer-requires
-buffer-requires g c = in_range _ _ _ c.instance.ensures.stands (c.is_free.ensures.value.0 c.if-not-is_free.false)
-
-pub returns-then-bound-raised : goal.returns-then-bound-raised
-returns-then-bound-raised g c =
-    let I = g.L.Lows.subject c.args.lows.now in
-    let l = g.L.Lows.claim c.args.lows.now in
-    let h = c.is_free.ensures.value.0 c.if-not-is_free.false in
-    let k = raised_stays I l c.args.b c.args.c c.low.ensures.stands h c.if-c-b.false in
-    let e = c.raised-raised.ensures.value in
-    let t = c.if-bound-raised.true in (
-      λ _. covers_entry _ _ _ (in_child_by _ _ _ _ h c.if-c-b.false) (omega arith),
-      λ _. is_at_most _ _ t,
-    )
-
-pub returns-else-bound-raised : goal.returns-else-bound-raised
+pub returns : goal.returns
 unfolding up
-returns-else-bound-raised g c =
+returns g c =
     let I = g.L.Lows.subject c.args.lows.now in
+    let l = g.L.Lows.claim c.args.lows.now in
     let h = c.is_free.ensures.value.0 c.if-not-is_free.false in
     let rises = (c.is_free.ensures.stands).claim.rises in
-    let e = entry_of_child I (g.L.Lows.claim c.args.lows.now) c.args.b c.args.c rises h c.if-c-b.false in
-    let f : up I (c.args.c, c.raised-raised.result) ≡ _ =
-    ap (up I) (ap (λ (n : ℕ). let e : Entry = (c.args.c, n) in e) c.raised-raised.ensures.value ∙ sym e) in
-    covers_test _ _ _ _ _ (rises-child _ _ _ rises) (in_child_by _ _ _ _ h c.if-c-b.false) (cc f)
+    let low = ap (up I) (entry_of_child I l c.args.b c.args.c rises h c.if-c-b.false) in
+    let test = rw (c.instance.ensures.value, c.low.ensures.value, c.low-2.ensures.value) at c.meets_in_child.ensures in (
+      λ t. covers_entry I (child I l (entry_of l c.args.b)) _ (in_child_by _ _ _ _ h c.if-c-b.false) (rw low (test.0 t)),
+      λ k. test.1 (rw low at ((from_covered _ _ _ (rises-child _ _ _ rises) k).1)),
+    )

@@ -1,29 +1,22 @@
-use Rattle.std.proofs.Common.{◌≡◌, ◌∙◌, ◌<◌, ap, arith, slice_index}
-use Rattle.std.specs.Int.{next_multiple_of}
-use Rattle.dsa_terms.specs.Buffers.{Buffer}
-use Rattle.dsa_terms.proofs.NumberTests.{at_most}
-use Rattle.line_index.proofs.Rising.{low_of_child, meets_above, meets_child, meets_raised}
+use Rattle.std.proofs.Common.{◌≡◌, ◌<◌, ◌+◌, ◌-◌, max, slice_index, refl, arith}
+use Rattle.dsa_terms.specs.Claims.{step, up}
+use Rattle.canonical_order.specs.Claims.{entry_of}
+use Rattle.canonical_order.proofs.LevelLemmas.{has_level, level_inside}
+use Rattle.line_index.proofs.Rising.{low_of_child, meets_child}
 use Rattle.line_index.proofs.child_cover.meets_in_child.Goals as goal
 
-pub returns-then-bound-level : goal.returns-then-bound-level
-returns-then-bound-level c = λ l h t. meets_above _ l _ c.args.b c.args.c c.args.bound c.level_at-level.result
-    (λ k d i. (c.len-count.ensures.buffers k d i).sound) h c.if-c-b.false c.level_at-level.ensures.value (omega arith)
-    c.if-bound-level.true
-
-pub returns-then-bound-raised : goal.returns-then-bound-raised
-returns-then-bound-raised c = λ l h t.
-    let e = c.raised-raised.ensures.value l h in
-    meets_raised _ l _ c.args.b c.args.c c.args.bound (λ k d i. (c.len-count.ensures.buffers k d i).sound) h
-    (let q : c.level_at-level.result ≡ slice_index c.args.levels.now c.args.c = c.level_at-level.ensures.value in
-    omega arith) c.if-c-b.false (let le = c.if-bound-raised.true in omega arith)
-
-pub returns-else-bound-raised : goal.returns-else-bound-raised
-returns-else-bound-raised c = λ l h t.
-    let q : c.level_at-level.result ≡ slice_index c.args.levels.now c.args.c = c.level_at-level.ensures.value in
-    let within : 0 < slice_index c.args.levels.now c.args.c = omega arith in
-    meets_child _ l _ c.args.b c.args.c c.args.bound c.least_offset.result h within
-    c.if-c-b.false
-    (low_of_child _ l _ c.args.b c.args.c c.raised-raised.result c.least_offset.result h within c.if-c-b.false
-    (c.raised-raised.ensures.value l h) (c.least_offset.ensures ∙
-    ap (λ (b : Buffer). next_multiple_of c.raised-raised.result b.alignment) c.buffer.ensures.value))
-    (at_most c.args.bound c.least_offset.result t)
+pub returns : goal.returns
+returns c = λ l h t.
+    let I = c.args.instance.now in
+    let b = c.args.b in
+    let x = c.args.c in
+    let more : 0 < slice_index c.args.levels.now x =
+    let q = c.level_at-level.ensures.value in let n = c.if-level-eq0.false in omega arith in
+    let low_b = c.level_at-low_b.result - 1 in
+    let low_x = c.level_at-level.result - 1 in
+    let raised : max low_x (low_b + step I b x) ≡ max (up I (entry_of l x)) (up I (entry_of l b) + step I b x) =
+    let p = level_inside I l _ h b (has_level I l _ h b c.requires.b_in) in
+    let q = level_inside I l _ h x (has_level I l _ h x more) in
+    let e = c.level_at-low_b.ensures.value in let f = c.level_at-level.ensures.value in omega arith in
+    meets_child I l _ b x c.args.bound _ h more c.if-c-b.false
+    (low_of_child I l _ b x _ _ h more c.if-c-b.false raised refl) (c.meets_in_child.ensures.0 t)
