@@ -7,7 +7,6 @@ ghost use Rattle.canonical_order.specs.Claims.{IsBoundedBy};
 ghost use Rattle.canonical_order.specs.Levels.{AreLevels};
 ghost use Rattle.canonical_order.specs.Stands.{Stands};
 ghost use Rattle.line_index.specs.Covered.{IsCoveredBy, NoneCovers};
-ghost use Rattle.claim_levels.specs.Lifted.{IsAtLows};
 ghost use Rattle.branching.specs.Cites.{IsChildCovered};
 ghost use Rattle.branching.specs.Logs.{Extends, IsSearchLog};
 ghost use Rattle.branching.specs.declared.notes.Refuted.{Refuted as RefutedTerm};
@@ -23,8 +22,8 @@ use dsa_model::NoMemory;
 use refute_log::Line;
 use std::alloc::Global;
 
-/// Appends the Cases line of the claim, which no line covers, and gives its number. The bounds of
-/// the claim are its lows, and each of its choices is noted with a line.
+/// Appends the Cases line of the claim, which no line covers, and gives its number. Each of its
+/// choices is noted with a line.
 pub fn refute(
     alloc: Global,
     task: &Task,
@@ -34,7 +33,6 @@ pub fn refute(
     refuted: &[Refuted],
 ) -> Result<u64, NoMemory>
     requires levels { AreLevels task.now.instance.now claim levels.now }
-    requires lows { IsAtLows task.now.instance.now claim }
     requires stands { Stands task.now.instance.now claim }
     requires low { IsBoundedBy (2 ^ 60) claim }
     requires not_empty { claim ≢ [] }

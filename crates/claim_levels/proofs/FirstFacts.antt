@@ -4,7 +4,6 @@ use Rattle.std.proofs.Common.{◌≡◌, ◌⊎◌, ℕ, zero, suc, ◌<◌, ◌
 use Rattle.claim_levels.proofs.Words.{buffer, small_below, Entry, IsIn, up}
 use Rattle.claim_levels.specs.Firsts.{IsBefore, IsFirst}
 use Rattle.claim_levels.specs.Levels.{AreLeft, IsLeastLevel}
-use Rattle.claim_levels.specs.Lifted.{IsAtLows}
 use Rattle.claim_levels.proofs.LevelFacts.{root}
 
 -- ---- the order of buffers
@@ -86,16 +85,3 @@ not_both_left h = let k = h.some 0 (inl refl) in omega (arith, k)
 
 not_falling : AreLeft (1 ∷ 1 ∷ []) (1 ∷ 0 ∷ []) → ⊥
 not_falling h = let k = h.rises.0 0 (inl refl) in omega (arith, k)
-
--- ---- bounds at lows
-at_four : IsAtLows small_below ((1, 4) ∷ [])
-unfolding up buffer
-at_four = record { each = each }
-  where
-    each : (e : Entry) → IsIn e ((1, 4) ∷ []) → up small_below e ≡ e.1
-    each e (inl q) = subst (λ (e : Entry). up small_below e ≡ e.1) (sym q) refl
-    each e (inr z) = absurd z
-
-not_at_three : IsAtLows small_below ((1, 3) ∷ []) → ⊥
-unfolding up buffer
-not_at_three h = let k = h.each (1, 3) (inl refl) in omega (arith, k)

@@ -1,9 +1,9 @@
 -- A claim and the same one with the lows of its buffers as bounds.
 use Rattle.std.proofs.Common.{◌≡◌, ℕ, ◌<◌, ◌≤◌, ◌%◌, inl, inr, sym, subst, arith}
 use Rattle.std.specs.Int.{next_multiple_of}
-use Rattle.claim_levels.proofs.Words.{Instance, IsInstance, buffer, Claim, Entry, IsIn, Rises, buffers_of, up, from_map, into_map, sound, buffers_of-map, HasBuffer, entry_of, entry_in, is_entry}
+use Rattle.claim_levels.proofs.Words.{Instance, IsInstance, buffer, Claim, Entry, IsIn, Rises, buffers_of, up, into_map, sound, buffers_of-map, HasBuffer, entry_of, entry_in, is_entry}
 use Rattle.dsa_terms.proofs.Numbers.{next_cases, next_is_multiple}
-use Rattle.claim_levels.specs.Lifted.{IsAtLows, lift, lifted}
+use Rattle.claim_levels.specs.Lifted.{lift, lifted}
 
 -- ---- the up of an up is the same
 next_of_multiple : (x a : ℕ) → 1 ≤ a → x % a ≡ 0 → next_multiple_of x a ≡ x
@@ -19,12 +19,6 @@ up_of_lift I e s =
     (next_is_multiple e.1 (buffer I e.0).alignment (sound I e.0 s).1)
 
 -- ---- buffers and entries
-pub lifted_at_lows : (I : Instance) (l : Claim) → IsInstance I → IsAtLows I (lifted I l)
-lifted_at_lows I l s = record {
-  each = λ e i.
-      (let r = from_map (lift I) l e i in subst (λ (e : Entry). up I e ≡ e.1) (sym r.2) (up_of_lift I r.0 s));
-}
-
 pub buffers_of-lifted : (I : Instance) (l : Claim) → buffers_of (lifted I l) ≡ buffers_of l
 buffers_of-lifted I l = buffers_of-map (up I) l
 

@@ -9,7 +9,8 @@ pub use Rattle.dsa_model.specs.Buffer.{IsBuffer, buffer_limit}
 pub use Rattle.dsa_search_laws.proofs.Claims.{buffers_of-map, claim-child}
 pub use Rattle.dsa_search_laws.proofs.Placing.{in_buffers}
 pub use Rattle.dsa_terms.proofs.Examples.{small_below}
-pub use Rattle.dsa_terms.proofs.Lists.{from_append, from_map, has_in, in_has, into_map, left_append, right_append, true_or_false}
+pub use Rattle.dsa_terms.proofs.Lists.{from_append, from_map, has_in, in_has, into_map, left_append}
+pub use Rattle.dsa_terms.proofs.Lists.{right_append, true_or_false}
 pub use Rattle.dsa_terms.proofs.Moments.{sound}
 pub use Rattle.dsa_terms.proofs.NumberTests.{below_or_from, below_or_last, equal, less, same, same_or_not}
 pub use Rattle.dsa_terms.proofs.Places.{in_at}

@@ -88,8 +88,8 @@ impl Trail {
 
     /// Goes down to the child by the buffer, which is in the last claim. No bound of the child may
     /// be above 2^54, and where `is_first` is yes, the buffer is the one of least low, and of these
-    /// the one of least number: then only the members of its sections are gone over, where these are
-    /// fewer than the buffers that are left. After an `Err` all is as before.
+    /// the one of least number: then only the members of its sections are gone over, where these
+    /// are fewer than the buffers that are left. After an `Err` all is as before.
     pub fn descend(
         &mut self,
         alloc: Global,

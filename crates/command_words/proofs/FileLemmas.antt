@@ -54,7 +54,8 @@ write_named r own is = in_map (name_in r.pairs) own (filter_map file_of (form_of
 -- an input that is read as an instance is read
 read_among : (uses : List Use) → IsIn Instance uses → IsIn role.Input (filter_map read_of uses)
 read_among [] is = absurd is
-read_among (used ∷ uses) (inl same) = subst (λ (u : Use). IsIn role.Input (filter_map read_of (u ∷ uses))) same (inl refl)
+read_among (used ∷ uses) (inl same) =
+    subst (λ (u : Use). IsIn role.Input (filter_map read_of (u ∷ uses))) same (inl refl)
 read_among (used ∷ uses) (inr is) =
     in_either read_of read_of role.Input None (read_of used) (λ z none. absurd cc) (filter_map read_of uses)
     (filter_map read_of uses) (λ among. among) (read_among uses is)

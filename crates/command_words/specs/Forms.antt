@@ -16,9 +16,9 @@ use Rattle.command_words.specs.declared.form.Form as written
 use Rattle.command_words.specs.declared.form.Use.{Use}
 use Rattle.command_words.specs.declared.form.Use.TheVariants.{Number, Instance, Reads, Writes}
 
--- the words of a command: its own; what it does with each option that it needs, in the order in which they are missed: it
--- takes a number, reads its input as an instance, reads a file's bytes, or writes a file; and the options, each with a
--- number, that it can go without
+-- the words of a command: its own; what it does with each option that it needs, in the order in which they are missed:
+-- it takes a number, reads its input as an instance, reads a file's bytes, or writes a file; and the options, each with
+-- a number, that it can go without
 pub record Form : Type 0 where
   pub word : Word
   pub needed : List Use

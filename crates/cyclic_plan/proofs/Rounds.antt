@@ -47,7 +47,8 @@ unfolding unrolled lasts_at is_live
 live_within P t b lt = go (nat_lt b.upper b.lower)
   where
     go : (w : Bool) →
-        (let u : Buffer = cond w (wrapped P b) b in nat_le u.lower t && nat_lt t u.upper && not (list_any (is_within t) u.gaps))
+        (let u : Buffer = cond w (wrapped P b) b in
+        nat_le u.lower t && nat_lt t u.upper && not (list_any (is_within t) u.gaps))
         ≡ (cond w (nat_le b.lower t || nat_lt t b.upper) (nat_le b.lower t && nat_lt t b.upper)
         && not (list_any (is_within t) b.gaps))
     go true = rw (from_zero t, is_below t P lt, list_any-append (is_within t) b.gaps ((b.upper, b.lower) ∷ []))

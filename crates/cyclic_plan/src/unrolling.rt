@@ -76,7 +76,8 @@ fn wraps(
 ) -> Result<Vec<(u32, u64, u64, u64, u64)>, Fail<CycleFault>>
     requires { period ≤ 2 ^ 60 }
     ensures { let read = values_of rows.now in UnlessNoMemory result
-        (λ changes. (cycle_rows_fault period 0 read ≡ None) × (changes.items ≡ wraps_from period 0 read))
+        (λ changes. (cycle_rows_fault period 0 read ≡ None)
+        × (changes.items ≡ wraps_from period 0 read))
         (λ f. cycle_rows_fault period 0 read ≡ Some f) }
 {
     let mut changes = Vec::new(alloc);
@@ -104,7 +105,8 @@ pub fn unroll(alloc: Global, bytes: &[u8], period: u64) -> Result<Unrolled, Fail
     requires length { length bytes.now ≤ 67108864 }
     requires period { period ≤ 2 ^ 60 }
     ensures unrolled { let given = unrolled_of period (table_of bytes.now) in UnlessNoMemory result
-        (λ u. (I : Instance) × (given ≡ Ok I) × (u.buffers ≡ length I)) (λ fault. given ≡ Err fault) }
+        (λ u. (I : Instance) × (given ≡ Ok I) × (u.buffers ≡ length I))
+        (λ fault. given ≡ Err fault) }
     ensures text { IfOk result (λ u. u.text.items ≡ unrolled_text period (table_of bytes.now)) }
     ensures parsed { IfOk result (λ u. (I : Instance) →
         unrolled_of period (table_of bytes.now) ≡ Ok I →

@@ -22,7 +22,8 @@ pub trait Sink {
         ensures put { OnOk result ((seen self.new).content
             ≡ with_text (seen self.old).content bytes.now) }
         ensures prefix { IsErrOf result SinkFault.Failed →
-            (count : ℕ) × ((seen self.new).content ≡ with_text (seen self.old).content (take count bytes.now)) }
+            (count : ℕ) × ((seen self.new).content
+            ≡ with_text (seen self.old).content (take count bytes.now)) }
         ensures failed { IsErrOf result SinkFault.Failed →
             Rose (seen self.old).faults (seen self.new).faults }
         ensures no_memory { IsErrOf result SinkFault.NoMemory →

@@ -82,10 +82,10 @@ impl Arrays<'_> {
     }
 }
 
-/// A layout of the buffers within the capacity, in bytes, or that there is none, or the first fault
-/// of the slices. A buffer's number is its place in each of them, and they are as long as `offsets`;
-/// `Arrays` says what they hold. With `Fits` the offsets are written, in bytes, one for each buffer;
-/// with any other answer they are as before.
+/// A layout of the buffers within the capacity, in bytes, or that there is none, or the first
+/// fault of the slices. A buffer's number is its place in each of them, and they are as long as
+/// `offsets`; `Arrays` says what they hold. With `Fits` the offsets are written, in bytes, one for
+/// each buffer; with any other answer they are as before.
 ///
 /// The search is given a budget of `steps` units, one for each claim that it opens, if a number is
 /// given. `Open` comes only where they are fewer than the work that may be needed; without a number

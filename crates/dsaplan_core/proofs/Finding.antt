@@ -56,7 +56,8 @@ module _ (words : List Word) (old new : FilesSeen) (pairs : List Pair)
               tt,
               answer.is_least,
               first this new offsets log apart files C answer.layout,
-              λ positive. refutes this new (C - 1) log answer.refuted.1 readable (second this new offsets log apart files),
+              λ positive.
+                  refutes this new (C - 1) log answer.refuted.1 readable (second this new offsets log apart files),
             ),
             (this, Some offsets, Some log, answer, files),
             refl,

@@ -97,7 +97,8 @@ given_at_8 = record {
 }
 
 -- at 7 no file gives one
-none_given_at_7 : (file offsets : List ℕ) → HoldsGivenLayout (beside file) (verify_request (codes "7")) two 7 offsets → ⊥
+none_given_at_7 : (file offsets : List ℕ) →
+    HoldsGivenLayout (beside file) (verify_request (codes "7")) two 7 offsets → ⊥
 none_given_at_7 file offsets h = none_at_7 offsets h.layout
 
 -- the commands that judge it each have a status for that, and its picture has two rectangles

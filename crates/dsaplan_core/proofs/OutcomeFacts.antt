@@ -113,7 +113,8 @@ draw_asked = record {
 }
 
 is_drawn : HoldsPicture draw_asked
-    (told (insert (insert input_alone (codes "a") high_file) (codes "o") (picture_text two (ids_of two_rows) (0 ∷ 4 ∷ []))))
+    (told (insert (insert input_alone (codes "a") high_file) (codes "o")
+    (picture_text two (ids_of two_rows) (0 ∷ 4 ∷ []))))
     2
 unfolding rectangles rectangles_of run_end columns_of turns_at was_live is_live buffer
 is_drawn = record {
@@ -133,7 +134,8 @@ reads_nothing : trace_of [] ≡ Ok []
 unfolding trace_of holder
 reads_nothing = refl
 
-abbrev import_asked : AskedOf (codes "import" ∷ import_values) (told (insert empty (codes "t") [])) verb.Import role.Trace
+abbrev import_asked :
+    AskedOf (codes "import" ∷ import_values) (told (insert empty (codes "t") [])) verb.Import role.Trace
 import_asked = record {
   pairs = pairs_of import_values;
   bytes = [];

@@ -34,7 +34,8 @@ is_told : (held : Option FileMap) (name bytes : List ℕ) → file_at held name 
 is_told None name bytes is = absurd cc
 is_told (Some m) name bytes is = refl
 
-pub not_missing : (held : Option FileMap) (name bytes : List ℕ) → file_at held name ≡ Some bytes → IsMissing held name → ⊥
+pub not_missing : (held : Option FileMap) (name bytes : List ℕ) → file_at held name ≡ Some bytes →
+    IsMissing held name → ⊥
 not_missing None name bytes is missing = missing
 not_missing (Some m) name bytes is missing = cc
 

@@ -20,8 +20,8 @@ use Rattle.run_course.specs.Course.{Course, Outcome, Concludes, Ends, says, show
 use Rattle.readings.specs.Input.{opened}
 use Rattle.deciding.specs.Deciding.{IsSought}
 
--- the text is what the command prints of its instance alone, if it prints such a text: `bounds` its facts, `inspect` how
--- many buffers ask for something more, and what each column of the table's header means
+-- the text is what the command prints of its instance alone, if it prints such a text: `bounds` its facts, `inspect`
+-- how many buffers ask for something more, and what each column of the table's header means
 abbrev pub IsReport : Verb → List Record → Instance → List ℕ → Type 0
 IsReport verb.Bounds table I text = (facts : Facts) × AreFactsOf I facts × (text ≡ bounds_text facts)
 IsReport verb.Inspect table I text = text ≡ inspect_text table I

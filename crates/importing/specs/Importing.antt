@@ -12,8 +12,8 @@ use Rattle.command_words.specs.declared.role.Role.TheVariants as role
 use Rattle.run_status.specs.declared.status.Status.TheVariants.{Imported, TraceRefused}
 use Rattle.run_course.specs.Course.{Concludes, Course, Outcome, Reads, says, writes}
 
--- the text of the trace's instance is read as that instance, which has a buffer for each line that allocates, and at each
--- moment just the buffers that the trace holds after that line
+-- the text of the trace's instance is read as that instance, which has a buffer for each line that allocates, and at
+-- each moment just the buffers that the trace holds after that line
 pub record IsImported (trace : Trace) : Type 0 where
   pub parsed : parse (table_of (import_text trace)) ≡ Ok (imported trace)
   pub each : length (imported trace) ≡ count_by is_alloc trace

@@ -58,7 +58,8 @@ fn push_turns(moments: &mut Vec<u64>, buffer: &Buffer) -> Result<(), AllocError>
 /// The moments at which some buffer begins or ends to be live, rising.
 pub(crate) fn columns(alloc: Global, instance: &Instance) -> Result<Vec<u64>, AllocError>
     ensures value { IfOk result (λ moments. moments.items ≡ columns_of instance.now) }
-    ensures few { IfOk result (λ moments. length moments.items ≤ (2 + 2 * gap_limit) * buffer_limit) }
+    ensures few { IfOk result (λ moments.
+        length moments.items ≤ (2 + 2 * gap_limit) * buffer_limit) }
 {
     let mut moments = Vec::with_capacity(alloc, 2 * instance.len() as usize)?;
     for b in 0..instance.len() {

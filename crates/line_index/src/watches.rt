@@ -149,8 +149,8 @@ impl Watches {
 
     /// A line that covers the claim of the levels `now`, a child of one whose levels are `before`,
     /// looked for at the buffers that are higher now, each of which is given with its level before.
-    /// If none is found, these are all such buffers, no level fell, no buffer is new, each mark has a
-    /// note of its line, and all lines are watched at the claim before, then all are at the claim
+    /// If none is found, these are all such buffers, no level fell, no buffer is new, each mark has
+    /// a note of its line, and all lines are watched at the claim before, then all are at the claim
     /// now, and none covers it. As many first lines as are watched at a claim above stay watched
     /// there. Where each mark has a note of its line, each still has one. There are at most
     /// `BUFFER_LIMIT` levels.

@@ -244,7 +244,8 @@ pub in_difference : (l m : Claim) (c : Change) → Rises (buffers_of m) → IsIn
     ((e : Entry) × IsIn e l × (c ≡ Drops e.0)) ⊎ ((e : Entry) × IsIn e m × (IsIn e l → ⊥) × (c ≡ Puts e))
 in_difference l [] c r i = let t = from_map (λ (e : Entry). Drops e.0) l c i in inl (t.0, t.1, t.2)
 in_difference l (f ∷ m) c r i =
-    elim (from_append (dropped (below f.0 l)) (cond (has_entry f l) [] (Puts f ∷ []) ++ difference (above f.0 l) m) c i) [
+    elim (from_append (dropped (below f.0 l))
+    (cond (has_entry f l) [] (Puts f ∷ []) ++ difference (above f.0 l) m) c i) [
       | inl j ↦ (let t = from_map (λ (e : Entry). Drops e.0) (below f.0 l) c j in
           inl (t.0, (in_below f.0 l t.0 t.1).0, t.2))
       | inr j ↦ elim (from_append (cond (has_entry f l) [] (Puts f ∷ [])) (difference (above f.0 l) m) c j)
@@ -339,11 +340,12 @@ carried_difference l (f ∷ m) r s =
 
     -- f is the entry of its buffer there
     its_bound : (x : ℕ) → l ≡ below f.0 l ++ ((f.0, x) ∷ above f.0 l) → IsIn f l → f ≡ (f.0, x)
-    its_bound x q i = elim (from_append (below f.0 l) ((f.0, x) ∷ above f.0 l) f (subst (λ (k : Claim). IsIn f k) q i)) [
-      | inl j ↦ absurd (let k = (in_below f.0 l f j).1 in omega arith)
-      | inr (inl e) ↦ e
-      | inr (inr j) ↦ absurd (let k = (in_above f.0 l f j).1 in omega arith)
-    ]
+    its_bound x q i =
+        elim (from_append (below f.0 l) ((f.0, x) ∷ above f.0 l) f (subst (λ (k : Claim). IsIn f k) q i)) [
+          | inl j ↦ absurd (let k = (in_below f.0 l f j).1 in omega arith)
+          | inr (inl e) ↦ e
+          | inr (inr j) ↦ absurd (let k = (in_above f.0 l f j).1 in omega arith)
+        ]
 
     go : carried_out (above f.0 l) (difference (above f.0 l) m) ≡ m →
         (l ≡ below f.0 l ++ above f.0 l) ⊎ ((x : ℕ) × (l ≡ below f.0 l ++ ((f.0, x) ∷ above f.0 l))) →

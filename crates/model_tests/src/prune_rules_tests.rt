@@ -7,7 +7,8 @@ use prune_rules::{are_alike, dominated, is_below, is_twin, twin_before};
 use std::alloc::Global;
 
 /// The least buffer that dominates the third, the least twin before the second, whether the second
-/// is below the third, and whether the second is a twin of the first, where the claim has all three.
+/// is below the third, and whether the second is a twin of the first, where the claim has all
+/// three.
 fn ruled(alloc: Global, three: &Instance) -> Option<(Option<u32>, Option<u32>, bool, bool)> {
     let claim = Claim::from_pairs(alloc, &[(0, 1), (1, 2), (2, 3)]).ok()?;
     if three.len() != 3 {

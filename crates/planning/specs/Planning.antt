@@ -11,8 +11,8 @@ use Rattle.run_course.specs.Course.{Course, Outcome, Concludes, says, writes}
 use Rattle.readings.specs.Input.{opened}
 use Rattle.writings.specs.Writings.{layout_file}
 
--- the instance is plain, and its plan by size class a layout at its height, which is at most the sum of two to the power
--- of each class times its count; where all sizes are equal it is the least capacity, and the load of the peak
+-- the instance is plain, and its plan by size class a layout at its height, which is at most the sum of two to the
+-- power of each class times its count; where all sizes are equal it is the least capacity, and the load of the peak
 pub record IsPlanned (I : Instance) (load : ℕ) : Type 0 where
   pub plain : IsPlain I
   pub peak : IsPeakLoad I load

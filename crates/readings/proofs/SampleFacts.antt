@@ -72,7 +72,8 @@ cites_within : (a b : Cite) (cs : List Cite) → IsCiteWithin a → IsCiteWithin
 cites_within a b cs p q r = All-cons IsCiteWithin a (b ∷ cs) p (All-cons IsCiteWithin b cs q r)
 
 are_kept : All IsLineKept sample.lines
-are_kept zero d lt = kept [] over_2 (bounded (claim_of over_2) refl, lit< tt, lit≤ tt, lit≤ tt) (are_legal 0 over_2 refl)
+are_kept zero d lt =
+    kept [] over_2 (bounded (claim_of over_2) refl, lit< tt, lit≤ tt, lit≤ tt) (are_legal 0 over_2 refl)
 are_kept (suc zero) d lt =
     kept (over_2 ∷ []) over_1 (bounded (claim_of over_1) refl, lit< tt, lit≤ tt, lit≤ tt) (are_legal 1 over_1 refl)
 are_kept (suc (suc zero)) d lt = kept (over_2 ∷ over_1 ∷ []) case_12

@@ -93,8 +93,8 @@ fn holds(named: &Option<Vec<u8>>, want: &[u8]) -> bool {
     }
 }
 
-/// Whether the name has the new text where the four steps succeed, and else the old one, and nothing
-/// is beside it.
+/// Whether the name has the new text where the four steps succeed, and else the old one, and
+/// nothing is beside it.
 fn is_replaced(alloc: Global, named: Option<Vec<u8>>, steps: u8) -> bool {
     let mut draft = begun(alloc, named, steps);
     let whole = replace(&mut draft, b"new").is_ok();

@@ -7,7 +7,7 @@ use Rattle.branching.specs.Trying.{IsKnown, IsTrying, through}
 use Rattle.branching.specs.Logs.{Extends}
 use Rattle.branching.specs.Tries.{IsLeft, Tried, chosen_of, later_of, noted_by, rest_of}
 use Rattle.branching.proofs.Descent.{child_within}
-use Rattle.branching.proofs.Searching.{choice_refuted, chosen_in, next_choice, rest_of_noted, trying_still}
+use Rattle.branching.proofs.Searching.{chosen_in, next_choice, rest_of_noted, trying_still}
 use Rattle.branching.proofs.Working.{through_next}
 use Rattle.search_core.specs.Descents.{Descends, IsPath, IsPlace, IsStanding, Place, above_of, claim_at, left_of, owed, root_of, sky_root, turns_left}
 use Rattle.search_core.specs.Turns.{IsAhead, debt_of}
@@ -192,13 +192,6 @@ module _ (I : Instance) (C : ℕ) where
       all : Descends I C lines (claim_at here) (claim_at there ∷ above_of there.sky.claims) (f ∷ reverse there.frames)
       all = carried (λ (l : Claim) (ps : List Claim) (fs : List Tried). Descends I C lines l ps fs) refl (sym above)
           (sym rest) p.descends
-
-  -- the choice that led to the last claim is refuted, where a line covers that claim
-  pub back_noted : (lines : List Line) (here there : Place) (f : Tried) (k : ℕ) → IsBack lines here there f →
-      IsKnown I C lines (claim_at here) k → IsTrying I C lines (claim_at there) (noted_by f k)
-  back_noted lines here there f k b known =
-      choice_refuted I C _ _ f k b.trying b.standing.is_left
-      (subst (λ (l : Claim). IsKnown I C lines l k) b.standing.is_child known)
 
   -- and what was left to do is left to do
   pub back_debt : (lines : List Line) (here there : Place) (f : Tried) (k : ℕ) → IsBack lines here there f →

@@ -1,6 +1,8 @@
 -- A layout of the first claim, from offsets that are written on the way back from an empty one.
-use Rattle.std.proofs.Common.{◌≡◌, ℕ, ◌<◌, List, [], length, reverse, Some, None, slice_set, refl, sym, ap, ◌∙◌, subst, arith, length-set}
+use Rattle.std.proofs.Common.{◌≡◌, ℕ, ◌<◌, List, [], ◌∷◌, length, reverse, Some, None, slice_index_or, slice_set, refl, sym, ap, ◌∙◌, subst, arith, length-set}
 use Rattle.search_core.proofs.Words.{Instance, Claim, Entry, child, up, Line, first, seated, HasBuffer, entry_of, Stands, in_range, last_claim}
+use Rattle.skyline.specs.Skies.{first_claim}
+use Rattle.std.proofs.lemmas.List.{length-drop, length-reverse}
 use Rattle.dsa_search_laws.proofs.Search.{first_empty}
 use Rattle.branching.specs.Tries.{Tried, chosen_of, tried_of}
 use Rattle.branching.proofs.Searching.{first_in, layout_found}
@@ -77,10 +79,24 @@ module _ (I : Instance) (C : ℕ) (lines : List Line) where
         low_is : low ≡ up I (entry_of l k.chosen)
         low_is = e ∙ ap (λ (J : Instance). up J (entry_of l k.chosen)) back.path.subject
 
+  -- back at the first claim, which is the last one
   pub all_gathered : (top : Claim) (way : Way) (offsets : List ℕ) (seats : List Entry) → IsGathering top way offsets →
-      way.frames ≡ [] → seats ≡ seats_by offsets (last_claim way.sky.claims) → first I C top ≡ Some seats
+      way.frames ≡ [] → seats ≡ seats_by offsets (first_claim way.sky.claims) → first I C top ≡ Some seats
   all_gathered top way offsets seats g e q =
+      let d = subst (λ (fs : List Tried). Descends I C lines (last_on way) (above_of way.sky.claims) (reverse fs)) e
+      g.path.descends in
+      let s = alone way.sky.claims (none_above (last_on way) (above_of way.sky.claims) d) in
       subst (λ (l : Claim). first I C l ≡ Some seats)
-      (sym (no_above I C lines (last_on way) (above_of way.sky.claims)
-      (subst (λ (fs : List Tried). Descends I C lines (last_on way) (above_of way.sky.claims) (reverse fs)) e
-      g.path.descends)) ∙ g.root) (rw (← q) at g.found)
+      (sym (no_above I C lines (last_on way) (above_of way.sky.claims) d) ∙ g.root)
+      (g.found ∙ ap (λ (l : Claim). Some (seats_by offsets l)) (sym s) ∙ ap Some (sym q))
+    where
+      none_above : (l : Claim) (ps : List Claim) → Descends I C lines l ps [] → ps ≡ []
+      none_above l [] d = refl
+      none_above l (p ∷ ps) d = absurd d
+
+      alone : (claims : List Claim) → above_of claims ≡ [] → first_claim claims ≡ last_claim claims
+      alone claims e =
+          let n = length-reverse claims in
+          let m = length-drop 1 (reverse claims) in
+          let k = ap length e in
+          ap (λ (i : ℕ). slice_index_or claims i []) (omega arith)

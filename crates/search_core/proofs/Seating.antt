@@ -1,16 +1,11 @@
 -- Seats by the offsets of buffers.
-use Rattle.std.proofs.Common.{◌≡◌, ℕ, ◌+◌, ◌<◌, ◌==◌, Bool, true, false, cond, List, [], ◌∷◌, drop, length, map, max, Option, Some, None, slice_index, slice_set, inl, inr, refl, sym, ap, ◌∙◌, arith, ext_get_or, get_or-set_other, ◌++◌}
+use Rattle.std.proofs.Common.{◌≡◌, ℕ, ◌+◌, ◌<◌, ◌==◌, Bool, true, false, cond, List, [], ◌∷◌, drop, length, map, max, Option, Some, None, slice_index, slice_set, inl, inr, refl, sym, ap, ◌∙◌, arith, ext_get_or, get_or-set_other}
 use Rattle.std.specs.List.{list_any}
 use Rattle.std.proofs.lemmas.Grind.{get_or-set_at}
 use Rattle.std.proofs.lemmas.List.FromFn.{get_or-map-range_with_len, length-map-range_with_len}
-use Rattle.std.proofs.lemmas.List.{map-append}
-use Rattle.search_core.proofs.Words.{Instance, Claim, Entry, IsIn, child, number_of, step, up, offsets_of, choices, first, first_of, first_some, is_tall, not_excluded, seated, some_answer, apart, same, same_or_not, number_of-map, in_child, entry_of, Rises, buffers_of, HasBuffer, entries_below, below_zero, below_skip, below_take, below_all}
+use Rattle.search_core.proofs.Words.{Instance, Claim, Entry, IsIn, child, number_of, step, up, offsets_of, choices, first, first_of, first_some, is_tall, not_excluded, seated, some_answer, apart, same, same_or_not, number_of-map, in_child, entry_of}
 use Rattle.dsa_search_laws.proofs.Complete.{seated_some}
-use Rattle.search_core.specs.Seats.{seats_by}
-
--- the seat of one entry
-abbrev pub seat_at : List ℕ → Entry → Entry
-seat_at offsets e = (e.0, slice_index offsets e.0)
+use Rattle.search_core.specs.Seats.{seat_at, seats_by}
 
 -- a layout without seats is one of no buffers
 pub seats_of_none : (I : Instance) (C : ℕ) (l : Claim) → first I C l ≡ Some [] → l ≡ []
@@ -36,6 +31,11 @@ map_alike : (f g : Entry → Entry) (l : Claim) → ((e : Entry) → IsIn e l �
 map_alike f g [] h = refl
 map_alike f g (x ∷ xs) h = rw (h x (inl refl), map_alike f g xs (λ e i. h e (inr i))) refl
 
+-- the seats, made of the entries
+from_entries : (offsets : List ℕ) (l : Claim) → map (λ (e : Entry). seat_at offsets e.0) l ≡ seats_by offsets l
+from_entries offsets [] = refl
+from_entries offsets (x ∷ xs) = ap (λ (es : List Entry). seat_at offsets x.0 ∷ es) (from_entries offsets xs)
+
 -- the seats of a child, with b at its low, are those of the claim
 pub seated_by : (I : Instance) (l : Claim) (offsets : List ℕ) (b low : ℕ) → b < length offsets →
     low ≡ up I (entry_of l b) →
@@ -44,8 +44,9 @@ pub seated_by : (I : Instance) (l : Claim) (offsets : List ℕ) (b low : ℕ) �
 seated_by I l offsets b low lt q =
     ap Some (map_alike
     (λ (f : Entry). let seat : Entry = (f.0, cond (f.0 == b) (up I (entry_of l b)) (number_of seats f.0)) in seat)
-    (seat_at (slice_set offsets b low)) l
-    (λ f i. ap (λ (n : ℕ). let seat : Entry = (f.0, n) in seat) (same_offset f i)))
+    (λ (f : Entry). seat_at (slice_set offsets b low) f.0) l
+    (λ f i. ap (λ (n : ℕ). let seat : Entry = (f.0, n) in seat) (same_offset f i))
+    ∙ from_entries (slice_set offsets b low) l)
   where
     seats : List Entry
     seats = seats_by offsets (child I l (entry_of l b))
@@ -57,7 +58,8 @@ seated_by I l offsets b low lt q =
       | inr ne ↦
           let m = max (up I f) (up I (entry_of l b) + step I b f.0) in
           rw (apart f.0 b ne)
-          (number_of-map (slice_index offsets) (child I l (entry_of l b)) (f.0, m)
+          (ap (λ (es : List Entry). number_of es f.0) (sym (from_entries offsets (child I l (entry_of l b))))
+          ∙ number_of-map (slice_index offsets) (child I l (entry_of l b)) (f.0, m)
           (in_child I l (entry_of l b) f i ne)
           ∙ sym (get_or-set_other offsets b f.0 low 0 ne))
     ]
@@ -76,22 +78,3 @@ offsets_are I seats offsets i z n h =
     all : (xs : List Entry) → drop 0 xs ≡ xs
     all [] = refl
     all (x ∷ xs) = refl
-
--- ---- a list that is made of the entries of a claim, one after another
-module _ {A : Type 0} (f : Entry → A) (l : Claim) where
-  pub map_none : (items : List A) → items ≡ [] → items ≡ map f (entries_below 0 l)
-  map_none items q = rw (q, ← below_zero l) refl
-
-  pub map_skip : (n : ℕ) (items after : List A) → (HasBuffer l n → ⊥) → after ≡ items →
-      items ≡ map f (entries_below n l) → after ≡ map f (entries_below (n + 1) l)
-  map_skip n items after h q e = rw (q, below_skip l n h) e
-
-  pub map_take : (n : ℕ) (items after : List A) → Rises (buffers_of l) → HasBuffer l n →
-      after ≡ items ++ f (entry_of l n) ∷ [] → items ≡ map f (entries_below n l) →
-      after ≡ map f (entries_below (n + 1) l)
-  map_take n items after r h q e =
-      rw (q, below_take l n r h, map-append f (entries_below n l) (entry_of l n ∷ []), e) refl
-
-  pub map_all : (n : ℕ) (items : List A) → ((e : Entry) → IsIn e l → e.0 < n) →
-      items ≡ map f (entries_below n l) → items ≡ map f l
-  map_all n items h e = rw (below_all l n h) at e

@@ -1,8 +1,8 @@
 -- What the claim of a buffer of size 3 and of one of size 1 that stands at multiples of 4 alone decides of its choices,
 -- and what is kept of it where the search goes down by the first of them.
-use Rattle.std.proofs.Common.{◌≡◌, ℕ, zero, suc, ◌+◌, ◌<◌, slice_index_or, List, [], ◌∷◌, length, Option, Some, None, refl, sym, ap, ◌∙◌, subst, arith}
+use Rattle.std.proofs.Common.{◌≡◌, ℕ, zero, suc, ◌+◌, ◌<◌, slice_index_or, [], ◌∷◌, length, Option, Some, None, refl, sym, ap, ◌∙◌, subst, arith}
 use Rattle.std.specs.Global.{Vec}
-use Rattle.search_core.proofs.Words.{buffer, do_share, have_same_moments, is_live, some_before, Claim, child, step, up, ends_below, is_twin, comes_before, small_below, last_claim}
+use Rattle.search_core.proofs.Words.{buffer, do_share, have_same_moments, is_live, some_before, child, step, up, ends_below, is_twin, comes_before, small_below}
 use Rattle.claim_levels.proofs.LevelFacts.{differ, rest, root}
 use Rattle.branching.specs.declared.notes.Notes.{Notes}
 use Rattle.branching.specs.Tries.{IsLeft, Tried, chosen_of, tried_of}

@@ -7,7 +7,8 @@ pub use Rattle.canonical_order.specs.Levels.{AreLevels}
 pub use Rattle.canonical_order.specs.Stands.{Stands}
 pub use Rattle.dsa_model.specs.Buffer.{IsBuffer}
 pub use Rattle.dsa_search_laws.proofs.Claims.{claim-child, number_of-map}
-pub use Rattle.dsa_search_laws.proofs.Parts.{buffers_of-whole, claim_of_part, in_whole, part_is_in, part_is_members, same_part_uncut, searched_is_layout}
+pub use Rattle.dsa_search_laws.proofs.Parts.{buffers_of-whole, claim_of_part, in_whole, part_is_in, part_is_members}
+pub use Rattle.dsa_search_laws.proofs.Parts.{same_part_uncut, searched_is_layout}
 pub use Rattle.dsa_search_laws.proofs.Placing.{in_child}
 pub use Rattle.dsa_terms.proofs.Examples.{lifted, low, plain, raised, small_below}
 pub use Rattle.dsa_terms.proofs.Lists.{from_filter, into_map, same_some, some_answer}

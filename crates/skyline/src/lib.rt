@@ -7,5 +7,6 @@ mod lows_of;
 mod rooms;
 mod rows;
 mod sky;
+mod too_full;
 
 pub use sky::Skyline;

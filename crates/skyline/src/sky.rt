@@ -7,11 +7,9 @@ ghost use Rattle.lifetime.specs.SectionList.{AreSectionsOf, count_of};
 ghost use Rattle.canonical_order.specs.Claims.{HasBuffer, IsBoundedBy, entry_of};
 ghost use Rattle.canonical_order.specs.Levels.{AreLevels};
 ghost use Rattle.canonical_order.specs.Stands.{Stands};
-ghost use Rattle.skyline.specs.Overloads.{FitsFrom, least_up, over, overloaded};
 ghost use Rattle.skyline.specs.Skies.{AreLow, at_first, first_claim, last_claim};
 
-use crate::ledges::{ledge_above, lesser};
-use crate::lows_of::least_low;
+use crate::ledges::ledge_above;
 use crate::rooms::{first_loads, make_rows, mark};
 use crate::rows::{burden, highest, lighten, raise, restore, save};
 use dsa_model::{Instance, NoMemory};
@@ -21,11 +19,12 @@ use std::marker::Model;
 
 /// A list of claims, of which the last one is at hand: the whole claim of some members, and then
 /// the child of the one before by each buffer that was pushed. A buffer that was pushed stands at
-/// its low, and its top is kept as the height of its sections.
+/// its low, and its top is kept as the height of its sections. A push or a pop takes no memory, and
+/// its cost is in the sections of its buffer.
 #[derive(Drop)]
 pub struct Skyline<'a> {
     instance: &'a Instance,
-    sections: &'a Sections,
+    pub(crate) sections: &'a Sections,
     members: Vec<u32>,
     depth: usize,
     stack: Vec<u32>,
@@ -33,7 +32,7 @@ pub struct Skyline<'a> {
     heights: Vec<u64>,
     saved: Vec<Vec<u64>>,
     free: Vec<bool>,
-    loads: Vec<u64>,
+    pub(crate) loads: Vec<u64>,
 }
 
 impl<'a> Model for Skyline<'a> {
@@ -104,8 +103,7 @@ impl<'a> Skyline<'a> {
     }
 
     /// Appends the child of the last claim by the buffer, which is in it, and gives the buffer's
-    /// low in bytes, where it stands from now on. It takes no memory. Its cost is in the sections
-    /// of the buffer.
+    /// low in bytes, where it stands from now on.
     pub fn push(&mut self, b: u32) -> u64
         requires { HasBuffer (last_claim self.old.claims) b }
         ensures instance { self.new.instance ≡ self.old.instance }
@@ -132,7 +130,7 @@ impl<'a> Skyline<'a> {
     }
 
     /// Takes the last claim off the list, so that all is as before the push that made it; the
-    /// caller owes a depth above 0. It takes no memory. Its cost is in the sections of the buffer.
+    /// caller owes a depth above 0.
     pub fn pop(&mut self)
         requires { 1 < length self.old.claims }
         ensures instance { self.new.instance ≡ self.old.instance }
@@ -149,49 +147,8 @@ impl<'a> Skyline<'a> {
         self.free[b as usize] = true;
     }
 
-    /// The start and the height in bytes of the earliest section that is too full: some of its
-    /// members are in the last claim, the least low of these is the height, and their sizes on top
-    /// of the height pass the capacity. None exactly where there is no such section.
-    pub fn overloaded(&self, capacity: u64) -> Option<(u64, u64)>
-        ensures value { let l = last_claim self.now.claims in
-            result ≡ overloaded self.now.instance self.now.sections l capacity }
-        ensures limit { IfSome result (λ found. found.1 < 2 ^ 54) }
-        ensures belongs { AreSectionsOf self.now.instance self.now.sections }
-    {
-        for s in 0..self.sections.count() {
-            let found = self.over(s, capacity);
-            if found.is_some() {
-                return found;
-            }
-        }
-        None
-    }
-
-    /// What `overloaded` answers, by the levels of the last claim, which the caller owes: one more
-    /// than a buffer's low, and 0 where it is not in the claim. None of them is above `top`. No low
-    /// is found anew, and a section is passed by where its load fits even from `top`.
-    pub fn overloaded_at(&self, capacity: u64, levels: &[u64], top: u64) -> Option<(u64, u64)>
-        requires levels { let l = last_claim self.now.claims in
-            AreLevels self.now.instance l levels.now }
-        requires limit { All (λ level. level ≤ 2 ^ 55) levels.now }
-        requires top { All (λ level. level ≤ top) levels.now }
-        requires top_limit { top ≤ 2 ^ 55 }
-        ensures value { let l = last_claim self.now.claims in
-            result ≡ overloaded self.now.instance self.now.sections l capacity }
-        ensures limit { IfSome result (λ found. found.1 < 2 ^ 55) }
-        ensures belongs { AreSectionsOf self.now.instance self.now.sections }
-    {
-        for s in 0..self.sections.count() {
-            let found = self.over_at(s, capacity, levels, top);
-            if found.is_some() {
-                return found;
-            }
-        }
-        None
-    }
-
-    /// The sections of the instance. That no bound of a child of the last claim is above 2^54 stands
-    /// here, for those who go down to one by the sections.
+    /// The sections of the instance. That no bound of a child of the last claim is above 2^54
+    /// stands here, for those who go down to one by the sections.
     pub fn sections(&self) -> &Sections
         ensures value { result.now ≡ self.now.sections }
         ensures belongs { AreSectionsOf self.now.instance self.now.sections }
@@ -242,69 +199,5 @@ impl<'a> Skyline<'a> {
         let ledge = ledge_above(&self.stack, &self.ledges, self.depth, b);
         let bound = top.max(ledge).max(buffer.lowest());
         buffer.least_offset(bound)
-    }
-
-    /// The least low of the section's members that are in the last claim, where there is one and
-    /// the load on top of it passes the capacity. The first low from which the load fits decides
-    /// that it does not.
-    fn least_low(&self, s: u32, load: u64, capacity: u64) -> Option<u64>
-        requires section { s < count_of self.now.sections }
-        requires load { load ≤ 2 ^ 60 }
-        ensures some { let l = last_claim self.now.claims in
-            IfSome result (λ height.
-            least_up self.now.instance self.now.sections l s ≡ Some height) }
-        ensures over { IfSome result (λ height. capacity < height + load) }
-        ensures none { let l = last_claim self.now.claims in
-            IfNone result (FitsFrom load capacity
-            (least_up self.now.instance self.now.sections l s)) }
-        ensures limit { IfSome result (λ height. height < 2 ^ 54) }
-    {
-        let members = self.sections.members(s);
-        let mut least = None;
-        for i in 0..members.len() {
-            if self.has(members[i]) {
-                let low = self.least_offset(members[i]);
-                if low + load <= capacity {
-                    return None;
-                }
-                least = Some(lesser(low, least));
-            }
-        }
-        least
-    }
-
-    /// The start and the height of the section, where it is too full for the capacity.
-    fn over(&self, s: u32, capacity: u64) -> Option<(u64, u64)>
-        requires { s < count_of self.now.sections }
-        ensures value { let l = last_claim self.now.claims in
-            result ≡ over self.now.instance self.now.sections l capacity s }
-        ensures limit { IfSome result (λ found. found.1 < 2 ^ 54) }
-    {
-        match self.least_low(s, self.loads[s as usize], capacity) {
-            None => None,
-            Some(height) => Some((self.sections.start(s), height)),
-        }
-    }
-
-    /// The start and the height of the section, where it is too full for the capacity, by the
-    /// levels of the last claim, of which none is above the top.
-    fn over_at(&self, s: u32, capacity: u64, levels: &[u64], top: u64) -> Option<(u64, u64)>
-        requires section { s < count_of self.now.sections }
-        requires levels { let l = last_claim self.now.claims in
-            AreLevels self.now.instance l levels.now }
-        requires limit { All (λ level. level ≤ 2 ^ 55) levels.now }
-        requires top { All (λ level. level ≤ top) levels.now }
-        requires top_limit { top ≤ 2 ^ 55 }
-        ensures value { let l = last_claim self.now.claims in
-            result ≡ over self.now.instance self.now.sections l capacity s }
-        ensures limit { IfSome result (λ found. found.1 < 2 ^ 55) }
-    {
-        let load = self.loads[s as usize];
-        if load + top <= capacity {
-            return None;
-        }
-        let start = self.sections.start(s);
-        let height = least_low(self.sections.members(s), levels, load, capacity)?;
-        Some((start, height))
     }
 }

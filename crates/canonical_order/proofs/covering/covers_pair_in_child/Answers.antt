@@ -36,7 +36,9 @@ returns g c =
     let h = c.is_free.ensures.value.0 c.if-not-is_free.false in
     let rises = (c.is_free.ensures.stands).claim.rises in
     let low = ap (up I) (entry_of_child I l c.args.b c.args.c rises h c.if-c-b.false) in
-    let test = rw (c.instance.ensures.value, c.low.ensures.value, c.low-2.ensures.value) at c.meets_in_child.ensures in (
-      λ t. covers_entry I (child I l (entry_of l c.args.b)) _ (in_child_by _ _ _ _ h c.if-c-b.false) (rw low (test.0 t)),
+    let test =
+    rw (c.instance.ensures.value, c.low.ensures.value, c.low-2.ensures.value) at c.meets_in_child.ensures in (
+      λ t. covers_entry I (child I l (entry_of l c.args.b)) _ (in_child_by _ _ _ _ h c.if-c-b.false)
+          (rw low (test.0 t)),
       λ k. test.1 (rw low at ((from_covered _ _ _ (rises-child _ _ _ rises) k).1)),
     )

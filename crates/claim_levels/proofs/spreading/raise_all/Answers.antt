@@ -16,4 +16,5 @@ returns-then-are_few-clause-done g c =
     (λ k d i. (c.len-count.ensures.buffers k d i).sound) c.requires.1.0 c.requires.1.1.1.0
     (c.requires.1.1.1.1.1 c.if-is_first.true) c.in_ok-raise_each.ensures.raising
     (λ s x i j. c.in_ok-raise_each.ensures.kept x (c.in_ok-raise_near.ensures.done s x
-    (subst (IsIn s) (sym c.sections_of-own.ensures.value) i) j)) (c.in_ok-raise_each.ensures.done c.args.placed.buffer (inl refl))
+    (subst (IsIn s) (sym c.sections_of-own.ensures.value) i) j))
+    (c.in_ok-raise_each.ensures.done c.args.placed.buffer (inl refl))

@@ -16,4 +16,5 @@ returns-in-Ok-Some c = λ ids left g.
     rw first (offsets-header ids (fields_of c.in-Ok-Some.header) more bad.fault bad.ensures)
 
 pub returns-in-Ok-None : goal.returns-in-Ok-None
-returns-in-Ok-None c = λ ids left g. ap (parsed_offsets ids) (rw c.in-Ok-None.field-0-is at (c.in-Ok-None.ensures left g))
+returns-in-Ok-None c = λ ids left g.
+    ap (parsed_offsets ids) (rw c.in-Ok-None.field-0-is at (c.in-Ok-None.ensures left g))

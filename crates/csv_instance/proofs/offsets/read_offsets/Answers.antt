@@ -11,14 +11,15 @@ pub returns-clause-read : goal.returns-clause-read
 returns-clause-read c =
     let ids = ids_of c.args.table.now in
     read-all c.ids-ids.result.now.keys ids
-    (table_of c.args.bytes.now) c.in-Ok.found.entries (c.ids-ids.ensures.ids ∙ ap ids_of c.rows.ensures.rows) c.in-Ok.ensures c.offsets_by_buffer.result
-    c.offsets_by_buffer.ensures
+    (table_of c.args.bytes.now) c.in-Ok.found.entries (c.ids-ids.ensures.ids ∙ ap ids_of c.rows.ensures.rows)
+    c.in-Ok.ensures c.offsets_by_buffer.result c.offsets_by_buffer.ensures
 
 pub returns-clause-count : goal.returns-clause-count
 returns-clause-count c =
     let ids = ids_of c.args.table.now in
     let table = table_of c.args.bytes.now in
-    let read = read-all c.ids-ids.result.now.keys ids table c.in-Ok.found.entries (c.ids-ids.ensures.ids ∙ ap ids_of c.rows.ensures.rows) c.in-Ok.ensures
+    let same = c.ids-ids.ensures.ids ∙ ap ids_of c.rows.ensures.rows in
+    let read = read-all c.ids-ids.result.now.keys ids table c.in-Ok.found.entries same c.in-Ok.ensures
     c.offsets_by_buffer.result c.offsets_by_buffer.ensures in
     let count = ids-count c.args.table.now c.rows.ensures.parsed.0 c.rows.ensures.parsed.1 in
     if_ok-of _ c.offsets_by_buffer.result
@@ -28,7 +29,8 @@ pub returns-clause-limit : goal.returns-clause-limit
 returns-clause-limit c =
     let ids = ids_of c.args.table.now in
     let table = table_of c.args.bytes.now in
-    let read = read-all c.ids-ids.result.now.keys ids table c.in-Ok.found.entries (c.ids-ids.ensures.ids ∙ ap ids_of c.rows.ensures.rows) c.in-Ok.ensures
+    let same = c.ids-ids.ensures.ids ∙ ap ids_of c.rows.ensures.rows in
+    let read = read-all c.ids-ids.result.now.keys ids table c.in-Ok.found.entries same c.in-Ok.ensures
     c.offsets_by_buffer.result c.offsets_by_buffer.ensures in
     if_ok-of _ c.offsets_by_buffer.result (λ v e. offsets-limit ids table v.items e) read
 
@@ -36,7 +38,8 @@ pub returns-clause-back : goal.returns-clause-back
 returns-clause-back c = λ offsets small even text.
     let ids = ids_of c.args.table.now in
     let table = table_of c.args.bytes.now in
-    let read = read-all c.ids-ids.result.now.keys ids table c.in-Ok.found.entries (c.ids-ids.ensures.ids ∙ ap ids_of c.rows.ensures.rows) c.in-Ok.ensures
+    let same = c.ids-ids.ensures.ids ∙ ap ids_of c.rows.ensures.rows in
+    let read = read-all c.ids-ids.result.now.keys ids table c.in-Ok.found.entries same c.in-Ok.ensures
     c.offsets_by_buffer.result c.offsets_by_buffer.ensures in
     let back : parsed_offsets ids table ≡ Ok offsets =
     rw text (layout-back c.args.table.now c.rows.ensures.parsed.0 offsets c.rows.ensures.parsed.1 small even) in
@@ -49,5 +52,7 @@ returns-in-Err-clause-back c = λ offsets small even text.
     let back : parsed_offsets ids table ≡ Ok offsets =
     rw text (layout-back c.args.table.now c.rows.ensures.parsed.0 offsets c.rows.ensures.parsed.1 small even) in
     IfFault-map _ _ c.in-Err.failure
-    (λ f bad. let same : Err f ≡ Ok offsets = sym bad ∙ ap (λ i. parsed_offsets i table) (c.ids-ids.ensures.ids ∙ ap ids_of c.rows.ensures.rows) ∙ back in
+    (λ f bad.
+    let same : Err f ≡ Ok offsets =
+    sym bad ∙ ap (λ i. parsed_offsets i table) (c.ids-ids.ensures.ids ∙ ap ids_of c.rows.ensures.rows) ∙ back in
     cc same) c.in-Err.ensures

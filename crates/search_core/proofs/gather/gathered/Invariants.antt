@@ -1,7 +1,7 @@
-use Rattle.std.proofs.Common.{◌≡◌}
-use Rattle.search_core.proofs.Words.{entries_below}
-use Rattle.search_core.specs.Seats.{seats_by}
+use Rattle.std.proofs.Common.{◌≡◌, ◌++◌, drop, map}
+use Rattle.search_core.specs.Seats.{seat_at}
 use Rattle.search_core.proofs.gather.gathered.Given as goal
 
 abbrev pub invariant-loop-b : goal.invariant-loop-b
-invariant-loop-b g l = l.seats.items ≡ seats_by l.offsets (entries_below l.b (g.L.Lows.claim l.lows))
+invariant-loop-b l =
+    map (seat_at l.offsets) l.members ≡ l.seats.items ++ map (seat_at l.offsets) (drop l.b-index l.members)

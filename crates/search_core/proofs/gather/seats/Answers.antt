@@ -1,8 +1,8 @@
-use Rattle.std.proofs.Common.{◌≡◌, Some, arith, slice_set}
+use Rattle.std.proofs.Common.{◌≡◌, ◌∙◌, Some, ap, arith, map, slice_set}
 use Rattle.std.proofs.lemmas.Result.{IfOk-weaker}
-use Rattle.search_core.proofs.Words.{first, last_claim}
+use Rattle.search_core.proofs.Words.{first}
 use Rattle.search_core.specs.Descents.{sky_root}
-use Rattle.search_core.specs.Seats.{seats_by}
+use Rattle.search_core.specs.Seats.{seat_at}
 use Rattle.search_core.proofs.Gathering.{IsGathering, all_gathered, gathering_has, gathering_next, gathering_start, gathering_within}
 use Rattle.search_core.proofs.gather.seats.Goals.{After-index_mut}
 use Rattle.search_core.proofs.gather.seats.Goals as goal
@@ -47,8 +47,9 @@ pub returns-clause-value : goal.returns-clause-value
 returns-clause-value c =
     let i = c.loop-kept.invariant in
     let none = c.in_default.ensures.none in
+    let members = rw (c.sky-2.ensures, none.1) at c.members.ensures.value in
     IfOk-weaker c.gathered.result
-    (λ v. v.items ≡ seats_by c.loop-kept.offsets.items (last_claim c.loop-kept.path.sky.claims))
+    (λ v. v.items ≡ map (seat_at c.loop-kept.offsets.items) c.members.result.now)
     (λ v. first c.args.task.now.instance.now c.args.task.now.capacity (sky_root c.args.path.now.sky) ≡ Some v.items)
-    (λ v q. all_gathered _ _ i.0 _ _ _ _ i.1 none.0 q)
-    (rw (c.deref.ensures.value, c.sky-2.ensures, none.1) at c.gathered.ensures)
+    (λ v q. all_gathered _ _ i.0 _ _ _ _ i.1 none.0 (q ∙ ap (map (seat_at c.loop-kept.offsets.items)) members))
+    (rw c.deref.ensures.value at c.gathered.ensures)

@@ -42,6 +42,7 @@ returns-clause-limit c =
     rw c.records.ensures.places at c.field_under.ensures in
     let at_b : get_or (map fields_of rows) c.args.b [] ≡ fields_of row =
     get_or-map fields_of rows c.args.b row [] within ∙ ap fields_of (sym c.index-rows-b.is) in
-    let good = faultless h (map fields_of rows) c.self.inside.instance (rw c.records.ensures.records at c.self.invariant) in
+    let good =
+    faultless h (map fields_of rows) c.self.inside.instance (rw c.records.ensures.records at c.self.invariant) in
     rw (field ∙ ap (λ (r : Record). field_of h r Id) (sym at_b))
     (id-limits h [] (map fields_of rows) c.args.b good.1 (omega arith))

@@ -104,7 +104,8 @@ returns-in_ok-go_down-in-None c =
     let d = (goal.at.returns-in_ok-go_down-in-None c).After-first-chosen in
     let f = first d in
     let p = c.requires.ready.opened.path.subject in
-    let down = rw (c.in_ok-line.ensures.path, p, f.1, c.new-refuted.ensures.items, c.len-asked.ensures.value, c.log.ensures)
+    let down = rw
+    (c.in_ok-line.ensures.path, p, f.1, c.new-refuted.ensures.items, c.len-asked.ensures.value, c.log.ensures)
     at c.in_ok-go_down-in-None.ensures in
     goes_down _ _ c.args.log.now _ c.args.self.now c.look_up.new.self c.go_down.new.self (stands d) c.requires.log
     c.requires.ready f.0 (rw (f.1, c.in-None.is) at c.in_ok-line.ensures.found)

@@ -1,6 +1,5 @@
 use Rattle.std.proofs.Common.{◌≡◌, arith, map, ap, sym, ◌∙◌, length}
 use Rattle.claim_levels.proofs.Leveling.{lifted_levels}
-use Rattle.claim_levels.proofs.Lifting.{lifted_at_lows}
 use Rattle.claim_levels.specs.Lifted.{lifted}
 use Rattle.branching.specs.Trying.{refuted_buffer}
 use Rattle.branching.proofs.Descent.{is_instance}
@@ -39,7 +38,6 @@ refute-requires c =
     let q = made d in
     record {
       levels = rw q (lifted_levels I l _ i (levels d));
-      lows = rw q (lifted_at_lows I l i);
       stands = rw q (lifted_stands I l s (rw q at c.in_ok-claim.ensures.low));
       low = c.in_ok-claim.ensures.low;
       not_empty = λ e. c.requires.ready.opened.not_empty (lifted_nothing I l (sym (ap length q) ∙ ap length e));

@@ -68,7 +68,8 @@ returns-in_err-k-clause-used c =
 pub returns-in_err-k-clause-turned : goal.returns-in_err-k-clause-turned
 returns-in_err-k-clause-turned c =
     let o = some (goal.at.returns-in_err-k-clause-turned c).In_default in
-    passed_on _ _ _ _ _ c.from_residual-in_err-k.ensures.1 c.in_err-k.ensures.opened (λ f h. (h.0, omega (arith, o, h.1)))
+    passed_on _ _ _ _ _ c.from_residual-in_err-k.ensures.1 c.in_err-k.ensures.opened
+    (λ f h. (h.0, omega (arith, o, h.1)))
 
 pub returns-in_err-seats-in-Empty-clause-used : goal.returns-in_err-seats-in-Empty-clause-used
 returns-in_err-seats-in-Empty-clause-used c =
