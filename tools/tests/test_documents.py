@@ -44,9 +44,9 @@ class Documents(unittest.TestCase):
         self.assertEqual(commands_of(readme), ["least"])
 
     def test_readme_names_the_toolchain_as_the_launcher_reads_it(self):
-        found = re.findall(r"`rt version` must print `([^`]+)`", text_of("README.md").replace("\n", " "))
+        found = re.findall(r"`rt version` must end in `([^`]+)`", text_of("README.md").replace("\n", " "))
         self.assertEqual(len(found), 1)
-        self.assertRegex(found[0], r"^rattle-kit-\w+ logic [0-9a-f]+$")
+        self.assertRegex(found[0], r"^logic [0-9a-f]+$")
 
     def test_links_lead_somewhere(self):
         for page in PAGES:

@@ -168,13 +168,13 @@ class Launcher(unittest.TestCase):
     def test_another_toolchain_is_told_before_a_build(self):
         self.write(f"{self.top}/stub", "#!/bin/sh\n", 0o755)
         for wanted, said in [
-            ("rattle-kit-0 logic 0123", []),
-            ("rattle-kit-1 logic 4567", [
-                "dsaplan: rt version prints 'rattle-kit-0 logic 0123', and not 'rattle-kit-1 logic 4567', as README wants;"
+            ("logic 0123", []),
+            ("logic 4567", [
+                "dsaplan: rt version prints 'rattle-kit-0 logic 0123', which does not end in 'logic 4567', as README wants;"
                 " the build may fail"
             ]),
         ]:
-            self.write(f"{self.top}/README.md", f"# A\n\nHere `rt version` must\nprint `{wanted}`.\n")
+            self.write(f"{self.top}/README.md", f"# A\n\nHere `rt version` must\nend in `{wanted}`.\n")
             shutil.rmtree(os.path.dirname(self.program), ignore_errors=True)
             told = self.run_it("verify").stderr.splitlines()
             self.assertEqual(told[: len(said)], said)

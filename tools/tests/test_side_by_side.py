@@ -124,6 +124,32 @@ class Crate(Library):
         return 3
 
 
+class Stamps(unittest.TestCase):
+    """How often a crate is read for the stamps of those above it."""
+
+    def test_a_crate_is_read_once_for_each_stamp_that_is_asked_for(self):
+        read = []
+
+        class Stamped:
+            def __init__(self, name, *deps):
+                self.name, self.deps = name, deps
+
+            def stamp(self):
+                read.append(self.name)
+                return self.name + "".join(it.stamp() for it in self.deps)
+
+        low = Stamped("low")
+        sides = [Stamped("left", low), Stamped("right", low)]
+        top = Stamped("top", *sides)
+        before = top.stamp()
+        self.assertEqual(sorted(read), ["left", "low", "low", "right", "top"])
+        side_by_side.stamp_quickly(Stamped)
+        for _ in range(2):
+            read.clear()
+            self.assertEqual(top.stamp(), before)
+            self.assertEqual(sorted(read), ["left", "low", "right", "top"])
+
+
 class Main(unittest.TestCase):
     """What is built of a program and of a static library over two libraries."""
 
