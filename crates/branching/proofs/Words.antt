@@ -13,7 +13,7 @@ pub use Rattle.dsa_terms.proofs.Lists.{any_from, any_gives, from_append, from_fi
 pub use Rattle.dsa_terms.proofs.Lists.{into_filter, into_map, left_append, same_some, some_answer, true_or_false}
 pub use Rattle.dsa_terms.proofs.Moments.{and_true, live_before, sound}
 pub use Rattle.dsa_terms.proofs.NumberTests.{apart, below_or_from, is_at_most, is_below, less}
-pub use Rattle.dsa_terms.proofs.NumberTests.{not_at_most, not_below, same}
+pub use Rattle.dsa_terms.proofs.NumberTests.{not_at_most, not_below}
 pub use Rattle.dsa_terms.proofs.Places.{in_at}
 pub use Rattle.dsa_terms.specs.Buffers.{Buffer, Instance, IsInstance, IsLive}
 unfoldable pub use Rattle.dsa_terms.specs.Buffers.{buffer, do_share, have_same_moments, is_live, some_before}

@@ -8,7 +8,6 @@ use Rattle.dsa_model.proofs.Instances.{sound_buffer}
 use Rattle.dsa_terms.specs.Claims.{Entry, Claim, IsIn, Rises, buffers_of, up, step, child, Covers}
 use Rattle.dsa_search_laws.proofs.Placing.{in_buffers, in_child, of_child}
 use Rattle.dsa_search_laws.proofs.Claims.{rises-child, length-child}
-use Rattle.dsa_terms.proofs.Numbers.{next_at_or_above}
 use Rattle.canonical_order.specs.Claims.{HasBuffer, entry_of, IsBoundedBy, IsKeptClaim, NonePassBelow, CoversEntry, CoversFirst, entries_below, least_buffer, IsLeastOf, IsLeastNumber, Passes}
 use Rattle.canonical_order.specs.Stands.{Stands}
 use Rattle.dsa_terms.proofs.NumberTests.{same, apart, at_most, is_at_most, is_below, not_below, below_or_last}
@@ -137,23 +136,6 @@ from_child I l b c h =
     let r = of_child I l (entry_of l b) (entry_of (child I l (entry_of l b)) c) (entry_in _ c h) in
     let q : c ≡ r.0.0 = ap (λ (e : Entry). e.0) r.3 in
     (subst (λ b. HasBuffer l b) (sym q) (in_buffers l r.0 r.1), λ e. r.2 (sym q ∙ e))
-
-at_or_above : (I : Instance) (e : Entry) → 1 ≤ (buffer I e.0).alignment → e.1 ≤ up I e
-unfolding up
-at_or_above I e pos = next_at_or_above e.1 (buffer I e.0).alignment pos
-
--- no low falls in a child: it is at least what the bound there is
-pub raised_stays : (I : Instance) (l : Claim) (b c : ℕ) → Stands I l → HasBuffer l c → c ≢ b →
-    max (up I (entry_of l c)) (up I (entry_of l b) + step I b c) ≤ up I (entry_of (child I l (entry_of l b)) c)
-raised_stays I l b c s h ne =
-    let n = max (up I (entry_of l c)) (up I (entry_of l b) + step I b c) in
-    rw (entry_of_child I l b c s.claim.rises h ne)
-    (at_or_above I (c, n) ((sound_buffer I c s.buffers (in_range I l c s h)).sound.1))
-
-pub low_stays : (I : Instance) (l : Claim) (b c : ℕ) → Stands I l → HasBuffer l c → c ≢ b →
-    up I (entry_of l c) ≤ up I (entry_of (child I l (entry_of l b)) c)
-low_stays I l b c s h ne =
-    let k = raised_stays I l b c s h ne in omega arith
 
 -- ---- covering
 pub covers_entry : (I : Instance) (l : Claim) (e : Entry) → HasBuffer l e.0 → e.1 ≤ up I (entry_of l e.0) →

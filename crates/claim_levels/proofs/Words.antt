@@ -1,6 +1,6 @@
 -- The words and lemmas of the crates below that most proofs cite, passed on from one place. Declares nothing.
 pub use Rattle.canonical_order.proofs.CoverLemmas.{entry_of_child, from_child, in_child_by, length_within}
-pub use Rattle.canonical_order.proofs.Entries.{entry_in, is_entry, stands, up_limit}
+pub use Rattle.canonical_order.proofs.Entries.{entry_in, is_entry, up_limit}
 pub use Rattle.canonical_order.proofs.LevelLemmas.{has_level, has_or_not, level_in_range, level_inside}
 pub use Rattle.canonical_order.specs.Claims.{HasBuffer, IsBoundedBy, entry_of}
 pub use Rattle.canonical_order.specs.Levels.{AreLevels, IsLevel}

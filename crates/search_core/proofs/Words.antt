@@ -1,8 +1,7 @@
 -- The words and lemmas of the crates below that most proofs cite, passed on from one place. Declares nothing.
-pub use Rattle.canonical_order.proofs.CoverLemmas.{below_all, below_skip, below_take, below_zero}
 pub use Rattle.canonical_order.proofs.Entries.{in_range}
 pub use Rattle.canonical_order.proofs.LevelLemmas.{level_inside}
-pub use Rattle.canonical_order.specs.Claims.{HasBuffer, IsBoundedBy, entries_below, entry_of}
+pub use Rattle.canonical_order.specs.Claims.{HasBuffer, entry_of}
 pub use Rattle.canonical_order.specs.Levels.{AreLevels}
 pub use Rattle.canonical_order.specs.Stands.{Stands}
 pub use Rattle.dsa_model.specs.Buffer.{IsBuffer}
@@ -12,11 +11,11 @@ pub use Rattle.dsa_search_laws.proofs.Parts.{same_part_uncut, searched_is_layout
 pub use Rattle.dsa_search_laws.proofs.Placing.{in_child}
 pub use Rattle.dsa_terms.proofs.Examples.{lifted, low, plain, raised, small_below}
 pub use Rattle.dsa_terms.proofs.Lists.{from_filter, into_map, same_some, some_answer}
-pub use Rattle.dsa_terms.proofs.NumberTests.{apart, below_or_last, equal, is_at_most, same, same_or_not}
+pub use Rattle.dsa_terms.proofs.NumberTests.{apart, equal, is_at_most, same, same_or_not}
 pub use Rattle.dsa_terms.proofs.Places.{in_at}
 pub use Rattle.dsa_terms.specs.Buffers.{Instance, IsInstance, IsLive}
 unfoldable pub use Rattle.dsa_terms.specs.Buffers.{buffer, do_share, floor, have_same_moments, is_live, some_before}
-pub use Rattle.dsa_terms.specs.Claims.{Claim, Covers, Entry, IsClaim, IsIn, IsWhole, Rises, buffers_of, number_of}
+pub use Rattle.dsa_terms.specs.Claims.{Claim, Covers, Entry, IsClaim, IsIn, IsWhole, number_of}
 unfoldable pub use Rattle.dsa_terms.specs.Claims.{child, step, up}
 pub use Rattle.dsa_terms.specs.Lean.{IsLeanLine}
 pub use Rattle.dsa_terms.specs.Logs.{IsAccepted, IsLegal, Line, Log, Over, claim_of}
@@ -26,8 +25,8 @@ unfoldable pub use Rattle.dsa_terms.specs.Parts.{part_of, parts, searched, whole
 pub use Rattle.dsa_terms.specs.Search.{choices, first_of, first_some, not_excluded, seated}
 unfoldable pub use Rattle.dsa_terms.specs.Search.{comes_before, first, is_tall, work}
 pub use Rattle.line_index.proofs.Finding.{next_of}
-pub use Rattle.line_index.proofs.WatchLemmas.{noted_more, raised_trans, watched_more, watched_none}
+pub use Rattle.line_index.proofs.WatchLemmas.{noted_more, raised_trans, watched_more}
 pub use Rattle.line_index.specs.Covered.{IsCoveredBy}
-pub use Rattle.line_index.specs.Watches.{AreNoted, AreRaised, AreWatched, IsNoted, LineWatches, RulesOut}
+pub use Rattle.line_index.specs.Watches.{AreNoted, AreRaised, AreWatched, LineWatches}
 pub use Rattle.refute_log.specs.Logs.{OpenLog, ended}
-pub use Rattle.skyline.specs.Skies.{AreLow, Sky, last_claim}
+pub use Rattle.skyline.specs.Skies.{Sky, last_claim}

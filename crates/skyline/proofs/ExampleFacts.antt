@@ -9,7 +9,7 @@ use Rattle.skyline.specs.Carried.{claims_of, ledge_at, heights_after, offsets_af
 use Rattle.skyline.specs.LowsOf.{has_level, least_low, low_of}
 use Rattle.skyline.specs.Overloads.{free_load, is_left, least_of, least_up, over, overloaded}
 use Rattle.skyline.specs.Places.{at_places, set_each}
-use Rattle.skyline.specs.Skies.{last_claim}
+use Rattle.skyline.specs.Skies.{first_claim, last_claim}
 use Rattle.skyline.specs.Standing.{claim_after, ledge, offset_after, raised, top_under}
 
 abbrev pub plain : ℕ → ℕ → ℕ → ℕ → Buffer
@@ -42,6 +42,10 @@ offsets_are = refl
 heights_are : heights_after together one_section (whole together all_three) (1 ∷ 0 ∷ []) ≡ 3 ∷ []
 unfolding child up step do_share some_before is_live buffer
 heights_are = refl
+
+first_is : first_claim (claims_of together (whole together all_three) (1 ∷ 0 ∷ [])) ≡ (0, 0) ∷ (1, 0) ∷ (2, 0) ∷ []
+unfolding child up step do_share some_before is_live buffer
+first_is = refl
 
 last_is : last_claim (claims_of together (whole together all_three) (1 ∷ 0 ∷ [])) ≡ (2, 3) ∷ []
 unfolding child up step do_share some_before is_live buffer

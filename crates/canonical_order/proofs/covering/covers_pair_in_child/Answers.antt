@@ -22,10 +22,10 @@ meets_in_child-requires g c =
     let h = c.is_free.ensures.value.0 c.if-not-is_free.false in
     let i = in_range _ _ _ c.instance.ensures.stands c.requires.b_in in
     let j = in_range _ _ _ c.instance.ensures.stands h in
-    let k : c.low.result < 2 ^ 60 + 2 ^ 32 =
-    low_limit _ _ _ _ _ c.low.ensures.value c.low.ensures.stands c.requires.bounds c.requires.b_in in
-    let m : c.low-2.result < 2 ^ 60 + 2 ^ 32 =
-    low_limit _ _ _ _ _ c.low-2.ensures.value c.low-2.ensures.stands c.requires.bounds h in
+    let k : c.args.low_b < 2 ^ 60 + 2 ^ 32 =
+    low_limit _ _ _ _ _ c.requires.low c.low.ensures.stands c.requires.bounds c.requires.b_in in
+    let m : c.low.result < 2 ^ 60 + 2 ^ 32 =
+    low_limit _ _ _ _ _ c.low.ensures.value c.low.ensures.stands c.requires.bounds h in
     record { b_in = i; c_in = j; limit_b = omega arith; limit_c = omega arith }
 
 pub returns : goal.returns
@@ -37,7 +37,7 @@ returns g c =
     let rises = (c.is_free.ensures.stands).claim.rises in
     let low = ap (up I) (entry_of_child I l c.args.b c.args.c rises h c.if-c-b.false) in
     let test =
-    rw (c.instance.ensures.value, c.low.ensures.value, c.low-2.ensures.value) at c.meets_in_child.ensures in (
+    rw (c.instance.ensures.value, c.requires.low, c.low.ensures.value) at c.meets_in_child.ensures in (
       λ t. covers_entry I (child I l (entry_of l c.args.b)) _ (in_child_by _ _ _ _ h c.if-c-b.false)
           (rw low (test.0 t)),
       λ k. test.1 (rw low at ((from_covered _ _ _ (rises-child _ _ _ rises) k).1)),

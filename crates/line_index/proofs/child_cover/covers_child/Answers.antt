@@ -6,4 +6,4 @@ use Rattle.line_index.proofs.child_cover.covers_child.Goals as goal
 pub loop-pair-preserved : goal.loop-pair-preserved
 loop-pair-preserved c = λ p h. covers_next c.args.instance.now c.args.k.now
     (child c.args.instance.now p (entry_of p c.args.b)) _ _ c.pairs-pair-items.ensures.value c.loop-pair-test.true
-    (c.meets_in_child.ensures p h c.if-not-meets_in_child.false) (c.loop-pair.invariant p h)
+    (c.covers_pair.ensures p h c.if-not-covers_pair.false) (c.loop-pair.invariant p h)
