@@ -26,7 +26,7 @@ use Rattle.trace_import.specs.ImportText.{import_text}
 use Rattle.trace_import.specs.declared.fault.TraceFault.TheVariants as fault
 
 -- an identifier that is freed and allocated again, beside one that is never freed
-abbrev twice : Trace
+abbrev pub twice : Trace
 twice =
     Alloc (codes "a") 4 1 ∷ Alloc (codes "b") 8 4 ∷ Free (codes "a") ∷ Alloc (codes "a") 2 1 ∷ []
 
@@ -43,11 +43,11 @@ free_of_none : trace_of (codes "free b\n") ≡ Err (fault.NotLive 0)
 unfolding trace_of holder
 free_of_none = refl
 
-freed_twice : trace_of (codes "alloc a 4 1\nfree a\nfree a\n") ≡ Err (fault.NotLive 2)
+pub freed_twice : trace_of (codes "alloc a 4 1\nfree a\nfree a\n") ≡ Err (fault.NotLive 2)
 unfolding trace_of holder
 freed_twice = refl
 
-allocated_twice : trace_of (codes "alloc a 4 1\nalloc b 8 4\nalloc a 2 1\n") ≡ Err (fault.StillLive 2 0)
+pub allocated_twice : trace_of (codes "alloc a 4 1\nalloc b 8 4\nalloc a 2 1\n") ≡ Err (fault.StillLive 2 0)
 unfolding trace_of holder
 allocated_twice = refl
 

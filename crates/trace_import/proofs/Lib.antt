@@ -14,3 +14,6 @@ pub mod Parses
 pub mod Accepted
 pub mod ShortText
 mod ExampleFacts
+mod LineFacts
+mod KeptFacts
+mod HeldFacts
