@@ -1,17 +1,17 @@
 -- What lifetimes on a circle come to on small rows of period 10.
-use Rattle.std.proofs.Common.{◌≡◌, arith, lit<, lit≤, inl, inr, ℕ, ◌%◌, nat_le, nat_lt, ◌||◌, ◌&&◌, true, false, [], ◌∷◌, ◌++◌, map, flat_map, replicate, codes, Some, None, Ok, Err, refl}
+use Rattle.std.proofs.Common.{◌≡◌, arith, lit<, lit≤, inl, inr, ℕ, ◌%◌, nat_le, nat_lt, ◌||◌, ◌&&◌, true, false, [], ◌∷◌, ◌++◌, map, flat_map, replicate, codes, Some, None, Ok, Err, refl, sym, ◌∙◌}
 use Rattle.std.proofs.lemmas.Bool.Decides.{nat_tests}
 use Rattle.std.specs.Fmt.{digits}
 use Rattle.csv.specs.Machine.{next_record}
 use Rattle.csv.specs.Reading.{records_from, strip_bom}
 use Rattle.csv.specs.Writing.{fields_text, is_blank}
-use Rattle.dsa_model.specs.Buffer.{is_ever_live}
+use Rattle.dsa_model.specs.Buffer.{buffer_of, is_ever_live}
 use Rattle.dsa_model.specs.declared.buffer_fault.BufferFault.TheVariants as buffer_fault
 use Rattle.csv_instance.specs.declared.fault.InstanceFault.TheVariants as instance_fault
 use Rattle.csv_instance.specs.Records.{table_of}
 use Rattle.csv_instance.specs.Parse.{parse}
 use Rattle.cyclic_plan.specs.FaultTexts.{cycle_text}
-use Rattle.cyclic_plan.specs.Unrolled.{cycle_rows_fault, unrolled_of, unrolled_text, wraps_from}
+use Rattle.cyclic_plan.specs.Unrolled.{IsUnrolled, cycle_row_fault, cycle_rows_fault, unrolled_of, unrolled_text, wraps_from}
 use Rattle.cyclic_plan.specs.declared.fault.CycleFault.TheVariants as fault
 use Rattle.dsa_terms.specs.Buffers.{Buffer, is_live, buffer, do_share, some_before, have_same_moments, floor}
 use Rattle.dsa_terms.specs.Claims.{up, step, child}
@@ -23,6 +23,7 @@ use Rattle.dsa_terms.specs.Fits.{top, highest, neighbours, is_free, first_passin
 use Rattle.dsa_terms.specs.Orders.{falls_by, rises_by, orders}
 use Rattle.dsa_terms.specs.Starts.{starts, planned}
 use Rattle.dsa_terms.proofs.Examples.{plain}
+use Rattle.cyclic_plan.proofs.Tables.{unrolled_gives}
 use Rattle.cyclic_plan.specs.Cycles.{IsCycleLayout, IsInPeriod, IsLiveRound, does_wrap, is_live_round, lasts_at, unrolled}
 
 -- a row that wraps, one that fills what it leaves, and one that does not
@@ -128,6 +129,19 @@ first_bad_row : cycle_rows_fault 10 0 (plain 2 8 4 1 ∷ plain 1 11 0 1 ∷ plai
 unfolding unrolled is_ever_live some_before is_live
 first_bad_row = refl
 
+-- row 3 by itself
+begins_too_late : cycle_row_fault 10 3 (plain 10 2 4 1) ≡ Some (fault.Outside 3)
+unfolding unrolled is_ever_live some_before is_live
+begins_too_late = refl
+
+wraps_without_a_size : cycle_row_fault 10 3 (plain 8 2 0 1) ≡ Some (fault.BadBuffer 3 buffer_fault.ZeroSize)
+unfolding unrolled is_ever_live some_before is_live
+wraps_without_a_size = refl
+
+wraps_without_a_fault : cycle_row_fault 10 3 wrapping ≡ None
+unfolding unrolled is_ever_live some_before is_live
+wraps_without_a_fault = refl
+
 texts_of_faults : cycle_text (fault.BadBuffer 1 buffer_fault.TooManyGaps) ≡ codes "row 1 too many gaps"
 unfolding digits
 texts_of_faults = refl
@@ -198,6 +212,16 @@ wrapping_parses : parse (table_of (unrolled_text 10 (table_of (codes "id,lower,u
 unfolding unrolled_text unrolled records_from strip_bom next_record fields_text is_blank digits is_ever_live some_before
     is_live
 wrapping_parses = refl
+
+-- it has just the layouts of the rows
+wrapping_is_unrolled : IsUnrolled 10 (table_of (codes "id,lower,upper,size\nA,8,2,4\nB,2,8,4\n"))
+    (buffer_of 0 10 4 1 ((2, 8) ∷ []) 0 ∷ plain 2 8 4 1 ∷ [])
+wrapping_is_unrolled = unrolled_gives 10 _ _ (lit≤ tt) wrapping_file
+
+-- not without the row that does not wrap
+not_the_first_alone : IsUnrolled 10 (table_of (codes "id,lower,upper,size\nA,8,2,4\nB,2,8,4\n"))
+    (buffer_of 0 10 4 1 ((2, 8) ∷ []) 0 ∷ []) → ⊥
+not_the_first_alone h = let e = sym wrapping_parses ∙ h.parsed in absurd cc
 
 -- a row at the limit of gaps that wraps has one too many
 one_gap_too_many : unrolled_of 20 (table_of (codes "id,lower,upper,size,gaps\nA,18,17,4,0-1"
