@@ -1,5 +1,5 @@
 -- What plans by size class come to on small instances.
-use Rattle.std.proofs.Common.{◌≡◌, ℕ, ◌<◌, ◌≤◌, ◌⊎◌, inl, inr, [], ◌∷◌, refl, sym, None, Some, arith}
+use Rattle.std.proofs.Common.{◌≡◌, ℕ, ◌<◌, ◌≤◌, ◌⊎◌, inl, inr, [], ◌∷◌, refl, sym, true, false, None, Some, arith}
 use Rattle.dsa_terms.specs.Bounds.{moments}
 use Rattle.dsa_terms.specs.Buffers.{Instance, is_live, buffer}
 use Rattle.dsa_terms.specs.Claims.{IsIn}
@@ -8,7 +8,7 @@ use Rattle.dsa_terms.specs.Parts.{has}
 use Rattle.dsa_terms.specs.Plans.{load}
 use Rattle.dsa_terms.proofs.Examples.{five, gapped, plain, two_of_four}
 use Rattle.size_classes.specs.Classes.{class_of, in_class, last_class, widest}
-use Rattle.size_classes.specs.Plain.{first_rough}
+use Rattle.size_classes.specs.Plain.{IsPlainAt, first_rough, is_rough}
 use Rattle.size_classes.specs.Plans.{class_height, class_offset, class_plan, offset_in, power_height}
 use Rattle.size_classes.specs.Pools.{IsEnded, IsFree, IsLeastFree, IsReleased, Pool, pool_of}
 use Rattle.size_classes.specs.Slots.{held, in_turn, least_free, live_among, most_live, slot_count, slot_of, slotted}
@@ -177,6 +177,28 @@ unfolding class_plan class_offset offset_in class_of widest in_class most_live l
 in_turn_of_one_slot = refl
 
 -- ---- instances that are not plain
+first_of_five_is_plain : IsPlainAt five 0
+unfolding buffer
+first_of_five_is_plain = (refl, omega arith, refl)
+
+-- aligned to four
+aligned_is_not : IsPlainAt two_of_four 0 → ⊥
+unfolding buffer
+aligned_is_not h = omega (arith, h.1)
+
+gapped_is_not : IsPlainAt (gapped ∷ []) 0 → ⊥
+unfolding buffer
+gapped_is_not h = let e = h.0 in absurd cc
+
+a_plain_buffer : is_rough (plain 0 3 4 1) ≡ false
+a_plain_buffer = refl
+
+an_aligned_buffer : is_rough (plain 0 3 4 2) ≡ true
+an_aligned_buffer = refl
+
+a_buffer_with_a_gap : is_rough gapped ≡ true
+a_buffer_with_a_gap = refl
+
 two_of_four_is_rough : first_rough two_of_four ≡ Some 0
 unfolding first_rough
 two_of_four_is_rough = refl
