@@ -15,4 +15,5 @@ mod CarriedFacts
 mod ExampleFacts
 mod FoundFacts
 mod StackFacts
+mod LookingFacts
 pub mod Bounding

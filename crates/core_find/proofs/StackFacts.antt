@@ -13,14 +13,14 @@ use Rattle.core_find.specs.Looking.{IsLogByFew, IsStackOver, members_before}
 use Rattle.core_find.proofs.Some.{some_of_all}
 
 -- two buffers of size 4 that are live together, and the line by which they do not fit at 3
-abbrev two : Instance
+abbrev pub two : Instance
 two = record { lower = 0; upper = 1; size = 4; alignment = 1; gaps = []; lowest = 0 }
     ∷ record { lower = 0; upper = 1; size = 4; alignment = 1; gaps = []; lowest = 0 } ∷ []
 
-abbrev both : Line
+abbrev pub both : Line
 both = Over ((0, 0) ∷ (1, 0) ∷ []) 0 0 1
 
-abbrev last : Claim
+abbrev pub last : Claim
 last = (1, 0) ∷ []
 
 last_is_over : IsOver two 3 0 0 1 last
@@ -38,7 +38,7 @@ last_is_claim = record { rises = (above, tt); in_range = ranges }
     ranges e (inr h) = absurd h
 
 -- the second alone is too large
-second_is_over : IsStackOver two 3 both (1 ∷ [])
+pub second_is_over : IsStackOver two 3 both (1 ∷ [])
 unfolding buffer
 second_is_over = record { claim = last_is_claim; not_empty = λ e. cc; reason = last_is_over }
 
@@ -51,17 +51,17 @@ second_is_not_over : IsStackOver two 4 both (1 ∷ []) → ⊥
 unfolding buffer
 second_is_not_over h = second_fits h.reason
 
-none_is_over : IsStackOver two 3 both [] → ⊥
+pub none_is_over : IsStackOver two 3 both [] → ⊥
 none_is_over h = h.not_empty refl
 
 no_stack : IsStackOver two 3 (Cases ((1, 0) ∷ []) []) (1 ∷ []) → ⊥
 no_stack h = h
 
 -- ---- the log of the second alone
-abbrev by_second : Log
+abbrev pub by_second : Log
 by_second = record { count = 2; capacity = 3; lines = Over last 0 0 1 ∷ []; final = 0 }
 
-second_is_accepted : IsAccepted two by_second
+pub second_is_accepted : IsAccepted two by_second
 unfolding buffer
 second_is_accepted = record {
   same_count = refl;
