@@ -1,8 +1,8 @@
 -- A line that refutes a buffer of size 1 that stands at multiples of 4 alone, with the bound 3, at the capacity 4.
-use Rattle.std.proofs.Common.{◌≡◌, ◌^◌, ◌<◌, ◌≤◌, List, [], ◌∷◌, inl, inr, refl, arith}
+use Rattle.std.proofs.Common.{◌≡◌, ◌^◌, zero, suc, ◌<◌, ◌≤◌, List, [], ◌∷◌, inl, inr, refl, arith}
 use Rattle.branching.proofs.Words.{buffer, is_live, Covers, Entry, IsClaim, IsIn, up, IsLegal, Line, Over, is_stacked, rounded, rounding, small_below}
 use Rattle.claim_levels.proofs.LevelFacts.{rest, root}
-use Rattle.branching.specs.Overs.{RefutesAtOnce}
+use Rattle.branching.specs.Overs.{AreSizesWithin, RefutesAtOnce}
 
 -- buffer 1 at 4 or above ends above 4
 abbrev pub over : Line
@@ -61,3 +61,15 @@ not_the_root h = over_covers_no_root h.covers
 not_at_5 : RefutesAtOnce small_below 5 rest over → ⊥
 unfolding is_stacked rounded rounding up is_live buffer
 not_at_5 h = let k : 5 < 5 = (h.legal []).reason.too_high in omega arith
+
+-- ---- sizes
+-- the buffers have the sizes 3 and 1
+none_above_3 : AreSizesWithin small_below 3
+unfolding buffer
+none_above_3 zero lt = omega arith
+none_above_3 (suc zero) lt = omega arith
+none_above_3 (suc (suc b)) lt = absurd (omega arith)
+
+one_above_2 : AreSizesWithin small_below 2 → ⊥
+unfolding buffer
+one_above_2 h = let k = h 0 (omega arith) in omega (arith, k)

@@ -71,7 +71,7 @@ not_ready : IsUncovered small_below 4 (over ∷ []) at_root (both_left 0) → �
 not_ready r = let k = r.asked in omega arith
 
 -- ---- where the search is once it went down
-ahead : IsAhead small_below 4 [] at_root (both_left 0) (below None)
+pub ahead : IsAhead small_below 4 [] at_root (both_left 0) (below None)
 ahead = record {
   place = before_line;
   root = refl;
@@ -80,7 +80,7 @@ ahead = record {
 }
 
 -- where the second choice alone is left, no more than two claims are
-more_than_two : IsAhead small_below 4 [] at_root one_left (below None) → ⊥
+pub more_than_two : IsAhead small_below 4 [] at_root one_left (below None) → ⊥
 more_than_two a = let k = a.owed in let e = three_owed in let f = two_below in omega arith
 
 below_another_root : IsAhead small_below 4 [] at_rest (both_left 0) (below None) → ⊥

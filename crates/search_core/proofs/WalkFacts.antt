@@ -5,14 +5,16 @@ use Rattle.claim_levels.specs.Trails.{Tracks}
 use Rattle.branching.specs.Tries.{Tried}
 use Rattle.branching.proofs.KnownFacts.{rest_covered}
 use Rattle.branching.proofs.OverFacts.{over, over_covers}
-use Rattle.branching.proofs.TryFacts.{both_left}
+use Rattle.branching.proofs.TryFacts.{both_left, one_left}
 use Rattle.search_core.specs.declared.walk.Walk.{Walk}
 use Rattle.search_core.specs.Meters.{Units}
-use Rattle.search_core.specs.Walks.{GoesOn, HasWatches, IsHeld, IsLookedUp, child_by, due_lines, place_of, place_on, stage_of, tracks_below, tracks_of}
+use Rattle.search_core.specs.Walks.{GoesOn, HasWatches, IsCoveredBelow, IsHeld, IsLookedUp, child_by, due_lines, place_of, place_on, stage_of, tracks_below, tracks_of}
 use Rattle.search_core.specs.Watches.{AreWatchedAbove, AreWatchedTo}
 use Rattle.search_core.specs.Ways.{Way}
+use Rattle.search_core.proofs.DescentFacts.{sky_of}
+use Rattle.search_core.proofs.TurnFacts.{ahead, more_than_two}
 use Rattle.search_core.proofs.WatchFacts.{by_four, not_at_the_rest}
-use Rattle.search_core.proofs.Words.{buffer, child, do_share, is_live, some_before, step, up, AreWatched, Instance, OpenLog, small_below}
+use Rattle.search_core.proofs.Words.{buffer, child, do_share, is_live, some_before, step, up, AreWatched, Instance, LineWatches, OpenLog, small_below}
 
 -- the levels at what is left and at the root
 abbrev both : Tracks
@@ -82,6 +84,9 @@ module _ (walk : Walk) (i : walk.path.sky.instance ≡ small_below)
   not_held : walk.line ≡ None → walk.watches ≡ by_four → IsHeld (over ∷ []) walk → ⊥
   not_held e w h = not_at_the_rest (rw (e, w, i, claims) at h)
 
+none_watched : (w : LineWatches) (levels : List ℕ) → AreWatched [] w levels 0
+none_watched w levels = record { within = omega arith; each = λ k line lt. absurd (omega arith) }
+
 -- ---- at the root, whose first child is looked up
 module _ (walk next : Walk) (i : walk.path.sky.instance ≡ small_below) (claims : walk.path.sky.claims ≡ root ∷ []) where
   its_child : child_by small_below walk 0 ≡ rest
@@ -93,9 +98,17 @@ module _ (walk next : Walk) (i : walk.path.sky.instance ≡ small_below) (claims
   levels_below = rw (i, claims) refl
 
   -- a line covers it
+  covered_below : HasWatches (over ∷ []) next → AreWatchedTo (over ∷ []) next.watches walk.path 1 →
+      IsCoveredBelow small_below (over ∷ []) 0 walk next 0
+  covered_below h held = record { covered = rw its_child rest_covered; watched = h; held = held }
+
   found : HasWatches (over ∷ []) next → AreWatchedTo (over ∷ []) next.watches walk.path 1 →
       IsLookedUp small_below (over ∷ []) 0 walk next (Some 0)
-  found h held = record { covered = rw its_child rest_covered; watched = h; held = held }
+  found h held = covered_below h held
+
+  -- there is no second line
+  not_by_the_second : IsCoveredBelow small_below (over ∷ []) 0 walk next 1 → ⊥
+  not_by_the_second c = let e = c.covered.stands in absurd cc
 
   not_fresh : IsLookedUp small_below (over ∷ []) 0 walk next None → ⊥
   not_fresh b = (rw its_child at b.fresh) 0 over refl over_covers
@@ -107,13 +120,43 @@ module _ (walk next : Walk) (i : walk.path.sky.instance ≡ small_below) (claims
   below e w = record {
     fresh = λ k line at covers. absurd cc;
     trail = rw its_child (e ∙ sym levels_below);
-    child = none_watched _;
-    held = none_watched _;
+    child = none_watched next.watches _;
+    held = none_watched next.watches _;
     above = rw (w, claims) (record { noted = λ p m j. absurd j; along = tt });
   }
-    where
-      none_watched : (levels : List ℕ) → AreWatched [] next.watches levels 0
-      none_watched levels = record { within = omega arith; each = λ k line lt. absurd (omega arith) }
 
   not_by_no_line : IsLookedUp small_below [] 0 walk next (Some 0) → ⊥
   not_by_no_line c = let e = c.covered.stands in absurd cc
+
+-- ---- down from the root, which is open, to what is left of its first choice
+abbrev no_lines : OpenLog
+no_lines = record { count = 2; capacity = 4; lines = [] }
+
+module _ (walk next : Walk)
+    (here : walk.path ≡ record { sky = sky_of (root ∷ []); frames = [] })
+    (there : next.path ≡ record { sky = sky_of (root ∷ rest ∷ []); frames = both_left 0 ∷ [] })
+    (open_there : walk.line ≡ None)
+    (none : next.line ≡ None) where
+  goes_down : next.trail ≡ both → next.watches ≡ record { entries = []; rows = [] } →
+      GoesOn small_below 4 (both_left 0) no_lines no_lines walk next
+  unfolding up buffer
+  goes_down levels w = record {
+    log = record {
+      belongs = record { same_count = refl; legal = λ k line at. absurd cc };
+      capacity = refl;
+      lean = λ k line at. absurd cc;
+      uncovered = λ j k earlier line lt at_j at_k covers. absurd cc;
+    };
+    grown = record { more = []; is = refl; among = λ line e i. absurd i };
+    ahead = rw (here, there, open_there, none) ahead;
+    watched = record {
+      tracks = rw there levels;
+      above = rw (there, w) (record { noted = λ p m j. absurd j; along = (none_watched _ _, tt) });
+    };
+    held = rw none (none_watched _ _);
+    counted = rw (here, there) (omega arith);
+  }
+
+  -- where the second choice alone is left, what is below the first one is too much
+  not_from_the_second : GoesOn small_below 4 one_left no_lines no_lines walk next → ⊥
+  not_from_the_second h = more_than_two (rw (here, there, open_there, none) at h.ahead)
