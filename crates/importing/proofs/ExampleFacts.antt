@@ -1,15 +1,16 @@
 -- What importing a few lines comes to, and what a line comes to that frees what nobody holds.
-use Rattle.std.proofs.Common.{◌≡◌, ℕ, List, [], ◌∷◌, Ok, codes, refl, lit≤}
+use Rattle.std.proofs.Common.{◌≡◌, ◌∙◌, ℕ, List, [], ◌∷◌, Ok, codes, refl, sym, lit≤}
 use Rattle.csv_instance.specs.Records.{file_limit}
 use Rattle.trace_import.specs.Faults.{holder, trace_of}
 use Rattle.trace_import.specs.ImportText.{import_text}
 use Rattle.trace_import.specs.Traces.{Alloc, Free, Trace, imported}
 use Rattle.trace_import.specs.declared.fault.TraceFault.TheVariants as fault
+use Rattle.trace_import.proofs.ExampleFacts.{size_0_does_not}
 use Rattle.command_words.specs.Roles.{limit_of}
 use Rattle.command_words.specs.declared.role.Role.TheVariants as role
 use Rattle.run_status.specs.declared.status.Status.TheVariants.{TraceRefused}
 use Rattle.run_course.specs.Course.{Outcome, says}
-use Rattle.importing.specs.Importing.{Imports}
+use Rattle.importing.specs.Importing.{Imports, IsImported}
 use Rattle.importing.proofs.Importing.{imported_file, is_imported}
 
 -- a trace may be as long as its reader takes
@@ -31,10 +32,18 @@ no_lines : trace_of [] ≡ Ok []
 unfolding trace_of holder
 no_lines = refl
 
+-- its text is read as an instance of three buffers
+twice_is_imported : IsImported twice
+twice_is_imported = is_imported lines twice (lit≤ tt) its_lines
+
+-- the text of a trace with a size of 0 is not read
+size_0_is_not : IsImported (Alloc (codes "a") 0 1 ∷ []) → ⊥
+size_0_is_not h = let e = sym size_0_does_not ∙ h.parsed in absurd cc
+
 -- three buffers are written, one for each allocation
 twice_is_written : Imports (codes "o") (Ok twice) (imported_file (codes "o") 3 (import_text twice))
 unfolding imported
-twice_is_written = (is_imported lines twice (lit≤ tt) its_lines, refl)
+twice_is_written = (twice_is_imported, refl)
 
 -- and nothing else may be
 nothing_else : (o : Outcome) → Imports (codes "o") (Ok twice) o → o ≡ imported_file (codes "o") 3 (import_text twice)

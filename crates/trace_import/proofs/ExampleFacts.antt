@@ -5,6 +5,8 @@ use Rattle.csv.specs.Machine.{next_record}
 use Rattle.csv.specs.Reading.{records_from, strip_bom}
 use Rattle.csv.specs.Writing.{fields_text, is_blank}
 use Rattle.dsa_model.specs.Buffer.{is_ever_live}
+use Rattle.dsa_model.specs.declared.buffer_fault.BufferFault.TheVariants as buffer_fault
+use Rattle.csv_instance.specs.declared.fault.InstanceFault.TheVariants as instance_fault
 use Rattle.csv_instance.specs.Parse.{parse}
 use Rattle.csv_instance.specs.Records.{table_of}
 use Rattle.dsa_terms.specs.Buffers.{is_live, buffer, do_share, some_before, have_same_moments, floor}
@@ -159,6 +161,12 @@ parses : parse (table_of (import_text twice)) ≡ Ok (imported twice)
 unfolding import_text imported fields_text is_blank digits records_from strip_bom next_record is_ever_live some_before
     is_live
 parses = refl
+
+-- that of a size of 0 does not
+pub size_0_does_not : parse (table_of (import_text (Alloc (codes "a") 0 1 ∷ [])))
+    ≡ Err (instance_fault.BadBuffer 0 buffer_fault.ZeroSize)
+unfolding import_text fields_text is_blank digits records_from strip_bom next_record is_ever_live some_before is_live
+size_0_does_not = refl
 
 twice_at_11 : planned (imported twice) 11 ≡ None
 unfolding imported planned plan layout_height starts orders falls_by rises_by first_fit best_fit neighbours first_place

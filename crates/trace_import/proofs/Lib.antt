@@ -13,7 +13,7 @@ pub mod Imported
 pub mod Parses
 pub mod Accepted
 pub mod ShortText
-mod ExampleFacts
+pub mod ExampleFacts
 mod LineFacts
 mod KeptFacts
 mod HeldFacts
