@@ -21,7 +21,12 @@ the_later_holds : HoldsAfter twice 3 (codes "a")
 the_later_holds = record {
   size = 2;
   alignment = 1;
-  held = record { id = codes "a"; allocates = refl; started = omega arith; unfreed = λ f lt le e. absurd (omega arith) };
+  held = record {
+    id = codes "a";
+    allocates = refl;
+    started = omega arith;
+    unfreed = λ f lt le e. absurd (omega arith);
+  };
   its_id = refl;
 }
 
