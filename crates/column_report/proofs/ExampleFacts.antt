@@ -7,7 +7,7 @@ use Rattle.dsa_terms.specs.Buffers.{Instance, is_live, some_before}
 use Rattle.csv_instance.specs.Parse.{parse}
 use Rattle.csv_instance.specs.Records.{Record}
 use Rattle.csv_instance.proofs.FileFacts.{two, two_rows}
-use Rattle.column_report.specs.Columns.{columns_text, meaning_of}
+use Rattle.column_report.specs.Columns.{column_row, columns_text, meaning_of}
 use Rattle.column_report.specs.Counts.{counts_line, counts_of}
 use Rattle.column_report.specs.Report.{inspect_text}
 
@@ -25,6 +25,13 @@ misspelt = refl
 
 no_name : meaning_of [] ≡ codes "carried"
 no_name = refl
+
+-- the name as it stands in the file, and behind it what it means
+a_read_row : column_row (codes "gaps") ≡ codes "gaps" ∷ codes "gaps" ∷ []
+a_read_row = refl
+
+a_carried_row : column_row (codes "Gaps") ≡ codes "Gaps" ∷ codes "carried" ∷ []
+a_carried_row = refl
 
 -- a name is quoted as the `csv` writer does
 quoted : columns_text (codes "id" ∷ codes "a,\"b\"" ∷ []) ≡ codes "column,meaning\nid,id\n\"a,\"\"b\"\"\",carried\n"

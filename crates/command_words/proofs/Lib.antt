@@ -1,6 +1,7 @@
 mod CommandFacts
 mod ExampleFacts
 pub mod FileLemmas
+mod FaultFacts
 pub mod NameLemmas
 pub mod PairLemmas
 pub mod RequestLemmas

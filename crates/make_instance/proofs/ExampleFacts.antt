@@ -2,7 +2,7 @@
 use Rattle.std.proofs.Common.{◌≡◌, [], ◌∷◌, Some, None, codes, refl}
 use Rattle.std.specs.Fmt.{digits}
 use Rattle.make_instance.specs.Draws.{draw, first_state, next_state, state_at}
-use Rattle.make_instance.specs.Made.{gap_text, header, made_record, made_table, made_text, record_of}
+use Rattle.make_instance.specs.Made.{gap_text, header, made_record, made_table, made_text, record_line, record_of}
 use Rattle.make_instance.specs.Rows.{gap_in, made_row, row_of}
 
 -- the states of the generator, at first and by the ten draws of two buffers
@@ -85,3 +85,10 @@ second_record = refl
 
 no_records : made_table 7 0 ≡ header ∷ []
 no_records = refl
+
+-- ---- lines: an empty field is written as nothing, and the comma before it stays
+a_line : record_line (codes "b1" ∷ codes "2" ∷ [] ∷ []) ≡ codes "b1,2,\n"
+a_line = refl
+
+of_one_field : record_line (codes "b1" ∷ []) ≡ codes "b1\n"
+of_one_field = refl
