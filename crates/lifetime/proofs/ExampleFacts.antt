@@ -3,7 +3,7 @@ use Rattle.std.proofs.Common.{◌≡◌, ℕ, ◌<◌, ◌⊎◌, inl, inr, fals
 use Rattle.dsa_terms.specs.Buffers.{Buffer, Instance, buffer, is_live}
 use Rattle.dsa_terms.specs.Claims.{IsIn}
 use Rattle.dsa_terms.specs.Parts.{has}
-use Rattle.lifetime.specs.Edges.{edge_moments, edges_of, has_member, places_of}
+use Rattle.lifetime.specs.Edges.{edge_moments, edges_of, gap_ends, has_member, places_of}
 use Rattle.lifetime.specs.Places.{ends_with}
 use Rattle.lifetime.specs.Runs.{live_before, starts_of, was_live}
 use Rattle.lifetime.specs.SectionList.{Section, SectionList, live_at}
@@ -37,6 +37,9 @@ nothing_before_zero = refl
 
 edges_of_gapped : edge_moments gapped ≡ 0 ∷ 10 ∷ 4 ∷ 6 ∷ []
 edges_of_gapped = refl
+
+ends_of_two_gaps : gap_ends ((4, 6) ∷ (1, 2) ∷ []) ≡ 4 ∷ 6 ∷ 1 ∷ 2 ∷ []
+ends_of_two_gaps = refl
 
 numbered_edges : edges_of filling 1 ≡ (4, 1) ∷ (7, 1) ∷ []
 numbered_edges = refl

@@ -20,3 +20,4 @@ pub mod ExampleFacts
 pub mod RunFacts
 pub mod SweepFacts
 pub mod ThinFacts
+mod StackFacts
