@@ -14,7 +14,7 @@ use Rattle.layout_picture.specs.Texts.{area_text, attribute, colour_text, has_ro
 use Rattle.layout_picture.specs.declared.rectangle.Rectangle.{Rectangle}
 use Rattle.layout_picture.specs.declared.scale.Scale.{Scale}
 
-abbrev lasting : ℕ → ℕ → ℕ → Buffer
+abbrev pub lasting : ℕ → ℕ → ℕ → Buffer
 lasting lower upper size = record { lower = lower; upper = upper; size = size; alignment = 1; gaps = []; lowest = 0 }
 
 abbrev pub drawn : ℕ → ℕ → ℕ → ℕ → ℕ → Rectangle
@@ -34,7 +34,7 @@ unfolding rectangles rectangles_of run_end columns_of turns_at was_live is_live 
 five_rectangles = refl
 
 -- ---- a buffer with a gap has two rectangles
-abbrev with_gap : Buffer
+abbrev pub with_gap : Buffer
 with_gap = record { lower = 0; upper = 10; size = 4; alignment = 1; gaps = (3, 6) ∷ []; lowest = 0 }
 
 gap_columns : columns_of (with_gap ∷ []) ≡ 0 ∷ 3 ∷ 6 ∷ 10 ∷ []

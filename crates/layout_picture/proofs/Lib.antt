@@ -16,3 +16,6 @@ pub mod Following
 pub mod PairLemmas
 pub mod ExampleFacts
 pub mod SideFacts
+mod ShownFacts
+mod MetFacts
+mod TextFacts

@@ -8,13 +8,13 @@ use Rattle.layout_picture.proofs.ExampleFacts.{drawn, five, five_offsets}
 use Rattle.layout_picture.proofs.SideLists.{made_side}
 
 -- ---- the first three rectangles of the five: the third lies upon both others
-abbrev first : Rectangle
+abbrev pub first : Rectangle
 first = drawn 0 0 1 0 4
 
-abbrev second : Rectangle
+abbrev pub second : Rectangle
 second = drawn 1 1 2 0 4
 
-abbrev third : Rectangle
+abbrev pub third : Rectangle
 third = drawn 2 0 2 4 8
 
 the_upper_side : upper_side first ≡ made_side 4 0 1 0
