@@ -1,7 +1,7 @@
 -- The limits of a buffer, and the tests on its numbers and gaps one by one.
 use Rattle.std.proofs.Common.{◌≡◌, ℕ, true, false, [], ◌∷◌, map, Some, None, Ok, Err, replicate, refl, arith}
 use Rattle.dsa_terms.specs.Buffers.{is_live, some_before}
-use Rattle.dsa_model.specs.Buffer.{size_limit, alignment_limit, lowest_limit, gap_limit, buffer_limit, buffer_of, lasting, is_empty_gap, is_outside, is_ever_live, number_fault, gap_fault, IsInside, IsBuffer}
+use Rattle.dsa_model.specs.Buffer.{size_limit, alignment_limit, lowest_limit, gap_limit, buffer_limit, buffer_of, lasting, is_empty_gap, is_outside, is_ever_live, number_fault, gap_fault, lowest_fault, IsInside, IsBuffer}
 use Rattle.dsa_model.proofs.Faults.{is_buffer}
 use Rattle.dsa_model.specs.Fails.{IfFault, UnlessNoMemory}
 use Rattle.dsa_model.specs.declared.buffer_fault.BufferFault.{BufferFault}
@@ -69,6 +69,13 @@ one_gap_too_many = refl
 gap_of_all : gap_fault (lasting 2 9 ((2, 9) ∷ [])) ≡ Some fault.NeverLive
 unfolding is_ever_live some_before is_live
 gap_of_all = refl
+
+-- ---- the lowest alone: 2 to the 40th has no fault, whatever the rest is, and one more has one
+lowest_at_its_limit : lowest_fault (buffer_of 1 1 0 0 [] 1099511627776) ≡ None
+lowest_at_its_limit = refl
+
+lowest_one_too_large : lowest_fault (buffer_of 1 1 0 0 [] 1099511627777) ≡ Some fault.LowestTooLarge
+lowest_one_too_large = refl
 
 -- ---- buffers without a fault: one with the gap 4..6, none that ends at 2 to the 62nd, and none that is never live
 gapped_is_buffer : IsBuffer (buffer_of 0 10 4 1 ((4, 6) ∷ []) 0)

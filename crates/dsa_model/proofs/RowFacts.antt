@@ -1,5 +1,5 @@
 -- Worked facts of the rows of an instance.
-use Rattle.std.proofs.Common.{◌≡◌, ℕ, zero, suc, ◌-◌, ◌/◌, ◌%◌, ◌^◌, ◌==◌, ◌<◌, ◌≤◌, ◌⊎◌, inl, inr, ◌&&◌, Bool, true, false, List, [], ◌∷◌, nat_lt, length, map, replicate, refl, ◌∙◌, ap, subst, arith}
+use Rattle.std.proofs.Common.{◌≡◌, ℕ, zero, suc, ◌-◌, ◌/◌, ◌%◌, ◌^◌, ◌==◌, ◌<◌, ◌≤◌, ◌⊎◌, inl, inr, ◌&&◌, Bool, true, false, List, [], ◌∷◌, nat_lt, length, map, replicate, slice_index_or, refl, ◌∙◌, ap, subst, arith}
 use Rattle.std.proofs.lemmas.Bool.{cases_lt}
 use Rattle.std.proofs.lemmas.Bool.Decides.{nat_tests}
 use Rattle.std.proofs.lemmas.Nat.Bits.{bit_at_above, bit_at-zero}
@@ -7,7 +7,7 @@ use Rattle.dsa_model.proofs.BitLemmas.{no_word}
 use Rattle.dsa_terms.specs.Buffers.{Instance, buffer, do_share, is_live, some_before}
 use Rattle.dsa_model.specs.Bits.{Reaches, is_set}
 use Rattle.dsa_model.specs.Buffer.{lasting}
-use Rattle.dsa_model.specs.Rows.{AllNoted, AreChosen, AreRows, IsNoted, instance_of, words_of}
+use Rattle.dsa_model.specs.Rows.{AllNoted, AreChosen, AreNext, AreRows, IsNoted, instance_of, words_of}
 use Rattle.dsa_model.specs.declared.instance.Row.{Row}
 
 -- ---- bits: 5 has those of the places 0 and 2, and 1 in the second word that of place 64
@@ -125,6 +125,54 @@ no_rows rows buffers words told = not_all_bits (tells 2 (omega arith))
 not_itself_yet : IsNoted three 2 (6 ∷ rest) 2 → ⊥
 unfolding three buffer do_share some_before is_live is_set rest
 not_itself_yet h = let noted = h.noted 2 in absurd cc
+
+-- ---- the third put behind the first two, which tell of each other and not yet of it
+noted_two : (b : ℕ) → is_set (3 ∷ rest) 0 ≡ do_share (buffer three b) (buffer three 0) →
+    is_set (3 ∷ rest) 1 ≡ do_share (buffer three b) (buffer three 1) → IsNoted three b (3 ∷ rest) 2
+unfolding is_set rest
+noted_two b first second = record { reaches = omega arith; noted = noted }
+  where
+    noted : (c : ℕ) → is_set (3 ∷ rest) c ≡ (nat_lt c 2 && do_share (buffer three b) (buffer three c))
+    noted zero = first
+    noted (suc zero) = second
+    noted (suc (suc zero)) = refl
+    noted (suc (suc (suc c))) = no_other_bit 3 (suc (suc (suc c))) (omega arith) (omega arith)
+        ∙ not_below (suc (suc (suc c))) 2 _ (omega arith)
+
+two_tell : (b : ℕ) → b < 2 → IsNoted three b (slice_index_or ((3 ∷ rest) ∷ (3 ∷ rest) ∷ (6 ∷ rest) ∷ []) b []) 2
+unfolding three buffer do_share some_before is_live is_set rest
+two_tell zero lt = noted_two 0 refl refl
+two_tell (suc zero) lt = noted_two 1 refl refl
+two_tell (suc (suc b)) lt = absurd (omega arith)
+
+third_is_next : (rows : List Row) → instance_of rows ≡ three →
+    words_of rows ≡ (3 ∷ rest) ∷ (3 ∷ rest) ∷ (6 ∷ rest) ∷ [] → AreNext rows 2
+unfolding three
+third_is_next rows buffers words = (
+  omega arith,
+  record {
+    view = refl;
+    count = ap length buffers;
+    own = rw (buffers, words) third_tells;
+    done = λ b lt. absurd (omega arith);
+    left = λ b from lt. rw (buffers, words) (two_tell b lt);
+  },
+)
+
+-- where the second tells of it, it has been told already
+told_already : (rows : List Row) → instance_of rows ≡ three →
+    words_of rows ≡ (3 ∷ rest) ∷ (7 ∷ rest) ∷ (6 ∷ rest) ∷ [] → AreNext rows 2 → ⊥
+unfolding three buffer do_share some_before is_live is_set rest
+told_already rows buffers words h =
+    let own : IsNoted three 1 (7 ∷ rest) 2 =
+    rw words at (rw buffers at (h.1.left 1 (omega arith) (omega arith))) in
+    let noted = own.noted 2 in
+    absurd cc
+
+-- the last is at place 2
+not_at_three : (rows : List Row) → instance_of rows ≡ three → AreNext rows 3 → ⊥
+unfolding three
+not_at_three rows buffers h = let e = ap length buffers in let k = h.1.count in absurd (omega arith)
 
 -- ---- rows of some of the buffers
 -- no rows are the first 0 of any

@@ -133,7 +133,8 @@ not_in_its_gap h = neither h.rectangle h.drawn (subst (HasColumn h.rectangle) (s
     neither r (inr (inl e)) c = let k = (subst (λ r. HasColumn r 1) e c).from in omega arith
     neither r (inr (inr i)) c = i
 
--- ---- lying upon: the third of the five begins at 4, where the first ends; the fourth ends there too, and is live later
+-- ---- lying upon: the third of the five begins at 4, where the first ends; the fourth ends there too, and is live
+-- later
 third_upon_first : lie_upon five five_offsets 2 0 ≡ true
 unfolding buffer do_share some_before is_live
 third_upon_first = refl
