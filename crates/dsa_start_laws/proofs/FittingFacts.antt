@@ -1,12 +1,12 @@
--- Clear places and free ranges beside two placed buffers, orders that have each buffer, and what is no order.
-use Rattle.std.proofs.Common.{◌≡◌, ◌≢◌, ℕ, zero, suc, ◌+◌, ◌≤◌, ◌⊎◌, inl, inr, true, false, nat_lt, nat_le, [], ◌∷◌, refl, ap, ap₂, arith}
+-- Clear places, free ranges beside two placed buffers, the tightest range, orders that have each buffer, and no orders.
+use Rattle.std.proofs.Common.{◌≡◌, ◌≢◌, ℕ, zero, suc, ◌+◌, ◌≤◌, ◌⊎◌, inl, inr, true, false, nat_lt, nat_le, [], ◌∷◌, Some, None, refl, ap, ap₂, arith}
 use Rattle.std.proofs.lemmas.Bool.Decides.{nat_tests}
 use Rattle.dsa_terms.specs.Buffers.{buffer}
 use Rattle.dsa_terms.specs.Claims.{Entry, IsIn}
-use Rattle.dsa_terms.specs.Fits.{top, highest, Range}
+use Rattle.dsa_terms.specs.Fits.{top, highest, Range, is_tighter}
 use Rattle.dsa_terms.proofs.Examples.{evens}
 use Rattle.dsa_terms.proofs.FitFacts.{taken, sizes, range}
-use Rattle.dsa_start_laws.specs.Fitting.{IsClear, IsOpen, IsFreeRange, HasEach}
+use Rattle.dsa_start_laws.specs.Fitting.{IsClear, IsOpen, IsFreeRange, HasEach, tighter_of, tightest_in_turn}
 use Rattle.dsa_start_laws.specs.Ordering.{IsOrder}
 
 -- size 1 is clear between the two, at 4, and not at 5
@@ -73,6 +73,27 @@ meets_placed o = close (o.free (0, 3) (inl refl))
 above_all : IsOpen sizes taken (range 6 7) → ⊥
 unfolding range highest top buffer
 above_all o = let h = o.under in omega arith
+
+-- of two ranges the shorter, of two of one length the lower, and one alone
+shorter_of_two : tighter_of (range 0 3) (Some (range 4 5)) ≡ Some (range 4 5)
+unfolding is_tighter range
+shorter_of_two = refl
+
+lower_of_two : tighter_of (range 0 2) (Some (range 5 7)) ≡ Some (range 0 2)
+unfolding is_tighter range
+lower_of_two = refl
+
+one_alone : tighter_of (range 5 7) None ≡ Some (range 5 7)
+one_alone = refl
+
+-- of four the shortest are 9..11 and 4..6, of which 4..6 is the lower
+lower_of_the_shortest :
+    tightest_in_turn (range 0 3 ∷ range 9 11 ∷ range 4 6 ∷ range 20 90 ∷ []) ≡ Some (range 4 6)
+unfolding is_tighter range
+lower_of_the_shortest = refl
+
+tightest_of_none : tightest_in_turn [] ≡ None
+tightest_of_none = refl
 
 -- an order of all three, and one without the last
 has_three : HasEach evens (2 ∷ 0 ∷ 1 ∷ [])

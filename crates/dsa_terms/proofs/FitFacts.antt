@@ -1,9 +1,9 @@
 -- Fits and orders: the two rules, the tightest range, buffers placed in turn, and lists in order.
-use Rattle.std.proofs.Common.{◌≡◌, ℕ, ◌+◌, ◌==◌, inl, inr, Bool, true, List, [], ◌∷◌, map, Some, None, refl}
+use Rattle.std.proofs.Common.{◌≡◌, ℕ, ◌+◌, ◌==◌, inl, inr, Bool, true, false, List, [], ◌∷◌, map, Some, None, refl}
 use Rattle.dsa_terms.specs.Buffers.{Buffer, Instance, is_live, buffer, do_share, some_before, floor}
 use Rattle.dsa_terms.specs.Claims.{Entry, IsIn}
 use Rattle.dsa_terms.specs.Fits.{top, highest, neighbours, is_free, first_passing, FitRule, first_place, Range, stretches, free_ranges, holds, is_tighter, tightest, start_in, best_place, fitted, least_from}
-use Rattle.dsa_terms.specs.Sorts.{put_by, ordered_by, IsOrdered}
+use Rattle.dsa_terms.specs.Sorts.{comes_first, put_by, ordered_by, IsOrdered}
 use Rattle.dsa_terms.specs.Orders.{falls_by, area}
 use Rattle.dsa_terms.proofs.Examples.{plain, evens, gapped, filled, overrun}
 
@@ -78,6 +78,14 @@ overrun_fitted = refl
 fitted_on : fitted first_place evens (1 ∷ []) ((2, 1) ∷ (0, 0) ∷ []) ≡ (1, 4) ∷ (2, 1) ∷ (0, 0) ∷ []
 unfolding neighbours first_place floor first_passing is_free highest top do_share some_before is_live buffer
 fitted_on = refl
+
+-- ---- what comes first: the smaller measure, whatever the numbers are, and of equal measures the smaller number; none
+-- comes before itself
+smaller_measure : map (λ m. comes_first m 4 9 2) (3 ∷ 4 ∷ 5 ∷ []) ≡ true ∷ false ∷ false ∷ []
+smaller_measure = refl
+
+smaller_number : map (λ b. comes_first 4 4 b 2) (1 ∷ 2 ∷ 3 ∷ []) ≡ true ∷ false ∷ false ∷ []
+smaller_number = refl
 
 -- ---- orders: by size falling, the largest is 2, and 0 comes before its equal 1
 by_size : ℕ → ℕ → Bool

@@ -4,7 +4,7 @@ use Rattle.dsa_terms.specs.Buffers.{is_live, buffer, do_share, have_same_moments
 use Rattle.dsa_terms.specs.Claims.{up, step, child}
 use Rattle.dsa_terms.specs.Logs.{ends_below, is_twin}
 use Rattle.dsa_terms.specs.Search.{is_tall, comes_before, first}
-use Rattle.dsa_terms.specs.Parts.{is_cut, is_empty, Separates, IsUncut, join, first_of_all, offsets_found}
+use Rattle.dsa_terms.specs.Parts.{is_cut, is_empty, Separates, IsUncut, join, first_of_all, offsets_of, offsets_found}
 use Rattle.dsa_terms.proofs.Examples.{plain, five, evens, two_parts}
 
 some_item : is_empty {X = ℕ} (7 ∷ []) ≡ false
@@ -74,6 +74,10 @@ second_part_at_4 = refl
 -- offsets in order of the buffers
 by_number : offsets_found evens (Some ((2, 1) ∷ (0, 3) ∷ (1, 7) ∷ [])) ≡ Some (3 ∷ 7 ∷ 1 ∷ [])
 by_number = refl
+
+-- one that has none is at 0, and of two that a buffer has the first stands
+first_of_two : offsets_of evens ((2, 1) ∷ (0, 3) ∷ (2, 9) ∷ []) ≡ 3 ∷ 0 ∷ 1 ∷ []
+first_of_two = refl
 
 none_found : offsets_found evens None ≡ None
 none_found = refl
