@@ -1,8 +1,9 @@
 //! The end of a claim each of whose choices is refuted.
 
-ghost use Rattle.std.specs.Prelude.{◌≡◌, ◌≢◌, ◌+◌, ◌^◌, [], length, map, true, IfOk, OnOk};
+ghost use Rattle.std.specs.Prelude.{◌≡◌, ◌≢◌, ◌+◌, [], length, map, true, IfOk, OnOk};
 ghost use Rattle.dsa_terms.specs.Claims.{Entry, IsIn};
 ghost use Rattle.dsa_terms.specs.Search.{not_excluded};
+ghost use Rattle.dsa_model.specs.Limits.{number_limit};
 ghost use Rattle.canonical_order.specs.Claims.{IsBoundedBy};
 ghost use Rattle.canonical_order.specs.Levels.{AreLevels};
 ghost use Rattle.canonical_order.specs.Stands.{Stands};
@@ -34,7 +35,7 @@ pub fn refute(
 ) -> Result<u64, NoMemory>
     requires levels { AreLevels task.now.instance.now claim levels.now }
     requires stands { Stands task.now.instance.now claim }
-    requires low { IsBoundedBy (2 ^ 60) claim }
+    requires low { IsBoundedBy number_limit claim }
     requires not_empty { claim ≢ [] }
     requires noted { (e : Entry) → IsIn e claim →
         not_excluded task.now.instance.now claim e ≡ true →

@@ -5,6 +5,7 @@ ghost use Rattle.std.specs.List.{All};
 ghost use Rattle.dsa_terms.specs.Buffers.{Instance as InstanceTerm};
 ghost use Rattle.dsa_terms.specs.Claims.{Claim as ClaimTerm};
 ghost use Rattle.dsa_model.specs.Buffer.{buffer_limit};
+ghost use Rattle.dsa_model.specs.Limits.{number_limit};
 ghost use Rattle.canonical_order.specs.Claims.{IsBoundedBy};
 ghost use Rattle.canonical_order.specs.Levels.{AreLevels};
 ghost use Rattle.claim_levels.specs.Firsts.{IsFirst};
@@ -132,7 +133,7 @@ impl<'a> Levels<'a> {
     pub fn ground(&self, alloc: Global) -> Result<Claim, NoMemory>
         ensures value { (I : InstanceTerm) (l : ClaimTerm) → AreLevels I l self.now →
             IfOk result (λ claim. claim ≡ lifted I l) }
-        ensures low { IfOk result (IsBoundedBy (2 ^ 60)) }
+        ensures low { IfOk result (IsBoundedBy number_limit) }
     {
         let ground = ground_of(alloc, self.numbers, self.left)?;
         Ok(ground)

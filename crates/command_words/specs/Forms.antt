@@ -4,7 +4,8 @@ use Rattle.std.specs.List.{filter_map}
 use Rattle.std.specs.Str.{bytes_eq}
 use Rattle.dsa_terms.specs.Claims.{IsIn}
 use Rattle.dsa_model.specs.Numbers.{written_number}
-use Rattle.command_words.specs.Options.{Word, number_limit, option_word}
+use Rattle.dsa_model.specs.Limits.{number_limit}
+use Rattle.command_words.specs.Options.{Word, option_word}
 use Rattle.command_words.specs.Roles.{option_of_role}
 use Rattle.command_words.specs.declared.option.OptionName.{OptionName}
 use Rattle.command_words.specs.declared.option.OptionName.TheVariants.{Capacity, Steps, Seed, Count, Period}

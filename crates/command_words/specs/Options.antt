@@ -1,15 +1,11 @@
 -- The words of options, and the greatest number that one can have.
-use Rattle.std.specs.Prelude.{ℕ, ◌^◌, List, codes}
+use Rattle.std.specs.Prelude.{ℕ, List, codes}
 use Rattle.command_words.specs.declared.option.OptionName.{OptionName}
 use Rattle.command_words.specs.declared.option.OptionName.TheVariants.{Capacity, Input, Output, Log, Layout, Trace, Steps, Seed, Count, Period}
 
 -- the bytes of a word
 abbrev pub Word : Type 0
 Word = List ℕ
-
--- the greatest number of a word
-abbrev pub number_limit : ℕ
-number_limit = 2 ^ 60
 
 -- an option's word
 abbrev pub option_word : OptionName → Word

@@ -5,7 +5,8 @@ use Rattle.std.specs.Option.{option_and_then}
 use Rattle.std.specs.Str.{bytes_eq}
 use Rattle.dsa_terms.specs.Firsts.{when, first_fault}
 use Rattle.dsa_model.specs.Numbers.{written_number}
-use Rattle.command_words.specs.Options.{Word, number_limit, option_word}
+use Rattle.dsa_model.specs.Limits.{number_limit}
+use Rattle.command_words.specs.Options.{Word, option_word}
 use Rattle.command_words.specs.Roles.{option_of_role}
 use Rattle.command_words.specs.Forms.{form_of, is_bad, option_of, use_of}
 use Rattle.command_words.specs.declared.form.Use.{Use}

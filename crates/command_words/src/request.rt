@@ -1,7 +1,7 @@
 //! What a command line asks for.
 
 ghost use Rattle.std.specs.Prelude.{◌≡◌, ◌≤◌, map, string_bytes, IfSome};
-ghost use Rattle.command_words.specs.Options.{number_limit};
+ghost use Rattle.dsa_model.specs.Limits.{number_limit};
 ghost use Rattle.command_words.specs.Pairs.{pairs_of, name_in, number_at, number_given};
 ghost use Rattle.command_words.specs.Requests as terms;
 

@@ -2,14 +2,11 @@
 
 ghost use Rattle.std.specs.Prelude.{◌≡◌, ◌≤◌, IfSome};
 ghost use Rattle.dsa_model.specs.Numbers.{written_number};
+ghost use Rattle.dsa_model.specs.Limits.{number_limit};
 ghost use Rattle.command_words.specs.Forms.{is_bad};
-ghost use Rattle.command_words.specs.Options.{number_limit};
 
 use crate::form::Use;
-use dsa_model::parse_number;
-
-/// The greatest number of a word, 2^60.
-const NUMBER_LIMIT: u64 = 1 << 60;
+use dsa_model::{NUMBER_LIMIT, parse_number};
 
 /// The number that a word of 1 to 20 digits writes, where it is at most 2^60.
 pub(crate) fn number_of(word: &str) -> Option<u64>

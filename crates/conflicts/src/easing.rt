@@ -1,10 +1,11 @@
 //! Eased lines, which cover no less.
 
-ghost use Rattle.std.specs.Prelude.{◌≡◌, ◌≢◌, ◌^◌, ◌<◌, ◌≤◌, ℕ, [], IfOk, IfSome, length, map};
+ghost use Rattle.std.specs.Prelude.{◌≡◌, ◌≢◌, ◌<◌, ◌≤◌, ℕ, [], IfOk, IfSome, length, map};
 ghost use Rattle.std.specs.List.{AllZip};
 ghost use Rattle.dsa_terms.specs.Claims.{Covers};
 ghost use Rattle.dsa_terms.specs.Lean.{IsLeanLine};
 ghost use Rattle.dsa_terms.specs.Logs.{IsLegal, IsLegalCite, claim_of};
+ghost use Rattle.dsa_model.specs.Limits.{number_limit};
 ghost use Rattle.canonical_order.specs.Claims.{HasBuffer, IsBoundedBy};
 ghost use Rattle.canonical_order.specs.Stands.{Stands};
 ghost use Rattle.refute_log.specs.Lines.{IsWithin, cite_value, line_value};
@@ -33,7 +34,7 @@ fn legal_line(
 ) -> Result<Option<Line>, NoMemory>
     requires stands { Stands instance.now claim }
     requires some { 0 < length claim }
-    requires bounds { IsBoundedBy (2 ^ 60) claim }
+    requires bounds { IsBoundedBy number_limit claim }
     requires each { length cites.now ≡ length claim }
     ensures { IfOk result (λ answer. IfSome answer (λ line.
         IsLowerCases instance.now log.now.lines claim (line_value line))) }
@@ -63,7 +64,7 @@ fn eased_part(
 ) -> Result<Option<Line>, NoMemory>
     requires stands { Stands instance.now claim.now }
     requires some { 0 < length claim.now }
-    requires bounds { IsBoundedBy (2 ^ 60) claim.now }
+    requires bounds { IsBoundedBy number_limit claim.now }
     requires each { length cites.now ≡ length claim.now }
     ensures { IfOk result (λ answer. IfSome answer (λ line.
         IsLowerCases instance.now log.now.lines claim.now (line_value line))) }
@@ -116,7 +117,7 @@ fn ease_cases(
 ) -> Result<Line, NoMemory>
     requires stands { Stands instance.now claim.now }
     requires some { claim.now ≢ [] }
-    requires bounds { IsBoundedBy (2 ^ 60) claim.now }
+    requires bounds { IsBoundedBy number_limit claim.now }
     requires legal { let l = claim.now in
         AllZip (IsLegalCite instance.now log.now.lines l) l (map cite_value cites.now) }
     ensures { IfOk result (λ line.

@@ -1,8 +1,9 @@
 //! A log that is asked for lines that cover.
 
-ghost use Rattle.std.specs.Prelude.{◌≡◌, ◌^◌, ◌≤◌, [], ◌∷◌, ◌++◌, length, Some, None, IfOk, IfSome, OnErr, OnOk};
+ghost use Rattle.std.specs.Prelude.{◌≡◌, ◌≤◌, [], ◌∷◌, ◌++◌, length, Some, None, IfOk, IfSome, OnErr, OnOk};
 ghost use Rattle.dsa_terms.specs.Logs.{IsLegal};
 ghost use Rattle.dsa_model.specs.Fails.{UnlessNoMemory};
+ghost use Rattle.dsa_model.specs.Limits.{number_limit};
 ghost use Rattle.canonical_order.specs.Claims.{IsLeastOf};
 ghost use Rattle.refute_log.specs.Lines.{IsWithin, line_value};
 ghost use Rattle.refute_log.specs.Logs.{Belongs};
@@ -96,7 +97,7 @@ impl Lemmas {
     pub fn find<L: Lows>(&self, lows: &L) -> Option<u64>
         ensures least { let I = L.subject lows.now in let l = L.claim lows.now in
             IsLeastOf (IsCoveringLine I self.now.lines l) result }
-        ensures limit { IfSome result (λ k. k ≤ 2 ^ 60) }
+        ensures limit { IfSome result (λ k. k ≤ number_limit) }
     {
         for k in 0..self.log.len() {
             if covers(self.log.line(k).claim(), lows) {

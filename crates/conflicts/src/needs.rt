@@ -3,6 +3,7 @@
 ghost use Rattle.std.specs.Prelude.{◌≡◌, ◌^◌, ◌<◌, ◌≤◌, IfOk, IsTrue, length, map};
 ghost use Rattle.std.specs.List.{AllZip};
 ghost use Rattle.dsa_terms.specs.Logs.{IsLegalCite};
+ghost use Rattle.dsa_model.specs.Limits.{number_limit};
 ghost use Rattle.canonical_order.specs.Claims.{HasBuffer, IsBoundedBy, entry_of};
 ghost use Rattle.canonical_order.specs.Stands.{Stands};
 ghost use Rattle.refute_log.specs.Lines.{cite_value};
@@ -20,7 +21,7 @@ use std::alloc::{AllocError, Global};
 fn needed_first(instance: &Instance, b: u32, c: u32, bound: u64) -> u64
     requires b_in { b < length instance.now }
     requires c_in { c < length instance.now }
-    requires bound_limit { bound ≤ 2 ^ 60 }
+    requires bound_limit { bound ≤ number_limit }
 {
     least_bound(instance.buffer(c), bound).saturating_sub(step(instance, b, c))
 }
@@ -40,7 +41,7 @@ fn raise(needs: &mut [u64], b: u32, need: u64)
 /// line's bound by itself, and else of the other one, where what is needed of b does not lift it.
 fn raise_by_line(lows: &LowTable, b: u32, cited: &Claim, needs: &mut [u64])
     requires b_in { HasBuffer lows.now.claim.now b }
-    requires bounds { IsBoundedBy (2 ^ 60) cited.now }
+    requires bounds { IsBoundedBy number_limit cited.now }
     requires each { length needs.old ≡ length lows.now.instance.now }
     ensures { length needs.new ≡ length needs.old }
 {
@@ -125,7 +126,7 @@ fn needs_of(
 /// The claim with what is needed of a buffer for its bound, where that is lower.
 fn cut(alloc: Global, instance: &Instance, claim: &Claim, needs: &[u64]) -> Result<Claim, NoMemory>
     requires stands { Stands instance.now claim.now }
-    requires bounds { IsBoundedBy (2 ^ 60) claim.now }
+    requires bounds { IsBoundedBy number_limit claim.now }
     requires each { length needs.now ≡ length instance.now }
     ensures { IfOk result (λ made. made ≡ map (cut needs.now) claim.now) }
 {
@@ -146,7 +147,7 @@ pub(crate) fn needed(
 ) -> Result<Claim, NoMemory>
     requires stands { Stands instance.now claim.now }
     requires some { 0 < length claim.now }
-    requires bounds { IsBoundedBy (2 ^ 60) claim.now }
+    requires bounds { IsBoundedBy number_limit claim.now }
     requires each { length cites.now ≡ length claim.now }
     ensures lower { IfOk result (λ made. IsLower claim.now made) }
     ensures count { IfOk result (λ made. length made ≡ length claim.now) }
@@ -160,7 +161,7 @@ pub(crate) fn needed(
 /// Whether the cite of b is legal.
 fn is_legal(log: &Log, lows: &LowTable, b: u32, cite: Cite) -> bool
     requires b_in { HasBuffer lows.now.claim.now b }
-    requires bounds { IsBoundedBy (2 ^ 60) lows.now.claim.now }
+    requires bounds { IsBoundedBy number_limit lows.now.claim.now }
     ensures { let l = lows.now.claim.now in
         IsTrue result →
         IsLegalCite lows.now.instance.now log.now.lines l (entry_of l b) (cite_value cite) }
@@ -181,7 +182,7 @@ fn is_legal(log: &Log, lows: &LowTable, b: u32, cite: Cite) -> bool
 /// Whether all cites of the claim are legal.
 pub(crate) fn are_legal(log: &Log, lows: &LowTable, cites: &[Cite]) -> bool
     requires each { length cites.now ≡ length lows.now.claim.now }
-    requires bounds { IsBoundedBy (2 ^ 60) lows.now.claim.now }
+    requires bounds { IsBoundedBy number_limit lows.now.claim.now }
     ensures { let l = lows.now.claim.now in
         IsTrue result →
         AllZip (IsLegalCite lows.now.instance.now log.now.lines l) l (map cite_value cites.now) }

@@ -1,8 +1,9 @@
 //! Small parts of a claim whose cites need no other buffer.
 
-ghost use Rattle.std.specs.Prelude.{◌≡◌, ◌^◌, ◌<◌, ◌↔◌, ◌⊎◌, ℕ, false, [], IfOk, OnOk};
+ghost use Rattle.std.specs.Prelude.{◌≡◌, ◌<◌, ◌↔◌, ◌⊎◌, ℕ, false, [], IfOk, OnOk};
 ghost use Rattle.std.specs.Prelude.{length, slice_index_or};
 ghost use Rattle.dsa_terms.specs.Claims.{IsIn};
+ghost use Rattle.dsa_model.specs.Limits.{number_limit};
 ghost use Rattle.canonical_order.specs.Claims.{IsBoundedBy};
 ghost use Rattle.conflicts.specs.Eased.{IsLower};
 ghost use Rattle.conflicts.specs.Walks.{AreOf, IsMarked, IsWalk};
@@ -215,7 +216,7 @@ fn restricted(
     cites: &[Cite],
     marks: &[bool],
 ) -> Result<Draft, NoMemory>
-    requires bounds { IsBoundedBy (2 ^ 60) lows.now.claim.now }
+    requires bounds { IsBoundedBy number_limit lows.now.claim.now }
     requires each { length cites.now ≡ length lows.now.claim.now }
     requires marks { length marks.now ≡ length lows.now.instance.now }
     ensures lower { IfOk result (λ draft. IsLower lows.now.claim.now draft.claim) }
@@ -242,7 +243,7 @@ pub(crate) fn part_of(
     cites: &[Cite],
 ) -> Result<Draft, NoMemory>
     requires some { 0 < length lows.now.claim.now }
-    requires bounds { IsBoundedBy (2 ^ 60) lows.now.claim.now }
+    requires bounds { IsBoundedBy number_limit lows.now.claim.now }
     requires each { length cites.now ≡ length lows.now.claim.now }
     ensures lower { IfOk result (λ draft. IsLower lows.now.claim.now draft.claim) }
     ensures each { IfOk result (λ draft. length draft.cites.items ≡ length draft.claim) }

@@ -1,8 +1,9 @@
 //! Eased Over lines, which cover no less.
 
-ghost use Rattle.std.specs.Prelude.{◌≡◌, ◌^◌, ◌≤◌, ◌<◌, length, map, sum_by, IfOk};
+ghost use Rattle.std.specs.Prelude.{◌≡◌, ◌≤◌, ◌<◌, length, map, sum_by, IfOk};
 ghost use Rattle.dsa_terms.specs.Claims.{buffers_of};
 ghost use Rattle.dsa_terms.specs.Logs.{IsOver, greatest, rounded, rounding};
+ghost use Rattle.dsa_model.specs.Limits.{number_limit};
 ghost use Rattle.canonical_order.specs.Claims.{IsBoundedBy};
 ghost use Rattle.canonical_order.specs.Stands.{Stands};
 ghost use Rattle.refute_log.specs.Lines.{line_value};
@@ -34,7 +35,7 @@ fn stack_of(
     modulus: u64,
 ) -> Result<Stack, AllocError>
     requires stands { Stands instance.now claim.now }
-    requires bounds { IsBoundedBy (2 ^ 60) claim.now }
+    requires bounds { IsBoundedBy number_limit claim.now }
     requires some_modulus { 1 ≤ modulus }
     ensures members { let s = stacked instance.now claim.now moment height modulus in
         IfOk result (λ stack. stack.members.items ≡ buffers_of s) }
@@ -76,12 +77,12 @@ pub(crate) fn ease_over(
     height: u64,
     modulus: u64,
 ) -> Result<Line, NoMemory>
-    requires capacity_limit { capacity ≤ 2 ^ 60 }
+    requires capacity_limit { capacity ≤ number_limit }
     requires stands { Stands instance.now claim.now }
     requires over { IsOver instance.now capacity moment height modulus claim.now }
-    requires bounds { IsBoundedBy (2 ^ 60) claim.now }
-    requires height_limit { height ≤ 2 ^ 60 }
-    requires modulus_limit { modulus ≤ 2 ^ 60 }
+    requires bounds { IsBoundedBy number_limit claim.now }
+    requires height_limit { height ≤ number_limit }
+    requires modulus_limit { modulus ≤ number_limit }
     ensures { IfOk result (λ line.
         line_value line ≡ eased_over instance.now capacity claim.now moment height modulus) }
 {

@@ -1,6 +1,7 @@
 //! What is asked of an instance at a capacity.
 
-ghost use Rattle.std.specs.Prelude.{◌^◌, ◌+◌, ◌≤◌, ℕ, IfOk};
+ghost use Rattle.std.specs.Prelude.{◌+◌, ◌≤◌, ℕ, IfOk};
+ghost use Rattle.dsa_model.specs.Limits.{number_limit};
 ghost use Rattle.core_find.specs.Found.{IsAnswer};
 
 use dsa_model::{Instance, NoMemory};
@@ -25,7 +26,7 @@ pub trait Ask {
     /// A layout of the instance at the capacity in bytes, which is at most 2^60, or an accepted log
     /// at it.
     fn ask(&mut self, alloc: Global, instance: &Instance, capacity: u64) -> Result<Asked, NoMemory>
-        requires { capacity ≤ 2 ^ 60 }
+        requires { capacity ≤ number_limit }
         ensures right { IfOk result (IsAnswer instance.now capacity) }
         ensures counted { asks self.new ≤ asks self.old + 1 };
 }

@@ -1,10 +1,11 @@
 //! A log carried over to fewer buffers.
 
-ghost use Rattle.std.specs.Prelude.{◌≡◌, ◌==◌, ◌^◌, ◌<◌, ◌≤◌, All, IfOk, length, map, position, slice_index};
+ghost use Rattle.std.specs.Prelude.{◌≡◌, ◌==◌, ◌<◌, ◌≤◌, All, IfOk, length, map, position, slice_index};
 ghost use Rattle.dsa_terms.specs.Claims.{Rises, buffers_of};
 ghost use Rattle.dsa_terms.specs.Logs.{IsAccepted, claim_of};
 ghost use Rattle.dsa_model.specs.Buffer.{buffer_limit};
 ghost use Rattle.dsa_model.specs.Chosen.{some_of};
+ghost use Rattle.dsa_model.specs.Limits.{number_limit};
 ghost use Rattle.canonical_order.specs.Claims.{IsBoundedBy};
 ghost use Rattle.refute_log.specs.Lines.{IsLineKept, cite_value, line_value};
 ghost use Rattle.refute_log.specs.Logs.{Belongs};
@@ -60,7 +61,7 @@ fn new_number(numbers: &[u32], b: u32) -> u32
 /// The claim with the new numbers of its buffers, which rise.
 fn renamed_claim(alloc: Global, claim: &Claim, numbers: &[u32]) -> Result<Claim, NoMemory>
     requires rises { Rises (buffers_of (renamed_claim (slice_index numbers.now) claim.now)) }
-    requires bounds { IsBoundedBy (2 ^ 60) claim.now }
+    requires bounds { IsBoundedBy number_limit claim.now }
     ensures { IfOk result (λ l. l ≡ renamed_claim (slice_index numbers.now) claim.now) }
 {
     let mut pairs = Vec::new(alloc);

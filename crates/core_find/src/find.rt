@@ -1,7 +1,8 @@
 //! The search for a core.
 
-ghost use Rattle.std.specs.Prelude.{◌≡◌, ◌^◌, ◌+◌, ◌≤◌, IfOk, length};
+ghost use Rattle.std.specs.Prelude.{◌≡◌, ◌+◌, ◌≤◌, IfOk, length};
 ghost use Rattle.dsa_terms.specs.Logs.{IsAccepted};
+ghost use Rattle.dsa_model.specs.Limits.{number_limit};
 ghost use Rattle.core_find.specs.Found.{IsExplained, IsFound};
 
 use crate::last_log::log_of;
@@ -21,7 +22,7 @@ fn core_of<A: Ask>(
     asker: &mut A,
     log: ClosedLog,
 ) -> Result<Core, NoMemory>
-    requires limit { capacity ≤ 2 ^ 60 }
+    requires limit { capacity ≤ number_limit }
     requires accepted { IsAccepted instance.now log }
     requires at { log.capacity ≡ capacity }
     ensures explained { IfOk result (IsExplained instance.now capacity) }
@@ -61,7 +62,7 @@ pub fn find_core<A: Ask>(
     capacity: u64,
     asker: &mut A,
 ) -> Result<Found, NoMemory>
-    requires { capacity ≤ 2 ^ 60 }
+    requires { capacity ≤ number_limit }
     ensures found { IfOk result (IsFound instance.now capacity) }
     ensures asks { A.asks asker.new ≤ A.asks asker.old + length instance.now + 1 }
 {

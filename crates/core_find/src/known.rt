@@ -1,7 +1,8 @@
 //! What the last log says of the others of the next member.
 
-ghost use Rattle.std.specs.Prelude.{◌≡◌, ◌^◌, ◌<◌, ◌≤◌, IfOk, length};
+ghost use Rattle.std.specs.Prelude.{◌≡◌, ◌<◌, ◌≤◌, IfOk, length};
 ghost use Rattle.dsa_terms.specs.Claims.{IsIn};
+ghost use Rattle.dsa_model.specs.Limits.{number_limit};
 ghost use Rattle.core_find.specs.Looking.{IsLooking, IsUnknown, next_member};
 
 use crate::looking::Looking;
@@ -19,7 +20,7 @@ pub(crate) fn without_next(
     capacity: u64,
     looking: Looking,
 ) -> Result<Looking, NoMemory>
-    requires limit { capacity ≤ 2 ^ 60 }
+    requires limit { capacity ≤ number_limit }
     requires looking { IsLooking instance.now capacity looking }
     requires more { length looking.rests.items < length looking.members.items }
     ensures looking { IfOk result (IsLooking instance.now capacity) }

@@ -4,6 +4,7 @@ ghost use Rattle.std.specs.Prelude.{◌^◌, ◌<◌, ◌≤◌, [], All, IfNone
 ghost use Rattle.dsa_terms.specs.Claims.{Rises};
 ghost use Rattle.dsa_terms.specs.Logs.{IsLegal, Over};
 ghost use Rattle.dsa_terms.specs.Parts.{whole};
+ghost use Rattle.dsa_model.specs.Limits.{number_limit};
 ghost use Rattle.refute_log.specs.Lines.{IsLineKept, line_value};
 ghost use Rattle.core_find.specs.Looking.{IsLogByFew, IsStackOver};
 
@@ -23,12 +24,12 @@ fn over_log(
     height: u64,
     modulus: u64,
 ) -> Result<Option<ClosedLog>, NoMemory>
-    requires limit { capacity ≤ 2 ^ 60 }
+    requires limit { capacity ≤ number_limit }
     requires rises { Rises few.now }
     requires in_range { All (λ b. b < length instance.now) few.now }
     requires moment_limit { moment < 2 ^ 62 }
-    requires height_limit { height ≤ 2 ^ 60 }
-    requires modulus_limit { modulus ≤ 2 ^ 60 }
+    requires height_limit { height ≤ number_limit }
+    requires modulus_limit { modulus ≤ number_limit }
     ensures log { IfOk result (λ found. IfSome found
         (IsLogByFew instance.now capacity few.now)) }
     ensures none { let line = Over (whole instance.now few.now) moment height modulus in
@@ -65,7 +66,7 @@ pub(crate) fn stack_log(
     line: &Line,
     few: &[u32],
 ) -> Result<Option<ClosedLog>, NoMemory>
-    requires limit { capacity ≤ 2 ^ 60 }
+    requires limit { capacity ≤ number_limit }
     requires rises { Rises few.now }
     requires in_range { All (λ b. b < length instance.now) few.now }
     requires kept { IsLineKept (line_value line.now) }

@@ -1,9 +1,10 @@
 //! One member more is looked at.
 
-ghost use Rattle.std.specs.Prelude.{◌≡◌, ◌^◌, ◌+◌, ◌<◌, ◌≤◌, ℕ, List, All, IfOk, length};
+ghost use Rattle.std.specs.Prelude.{◌≡◌, ◌+◌, ◌<◌, ◌≤◌, ℕ, List, All, IfOk, length};
 ghost use Rattle.std.specs.List.{remove};
 ghost use Rattle.dsa_terms.specs.Buffers.{Instance as InstanceTerm};
 ghost use Rattle.dsa_terms.specs.Claims.{IsIn};
+ghost use Rattle.dsa_model.specs.Limits.{number_limit};
 ghost use Rattle.core_find.specs.Found.{rests_of};
 ghost use Rattle.core_find.specs.Looking.{IsLooking, IsUnknown, ahead, next_member};
 
@@ -54,7 +55,7 @@ fn asked<A: Ask>(
     looking: Looking,
     fewer: Vec<u32>,
 ) -> Result<Looking, NoMemory>
-    requires limit { capacity ≤ 2 ^ 60 }
+    requires limit { capacity ≤ number_limit }
     requires looking { IsLooking instance.now capacity looking }
     requires more { length looking.rests.items < length looking.members.items }
     requires fewer { fewer.items ≡ remove looking.members.items (length looking.rests.items) }
@@ -106,7 +107,7 @@ pub(crate) fn look_on<A: Ask>(
     asker: &mut A,
     looking: Looking,
 ) -> Result<Looking, NoMemory>
-    requires limit { capacity ≤ 2 ^ 60 }
+    requires limit { capacity ≤ number_limit }
     requires looking { IsLooking instance.now capacity looking }
     requires more { length looking.rests.items < length looking.members.items }
     ensures looking { IfOk result (IsLooking instance.now capacity) }

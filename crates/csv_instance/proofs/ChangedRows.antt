@@ -8,10 +8,10 @@ use Rattle.dsa_terms.specs.Claims.{IsIn}
 use Rattle.dsa_terms.proofs.Places.{in_from_all}
 use Rattle.dsa_model.specs.Buffer.{buffer_limit}
 use Rattle.dsa_model.proofs.Faults.{map_none, neither, not_so}
+use Rattle.dsa_model.specs.Limits.{time_limit}
 use Rattle.csv_instance.specs.Changed.{AreMoments, Change, change_of, changed_from, changed_header, changed_row, changed_rows, changed_value}
 use Rattle.csv_instance.specs.Columns.{field_of}
 use Rattle.csv_instance.specs.Gaps.{gaps_of}
-use Rattle.csv_instance.specs.Numbers.{time_limit}
 use Rattle.csv_instance.specs.Parse.{header_fault, id_limit, number_under, row_buffer}
 use Rattle.csv_instance.specs.Records.{Record}
 use Rattle.csv_instance.specs.RowSteps.{form_fault, form_faults, id_fault, id_faults}

@@ -8,11 +8,11 @@ use Rattle.dsa_model.specs.Buffer.{is_ever_live}
 use Rattle.dsa_terms.specs.Buffers.{is_live, some_before}
 use Rattle.dsa_model.specs.declared.buffer_fault.BufferFault.TheVariants as buffer
 use Rattle.dsa_model.specs.Numbers.{written_number}
+use Rattle.dsa_model.specs.Limits.{time_limit}
 use Rattle.csv_instance.specs.Chosen.{chosen_records, chosen_text}
 use Rattle.csv_instance.specs.Columns.{column_named}
 use Rattle.csv_instance.specs.Gaps.{gaps_of}
 use Rattle.csv_instance.specs.Layout.{layout_text}
-use Rattle.csv_instance.specs.Numbers.{time_limit}
 use Rattle.csv_instance.specs.Offsets.{ids_of, layout_header_fault, parsed_offsets}
 use Rattle.csv_instance.specs.Parse.{number_or, header_fault, parse}
 use Rattle.csv_instance.specs.Records.{Record, header_of, table_of}

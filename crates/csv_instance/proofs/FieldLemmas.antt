@@ -1,8 +1,9 @@
 -- The field at a place, as the `csv` crate has it and as a list has it.
 use Rattle.std.proofs.Common.{◌≡◌, ◌≤◌, ◌<◌, ◌⊎◌, ℕ, zero, suc, List, [], ◌∷◌, Option, Some, None, get_or, length, refl, inl, inr, arith}
 use Rattle.std.specs.Option.{option_map_or}
+use Rattle.dsa_model.specs.Limits.{file_limit}
 use Rattle.csv.specs.Records.{field_at}
-use Rattle.csv_instance.specs.Records.{HasShortFields, Record, file_limit}
+use Rattle.csv_instance.specs.Records.{HasShortFields, Record}
 
 pub field-absent : (fields : List (List ℕ)) (i : ℕ) → field_at fields i ≡ None → get_or fields i [] ≡ []
 unfolding field_at

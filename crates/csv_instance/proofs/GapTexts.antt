@@ -13,9 +13,9 @@ use Rattle.std.specs.List.{list_any, onto_first, position_from, slice_split}
 use Rattle.std.specs.Prelude.{◌&&◌}
 use Rattle.std.specs.Str.{all_ascii_digits}
 use Rattle.dsa_model.proofs.NumberLemmas.{own}
+use Rattle.dsa_model.specs.Limits.{time_limit}
 use Rattle.csv_instance.specs.Changed.{gap_added}
 use Rattle.csv_instance.specs.Gaps.{all_some, gap_of, gap_pair_text, gaps_of}
-use Rattle.csv_instance.specs.Numbers.{time_limit}
 use Rattle.csv_instance.proofs.OffsetLemmas.{number-decimal}
 
 -- ---- digits

@@ -9,11 +9,12 @@ use Rattle.csv.specs.declared.parser.State.TheVariants as state
 use Rattle.csv.specs.declared.reader.Trim.TheVariants as trim
 use Rattle.csv.specs.declared.writer.Writer.{Writer}
 use Rattle.dsa_model.specs.Buffer.{buffer_limit}
+use Rattle.dsa_model.specs.Limits.{file_limit}
 use Rattle.csv_instance.specs.Found.{AreColumns, AreFound, AreOf, by_buffer, found_for}
 use Rattle.csv_instance.specs.Gives.{Gives, records_left}
 use Rattle.csv_instance.specs.Offsets.{layout_row_fault}
 use Rattle.csv_instance.specs.RowSteps.{id_fault}
-use Rattle.csv_instance.specs.Records.{HasShortFields, Record, file_limit}
+use Rattle.csv_instance.specs.Records.{HasShortFields, Record}
 use Rattle.csv_instance.specs.Row.{AreNumbers, length_fault}
 use Rattle.csv_instance.specs.Wrote.{Wrote}
 use Rattle.csv_instance.specs.declared.fault.InstanceFault.TheVariants as fault

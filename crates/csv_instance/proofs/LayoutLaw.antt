@@ -9,7 +9,7 @@ use Rattle.std.specs.Str.{bytes_eq}
 use Rattle.std.specs.Prelude.{⊤, nat_le, ◌==◌}
 use Rattle.csv_instance.specs.Columns.{field_of, name_of, column_place, stands_twice, has_column}
 use Rattle.csv_instance.specs.Layout.{layout_records, layout_text, rows_with}
-use Rattle.csv_instance.specs.Offsets.{AreOffsets, ids_of, is_of, layout_header_fault, layout_row_fault, layout_rows_fault, offset_in, offset_limit, offset_of, parsed_offsets}
+use Rattle.csv_instance.specs.Offsets.{AreOffsets, ids_of, is_of, layout_header_fault, layout_row_fault, layout_rows_fault, offset_in, offset_of, parsed_offsets}
 use Rattle.csv_instance.specs.Parse.{row_buffer, header_fault, header_faults, row_fault, rows_fault, parse}
 use Rattle.csv_instance.specs.RowSteps.{id_fault, id_faults}
 use Rattle.csv_instance.proofs.RowStepLemmas.{row_parts}
@@ -20,6 +20,7 @@ use Rattle.dsa_terms.specs.Buffers.{Buffer}
 use Rattle.dsa_model.specs.Numbers.{written_number}
 use Rattle.dsa_model.proofs.Faults.{neither, map_none, not_so}
 use Rattle.std.specs.Option.{option_map_or, option_or}
+use Rattle.dsa_model.specs.Limits.{number_limit}
 use Rattle.csv_instance.specs.declared.fault.InstanceFault.TheVariants as fault
 use Rattle.csv_instance.specs.declared.columns.Column.{Column}
 use Rattle.csv_instance.specs.declared.columns.Column.TheVariants.{Id, Lower, Upper, Size, Alignment, Gaps, Offset, Lowest}
@@ -29,7 +30,7 @@ use Rattle.csv_instance.proofs.OffsetLemmas.{id-with, last-with, number-decimal,
 -- each number is at most the greatest offset, number by number
 abbrev pub AllSmall : List ℕ → Type 0
 AllSmall [] = ⊤
-AllSmall (o ∷ os) = (o ≤ offset_limit) × AllSmall os
+AllSmall (o ∷ os) = (o ≤ number_limit) × AllSmall os
 
 all_small : (os : List ℕ) → AreOffsets os → AllSmall os
 all_small [] h = tt
@@ -90,7 +91,7 @@ AllIn ids header (row ∷ rows) = (list_any (bytes_eq (field_of header row Id)) 
 pub row-good : (ids : List (List ℕ)) (header : Record) (before before2 : List Record) (row : Record) (o : ℕ)
     → IsGood header
     → map (λ e. field_of (with_offset header) e Id) before2 ≡ map (λ e. field_of header e Id) before
-    → id_fault header before row ≡ None → o ≤ offset_limit → list_any (bytes_eq (field_of header row Id)) ids ≡ true
+    → id_fault header before row ≡ None → o ≤ number_limit → list_any (bytes_eq (field_of header row Id)) ids ≡ true
     → (layout_row_fault ids (with_offset header) before2 (row_with row o) ≡ None)
     × (field_of (with_offset header) (row_with row o) Id ≡ field_of header row Id)
     × (offset_in (with_offset header) (row_with row o) ≡ Some o)
@@ -100,8 +101,8 @@ row-good ids header before before2 row o g same e small known =
     eqb-true _ _ (not_false _ (not_so _ (fault.FieldCount (length before)) n.1.0)) in
     let id_is = id-with header row (name_of Offset) (decimal o) g.id_place g.id_there even in
     let last = last-with header row (decimal o) g.no_offset even in
-    let value : offset_in (with_offset header) (row_with row o) ≡ Some o = ap (written_number offset_limit) last
-    ∙ number-decimal offset_limit o small (omega arith) in
+    let value : offset_in (with_offset header) (row_with row o) ≡ Some o = ap (written_number number_limit) last
+    ∙ number-decimal number_limit o small (omega arith) in
     let even2 : (length (row_with row o) == length (with_offset header)) ≡ true =
     eq-eqb _ _ (omega (
       arith,

@@ -9,12 +9,13 @@ use Rattle.dsa_terms.specs.Buffers.{Buffer}
 use Rattle.dsa_model.specs.Fails.{UnlessNoMemory}
 use Rattle.dsa_model.specs.declared.fail.Fail.{Fail}
 use Rattle.dsa_model.specs.Numbers.{is_number, written_number}
+use Rattle.dsa_model.specs.Limits.{number_limit}
 use Rattle.csv_instance.specs.Columns.{field_of}
 use Rattle.csv_instance.specs.Parse.{parse, row_buffer}
 use Rattle.csv_instance.specs.declared.columns.Column.TheVariants.{Id, Offset}
 use Rattle.csv_instance.proofs.FailLemmas.{UnlessNoMemory-map}
 use Rattle.csv_instance.proofs.TableLemmas.{answered}
-use Rattle.csv_instance.specs.Offsets.{AreOffsets, ids_of, is_of, offset_in, offset_limit, offset_of, parsed_offsets}
+use Rattle.csv_instance.specs.Offsets.{AreOffsets, ids_of, is_of, offset_in, offset_of, parsed_offsets}
 use Rattle.csv_instance.specs.Records.{Record}
 
 -- a table without a fault has an id for each record after the header
@@ -58,14 +59,14 @@ number_within most field = elim (cases_Bool (is_number most field)) [
   | inr other ↦ rw other (omega arith)
 ]
 
-offset_within : (header : Record) (rows : List Record) (id : List ℕ) → offset_of header rows id ≤ offset_limit
+offset_within : (header : Record) (rows : List Record) (id : List ℕ) → offset_of header rows id ≤ number_limit
 offset_within header rows id = go (find (is_of header id) rows)
   where
-    go : (o : Option Record) → unwrap_or (option_and_then (offset_in header) o) 0 ≤ offset_limit
+    go : (o : Option Record) → unwrap_or (option_and_then (offset_in header) o) 0 ≤ number_limit
     go None = omega arith
-    go (Some row) = number_within offset_limit (field_of header row Offset)
+    go (Some row) = number_within number_limit (field_of header row Offset)
 
-all_mapped : (f : List ℕ → ℕ) (ids : List (List ℕ)) → ((id : List ℕ) → f id ≤ offset_limit) → AreOffsets (map f ids)
+all_mapped : (f : List ℕ → ℕ) (ids : List (List ℕ)) → ((id : List ℕ) → f id ≤ number_limit) → AreOffsets (map f ids)
 all_mapped f [] h k d within = absurd (omega arith)
 all_mapped f (id ∷ ids) h zero d within = h id
 all_mapped f (id ∷ ids) h (suc k) d within = all_mapped f ids h k d (omega arith)

@@ -8,10 +8,11 @@ use Rattle.std.specs.Map.{keys_of}
 use Rattle.std.specs.Str.{bytes_eq}
 use Rattle.dsa_model.specs.Numbers.{written_number}
 use Rattle.dsa_model.proofs.Faults.{map_none}
+use Rattle.dsa_model.specs.Limits.{number_limit}
 use Rattle.indexmap.specs.IndexMap.{insert_entry}
 use Rattle.csv_instance.specs.Columns.{field_of}
 use Rattle.csv_instance.specs.Found.{AreColumns, AreOf, Entries}
-use Rattle.csv_instance.specs.Offsets.{layout_row_fault, layout_row_faults, offset_in, offset_limit}
+use Rattle.csv_instance.specs.Offsets.{layout_row_fault, layout_row_faults, offset_in}
 use Rattle.csv_instance.specs.Records.{Record}
 use Rattle.csv_instance.specs.declared.columns.Column.TheVariants.{Id}
 use Rattle.csv_instance.specs.declared.fault.OffsetsFault.TheVariants as fault
@@ -58,7 +59,7 @@ module _ (keys : List (Vec ℕ Global)) (header : Record) (before : List Record)
       ∙ sym (position-map (bytes_eq (field_of header row Id)) (λ k. k.items) (keys_of entries))
       ∙ ap (λ (id : List ℕ). position (λ k. bytes_eq id k.items) (keys_of entries)) id_is
 
-  value_is : offset_in header row ≡ written_number offset_limit (get_or row columns.offset [])
+  value_is : offset_in header row ≡ written_number number_limit (get_or row columns.offset [])
   value_is = rw a.offset refl
 
   same_length : length row ≡ length header
@@ -74,12 +75,12 @@ module _ (keys : List (Vec ℕ Global)) (header : Record) (before : List Record)
     row-again k d = rw (eq-eqb _ _ same_length, known_is ∙ u, place_is ∙ d) refl
 
     pub row-number : position (λ k. bytes_eq (get_or row columns.id []) k.items) (keys_of entries) ≡ None
-        → written_number offset_limit (get_or row columns.offset []) ≡ None
+        → written_number number_limit (get_or row columns.offset []) ≡ None
         → layout_row_fault (map (λ k. k.items) keys) header before row ≡ Some (fault.BadNumber (length before))
     row-number d n = rw (eq-eqb _ _ same_length, known_is ∙ u, place_is ∙ d, value_is ∙ n) refl
 
     pub row-fine : (o : ℕ) → position (λ k. bytes_eq (get_or row columns.id []) k.items) (keys_of entries) ≡ None
-        → written_number offset_limit (get_or row columns.offset []) ≡ Some o
+        → written_number number_limit (get_or row columns.offset []) ≡ Some o
         → (layout_row_fault (map (λ k. k.items) keys) header before row ≡ None) × (offset_in header row ≡ Some o)
     row-fine o d n = (rw (eq-eqb _ _ same_length, known_is ∙ u, place_is ∙ d, value_is ∙ n) refl, value_is ∙ n)
 

@@ -4,6 +4,7 @@ use Rattle.std.proofs.lemmas.Bool.{cases_Bool}
 use Rattle.std.proofs.lemmas.List.Elements.{All-append, All-nil}
 use Rattle.std.specs.List.{All}
 use Rattle.dsa_terms.proofs.Lists.{same_some}
+use Rattle.dsa_model.specs.Limits.{file_limit}
 use Rattle.csv.specs.Machine.{Read, field_after, fields_after, is_end, ends_at_end, next_record, step}
 use Rattle.csv.specs.Reading.{default_config, records_from, strip_bom, is_bom}
 use Rattle.csv.specs.declared.parser.Action.{Action}
@@ -11,7 +12,7 @@ use Rattle.csv.specs.declared.parser.Action.TheVariants as act
 use Rattle.csv.specs.declared.parser.Config.{Config}
 use Rattle.csv.specs.declared.parser.State.{State}
 use Rattle.csv.specs.declared.parser.State.TheVariants as st
-use Rattle.csv_instance.specs.Records.{HasShortFields, file_limit, table_of}
+use Rattle.csv_instance.specs.Records.{HasShortFields, table_of}
 use Rattle.csv_instance.proofs.Left.{from_none, from_some, option_cases}
 
 abbrev Within : ℕ → List (List ℕ) → Type 0

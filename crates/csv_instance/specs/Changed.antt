@@ -3,10 +3,10 @@ use Rattle.std.specs.Prelude.{⊤, ◌≤◌, ◌+◌, ◌==◌, ℕ, cond, List
 use Rattle.std.specs.List.{All, enumerate_from}
 use Rattle.std.specs.Option.{option_map_or}
 use Rattle.dsa_terms.specs.Buffers.{Buffer}
+use Rattle.dsa_model.specs.Limits.{time_limit}
 use Rattle.csv_instance.specs.Columns.{column_place, field_of, name_of}
 use Rattle.csv_instance.specs.Gaps.{gap_pair_text}
 use Rattle.csv_instance.specs.Layout.{text_of}
-use Rattle.csv_instance.specs.Numbers.{time_limit}
 use Rattle.csv_instance.specs.Records.{Record}
 use Rattle.csv_instance.specs.declared.columns.Column.{Column}
 use Rattle.csv_instance.specs.declared.columns.Column.TheVariants.{Lower, Upper, Gaps}

@@ -3,7 +3,7 @@ use Rattle.std.specs.Prelude.{ℕ, ◌+◌, ◌++◌, codes, decimal, List, [], 
 use Rattle.std.specs.List.{slice_split}
 use Rattle.std.specs.Option.{option_zip}
 use Rattle.dsa_model.specs.Numbers.{written_number}
-use Rattle.csv_instance.specs.Numbers.{time_limit}
+use Rattle.dsa_model.specs.Limits.{time_limit}
 
 -- all values, where there are all
 abbrev pub all_some : {A : Type 0} → List (Option A) → Option (List A)

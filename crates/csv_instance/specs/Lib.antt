@@ -1,5 +1,4 @@
 pub mod Records
-pub mod Numbers
 pub mod Gaps
 pub mod Columns
 pub mod Places

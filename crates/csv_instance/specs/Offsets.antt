@@ -1,10 +1,11 @@
 -- The offsets that a layout file gives, or its first fault.
-use Rattle.std.specs.Prelude.{ℕ, ◌^◌, List, [], ◌∷◌, Bool, not, ◌==◌, Option, option_map, option_and_then, unwrap_or, Result, Ok, Err, length, find, position, map, scan, is_some, ◌≤◌}
+use Rattle.std.specs.Prelude.{ℕ, List, [], ◌∷◌, Bool, not, ◌==◌, Option, option_map, option_and_then, unwrap_or, Result, Ok, Err, length, find, position, map, scan, is_some, ◌≤◌}
 use Rattle.std.specs.List.{All, list_any, push}
 use Rattle.std.specs.Option.{option_map_or}
 use Rattle.std.specs.Str.{bytes_eq}
 use Rattle.dsa_model.specs.Buffer.{first_fault, when}
 use Rattle.dsa_model.specs.Numbers.{written_number}
+use Rattle.dsa_model.specs.Limits.{number_limit}
 use Rattle.csv_instance.specs.Records.{Record}
 use Rattle.csv_instance.specs.Columns.{field_of, has_column, stands_twice}
 use Rattle.csv_instance.specs.declared.columns.Column.{Column}
@@ -12,13 +13,9 @@ use Rattle.csv_instance.specs.declared.columns.Column.TheVariants.{Id, Offset}
 use Rattle.csv_instance.specs.declared.fault.OffsetsFault.{OffsetsFault}
 use Rattle.csv_instance.specs.declared.fault.OffsetsFault.TheVariants as fault
 
--- the greatest offset
-abbrev pub offset_limit : ℕ
-offset_limit = 2 ^ 60
-
 -- each number is at most the greatest offset
 abbrev pub AreOffsets : List ℕ → Type 0
-AreOffsets offsets = All (λ offset. offset ≤ offset_limit) offsets
+AreOffsets offsets = All (λ offset. offset ≤ number_limit) offsets
 
 -- the ids of a table's buffers
 abbrev pub ids_of : List Record → List (List ℕ)
@@ -38,7 +35,7 @@ layout_header_fault header = first_fault (
 
 -- the offset that a row writes
 abbrev pub offset_in : Record → Record → Option ℕ
-offset_in header row = written_number offset_limit (field_of header row Offset)
+offset_in header row = written_number number_limit (field_of header row Offset)
 
 -- what can be wrong with a row, given the rows before it
 abbrev pub layout_row_faults : List (List ℕ) → Record → List Record → Record → List (Option OffsetsFault)

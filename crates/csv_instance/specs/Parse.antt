@@ -6,8 +6,8 @@ use Rattle.std.specs.Str.{bytes_eq}
 use Rattle.dsa_model.specs.Buffer.{first_fault, when, buffer_fault, buffer_limit}
 use Rattle.dsa_model.specs.Numbers.{written_number}
 use Rattle.dsa_terms.specs.Buffers.{Buffer}
+use Rattle.dsa_model.specs.Limits.{time_limit}
 use Rattle.csv_instance.specs.Records.{Record}
-use Rattle.csv_instance.specs.Numbers.{time_limit}
 use Rattle.csv_instance.specs.Gaps.{gaps_of}
 use Rattle.csv_instance.specs.Columns.{named_columns, needed_columns, has_column, stands_twice, field_of}
 use Rattle.csv_instance.specs.declared.columns.Column.{Column}

@@ -1,6 +1,7 @@
 -- The records of a file.
 use Rattle.std.specs.Prelude.{ℕ, List, [], ◌≤◌, length, slice_index_or}
 use Rattle.std.specs.List.{All}
+use Rattle.dsa_model.specs.Limits.{file_limit}
 use Rattle.csv.specs.Reading.{default_config, records, strip_bom}
 
 -- a record: the bytes of its fields
@@ -15,10 +16,6 @@ header_of table = slice_index_or table 0 []
 -- no row set apart as a header, records of any length, and one byte order mark taken off the start
 abbrev pub table_of : List ℕ → List Record
 table_of bytes = records default_config (strip_bom bytes)
-
--- the greatest number of bytes of an instance or a layout file
-abbrev pub file_limit : ℕ
-file_limit = 67108864
 
 -- no field is longer than a file may be
 abbrev pub HasShortFields : Record → Type 0

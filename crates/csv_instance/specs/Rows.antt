@@ -4,7 +4,7 @@ use Rattle.std.specs.List.{push}
 use Rattle.std.specs.Option.{option_or, option_map_or}
 use Rattle.dsa_terms.specs.Buffers.{Buffer}
 use Rattle.dsa_model.specs.Buffer.{buffer_of, first_fault}
-use Rattle.csv_instance.specs.Numbers.{time_limit}
+use Rattle.dsa_model.specs.Limits.{time_limit}
 use Rattle.csv_instance.specs.Parse.{header_fault, row_buffer, row_form_faults}
 use Rattle.csv_instance.specs.Records.{Record}
 use Rattle.csv_instance.specs.declared.fault.InstanceFault.{InstanceFault}

@@ -4,8 +4,7 @@ ghost use Rattle.std.specs.Prelude.{◌≡◌, ◌==◌, ◌+◌, ◌≤◌, IfO
 ghost use Rattle.std.specs.List.{slice_split};
 ghost use Rattle.csv_instance.specs.Gaps.{gap_of, gaps_of};
 
-use crate::numbers::TIME_LIMIT;
-use dsa_model::{NoMemory, parse_number};
+use dsa_model::{NoMemory, TIME_LIMIT, parse_number};
 use std::alloc::Global;
 
 /// Where the first hyphen of a piece stands.

@@ -14,7 +14,6 @@ mod growing;
 mod header;
 mod layout;
 mod layout_laws;
-mod numbers;
 mod offset_row;
 mod offsets;
 mod read;

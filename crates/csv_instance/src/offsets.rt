@@ -3,6 +3,7 @@
 ghost use Rattle.std.specs.Prelude.{◌≡◌, ◌∷◌, ◌<◌, ◌≤◌, ◌+◌, ◌^◌, List, ℕ, IfOk, Ok, Err, Some, None, length, map, not, is_some, option_map, position};
 ghost use Rattle.dsa_model.specs.Buffer.{buffer_limit};
 ghost use Rattle.dsa_model.specs.Fails.{UnlessNoMemory};
+ghost use Rattle.dsa_model.specs.Limits.{file_limit};
 ghost use Rattle.csv_instance.specs.Found.{AreColumns, AreFound, by_buffer};
 ghost use Rattle.csv_instance.specs.Gives.{Gives};
 ghost use Rattle.csv_instance.specs.Layout.{layout_text};
@@ -71,7 +72,7 @@ fn read_rows(
     ids: &IndexSet<Vec<u8>>,
     bytes: &[u8],
 ) -> Result<IndexMap<Vec<u8>, u64>, Fail<OffsetsFault>>
-    requires { length bytes.now ≤ 67108864 }
+    requires { length bytes.now ≤ file_limit }
     ensures { let known = map (λ k. k.items) ids.now.keys in UnlessNoMemory result
         (λ found. AreFound known (table_of bytes.now) found.entries)
         (λ fault. parsed_offsets known (table_of bytes.now) ≡ Err fault) }
@@ -118,7 +119,7 @@ pub fn read_offsets(
     table: &Table,
     bytes: &[u8],
 ) -> Result<Vec<u64>, Fail<OffsetsFault>>
-    requires { length bytes.now ≤ 67108864 }
+    requires { length bytes.now ≤ file_limit }
     ensures read { let read = parsed_offsets (ids_of table.now) (table_of bytes.now) in
         UnlessNoMemory result (λ offsets. read ≡ Ok offsets.items) (λ fault. read ≡ Err fault) }
     ensures count { IfOk result (λ offsets. length table.now ≡ length offsets.items + 1) }

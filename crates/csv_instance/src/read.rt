@@ -3,6 +3,7 @@
 ghost use Rattle.std.specs.Prelude.{◌≡◌, ◌++◌, ◌≤◌, [], List, Ok, Err, IfOk, length};
 ghost use Rattle.dsa_terms.specs.Buffers.{Buffer};
 ghost use Rattle.dsa_model.specs.Fails.{UnlessNoMemory};
+ghost use Rattle.dsa_model.specs.Limits.{file_limit};
 ghost use Rattle.csv_instance.specs.Gives.{Gives};
 ghost use Rattle.csv_instance.specs.Parse.{parse};
 ghost use Rattle.csv_instance.specs.Records.{Record, table_of};
@@ -38,7 +39,7 @@ fn start_rows(
 /// the first row that has one. The caller owes at most 67108864 bytes. The form is MiniMalloc's,
 /// with the columns `alignment`, `gaps` and `lowest` beside, and with columns that are carried.
 pub fn read_instance(alloc: Global, bytes: &[u8]) -> Result<Table, Fail<InstanceFault>>
-    requires { length bytes.now ≤ 67108864 }
+    requires { length bytes.now ≤ file_limit }
     ensures read { UnlessNoMemory result (λ table. table ≡ table_of bytes.now)
         (λ fault. parse (table_of bytes.now) ≡ Err fault) }
     ensures sound { IfOk result (λ table. (buffers : List Buffer) × (parse table ≡ Ok buffers)) }
@@ -54,7 +55,7 @@ pub fn read_instance(alloc: Global, bytes: &[u8]) -> Result<Table, Fail<Instance
 /// that is none of a buffer: a row that can be read is accepted whatever its buffer would be. The
 /// caller owes at most 67108864 bytes.
 pub fn read_rows(alloc: Global, bytes: &[u8]) -> Result<Rows, Fail<InstanceFault>>
-    requires { length bytes.now ≤ 67108864 }
+    requires { length bytes.now ≤ file_limit }
     ensures read { UnlessNoMemory result (λ rows. rows ≡ table_of bytes.now)
         (λ fault. parse_rows (table_of bytes.now) ≡ Err fault) }
     ensures sound { IfOk result (λ rows. parse_rows rows ≡ Ok (values_of rows)) }

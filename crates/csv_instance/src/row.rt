@@ -6,7 +6,6 @@ ghost use Rattle.dsa_model.specs.Fails.{UnlessNoMemory};
 ghost use Rattle.csv_instance.specs.Columns.{field_of};
 ghost use Rattle.csv_instance.specs.Places.{column_places};
 ghost use Rattle.csv_instance.specs.Records.{HasShortFields, Record};
-ghost use Rattle.csv_instance.specs.Numbers.{time_limit};
 ghost use Rattle.csv_instance.specs.Parse.{bad_column, number_or, row_buffer};
 ghost use Rattle.csv_instance.specs.Row.{AreNumbers, length_fault};
 ghost use Rattle.csv_instance.specs.RowSteps.{form_fault, id_fault};
@@ -15,14 +14,14 @@ ghost use Rattle.std.specs.List.{list_any};
 ghost use Rattle.std.specs.Option.{option_map_or};
 ghost use Rattle.std.specs.Str.{bytes_eq};
 ghost use Rattle.dsa_model.specs.Buffer.{buffer_limit};
+ghost use Rattle.dsa_model.specs.Limits.{time_limit};
 ghost use Rattle.csv_instance.specs.declared.columns.Column.TheVariants.{Id};
 
 use crate::columns::{Column, ColumnPlaces, field_under};
 use crate::fault::InstanceFault;
 use crate::gaps::read_gaps;
-use crate::numbers::TIME_LIMIT;
 use csv::ByteRecord;
-use dsa_model::{BUFFER_LIMIT, Fail, NoMemory, parse_number};
+use dsa_model::{BUFFER_LIMIT, Fail, NoMemory, TIME_LIMIT, parse_number};
 use indexmap::IndexSet;
 use std::alloc::Global;
 

@@ -9,8 +9,8 @@ use Rattle.dsa_terms.proofs.Lists.{true_or_false}
 use Rattle.dsa_terms.proofs.NumberTests.{apart}
 use Rattle.dsa_terms.proofs.Places.{all_from_in}
 use Rattle.dsa_model.specs.Buffer.{buffer_of}
+use Rattle.dsa_model.specs.Limits.{time_limit}
 use Rattle.csv_instance.specs.Changed.{AreFrom, AreMoments, Change, change_of, changed_from, changed_numbers, changed_value, changed_values}
-use Rattle.csv_instance.specs.Numbers.{time_limit}
 use Rattle.csv_instance.specs.Parse.{row_buffer}
 use Rattle.csv_instance.specs.Records.{Record}
 use Rattle.csv_instance.specs.Rows.{parse_rows, values_of}

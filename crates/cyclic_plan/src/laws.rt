@@ -1,9 +1,10 @@
 //! Laws of lifetimes on a circle: what the instance of one period says of endless time.
 
-ghost use Rattle.std.specs.Prelude.{◌≡◌, ◌+◌, ◌^◌, ◌≤◌, ◌&&◌, ◌↔◌, nat_lt, ℕ, List, Ok, map};
+ghost use Rattle.std.specs.Prelude.{◌≡◌, ◌+◌, ◌≤◌, ◌&&◌, ◌↔◌, nat_lt, ℕ, List, Ok, map};
 ghost use Rattle.std.specs.List.{All};
 ghost use Rattle.dsa_terms.specs.Buffers.{Buffer, Instance, is_live};
 ghost use Rattle.dsa_terms.specs.Layouts.{IsLayout};
+ghost use Rattle.dsa_model.specs.Limits.{number_limit};
 ghost use Rattle.csv_instance.specs.Records.{Record};
 ghost use Rattle.cyclic_plan.specs.Cycles.{IsCycleLayout, IsInPeriod, is_live_round, unrolled};
 ghost use Rattle.cyclic_plan.specs.Unrolled.{IsUnrolled, unrolled_of};
@@ -25,6 +26,6 @@ pub fn unrolled_has_the_layouts()
 /// A table without a fault gives the instance of its rows, unrolled: its text parses as that
 /// instance, which has just the layouts that hold at every moment of endless time.
 pub fn unrolled_table_is_the_cycle()
-    ensures { (P : ℕ) (table : List Record) (I : Instance) → P ≤ 2 ^ 60 →
+    ensures { (P : ℕ) (table : List Record) (I : Instance) → P ≤ number_limit →
         unrolled_of P table ≡ Ok I → IsUnrolled P table I }
 {}

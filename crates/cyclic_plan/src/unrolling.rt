@@ -1,10 +1,11 @@
 //! Buffers of one period, read and written as an instance.
 
-ghost use Rattle.std.specs.Prelude.{◌≡◌, ◌+◌, ◌^◌, ◌<◌, ◌≤◌, ◌↔◌, None, Some, Ok, Err, IfOk, ℕ, List, length};
+ghost use Rattle.std.specs.Prelude.{◌≡◌, ◌+◌, ◌<◌, ◌≤◌, ◌↔◌, None, Some, Ok, Err, IfOk, ℕ, List, length};
 ghost use Rattle.dsa_terms.specs.Buffers.{Buffer as BufferTerm, Instance, buffer};
 ghost use Rattle.dsa_terms.specs.Layouts.{IsLayout};
 ghost use Rattle.dsa_model.specs.Buffer.{buffer_fault};
 ghost use Rattle.dsa_model.specs.Fails.{UnlessNoMemory};
+ghost use Rattle.dsa_model.specs.Limits.{file_limit, number_limit};
 ghost use Rattle.csv_instance.specs.Parse.{parse};
 ghost use Rattle.csv_instance.specs.Records.{table_of};
 ghost use Rattle.csv_instance.specs.Rows.{parse_rows, values_of};
@@ -33,7 +34,7 @@ fn unrolled_buffer(
     period: u64,
 ) -> Result<Buffer, Fail<BufferFault>>
     requires in_range { row + 1 < length rows.now }
-    requires period { period ≤ 2 ^ 60 }
+    requires period { period ≤ number_limit }
     ensures { let b = unrolled period (buffer (values_of rows.now) row) in UnlessNoMemory result
         (λ _. buffer_fault b ≡ None) (λ fault. buffer_fault b ≡ Some fault) }
 {
@@ -54,7 +55,7 @@ fn unrolled_buffer(
 /// The first fault of a row.
 fn check_row(alloc: Global, rows: &Rows, row: u32, period: u64) -> Result<(), Fail<CycleFault>>
     requires in_range { row + 1 < length rows.now }
-    requires period { period ≤ 2 ^ 60 }
+    requires period { period ≤ number_limit }
     ensures { let fault = cycle_row_fault period row (buffer (values_of rows.now) row) in
         UnlessNoMemory result (λ _. fault ≡ None) (λ f. fault ≡ Some f) }
 {
@@ -74,7 +75,7 @@ fn wraps(
     rows: &Rows,
     period: u64,
 ) -> Result<Vec<(u32, u64, u64, u64, u64)>, Fail<CycleFault>>
-    requires { period ≤ 2 ^ 60 }
+    requires { period ≤ number_limit }
     ensures { let read = values_of rows.now in UnlessNoMemory result
         (λ changes. (cycle_rows_fault period 0 read ≡ None)
         × (changes.items ≡ wraps_from period 0 read))
@@ -102,8 +103,8 @@ fn wraps(
 ///
 /// The caller owes at most 67108864 bytes and a period of at most 2^60 moments.
 pub fn unroll(alloc: Global, bytes: &[u8], period: u64) -> Result<Unrolled, Fail<CycleFault>>
-    requires length { length bytes.now ≤ 67108864 }
-    requires period { period ≤ 2 ^ 60 }
+    requires length { length bytes.now ≤ file_limit }
+    requires period { period ≤ number_limit }
     ensures unrolled { let given = unrolled_of period (table_of bytes.now) in UnlessNoMemory result
         (λ u. (I : Instance) × (given ≡ Ok I) × (u.buffers ≡ length I))
         (λ fault. given ≡ Err fault) }

@@ -1,7 +1,7 @@
 //! `solve`: a layout within a capacity, or a log by which there is none.
 
 ghost use Rattle.std.specs.Prelude.{◌≡◌, ◌+◌, ◌≤◌, IfOk, length};
-ghost use Rattle.command_words.specs.Options.{number_limit};
+ghost use Rattle.dsa_model.specs.Limits.{number_limit};
 ghost use Rattle.run_course.specs.Course.{Concludes};
 ghost use Rattle.run_course.specs.Prepares.{outcome_of};
 ghost use Rattle.writings.specs.Named.{names_of};

@@ -7,8 +7,9 @@ use Rattle.dsa_terms.specs.Buffers.{Buffer}
 use Rattle.dsa_terms.specs.Firsts.{first_fault}
 use Rattle.dsa_model.specs.Buffer.{buffer_fault, buffer_of, buffer_limit}
 use Rattle.dsa_model.specs.declared.buffer_fault.BufferFault.{BufferFault}
+use Rattle.dsa_model.specs.Limits.{time_limit}
 use Rattle.dsa_plan.specs.Arrays.{Arrays, buffer_at, gaps_at, gaps_before}
-use Rattle.dsa_plan.specs.Faults.{arrays_fault, buffers_fault, fault_at, have_gaps, have_numbers, have_one_length, numbers_fault, time_limit}
+use Rattle.dsa_plan.specs.Faults.{arrays_fault, buffers_fault, fault_at, have_gaps, have_numbers, have_one_length, numbers_fault}
 use Rattle.dsa_plan.specs.declared.fault.ArraysFault.{ArraysFault}
 use Rattle.dsa_plan.specs.declared.fault.ArraysFault.TheVariants.{LengthsDiffer, TooMany, BadBuffer}
 use Rattle.dsa_plan.specs.declared.fault.NumbersFault.TheVariants as numbers_fault_is

@@ -1,5 +1,6 @@
 -- What is wrong with arrays that tell of no instance.
-use Rattle.std.specs.Prelude.{◌≡◌, ℕ, ◌^◌, ◌-◌, ◌==◌, ◌&&◌, ◌||◌, nat_lt, not, Bool, [], ◌∷◌, length, map, sum, Option, None, option_map}
+use Rattle.std.specs.Prelude.{◌≡◌, ℕ, ◌-◌, ◌==◌, ◌&&◌, ◌||◌, nat_lt, not, Bool, [], ◌∷◌, length, map, sum, Option, None, option_map}
+use Rattle.dsa_model.specs.Limits.{time_limit}
 use Rattle.dsa_terms.specs.Buffers.{Buffer}
 use Rattle.dsa_terms.specs.Parts.{numbers}
 use Rattle.dsa_model.specs.Buffer.{buffer_fault, first_fault, when, buffer_limit}
@@ -8,10 +9,6 @@ use Rattle.dsa_plan.specs.declared.fault.ArraysFault.{ArraysFault}
 use Rattle.dsa_plan.specs.declared.fault.ArraysFault.TheVariants.{LengthsDiffer, TooMany, BadBuffer}
 use Rattle.dsa_plan.specs.declared.fault.NumbersFault.{NumbersFault}
 use Rattle.dsa_plan.specs.declared.fault.NumbersFault.TheVariants as numbers_fault_is
-
--- the greatest moment at which a lifetime begins or ends
-abbrev pub time_limit : ℕ
-time_limit = 2 ^ 62 - 1
 
 -- each array of numbers has n items
 abbrev pub have_numbers : Arrays → ℕ → Bool

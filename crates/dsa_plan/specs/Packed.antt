@@ -1,18 +1,19 @@
 -- What packing answers of an instance.
-use Rattle.std.specs.Prelude.{◌≡◌, ◌<◌, ◌≤◌, ◌-◌, ◌^◌, ℕ, List, Option, min}
+use Rattle.std.specs.Prelude.{◌≡◌, ◌<◌, ◌≤◌, ◌-◌, ℕ, List, Option, min}
 use Rattle.dsa_terms.specs.Bounds.{lower_bound}
 use Rattle.dsa_terms.specs.Buffers.{Instance}
 use Rattle.dsa_terms.specs.Layouts.{IsInfeasible, IsLayout, IsLeast}
 use Rattle.dsa_terms.specs.Logs.{Log}
 use Rattle.dsa_terms.specs.Plans.{layout_height}
 use Rattle.dsa_terms.specs.Starts.{best_start}
+use Rattle.dsa_model.specs.Limits.{number_limit}
 use Rattle.packer.specs.Packs.{RefutesOneLess}
 use Rattle.dsa_plan.specs.declared.answers.LeastAnswer.{LeastAnswer}
 use Rattle.dsa_plan.specs.declared.answers.LeastAnswer.TheVariants.{Least, Open}
 
 -- how many of so many steps are taken
 abbrev pub taken : ℕ → ℕ
-taken steps = min steps (2 ^ 60)
+taken steps = min steps number_limit
 
 -- the capacity is the least one, and the offsets are a layout of that height; a log refutes one byte less, the bound's
 -- or one with no more lines than steps

@@ -7,9 +7,9 @@ ghost use Rattle.dsa_plan.specs.Arrays.{arrays_of, buffer_at, gaps_at, instance_
 ghost use Rattle.dsa_plan.specs.Faults.{arrays_fault, buffers_fault, fault_at, have_one_length};
 
 use crate::arrays::Arrays;
-use crate::fault::{ArraysFault, NumbersFault, TIME_LIMIT};
+use crate::fault::{ArraysFault, NumbersFault};
 use crate::lengths::have_one_length;
-use dsa_model::{BUFFER_LIMIT, Buffer, Fail, Instance};
+use dsa_model::{BUFFER_LIMIT, Buffer, Fail, Instance, TIME_LIMIT};
 use std::alloc::Global;
 
 /// How many gaps a buffer has.

@@ -4,13 +4,10 @@ ghost use Rattle.std.specs.Prelude.{◌≡◌, ◌<◌, ◌^◌};
 
 use dsa_model::BufferFault;
 
-/// The greatest moment at which a lifetime begins or ends.
-pub const TIME_LIMIT: u64 = 4611686018427387903;
-
 /// What is wrong with the numbers of a buffer, in order of precedence.
 #[derive(Clone, Copy, Debug, PartialEq, Eq)]
 pub enum NumbersFault {
-    /// The lifetime begins or ends after `TIME_LIMIT`.
+    /// The lifetime begins or ends after `dsa_model::TIME_LIMIT`.
     TimeTooLarge,
     /// The first fault of the buffer that the numbers would make.
     Buffer(BufferFault),

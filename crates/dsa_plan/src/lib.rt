@@ -14,7 +14,7 @@ mod writing;
 
 pub use answers::{Answer, LeastAnswer};
 pub use arrays::Arrays;
-pub use fault::{ArraysFault, NumbersFault, TIME_LIMIT};
+pub use fault::{ArraysFault, NumbersFault};
 pub use leasts::plan_least;
 pub use packing::pack;
 pub use planning::plan_at;

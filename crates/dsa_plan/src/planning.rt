@@ -1,7 +1,8 @@
 //! A layout within a capacity.
 
-ghost use Rattle.std.specs.Prelude.{◌≡◌, ◌≢◌, ◌≤◌, ◌^◌, ◌↔◌, None, length, min};
+ghost use Rattle.std.specs.Prelude.{◌≡◌, ◌≢◌, ◌≤◌, ◌↔◌, None, length, min};
 ghost use Rattle.dsa_terms.specs.Layouts.{IsFeasible, IsInfeasible};
+ghost use Rattle.dsa_model.specs.Limits.{number_limit};
 ghost use Rattle.dsa_plan.specs.Answers.{plan_fault};
 ghost use Rattle.dsa_plan.specs.Arrays.{arrays_of, instance_of, without_gaps};
 ghost use Rattle.dsa_plan.specs.Faults.{AreSound, arrays_fault};
@@ -19,8 +20,8 @@ const CAPACITY_LIMIT: u64 = 1152921504606846976;
 
 /// The capacity, or the limit where it is above it.
 fn limited(capacity: u64) -> u64
-    ensures value { result ≡ min capacity (2 ^ 60) }
-    ensures limit { result ≤ 2 ^ 60 }
+    ensures value { result ≡ min capacity number_limit }
+    ensures limit { result ≤ number_limit }
 {
     if capacity < CAPACITY_LIMIT {
         capacity

@@ -1,8 +1,9 @@
 -- Why a run refuses: its words, the number of a trial's buffers, the bytes of its input, of its layout file or of its
 -- log's file. Nothing is written then.
-use Rattle.std.specs.Prelude.{◌≡◌, ◌<◌, ◌⊎◌, ◌^◌, ℕ, List, Ok, Err}
+use Rattle.std.specs.Prelude.{◌≡◌, ◌<◌, ◌⊎◌, ℕ, List, Ok, Err}
 use Rattle.dsa_model.specs.Buffer.{buffer_limit}
 use Rattle.dsa_terms.specs.Claims.{IsIn}
+use Rattle.dsa_model.specs.Limits.{number_limit}
 use Rattle.dsa_outside.specs.Seen.{FilesSeen}
 use Rattle.csv_instance.specs.declared.fault.InstanceFault.{InstanceFault}
 use Rattle.command_words.specs.Forms.{ReadsInstance, reads_of}
@@ -47,8 +48,8 @@ pub record RefusesInput (words : List Word) (old new : FilesSeen) (fault : Insta
 -- the command judges a layout file, at this capacity
 abbrev pub IsJudgedAt : Verb → List Pair → ℕ → Type 0
 IsJudgedAt verb.Verify pairs C = C ≡ number_at pairs option.Capacity
-IsJudgedAt verb.Report pairs C = C ≡ 2 ^ 60
-IsJudgedAt verb.Draw pairs C = C ≡ 2 ^ 60
+IsJudgedAt verb.Report pairs C = C ≡ number_limit
+IsJudgedAt verb.Draw pairs C = C ≡ number_limit
 IsJudgedAt verb pairs C = ⊥
 
 -- the layout file gives no offsets, or none that are a layout at the capacity, for this cause

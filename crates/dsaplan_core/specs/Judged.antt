@@ -2,9 +2,10 @@
 -- layout; with 'accepted', 'trimmed' and 'upgraded' the log's file says an accepted log, and no layout fits within its
 -- capacity. What is drawn is a picture of that layout; what is trimmed says the lines of that log that its end needs,
 -- which are accepted too; and what is upgraded says that log in the second version of its text.
-use Rattle.std.specs.Prelude.{◌≡◌, ◌^◌, ℕ, List, length}
+use Rattle.std.specs.Prelude.{◌≡◌, ℕ, List, length}
 use Rattle.dsa_terms.specs.Logs.{Log, IsAccepted}
 use Rattle.dsa_terms.specs.Trims.{IsTrimOf}
+use Rattle.dsa_model.specs.Limits.{number_limit}
 use Rattle.dsa_outside.specs.Held.{with_file}
 use Rattle.dsa_outside.specs.Seen.{FilesSeen}
 use Rattle.csv_instance.specs.Offsets.{ids_of}
@@ -53,7 +54,7 @@ pub record HoldsUpgraded {words : List Word} {old : FilesSeen} (a : Asked words 
 pub record HoldsPicture {words : List Word} {old : FilesSeen} (a : Asked words old) (new : FilesSeen)
     (count : ℕ) : Type 0 where
   pub offsets : List ℕ
-  pub given : GivesLayoutAt a (2 ^ 60) offsets
+  pub given : GivesLayoutAt a number_limit offsets
   pub its_count : length (rectangles a.instance offsets) ≡ count
   pub files : new.held ≡ with_file old.held (name_in a.pairs role.Output)
       (picture_text a.instance (ids_of a.table) offsets)

@@ -1,7 +1,8 @@
 -- What is printed.
-use Rattle.std.specs.Prelude.{◌≡◌, ◌≤◌, ◌⊎◌, ◌++◌, ◌^◌, ℕ, List, Ok}
+use Rattle.std.specs.Prelude.{◌≡◌, ◌≤◌, ◌⊎◌, ◌++◌, ℕ, List, Ok}
 use Rattle.dsa_terms.specs.Buffers.{Instance}
 use Rattle.dsa_model.specs.Buffer.{buffer_limit}
+use Rattle.dsa_model.specs.Limits.{number_limit}
 use Rattle.dsa_outside.specs.Held.{with_text}
 use Rattle.dsa_outside.specs.Seen.{FilesSeen, SinkSeen}
 use Rattle.csv_instance.specs.Records.{table_of}
@@ -27,7 +28,7 @@ use Rattle.dsaplan_core.specs.Judged.{GivesLayoutAt}
 pub record TellsLayout {words : List Word} {old : FilesSeen} (a : Asked words old) (text : List ℕ) : Type 0 where
   pub command : a.verb ≡ verb.Report
   pub offsets : List ℕ
-  pub given : GivesLayoutAt a (2 ^ 60) offsets
+  pub given : GivesLayoutAt a number_limit offsets
   pub its_text : IsReportOf a.table a.instance offsets text
 
 -- the facts of the made instance, and the verdict on it

@@ -1,7 +1,7 @@
 //! `core`: an irreducible set of buffers that do not fit.
 
 ghost use Rattle.std.specs.Prelude.{◌≡◌, ◌≤◌, ◌+◌, IfOk, Ok, length};
-ghost use Rattle.command_words.specs.Options.{number_limit};
+ghost use Rattle.dsa_model.specs.Limits.{number_limit};
 ghost use Rattle.csv_instance.specs.Parse.{parse};
 ghost use Rattle.run_course.specs.Course.{Concludes};
 ghost use Rattle.run_course.specs.Prepares.{outcome_of};

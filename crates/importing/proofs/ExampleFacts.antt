@@ -1,6 +1,6 @@
 -- What importing a few lines comes to, and what a line comes to that frees what nobody holds.
 use Rattle.std.proofs.Common.{◌≡◌, ◌∙◌, ℕ, List, [], ◌∷◌, Ok, codes, refl, sym, lit≤}
-use Rattle.csv_instance.specs.Records.{file_limit}
+use Rattle.dsa_model.specs.Limits.{file_limit}
 use Rattle.trace_import.specs.Faults.{holder, trace_of}
 use Rattle.trace_import.specs.ImportText.{import_text}
 use Rattle.trace_import.specs.Traces.{Alloc, Free, Trace, imported}

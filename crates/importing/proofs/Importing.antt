@@ -1,7 +1,7 @@
 -- From what reading a trace comes to, to what the course comes to.
 use Rattle.std.proofs.Common.{◌≡◌, ◌≤◌, inl, inr, ℕ, List, [], ◌∷◌, length, Result, Ok, Err, IfOk, refl, sym, subst}
 use Rattle.dsa_model.specs.declared.fail.NoMemory.{NoMemory}
-use Rattle.csv_instance.specs.Records.{file_limit}
+use Rattle.dsa_model.specs.Limits.{file_limit}
 use Rattle.dsa_outside.specs.Seen.{FilesSeen}
 use Rattle.trace_import.specs.Faults.{trace_of}
 use Rattle.trace_import.specs.ImportText.{import_text}

@@ -2,12 +2,13 @@
 use Rattle.std.proofs.Common.{◌≡◌, ◌≤◌, inl, inr, ℕ, List, [], ◌∷◌, length, Result, Ok, Err, IfOk, refl, sym, subst}
 use Rattle.dsa_terms.specs.Buffers.{Instance}
 use Rattle.dsa_model.specs.declared.fail.NoMemory.{NoMemory}
+use Rattle.dsa_model.specs.Limits.{number_limit}
 use Rattle.csv_instance.specs.Records.{Record, table_of}
 use Rattle.dsa_outside.specs.Seen.{FilesSeen}
 use Rattle.cyclic_plan.specs.Unrolled.{unrolled_of, unrolled_text}
 use Rattle.cyclic_plan.specs.declared.fault.CycleFault.{CycleFault}
 use Rattle.cyclic_plan.proofs.Tables.{unrolled_gives}
-use Rattle.command_words.specs.Options.{Word, number_limit}
+use Rattle.command_words.specs.Options.{Word}
 use Rattle.command_words.specs.declared.role.Role.TheVariants as role
 use Rattle.run_status.specs.Spoken.{IsSpoken}
 use Rattle.run_status.specs.declared.status.Status.{Status}

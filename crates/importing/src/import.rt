@@ -1,7 +1,7 @@
 //! `import`: the instance of a recorded run of allocations.
 
 ghost use Rattle.std.specs.Prelude.{◌≤◌, IfOk, length};
-ghost use Rattle.csv_instance.specs.Records.{file_limit};
+ghost use Rattle.dsa_model.specs.Limits.{file_limit};
 ghost use Rattle.trace_import.specs.Faults.{trace_of};
 ghost use Rattle.run_course.specs.Prepares.{outcome_of};
 ghost use Rattle.importing.specs.Importing.{Imports, import_course};

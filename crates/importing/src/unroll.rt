@@ -1,8 +1,8 @@
 //! `unroll`: the instance of one period of buffers whose moments repeat.
 
 ghost use Rattle.std.specs.Prelude.{◌≤◌, IfOk, length};
-ghost use Rattle.command_words.specs.Options.{number_limit};
-ghost use Rattle.csv_instance.specs.Records.{file_limit, table_of};
+ghost use Rattle.dsa_model.specs.Limits.{file_limit, number_limit};
+ghost use Rattle.csv_instance.specs.Records.{table_of};
 ghost use Rattle.cyclic_plan.specs.Unrolled.{unrolled_of};
 ghost use Rattle.run_course.specs.Prepares.{outcome_of};
 ghost use Rattle.importing.specs.Unrolling.{Unrolls, unroll_course};

@@ -1,7 +1,8 @@
 -- How the command goes that draws a layout.
-use Rattle.std.specs.Prelude.{◌≡◌, ◌^◌, ℕ, List, [], ◌∷◌, length}
+use Rattle.std.specs.Prelude.{◌≡◌, ℕ, List, [], ◌∷◌, length}
 use Rattle.dsa_terms.specs.Buffers.{Instance}
 use Rattle.dsa_terms.specs.Layouts.{IsLayout}
+use Rattle.dsa_model.specs.Limits.{number_limit}
 use Rattle.csv_instance.specs.Records.{Record}
 use Rattle.csv_instance.specs.Offsets.{ids_of}
 use Rattle.layout_picture.specs.Rectangles.{rectangles}
@@ -23,10 +24,10 @@ drawing output table I offsets = writes (record {
 
 -- the offsets are a layout at the greatest capacity, and their picture is written
 pub record Draws (output : Word) (table : List Record) (I : Instance) (offsets : List ℕ) (o : Outcome) : Type 0 where
-  pub layout : IsLayout I (2 ^ 60) offsets
+  pub layout : IsLayout I number_limit offsets
   pub drawn : o ≡ drawing output table I offsets
 
 -- how `draw` goes: the layout is judged at the greatest capacity
 abbrev pub draw : (input layout output : Word) → Course
 draw input layout output =
-    opened input (λ table I. judged layout table I (2 ^ 60) (λ offsets. Concludes (Draws output table I offsets)))
+    opened input (λ table I. judged layout table I number_limit (λ offsets. Concludes (Draws output table I offsets)))

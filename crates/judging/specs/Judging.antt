@@ -1,7 +1,8 @@
 -- How the commands go that judge a layout file.
-use Rattle.std.specs.Prelude.{◌≡◌, ◌^◌, ℕ, List}
+use Rattle.std.specs.Prelude.{◌≡◌, ℕ, List}
 use Rattle.dsa_terms.specs.Buffers.{Instance}
 use Rattle.dsa_terms.specs.Layouts.{IsLayout}
+use Rattle.dsa_model.specs.Limits.{number_limit}
 use Rattle.csv_instance.specs.Records.{Record}
 use Rattle.layout_report.specs.Report.{IsReportOf}
 use Rattle.command_words.specs.Options.{Word}
@@ -22,7 +23,7 @@ verify capacity input layout =
 
 -- the offsets are a layout at the greatest capacity, and its tightest moment is shown
 pub record ShowsLayout (table : List Record) (I : Instance) (offsets : List ℕ) (o : Outcome) : Type 0 where
-  pub layout : IsLayout I (2 ^ 60) offsets
+  pub layout : IsLayout I number_limit offsets
   pub text : List ℕ
   pub its_text : IsReportOf table I offsets text
   pub shown : o ≡ shows text
@@ -30,4 +31,4 @@ pub record ShowsLayout (table : List Record) (I : Instance) (offsets : List ℕ)
 -- how `report` goes: the layout is judged at the greatest capacity
 abbrev pub report : (input layout : Word) → Course
 report input layout =
-    opened input (λ table I. judged layout table I (2 ^ 60) (λ offsets. Concludes (ShowsLayout table I offsets)))
+    opened input (λ table I. judged layout table I number_limit (λ offsets. Concludes (ShowsLayout table I offsets)))

@@ -1,7 +1,8 @@
 //! `draw`: a picture of a layout.
 
-ghost use Rattle.std.specs.Prelude.{◌≡◌, ◌^◌, Ok, IfOk};
+ghost use Rattle.std.specs.Prelude.{◌≡◌, Ok, IfOk};
 ghost use Rattle.dsa_terms.specs.Buffers.{Instance};
+ghost use Rattle.dsa_model.specs.Limits.{number_limit};
 ghost use Rattle.csv_instance.specs.Parse.{parse};
 ghost use Rattle.layout_picture.specs.Rectangles.{EndsWithin};
 ghost use Rattle.run_course.specs.Course.{Concludes};
@@ -10,16 +11,13 @@ ghost use Rattle.readings.specs.Judging.{judged};
 ghost use Rattle.judging.specs.Drawing.{Draws, draw, drawing};
 
 use csv_instance::Table;
-use dsa_model::NoMemory;
+use dsa_model::{NUMBER_LIMIT, NoMemory};
 use dsa_outside::Files;
 use layout_picture::picture;
 use readings::{Judged, TableCommand, conclude_input, read_judged_layout};
 use run_course::{Command, Prepared, Writing, one_write, silent};
 use run_status::{Role, Status};
 use std::alloc::Global;
-
-/// The greatest capacity, in bytes.
-const MOST_CAPACITY: u64 = 1 << 60;
 
 /// Judges the layout file against the instance of the input at the greatest capacity, and writes a
 /// picture of the layout to the output.
@@ -55,7 +53,7 @@ fn drawing<'a>(
 }
 
 impl<'a> TableCommand<'a> for Draw<'a> {
-    ghost after = { λ d table I. judged d.layout.now table I (2 ^ 60)
+    ghost after = { λ d table I. judged d.layout.now table I number_limit
         (λ offsets. Concludes (Draws d.output.now table I offsets)) };
 
     fn conclude_table<F: Files>(
@@ -64,7 +62,7 @@ impl<'a> TableCommand<'a> for Draw<'a> {
         files: &mut F,
         table: &Table,
     ) -> Result<Prepared<'a>, NoMemory> {
-        match read_judged_layout(alloc, files, self.layout, table, MOST_CAPACITY)? {
+        match read_judged_layout(alloc, files, self.layout, table, NUMBER_LIMIT)? {
             Judged::Layout(offsets) => drawing(alloc, table, offsets.as_slice(), self.output),
             Judged::NoLayout(status) => silent(alloc, status),
         }

@@ -1,19 +1,16 @@
 //! `report`: what lies where at the tightest moment of a layout.
 
-ghost use Rattle.std.specs.Prelude.{◌^◌};
+ghost use Rattle.dsa_model.specs.Limits.{number_limit};
 ghost use Rattle.run_course.specs.Course.{Concludes};
 ghost use Rattle.readings.specs.Judging.{judged};
 ghost use Rattle.judging.specs.Judging.{ShowsLayout, report};
 
 use csv_instance::Table;
-use dsa_model::NoMemory;
+use dsa_model::{NUMBER_LIMIT, NoMemory};
 use dsa_outside::Files;
 use readings::{Judged, TableCommand, conclude_input, read_judged_layout};
 use run_course::{Command, Prepared, shown, silent};
 use std::alloc::Global;
-
-/// The greatest capacity, in bytes.
-const MOST_CAPACITY: u64 = 1 << 60;
 
 /// Judges the layout file against the instance of the input at the greatest capacity, and shows the
 /// layout at the instance's peak.
@@ -24,7 +21,7 @@ pub struct Report<'a> {
 }
 
 impl<'a> TableCommand<'a> for Report<'a> {
-    ghost after = { λ r table I. judged r.layout.now table I (2 ^ 60)
+    ghost after = { λ r table I. judged r.layout.now table I number_limit
         (λ offsets. Concludes (ShowsLayout table I offsets)) };
 
     fn conclude_table<F: Files>(
@@ -33,7 +30,7 @@ impl<'a> TableCommand<'a> for Report<'a> {
         files: &mut F,
         table: &Table,
     ) -> Result<Prepared<'a>, NoMemory> {
-        match read_judged_layout(alloc, files, self.layout, table, MOST_CAPACITY)? {
+        match read_judged_layout(alloc, files, self.layout, table, NUMBER_LIMIT)? {
             Judged::Layout(offsets) => {
                 let text = layout_report::report(alloc, table, offsets.as_slice())?;
                 Ok(shown(text))

@@ -1,15 +1,16 @@
 -- The rectangles of a layout: for each buffer one for each greatest run of columns at which it is live.
-use Rattle.std.specs.Prelude.{◌≡◌, ℕ, suc, ◌+◌, ◌-◌, ◌^◌, ◌<◌, ◌≤◌, Bool, true, false, not, ◌&&◌, ◌||◌, ◌==◌, List, [], ◌∷◌, map, length, drop, flat_map, slice_index, slice_index_or}
+use Rattle.std.specs.Prelude.{◌≡◌, ℕ, suc, ◌+◌, ◌-◌, ◌<◌, ◌≤◌, Bool, true, false, not, ◌&&◌, ◌||◌, ◌==◌, List, [], ◌∷◌, map, length, drop, flat_map, slice_index, slice_index_or}
 use Rattle.std.specs.List.{filter}
 use Rattle.dsa_terms.specs.Buffers.{Instance, buffer, is_live}
 use Rattle.dsa_terms.specs.Parts.{numbers}
+use Rattle.dsa_model.specs.Limits.{number_limit}
 use Rattle.layout_picture.specs.Columns.{columns_of}
 use Rattle.layout_picture.specs.declared.rectangle.Rectangle.{Rectangle}
 
 -- there are as many offsets as buffers, and each buffer ends at or below 2 ^ 60
 pub record EndsWithin (I : Instance) (offsets : List ℕ) : Type 0 where
   pub count : length offsets ≡ length I
-  pub within : (b : ℕ) → b < length I → slice_index offsets b + (buffer I b).size ≤ 2 ^ 60
+  pub within : (b : ℕ) → b < length I → slice_index offsets b + (buffer I b).size ≤ number_limit
 
 -- whether it is live in column k, and not past the last column
 abbrev pub flag_at : List Bool → ℕ → Bool

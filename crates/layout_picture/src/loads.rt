@@ -3,6 +3,7 @@
 ghost use Rattle.std.specs.Prelude.{◌≡◌, ◌+◌, ◌*◌, ◌^◌, ◌<◌, ◌≤◌, ℕ, IfOk, length, map, slice_index, slice_index_or, if◌then◌else◌, false};
 ghost use Rattle.std.specs.List.{All};
 ghost use Rattle.dsa_terms.specs.Plans.{load};
+ghost use Rattle.dsa_model.specs.Limits.{number_limit};
 
 use crate::flags::live_columns;
 use dsa_model::Instance;
@@ -29,7 +30,7 @@ pub(crate) fn loads(
     columns: &[u64],
 ) -> Result<Vec<u64>, AllocError>
     ensures value { IfOk result (λ loads. loads.items ≡ map (load instance.now) columns.now) }
-    ensures limit { IfOk result (λ loads. All (λ load. load < 2 ^ 60) loads.items) }
+    ensures limit { IfOk result (λ loads. All (λ load. load < number_limit) loads.items) }
 {
     let mut loads = vec![in alloc; 0u64; columns.len()]?;
     for b in 0..instance.len() {

@@ -1,8 +1,9 @@
 //! The report of a layout.
 
-ghost use Rattle.std.specs.Prelude.{◌≡◌, ◌^◌, Ok, IfOk};
+ghost use Rattle.std.specs.Prelude.{◌≡◌, Ok, IfOk};
 ghost use Rattle.dsa_terms.specs.Buffers.{Instance as InstanceTerm};
 ghost use Rattle.dsa_terms.specs.Layouts.{IsLayout};
+ghost use Rattle.dsa_model.specs.Limits.{number_limit};
 ghost use Rattle.csv_instance.specs.Parse.{parse};
 ghost use Rattle.layout_report.specs.Report.{IsReportOf};
 
@@ -22,7 +23,7 @@ use std::alloc::Global;
 ///
 /// The caller owes offsets that are a layout of the table's instance at 2^60.
 pub fn report(alloc: Global, table: &Table, offsets: &[u64]) -> Result<Vec<u8>, NoMemory>
-    requires { (I : InstanceTerm) × (parse table.now ≡ Ok I) × IsLayout I (2 ^ 60) offsets.now }
+    requires { (I : InstanceTerm) × (parse table.now ≡ Ok I) × IsLayout I number_limit offsets.now }
     ensures text { IfOk result (λ text. (I : InstanceTerm) → parse table.now ≡ Ok I →
         IsReportOf table.now I offsets.now text.items) }
 {

@@ -1,10 +1,11 @@
 //! What stands at a moment: the live buffers, and the free ranges between them.
 
-ghost use Rattle.std.specs.Prelude.{◌≡◌, ◌+◌, ◌^◌, ◌≤◌, ◌++◌, ℕ, List, length, IfOk, OnOk};
+ghost use Rattle.std.specs.Prelude.{◌≡◌, ◌+◌, ◌≤◌, ◌++◌, ℕ, List, length, IfOk, OnOk};
 ghost use Rattle.std.specs.List.{All};
 ghost use Rattle.dsa_terms.specs.Buffers.{Instance as InstanceTerm};
 ghost use Rattle.dsa_terms.specs.Layouts.{IsLayout};
 ghost use Rattle.dsa_terms.specs.Plans.{layout_height};
+ghost use Rattle.dsa_model.specs.Limits.{number_limit};
 ghost use Rattle.layout_report.specs.Report.{AreRowsOf};
 ghost use Rattle.layout_report.specs.Rows.{AreLiveRows, AreRowsAt, rows_between};
 
@@ -19,7 +20,7 @@ fn live_rows(
     offsets: &[u64],
     moment: u64,
 ) -> Result<Vec<Row>, AllocError>
-    requires { IsLayout instance.now (2 ^ 60) offsets.now }
+    requires { IsLayout instance.now number_limit offsets.now }
     ensures live { IfOk result (λ rows. AreLiveRows instance.now offsets.now moment rows.items) }
     ensures within { IfOk result (λ rows.
         All (λ row. row.place + row.size ≤ layout_height instance.now offsets.now) rows.items) }
@@ -80,7 +81,7 @@ fn rows_at(
     moment: u64,
     height: u64,
 ) -> Result<Vec<Row>, AllocError>
-    requires layout { IsLayout instance.now (2 ^ 60) offsets.now }
+    requires layout { IsLayout instance.now number_limit offsets.now }
     requires height { height ≡ layout_height instance.now offsets.now }
     ensures { IfOk result (λ rows. let height = layout_height instance.now offsets.now in
         AreRowsAt instance.now offsets.now moment height rows.items) }
@@ -97,7 +98,7 @@ pub(crate) fn rows_at_peak(
     peak: Option<(u64, u64)>,
     height: u64,
 ) -> Result<Vec<Row>, AllocError>
-    requires layout { IsLayout instance.now (2 ^ 60) offsets.now }
+    requires layout { IsLayout instance.now number_limit offsets.now }
     requires height { height ≡ layout_height instance.now offsets.now }
     ensures { IfOk result (λ rows. AreRowsOf instance.now offsets.now peak rows.items) }
 {

@@ -1,7 +1,8 @@
 //! The lines of a text, taken into a log.
 
-ghost use Rattle.std.specs.Prelude.{◌≡◌, ◌++◌, ◌∷◌, [], map, length, Some, None, OnOk, IfOk, All, option_map, ◌≤◌, ◌^◌};
+ghost use Rattle.std.specs.Prelude.{◌≡◌, ◌++◌, ◌∷◌, [], map, length, Some, None, OnOk, IfOk, All, option_map, ◌≤◌};
 ghost use Rattle.dsa_model.specs.Fails.{UnlessNoMemory};
+ghost use Rattle.dsa_model.specs.Limits.{number_limit};
 ghost use Rattle.refute_log.specs.Logs.{Belongs};
 ghost use Rattle.log_text.specs.RawLogs.{IsRawLineKept};
 ghost use Rattle.log_text.specs.Text.{raw_line_of};
@@ -46,7 +47,7 @@ pub(crate) fn log_of(
     capacity: u64,
     lines: Vec<RawLine>,
 ) -> Result<Log, Fail<CheckFault>>
-    requires capacity_limit { capacity ≤ 2 ^ 60 }
+    requires capacity_limit { capacity ≤ number_limit }
     requires kept { All IsRawLineKept lines.items }
     ensures fault { let fault = illegal_fault instance.now capacity lines.items in
         UnlessNoMemory result (λ _. fault ≡ None) (λ f. fault ≡ Some f) }

@@ -5,6 +5,7 @@ ghost use Rattle.dsa_terms.specs.Claims.{Entry, IsIn, Rises, buffers_of};
 ghost use Rattle.canonical_order.specs.Claims.{IsBoundedBy};
 ghost use Rattle.refute_log.specs.Lines.{line_value};
 ghost use Rattle.dsa_model.specs.Fails.{UnlessNoMemory};
+ghost use Rattle.dsa_model.specs.Limits.{number_limit};
 ghost use Rattle.log_text.specs.RawLogs.{IsRawLineKept, raw_claim_of};
 ghost use Rattle.log_check.specs.Narrowing.{IsNarrowed, narrow_cite, shape_reason};
 
@@ -44,7 +45,7 @@ fn cites_of(alloc: Global, cites: &[(u64, RawCite)]) -> Result<Vec<Cite>, NoMemo
 fn claim_of(alloc: Global, count: u32, pairs: &[(u64, u64)]) -> Result<Claim, NoMemory>
     requires rises { Rises (buffers_of pairs.now) }
     requires in_range { (e : Entry) → IsIn e pairs.now → e.0 < count }
-    requires bounds { IsBoundedBy (2 ^ 60) pairs.now }
+    requires bounds { IsBoundedBy number_limit pairs.now }
     ensures { IfOk result (λ claim. claim ≡ pairs.now) }
 {
     let narrowed = narrow_pairs(alloc, pairs)?;

@@ -1,5 +1,6 @@
 -- The first fault of bytes that say no log.
 use Rattle.std.specs.Prelude.{◌≡◌, ℕ, ◌^◌, ◌<◌, ◌≤◌, ◌≢◌, ◌⊎◌, List, [], ◌++◌, length, flat_map}
+use Rattle.dsa_model.specs.Limits.{number_limit}
 use Rattle.log_text.specs.RawTexts.{header_text}
 use Rattle.log_text.specs.Says.{AreGood, EndRow, HasBase, HasChanges, IsFormed, IsRising, IsWithin, Row, row_text}
 use Rattle.log_text.specs.Spellings.{Spelled, lines_said, spelled_text}
@@ -10,8 +11,8 @@ use Rattle.log_text.specs.declared.raw.RawLine.{RawLine}
 -- the bytes begin with a header whose numbers are within their limits
 pub record HasHeader (bytes : List ℕ) (version count capacity : ℕ) (rest : List ℕ) : Type 0 where
   pub version_limit : version < 2 ^ 64
-  pub count_limit : count ≤ 2 ^ 60
-  pub capacity_limit : capacity ≤ 2 ^ 60
+  pub count_limit : count ≤ number_limit
+  pub capacity_limit : capacity ≤ number_limit
   pub text : bytes ≡ header_text version count capacity ++ rest
 
 -- a version that is read
@@ -23,8 +24,8 @@ pub record GoesOn (version : ℕ) (bytes : List ℕ) (lines : List RawLine) (res
   pub known : IsVersion version
   pub count : ℕ
   pub capacity : ℕ
-  pub count_limit : count ≤ 2 ^ 60
-  pub capacity_limit : capacity ≤ 2 ^ 60
+  pub count_limit : count ≤ number_limit
+  pub capacity_limit : capacity ≤ number_limit
   pub spelled : List Spelled
   pub good : AreGood version [] spelled
   pub said : lines ≡ lines_said [] spelled
@@ -67,4 +68,4 @@ pub data IsFirstFault (bytes : List ℕ) : TextFault → Type 0 where
       (within : IsWithin row) (rising : IsRising row) (base : HasBase lines row) (none : HasChanges lines row → ⊥) →
       IsFirstFault bytes (BadChange (length lines))
   after_end : (lines : List RawLine) (last : ℕ) (more : List ℕ) (met : Meets bytes lines (EndRow last) more)
-      (within : last ≤ 2 ^ 60) (some : more ≢ []) → IsFirstFault bytes AfterEnd
+      (within : last ≤ number_limit) (some : more ≢ []) → IsFirstFault bytes AfterEnd

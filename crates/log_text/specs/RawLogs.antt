@@ -1,6 +1,7 @@
 -- What a log has that was read from a text.
 use Rattle.std.specs.Prelude.{ℕ, ◌^◌, ◌<◌, ◌≤◌, ◌≢◌, [], map, All}
 use Rattle.dsa_terms.specs.Claims.{Claim, Entry, Rises, buffers_of}
+use Rattle.dsa_model.specs.Limits.{number_limit}
 use Rattle.log_text.specs.declared.raw.RawCite.{RawCite}
 use Rattle.log_text.specs.declared.raw.RawCite.TheVariants as raw_cite
 use Rattle.log_text.specs.declared.raw.RawLine.{RawLine}
@@ -9,7 +10,7 @@ use Rattle.log_text.specs.declared.raw.RawLog.{RawLog}
 
 -- a buffer with its bound: both numbers are at most 2^60
 abbrev pub IsPairWithin : Entry → Type 0
-IsPairWithin e = (e.0 ≤ 2 ^ 60) × (e.1 ≤ 2 ^ 60)
+IsPairWithin e = (e.0 ≤ number_limit) × (e.1 ≤ number_limit)
 
 -- the number that a cite names
 abbrev pub number_of_cite : RawCite → ℕ
@@ -19,11 +20,11 @@ number_of_cite (raw_cite.Twin c) = c
 
 -- a buffer with its cite: both numbers are at most 2^60
 abbrev pub IsRawCiteWithin : ℕ × RawCite → Type 0
-IsRawCiteWithin p = (p.0 ≤ 2 ^ 60) × (number_of_cite p.1 ≤ 2 ^ 60)
+IsRawCiteWithin p = (p.0 ≤ number_limit) × (number_of_cite p.1 ≤ number_limit)
 
 -- each number of the line is within its limit: a moment is below 2^62, each other number at most 2^60
 abbrev pub IsRawLineWithin : RawLine → Type 0
-IsRawLineWithin (raw_line.Over T H G l) = (T < 2 ^ 62) × (H ≤ 2 ^ 60) × (G ≤ 2 ^ 60) × All IsPairWithin l
+IsRawLineWithin (raw_line.Over T H G l) = (T < 2 ^ 62) × (H ≤ number_limit) × (G ≤ number_limit) × All IsPairWithin l
 IsRawLineWithin (raw_line.Cases l cites) = All IsPairWithin l × All IsRawCiteWithin cites
 
 -- the buffers of the claim rise, and those of the cites
@@ -44,7 +45,7 @@ pub record IsRawLineKept (line : RawLine) : Type 0 where
 
 -- what holds of each log that is read from a text
 pub record IsRawKept (raw : RawLog) : Type 0 where
-  pub count_limit : raw.count ≤ 2 ^ 60
-  pub capacity_limit : raw.capacity ≤ 2 ^ 60
-  pub end_limit : raw.end ≤ 2 ^ 60
+  pub count_limit : raw.count ≤ number_limit
+  pub capacity_limit : raw.capacity ≤ number_limit
+  pub end_limit : raw.end ≤ number_limit
   pub lines : All IsRawLineKept raw.lines

@@ -1,6 +1,7 @@
 -- What the bytes of a log say, in either version.
 use Rattle.std.specs.Prelude.{◌≡◌, ℕ, ◌^◌, ◌<◌, ◌≤◌, ◌≢◌, ◌⊎◌, List, [], ◌∷◌, ◌++◌, length, map, All}
 use Rattle.dsa_terms.specs.Claims.{Rises, buffers_of}
+use Rattle.dsa_model.specs.Limits.{number_limit}
 use Rattle.log_text.specs.Changes.{AreChanges, Change, Drops, Puts, buffer_of}
 use Rattle.log_text.specs.RawLogs.{IsPairWithin, IsRawCiteWithin}
 use Rattle.log_text.specs.RawTexts.{IsTextOf, end_text}
@@ -43,22 +44,22 @@ IsFormed version (EndRow k) = Unit {0}
 -- each number of the change is within its limit
 abbrev pub IsChangeWithin : Change → Type 0
 IsChangeWithin (Puts e) = IsPairWithin e
-IsChangeWithin (Drops b) = b ≤ 2 ^ 60
+IsChangeWithin (Drops b) = b ≤ number_limit
 
 -- each number of the claim as it is spelled is within its limit, a base as well
 abbrev pub IsSpellingWithin : Spelling → Type 0
 IsSpellingWithin (Full l) = All IsPairWithin l
-IsSpellingWithin (From base changes) = (base ≤ 2 ^ 60) × All IsChangeWithin changes
+IsSpellingWithin (From base changes) = (base ≤ number_limit) × All IsChangeWithin changes
 
 -- each number of the line is within its limit
 abbrev pub IsLineWithin : Spelled → Type 0
-IsLineWithin (OverAs T H G s) = (T < 2 ^ 62) × (H ≤ 2 ^ 60) × (G ≤ 2 ^ 60) × IsSpellingWithin s
+IsLineWithin (OverAs T H G s) = (T < 2 ^ 62) × (H ≤ number_limit) × (G ≤ number_limit) × IsSpellingWithin s
 IsLineWithin (CasesAs s cites) = IsSpellingWithin s × All IsRawCiteWithin cites
 
 -- each number of the row is within its limit
 abbrev pub IsWithin : Row → Type 0
 IsWithin (LineRow line) = IsLineWithin line
-IsWithin (EndRow k) = k ≤ 2 ^ 60
+IsWithin (EndRow k) = k ≤ number_limit
 
 -- ---- lists that rise
 -- the buffers of the claim rise, or those of its changes
@@ -115,9 +116,9 @@ AreGood version earlier (s ∷ ss) =
 -- the bytes say the log by this version
 pub record SaysBy (version : ℕ) (bytes : List ℕ) (raw : RawLog) : Type 0 where
   pub spelled : List Spelled
-  pub count_limit : raw.count ≤ 2 ^ 60
-  pub capacity_limit : raw.capacity ≤ 2 ^ 60
-  pub end_limit : raw.end ≤ 2 ^ 60
+  pub count_limit : raw.count ≤ number_limit
+  pub capacity_limit : raw.capacity ≤ number_limit
+  pub end_limit : raw.end ≤ number_limit
   pub good : AreGood version [] spelled
   pub lines : raw.lines ≡ lines_said [] spelled
   pub text : bytes ≡ spelled_log version raw.count raw.capacity spelled raw.end

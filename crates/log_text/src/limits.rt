@@ -11,12 +11,7 @@ ghost use Rattle.log_text.specs.Says.{IsChangeWithin, IsLineRising, IsRising, Is
 use crate::RawCite;
 use crate::changes::{Edit, changed_buffer};
 use crate::rows::{Read, ReadClaim, ReadLine};
-
-/// The greatest moment of a text.
-const MOMENT_LIMIT: u64 = (1 << 62) - 1;
-
-/// The greatest of each other number of a text.
-pub(crate) const NUMBER_LIMIT: u64 = 1 << 60;
+use dsa_model::{NUMBER_LIMIT, TIME_LIMIT};
 
 /// The number that a cite names.
 fn number_of(cite: RawCite) -> u64
@@ -90,7 +85,7 @@ pub(crate) fn is_within(row: &Read) -> bool
                 claim,
             },
         ) => {
-            if *moment > MOMENT_LIMIT || *height > NUMBER_LIMIT || *modulus > NUMBER_LIMIT {
+            if *moment > TIME_LIMIT || *height > NUMBER_LIMIT || *modulus > NUMBER_LIMIT {
                 return false;
             }
             is_claim_within(claim)

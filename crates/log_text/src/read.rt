@@ -1,7 +1,8 @@
 //! Reading a log.
 
-ghost use Rattle.std.specs.Prelude.{◌≡◌, ◌≢◌, ◌^◌, ◌≤◌, ◌<◌, [], All, IfNone, IfOk, IfSome, List, MatchResult, ℕ};
+ghost use Rattle.std.specs.Prelude.{◌≡◌, ◌≢◌, ◌≤◌, ◌<◌, [], All, IfNone, IfOk, IfSome, List, MatchResult, ℕ};
 ghost use Rattle.dsa_model.specs.Fails.{UnlessNoMemory};
+ghost use Rattle.dsa_model.specs.Limits.{number_limit};
 ghost use Rattle.log_text.specs.Faults.{IsFirstFault};
 ghost use Rattle.log_text.specs.RawLogs.{IsRawKept, IsRawLineKept};
 ghost use Rattle.log_text.specs.Rows.{HasNoHeader, IsFaultAfter, IsGoodRead, IsHeaderRead, IsStarted};
@@ -10,12 +11,12 @@ ghost use Rattle.log_text.specs.declared.raw.RawLog.{RawLog as Raw};
 ghost use Rattle.log_text.specs.declared.fault.TextFault.{TextFault as Fault};
 
 use crate::cursor::Cursor;
-use crate::limits::{NUMBER_LIMIT, is_rising, is_within};
+use crate::limits::{is_rising, is_within};
 use crate::room::Room;
 use crate::rows::{Read, read_row};
 use crate::said::{Said, Unsaid, line_said};
 use crate::{RawLine, RawLines, RawLog, TextFault};
-use dsa_model::Fail;
+use dsa_model::{Fail, NUMBER_LIMIT};
 use std::alloc::Global;
 
 /// The numbers of a header, each where it fits 64 bits.
@@ -55,8 +56,8 @@ struct Sizes {
 
 /// The number, where it is within its limit.
 fn within_limit(number: Option<u64>) -> Option<u64>
-    ensures some { IfSome result (λ n. (number ≡ Some n) × (n ≤ 2 ^ 60)) }
-    ensures none { IfNone result ((n : ℕ) → number ≡ Some n → 2 ^ 60 < n) }
+    ensures some { IfSome result (λ n. (number ≡ Some n) × (n ≤ number_limit)) }
+    ensures none { IfNone result ((n : ℕ) → number ≡ Some n → number_limit < n) }
 {
     let n = number?;
     if n <= NUMBER_LIMIT { Some(n) } else { None }

@@ -1,8 +1,9 @@
 //! Laws of what the bytes of a log say, in either version.
 
-ghost use Rattle.std.specs.Prelude.{◌≡◌, ◌↔◌, ◌⊎◌, ◌^◌, ◌≤◌, ◌++◌, ℕ, List, All, length, map};
+ghost use Rattle.std.specs.Prelude.{◌≡◌, ◌↔◌, ◌⊎◌, ◌≤◌, ◌++◌, ℕ, List, All, length, map};
 ghost use Rattle.dsa_terms.specs.Claims.{Claim, Entry, IsIn, Rises, buffers_of};
 ghost use Rattle.dsa_terms.specs.Logs.{Log};
+ghost use Rattle.dsa_model.specs.Limits.{number_limit};
 ghost use Rattle.log_text.specs.Changes.{Change, DoesChange, Puts, buffer_of, carried_out, difference};
 ghost use Rattle.log_text.specs.RawTexts.{HasCite, IsTextOf};
 ghost use Rattle.log_text.specs.RawLogs.{IsRawKept};
@@ -29,7 +30,7 @@ pub fn the_versions_agree()
 
 /// The text of version 2 says its log.
 pub fn second_texts_say_their_logs()
-    ensures { (g : Raw) → IsRawKept g → All HasCite g.lines → length g.lines ≤ 2 ^ 60 →
+    ensures { (g : Raw) → IsRawKept g → All HasCite g.lines → length g.lines ≤ number_limit →
         Says (raw_text2 g) g }
 {}
 

@@ -9,8 +9,8 @@ use Rattle.dsa_terms.specs.Buffers.{Buffer, is_within}
 use Rattle.dsa_model.specs.Buffer.{buffer_fault, buffer_of, gap_fault, is_ever_live, number_fault}
 use Rattle.dsa_model.specs.Numbers.{written_number}
 use Rattle.dsa_model.proofs.Live.{is_ever, live_from}
+use Rattle.dsa_model.specs.Limits.{time_limit}
 use Rattle.csv_instance.specs.Gaps.{gaps_of}
-use Rattle.csv_instance.specs.Numbers.{time_limit}
 use Rattle.csv_instance.specs.Parse.{number_or, bad_column, row_buffer}
 use Rattle.csv_instance.specs.RowSteps.{content_fault}
 use Rattle.csv_instance.specs.declared.fault.InstanceFault.TheVariants as fault

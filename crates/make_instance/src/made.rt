@@ -4,6 +4,7 @@ ghost use Rattle.std.specs.Prelude.{◌≡◌, ◌<◌, ◌≤◌, ◌↔◌, Li
 ghost use Rattle.dsa_model.specs.Fails.{UnlessNoMemory};
 ghost use Rattle.dsa_terms.specs.Buffers.{Buffer};
 ghost use Rattle.dsa_model.specs.Buffer.{buffer_limit};
+ghost use Rattle.dsa_model.specs.Limits.{file_limit};
 ghost use Rattle.csv_instance.specs.Parse.{parse};
 ghost use Rattle.csv_instance.specs.Records.{table_of};
 ghost use Rattle.make_instance.specs.Made.{made_text};
@@ -38,7 +39,7 @@ pub fn make(alloc: Global, seed: u64, count: u64) -> Result<Vec<u8>, Fail<MakeFa
         (λ fault. fault ≡ MakeFault.CountTooLarge count) }
     ensures refused { (result ≡ Err (Fail.Fault (MakeFault.CountTooLarge count))) ↔
         (buffer_limit < count) }
-    ensures short { IfOk result (λ text. length text.items ≤ 67108864) }
+    ensures short { IfOk result (λ text. length text.items ≤ file_limit) }
     ensures parsed { IfOk result (λ text. (I : List Buffer)
         × (parse (table_of text.items) ≡ Ok I) × (length I ≡ count)) }
 {

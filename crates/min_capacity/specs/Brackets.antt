@@ -1,10 +1,11 @@
 -- Brackets round the least capacity, and how they narrow.
-use Rattle.std.specs.Prelude.{◌≡◌, ℕ, ◌+◌, ◌-◌, ◌/◌, ◌<◌, ◌≤◌, ◌^◌, ◌⊎◌, Option}
+use Rattle.std.specs.Prelude.{◌≡◌, ℕ, ◌+◌, ◌-◌, ◌/◌, ◌<◌, ◌≤◌, ◌⊎◌, Option}
 use Rattle.std.specs.declared.option.Option.TheVariants.{Some, None}
 use Rattle.dsa_terms.specs.Buffers.{Instance}
 use Rattle.dsa_terms.specs.Layouts.{IsLayout}
 use Rattle.dsa_terms.specs.Logs.{IsAccepted, Log}
 use Rattle.dsa_terms.specs.Plans.{layout_height}
+use Rattle.dsa_model.specs.Limits.{number_limit}
 use Rattle.refute_log.specs.Answers.{Answer, Offsets, Refutation}
 use Rattle.refute_log.specs.Halvings.{halving}
 use Rattle.min_capacity.specs.declared.brackets.Bracket.{Bracket}
@@ -19,7 +20,7 @@ Refutes I low (Some log) = IsAccepted I log × (low ≡ log.capacity + 1)
 -- ends in order and within the limit, a layout of height `high`, and a log below `low`
 pub record IsBracket (I : Instance) (b : Bracket) : Type 0 where
   pub ordered : b.low ≤ b.high
-  pub limit : b.high ≤ 2 ^ 60
+  pub limit : b.high ≤ number_limit
   pub layout : IsLayout I b.high b.layout.items
   pub height : layout_height I b.layout.items ≡ b.high
   pub log : Refutes I b.low b.log

@@ -1,6 +1,7 @@
 //! The lowest layout that a number of steps can find.
 
 ghost use Rattle.std.specs.Prelude.{◌≡◌, ◌+◌, ◌-◌, ◌<◌, ◌≤◌, ◌^◌, ℕ, IfOk};
+ghost use Rattle.dsa_model.specs.Limits.{number_limit};
 ghost use Rattle.min_capacity.specs.Brackets.{IfOpen};
 ghost use Rattle.packer.specs.Packs.{AreUsedUp, Packs, placing_steps};
 
@@ -29,7 +30,7 @@ pub fn pack_least<T: Tries>(
     tries: &mut T,
 ) -> Result<Least, NoMemory>
     requires subject { T.subject tries.old ≡ instance.now }
-    requires within { (C : ℕ) → C ≤ 2 ^ 60 → T.within tries.old C }
+    requires within { (C : ℕ) → C ≤ number_limit → T.within tries.old C }
     requires steps { T.units tries.old + steps < 2 ^ 64 }
     ensures value { IfOk result (Packs instance.now steps) }
     ensures used { T.units tries.new ≤ T.units tries.old + (steps - placing_steps steps) }

@@ -1,6 +1,7 @@
 //! A layout within a capacity, or a log by which there is none, in a number of steps.
 
 ghost use Rattle.std.specs.Prelude.{◌≡◌, ℕ, ◌+◌, ◌-◌, ◌<◌, ◌≤◌, ◌^◌, ◌⊎◌, IfOk};
+ghost use Rattle.dsa_model.specs.Limits.{number_limit};
 ghost use Rattle.min_capacity.specs.Brackets.{IsBracket};
 ghost use Rattle.packer.specs.Packs.{AreUsedUp, IfLeftOpen, PacksWithin, placing_steps};
 ghost use Rattle.packer.specs.Reached.{IsReached};
@@ -56,9 +57,9 @@ pub fn pack_within<T: Tries>(
     steps: u64,
     tries: &mut T,
 ) -> Result<Decision, NoMemory>
-    requires capacity { capacity ≤ 2 ^ 60 }
+    requires capacity { capacity ≤ number_limit }
     requires subject { T.subject tries.old ≡ instance.now }
-    requires within { (C : ℕ) → C ≤ 2 ^ 60 → T.within tries.old C }
+    requires within { (C : ℕ) → C ≤ number_limit → T.within tries.old C }
     requires steps { T.units tries.old + steps < 2 ^ 64 }
     ensures value { IfOk result (PacksWithin instance.now capacity steps) }
     ensures used { T.units tries.new ≤ T.units tries.old + (steps - placing_steps steps) }

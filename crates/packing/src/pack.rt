@@ -1,7 +1,7 @@
 //! `pack`: the best layout that a number of steps can find, with a log of what is too little.
 
 ghost use Rattle.std.specs.Prelude.{◌≡◌, ◌+◌, ◌-◌, ◌≤◌, None, Some, IfOk, IfSome, length};
-ghost use Rattle.command_words.specs.Options.{number_limit};
+ghost use Rattle.dsa_model.specs.Limits.{number_limit};
 ghost use Rattle.run_course.specs.Course.{Concludes};
 ghost use Rattle.run_course.specs.Prepares.{outcome_of};
 ghost use Rattle.packer.specs.Packs.{AreUsedUp, placing_steps};

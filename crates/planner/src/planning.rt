@@ -1,8 +1,9 @@
 //! Deciding a capacity.
 
-ghost use Rattle.std.specs.Prelude.{◌≡◌, ◌<◌, ◌≤◌, ◌^◌, ◌↔◌, None, IfOk};
+ghost use Rattle.std.specs.Prelude.{◌≡◌, ◌<◌, ◌≤◌, ◌↔◌, None, IfOk};
 ghost use Rattle.dsa_terms.specs.Bounds.{lower_bound};
 ghost use Rattle.dsa_terms.specs.Layouts.{IsFeasible, IsInfeasible};
+ghost use Rattle.dsa_model.specs.Limits.{number_limit};
 ghost use Rattle.planner.specs.Decisions.{Decides, IsByBound, IsByLog, IsExact, IsLaidOut};
 ghost use Rattle.planner.specs.Decisions.{decision_steps};
 ghost use Rattle.planner.specs.FirstStart.{IsBestStart, start_within};
@@ -29,7 +30,7 @@ fn decide_past_starts(
     capacity: u64,
     steps: Option<u64>,
 ) -> Result<Decision, NoMemory>
-    requires limit { capacity ≤ 2 ^ 60 }
+    requires limit { capacity ≤ number_limit }
     requires none_within { start_within instance.now capacity ≡ None }
     requires best { IsBestStart instance.now best }
     ensures value { IfOk result (Decides instance.now capacity steps) }
@@ -71,7 +72,7 @@ pub fn plan(
     capacity: u64,
     steps: Option<u64>,
 ) -> Result<Decision, NoMemory>
-    requires { capacity ≤ 2 ^ 60 }
+    requires { capacity ≤ number_limit }
     ensures value { IfOk result (Decides instance.now capacity steps) }
     ensures fits { IfOk result (λ decision.
         IsLaidOut decision → IsFeasible instance.now capacity) }

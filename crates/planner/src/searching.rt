@@ -1,6 +1,7 @@
 //! Deciding a capacity by the search.
 
 ghost use Rattle.std.specs.Prelude.{◌≡◌, ◌<◌, ◌≤◌, ◌^◌, length, IfOk, IfSome};
+ghost use Rattle.dsa_model.specs.Limits.{number_limit};
 ghost use Rattle.lifetime.specs.SectionList.{AreSectionsOf};
 ghost use Rattle.planner.specs.Openings.{AreGiven};
 ghost use Rattle.planner.specs.Searches.{EndsSearch, search_steps};
@@ -33,7 +34,7 @@ pub(crate) fn search(
     steps: Option<u64>,
 ) -> Result<Decided, NoMemory>
     requires sections { AreSectionsOf instance.now sections.now }
-    requires limit { capacity ≤ 2 ^ 60 }
+    requires limit { capacity ≤ number_limit }
     ensures value { IfOk result (EndsSearch instance.now capacity steps) }
     ensures steps { 0 < length instance.now →
         IfOk result (λ d. AreGiven steps (search_steps d)) }

@@ -1,6 +1,7 @@
 //! A search in another order of the buffers.
 
-ghost use Rattle.std.specs.Prelude.{◌≡◌, ◌≤◌, ◌^◌, IfOk};
+ghost use Rattle.std.specs.Prelude.{◌≡◌, ◌≤◌, IfOk};
+ghost use Rattle.dsa_model.specs.Limits.{number_limit};
 ghost use Rattle.first_fit.specs.Rules.{IsOrderOf};
 ghost use Rattle.portfolio.specs.Elsewhere.{IfNoneFound, IsCarriedBack};
 
@@ -38,7 +39,7 @@ pub(crate) fn search_in(
     units: u64,
 ) -> Result<Found, NoMemory>
     requires order { IsOrderOf instance.now order.now }
-    requires limit { capacity ≤ 2 ^ 60 }
+    requires limit { capacity ≤ number_limit }
     ensures layout { IfOk result (λ found.
         IsCarriedBack instance.now capacity found.elsewhere) }
     ensures used { IfOk result (λ found. found.used ≤ units) }

@@ -1,6 +1,7 @@
 //! One search.
 
-ghost use Rattle.std.specs.Prelude.{◌≡◌, ◌≤◌, ◌^◌, IfOk};
+ghost use Rattle.std.specs.Prelude.{◌≡◌, ◌≤◌, IfOk};
+ghost use Rattle.dsa_model.specs.Limits.{number_limit};
 ghost use Rattle.refute_log.specs.Decided.{IfSpent, IsRight};
 ghost use Rattle.narrowing.specs.Narrowed.{lines_of};
 
@@ -25,7 +26,7 @@ pub(crate) fn search(
     capacity: u64,
     units: u64,
 ) -> Result<Searched, NoMemory>
-    requires { capacity ≤ 2 ^ 60 }
+    requires { capacity ≤ number_limit }
     ensures right { IfOk result (λ s. IsRight instance.now capacity s.decided) }
     ensures used { IfOk result (λ s. s.used ≤ units) }
     ensures exhausted { IfOk result (λ s. IfSpent s.decided (s.used ≡ units)) }

@@ -1,6 +1,7 @@
 //! The orders in turn.
 
 ghost use Rattle.std.specs.Prelude.{◌≡◌, ◌+◌, ◌-◌, ◌<◌, ◌≤◌, ◌^◌, IfOk};
+ghost use Rattle.dsa_model.specs.Limits.{number_limit};
 ghost use Rattle.refute_log.specs.Decided.{IfSpent, IsRight};
 ghost use Rattle.narrowing.specs.Narrowed.{lines_of};
 ghost use Rattle.portfolio.specs.Elsewhere.{IfNoneFound, IsCarriedBack, left_after};
@@ -59,7 +60,7 @@ impl<'a> Portfolio<'a> {
     /// are left, divided by the number of searches that are still to come; the last of these is
     /// that in the order of the instance.
     fn search_elsewhere(&self, alloc: Global, capacity: u64, limit: u64) -> Result<Found, NoMemory>
-        requires { capacity ≤ 2 ^ 60 }
+        requires { capacity ≤ number_limit }
         ensures layout { IfOk result (λ found.
             IsCarriedBack self.now.subject capacity found.elsewhere) }
         ensures used { IfOk result (λ found. found.used ≤ limit) }
@@ -100,7 +101,7 @@ impl<'a> Portfolio<'a> {
 
     /// Searches the capacity in the order of the instance itself.
     fn search_own(&mut self, alloc: Global, capacity: u64, units: u64) -> Result<Decided, NoMemory>
-        requires limit { capacity ≤ 2 ^ 60 }
+        requires limit { capacity ≤ number_limit }
         requires units { self.old.units + units < 2 ^ 64 }
         ensures subject { self.new.subject ≡ self.old.subject }
         ensures units { self.old.units ≤ self.new.units }
@@ -123,7 +124,7 @@ impl<'a> Tries for Portfolio<'a> {
 
     ghost units = { λ p. p.units };
 
-    ghost within = { λ p C. C ≤ 2 ^ 60 };
+    ghost within = { λ p C. C ≤ number_limit };
 
     fn used(&self) -> u64 {
         self.used

@@ -6,11 +6,12 @@ use Rattle.dsa_model.specs.LayoutFaults.{layout_fault}
 use Rattle.dsa_model.specs.LayoutFaults as faults
 use Rattle.dsa_model.specs.Moments.{first_common}
 use Rattle.dsa_model.specs.declared.layout.LayoutFault.TheVariants as layout
+use Rattle.dsa_model.specs.Limits.{file_limit}
 use Rattle.dsa_outside.specs.Held.{file_at}
 use Rattle.dsa_outside.specs.Seen.{FilesSeen}
 use Rattle.csv_instance.specs.Offsets.{ids_of, parsed_offsets}
 use Rattle.csv_instance.specs.Parse.{parse}
-use Rattle.csv_instance.specs.Records.{Record, file_limit, table_of}
+use Rattle.csv_instance.specs.Records.{Record, table_of}
 use Rattle.csv_instance.specs.declared.fault.InstanceFault.TheVariants as instance
 use Rattle.csv_instance.specs.declared.fault.OffsetsFault.TheVariants as offsets
 use Rattle.csv_instance.proofs.FileFacts.{five_file, five_parse, five_reads, high_file, high_offsets, low_file, low_offsets, no_bytes, two, two_file, two_parse, two_reads, two_rows}

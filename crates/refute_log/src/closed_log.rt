@@ -1,6 +1,7 @@
 //! Logs with an end.
 
-ghost use Rattle.std.specs.Prelude.{◌≡◌, ◌^◌, ◌≤◌, ◌<◌, length, slice_get, Some};
+ghost use Rattle.std.specs.Prelude.{◌≡◌, ◌≤◌, ◌<◌, length, slice_get, Some};
+ghost use Rattle.dsa_model.specs.Limits.{number_limit};
 ghost use Rattle.refute_log.specs.Lines.{IsLineKept, line_value};
 ghost use Rattle.refute_log.specs.Logs.{IsKeptLog, ended};
 
@@ -56,7 +57,7 @@ impl ClosedLog {
     /// How many lines it has.
     pub fn len(&self) -> u64
         ensures value { result ≡ length self.now.lines }
-        ensures limit { result ≤ 2 ^ 60 }
+        ensures limit { result ≤ number_limit }
         ensures kept { IsKeptLog self.now.capacity self.now.lines }
     {
         self.log.len()

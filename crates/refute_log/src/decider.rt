@@ -1,8 +1,9 @@
 //! What decides capacities.
 
-ghost use Rattle.std.specs.Prelude.{◌≡◌, ℕ, ◌+◌, ◌<◌, ◌≤◌, ◌^◌, IfOk, Option};
+ghost use Rattle.std.specs.Prelude.{◌≡◌, ℕ, ◌+◌, ◌<◌, ◌≤◌, IfOk, Option};
 ghost use Rattle.dsa_terms.specs.Buffers.{Instance};
 ghost use Rattle.dsa_model.specs.Counts.{Rose};
+ghost use Rattle.dsa_model.specs.Limits.{number_limit};
 ghost use Rattle.refute_log.specs.Answers.{Answer};
 ghost use Rattle.refute_log.specs.Decided.{answer_of, IsRight, Settles, TurnsOut, IfSpent};
 
@@ -36,7 +37,7 @@ pub trait Decider {
     /// accepted log of the subject at it, or Spent. Where memory runs out, only `spends` and
     /// `units` may have risen.
     fn decide(&mut self, capacity: u64) -> Result<Decided, NoMemory>
-        requires { capacity ≤ 2 ^ 60 }
+        requires { capacity ≤ number_limit }
         ensures subject { subject self.new ≡ subject self.old }
         ensures allowance { allowance self.new ≡ allowance self.old }
         ensures spends { spends self.old ≤ spends self.new }

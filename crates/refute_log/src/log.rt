@@ -1,11 +1,12 @@
 //! Logs.
 
-ghost use Rattle.std.specs.Prelude.{◌≡◌, ◌^◌, ◌≤◌, ◌<◌, [], ◌∷◌, ◌++◌, length, slice_get, Some, None, OnErr, OnOk, IfErr, IfOk, MatchResult};
+ghost use Rattle.std.specs.Prelude.{◌≡◌, ◌≤◌, ◌<◌, [], ◌∷◌, ◌++◌, length, slice_get, Some, None, OnErr, OnOk, IfErr, IfOk, MatchResult};
 ghost use Rattle.dsa_terms.specs.Logs.{IsAccepted, IsLegal, Line as LineTerm, claim_of};
 ghost use Rattle.dsa_terms.specs.Claims.{IsWhole};
 ghost use Rattle.dsa_terms.specs.Layouts.{IsInfeasible};
 ghost use Rattle.dsa_terms.specs.Logs.{Log as LogTerm};
 ghost use Rattle.dsa_model.specs.Fails.{UnlessNoMemory};
+ghost use Rattle.dsa_model.specs.Limits.{number_limit};
 ghost use Rattle.refute_log.specs.Lines.{IsLineKept, IsWithin, line_value};
 ghost use Rattle.refute_log.specs.Logs.{Belongs, IsKeptLog, ended};
 ghost use Rattle.refute_log.specs.Reasons.{first_reason};
@@ -43,7 +44,7 @@ impl Model for Log {
 impl Log {
     /// A log without lines, for the instance at the capacity, which is at most 2^60 bytes.
     pub fn new(alloc: Global, instance: &Instance, capacity: u64) -> Log
-        requires { capacity ≤ 2 ^ 60 }
+        requires { capacity ≤ number_limit }
         ensures value { let count = length instance.now in
             result ≡ record { count = count; capacity = capacity; lines = [] } }
         ensures belongs { Belongs instance.now result }
@@ -144,7 +145,7 @@ impl Log {
     /// How many lines it has: at most 2^60, since no more find memory.
     pub fn len(&self) -> u64
         ensures value { result ≡ length self.now.lines }
-        ensures limit { result ≤ 2 ^ 60 }
+        ensures limit { result ≤ number_limit }
         ensures kept { IsKeptLog self.now.capacity self.now.lines }
     {
         self.lines.as_slice().len() as u64

@@ -2,6 +2,7 @@
 
 ghost use Rattle.std.specs.Prelude.{◌≡◌, IfOk};
 ghost use Rattle.dsa_terms.specs.Parts.{parts as parts_of};
+ghost use Rattle.dsa_model.specs.Limits.{number_limit};
 ghost use Rattle.lifetime.specs.SectionList.{AreSectionsOf};
 ghost use Rattle.search_core.specs.Courses.{at_start};
 ghost use Rattle.search_core.specs.Meters.{AreWithin};
@@ -80,7 +81,7 @@ impl<'a> Search<'a> {
 }
 
 impl<'a> Decider for Search<'a> {
-    ghost use Rattle.std.specs.Prelude.{◌≡◌, ◌+◌, ◌<◌, ◌≤◌, ◌^◌, IfOk, OnErr, length};
+    ghost use Rattle.std.specs.Prelude.{◌≡◌, ◌+◌, ◌<◌, ◌≤◌, IfOk, OnErr, length};
     ghost use Rattle.dsa_terms.specs.Parts.{whole_work};
     ghost use Rattle.dsa_model.specs.Counts.{Rose};
     ghost use Rattle.refute_log.specs.Decided.{IfSpent, IsRight, Settles, TurnsOut, answer_of};
@@ -107,7 +108,7 @@ impl<'a> Decider for Search<'a> {
     /// As the trait says. `spends` counts the answers Spent and nothing else, and any other answer
     /// for an instance with a buffer takes a unit, where the budget has a number of them.
     fn decide(&mut self, capacity: u64) -> Result<Decided, NoMemory>
-        requires { capacity ≤ 2 ^ 60 }
+        requires { capacity ≤ number_limit }
         ensures subject { self.new.subject ≡ self.old.subject }
         ensures allowance { let most = self.old.units.most in
             allowance_of self.new.units.most ≡ allowance_of most }

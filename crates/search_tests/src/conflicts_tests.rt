@@ -2,6 +2,7 @@
 
 ghost use Rattle.std.specs.Prelude.{◌^◌, ◌≤◌, ◌<◌, IfOk, IfSome, length};
 ghost use Rattle.dsa_terms.specs.Claims.{Rises, buffers_of};
+ghost use Rattle.dsa_model.specs.Limits.{number_limit};
 ghost use Rattle.canonical_order.specs.Claims.{IsBoundedBy};
 ghost use Rattle.refute_log.specs.Lines.{IsWithin, line_value};
 ghost use Rattle.refute_log.specs.Logs.{Belongs};
@@ -21,9 +22,9 @@ const FOUR: &[Row] = &[(0, 1, 1, 2), (0, 1, 1, 2), (0, 1, 2, 1), (1, 2, 1, 1)];
 fn over(alloc: Global, pairs: &[(u32, u64)], height: u64, modulus: u64) -> Result<Line, NoMemory>
     requires rises { Rises (buffers_of pairs.now) }
     requires count { length pairs.now < 2 ^ 32 }
-    requires bounds { IsBoundedBy (2 ^ 60) pairs.now }
-    requires height { height ≤ 2 ^ 60 }
-    requires modulus { modulus ≤ 2 ^ 60 }
+    requires bounds { IsBoundedBy number_limit pairs.now }
+    requires height { height ≤ number_limit }
+    requires modulus { modulus ≤ number_limit }
     ensures { IfOk result (λ line. IsWithin (line_value line)) }
 {
     let claim = Claim::from_pairs(alloc, pairs)?;
@@ -38,7 +39,7 @@ fn over(alloc: Global, pairs: &[(u32, u64)], height: u64, modulus: u64) -> Resul
 /// The line that refutes the second buffer from 2 on with the third one from the bound on, by the
 /// lines 0 and 1.
 fn both(alloc: Global, bound: u64) -> Result<Line, NoMemory>
-    requires { bound ≤ 2 ^ 60 }
+    requires { bound ≤ number_limit }
     ensures { IfOk result (λ line. IsWithin (line_value line)) }
 {
     let claim = Claim::from_pairs(alloc, &[(1, 2), (2, bound)])?;
@@ -109,7 +110,7 @@ fn push_over(
     b: u32,
     height: u64,
 ) -> Result<u64, Fail<Reason>>
-    requires height { height ≤ 2 ^ 60 }
+    requires height { height ≤ number_limit }
     requires belongs { Belongs four.now log.old }
     ensures belongs { Belongs four.now log.new }
 {
@@ -186,8 +187,8 @@ fn is_found(
     bounds: (u64, u64),
     want: Option<u64>,
 ) -> bool
-    requires second { bounds.0 ≤ 2 ^ 60 }
-    requires third { bounds.1 ≤ 2 ^ 60 }
+    requires second { bounds.0 ≤ number_limit }
+    requires third { bounds.1 ≤ number_limit }
 {
     match Claim::from_pairs(alloc, &[(1, bounds.0), (2, bounds.1)]) {
         Ok(claim) => found(four, lemmas, &claim) == want,

@@ -1,7 +1,8 @@
 //! `find_core` over an asker that stacks all buffers.
 
-ghost use Rattle.std.specs.Prelude.{◌≡◌, ◌^◌, ◌≤◌, IfOk};
+ghost use Rattle.std.specs.Prelude.{◌≡◌, ◌≤◌, IfOk};
 ghost use Rattle.dsa_terms.specs.Logs.{IsAccepted};
+ghost use Rattle.dsa_model.specs.Limits.{number_limit};
 ghost use Rattle.refute_log.specs.Lines.{IsWithin, line_value};
 
 use crate::instances::{Row, instance_of};
@@ -52,7 +53,7 @@ fn closed_by(
     capacity: u64,
     line: Line,
 ) -> Result<ClosedLog, NoMemory>
-    requires limit { capacity ≤ 2 ^ 60 }
+    requires limit { capacity ≤ number_limit }
     requires within { IsWithin (line_value line) }
     ensures accepted { IfOk result (IsAccepted instance.now) }
     ensures at { IfOk result (λ closed. closed.capacity ≡ capacity) }
@@ -69,7 +70,7 @@ fn closed_by(
 
 /// What refutes the capacity, where the line of all buffers does.
 fn refuted(alloc: Global, instance: &Instance, capacity: u64) -> Result<ClosedLog, NoMemory>
-    requires limit { capacity ≤ 2 ^ 60 }
+    requires limit { capacity ≤ number_limit }
     ensures accepted { IfOk result (IsAccepted instance.now) }
     ensures at { IfOk result (λ closed. closed.capacity ≡ capacity) }
 {

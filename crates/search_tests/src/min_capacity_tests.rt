@@ -1,7 +1,8 @@
 //! `least` over a decider with two answers that were prepared.
 
-ghost use Rattle.std.specs.Prelude.{◌≡◌, ◌≤◌, ◌^◌, ⊤, IfSome, IsTrue};
+ghost use Rattle.std.specs.Prelude.{◌≡◌, ◌≤◌, ⊤, IfSome, IsTrue};
 ghost use Rattle.dsa_terms.specs.Logs.{IsAccepted};
+ghost use Rattle.dsa_model.specs.Limits.{number_limit};
 ghost use Rattle.min_capacity.specs.Brackets.{IsBracket};
 ghost use Rattle.search_tests.specs.Prepared.{AreRight, IsOfTwelve, twelve_from_twelve};
 
@@ -93,7 +94,7 @@ impl Decider for Prepared<'_> {
 
 /// The log of one line at the capacity: buffers 0, 2 and 4 are too large together.
 fn log_at(alloc: Global, five: &Instance, capacity: u64) -> Option<ClosedLog>
-    requires { capacity ≤ 2 ^ 60 }
+    requires { capacity ≤ number_limit }
     ensures { IfSome result (λ log. IsAccepted five.now log × (log.capacity ≡ capacity)) }
 {
     let claim = Claim::from_pairs(alloc, &[(0, 0), (2, 0), (4, 0)]).ok()?;

@@ -1,6 +1,7 @@
 //! The ledge of the last standing buffer.
 
-ghost use Rattle.std.specs.Prelude.{◌≡◌, ◌-◌, ◌<◌, ◌≤◌, ◌^◌, length, reverse, take, slice_index};
+ghost use Rattle.std.specs.Prelude.{◌≡◌, ◌-◌, ◌<◌, ◌≤◌, length, reverse, take, slice_index};
+ghost use Rattle.dsa_model.specs.Limits.{number_limit};
 ghost use Rattle.skyline.specs.Carried.{ledge_at};
 ghost use Rattle.skyline.specs.Overloads.{lower};
 
@@ -9,7 +10,7 @@ ghost use Rattle.skyline.specs.Overloads.{lower};
 pub(crate) fn ledge_above(stack: &[u32], ledges: &[u64], depth: usize, b: u32) -> u64
     requires stack { depth ≤ length stack.now }
     requires ledges { depth ≤ length ledges.now }
-    requires limit { 0 < depth → slice_index ledges.now (depth - 1) < 2 ^ 60 }
+    requires limit { 0 < depth → slice_index ledges.now (depth - 1) < number_limit }
     ensures { let last_first = reverse (take depth stack.now) in
         result ≡ ledge_at last_first (reverse (take depth ledges.now)) b }
 {

@@ -2,6 +2,7 @@
 
 ghost use Rattle.std.specs.Prelude.{◌≡◌, ◌+◌, ◌<◌, ◌≤◌, ◌^◌, IfNone, IfSome, Some, length};
 ghost use Rattle.std.specs.List.{All};
+ghost use Rattle.dsa_model.specs.Limits.{number_limit};
 ghost use Rattle.skyline.specs.LowsOf.{least_low};
 ghost use Rattle.skyline.specs.Overloads.{FitsFrom};
 
@@ -12,7 +13,7 @@ use crate::ledges::lesser;
 pub(crate) fn least_low(buffers: &[u32], levels: &[u64], load: u64, capacity: u64) -> Option<u64>
     requires in_range { All (λ b. b < length levels.now) buffers.now }
     requires limit { All (λ level. level ≤ 2 ^ 55) levels.now }
-    requires load { load ≤ 2 ^ 60 }
+    requires load { load ≤ number_limit }
     ensures some { IfSome result (λ height. least_low levels.now buffers.now ≡ Some height) }
     ensures over { IfSome result (λ height. capacity < height + load) }
     ensures none { IfNone result (FitsFrom load capacity (least_low levels.now buffers.now)) }

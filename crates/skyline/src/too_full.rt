@@ -2,6 +2,7 @@
 
 ghost use Rattle.std.specs.Prelude.{◌≡◌, ◌+◌, ◌<◌, ◌^◌, ◌≤◌, IfNone, IfSome, Some};
 ghost use Rattle.std.specs.List.{All};
+ghost use Rattle.dsa_model.specs.Limits.{number_limit};
 ghost use Rattle.lifetime.specs.SectionList.{AreSectionsOf, count_of};
 ghost use Rattle.canonical_order.specs.Levels.{AreLevels};
 ghost use Rattle.skyline.specs.Overloads.{FitsFrom, least_up, over, overloaded};
@@ -57,7 +58,7 @@ impl Skyline<'_> {
     /// the load on top of it passes the capacity.
     fn least_low(&self, s: u32, load: u64, capacity: u64) -> Option<u64>
         requires section { s < count_of self.now.sections }
-        requires load { load ≤ 2 ^ 60 }
+        requires load { load ≤ number_limit }
         ensures some { let l = last_claim self.now.claims in
             IfSome result (λ h. least_up self.now.instance self.now.sections l s ≡ Some h) }
         ensures over { IfSome result (λ height. capacity < height + load) }

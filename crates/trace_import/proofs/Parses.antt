@@ -13,9 +13,9 @@ use Rattle.dsa_terms.proofs.Lists.{from_append}
 use Rattle.dsa_model.specs.Buffer.{buffer_fault, buffer_of, gap_fault, is_ever_live, number_fault, buffer_limit}
 use Rattle.dsa_model.specs.Numbers.{written_number}
 use Rattle.dsa_model.proofs.Live.{is_ever, live_from}
+use Rattle.dsa_model.specs.Limits.{time_limit}
 use Rattle.csv_instance.specs.Columns.{field_of}
 use Rattle.csv_instance.specs.Layout.{text_of}
-use Rattle.csv_instance.specs.Numbers.{time_limit}
 use Rattle.csv_instance.specs.Parse.{number_or, bad_column, parse, row_buffer, rows_fault}
 use Rattle.csv_instance.specs.RowSteps.{content_fault, id_fault}
 use Rattle.csv_instance.specs.Records.{Record, table_of}

@@ -4,8 +4,9 @@ use Rattle.std.proofs.lemmas.List.{append-nil, get_or-map, length-map}
 use Rattle.csv.specs.Writing.{default_writer, row_text}
 use Rattle.csv_instance.specs.Layout.{text_of}
 use Rattle.csv_instance.specs.Parse.{parse}
-use Rattle.csv_instance.specs.Records.{file_limit, table_of}
+use Rattle.csv_instance.specs.Records.{table_of}
 use Rattle.dsa_terms.specs.Buffers.{Buffer}
+use Rattle.dsa_model.specs.Limits.{file_limit}
 use Rattle.trace_import.specs.Found.{ends_from}
 use Rattle.trace_import.specs.ImportText.{import_header, import_row, import_rows, import_text}
 use Rattle.trace_import.specs.Kept.{line_value}

@@ -2,9 +2,9 @@
 use Rattle.std.proofs.Common.{◌≡◌, ◌+◌, ◌*◌, ◌^◌, ◌≤◌, ◌∷◌, [], ◌==◌, arith, Bool, codes, cond, decimal, false, inl, inr, length, length-append, List, Ok, refl, true, ℕ}
 use Rattle.std.proofs.lemmas.Fmt.{length-decimal-le}
 use Rattle.dsa_model.specs.Buffer.{buffer_limit}
+use Rattle.dsa_model.specs.Limits.{file_limit}
 use Rattle.csv.specs.Writing.{default_writer, escaped, field_text, fields_text, is_blank, needs_quotes, quoted, row_text}
 use Rattle.csv_instance.specs.Layout.{text_of}
-use Rattle.csv_instance.specs.Records.{file_limit}
 use Rattle.trace_import.specs.Faults.{trace_of}
 use Rattle.trace_import.specs.ImportText.{import_header, import_row, import_rows, import_text}
 use Rattle.trace_import.specs.Limits.{AreWithin}

@@ -2,7 +2,7 @@
 use Rattle.std.specs.Prelude.{◌≡◌, ◌≤◌, length, map}
 use Rattle.std.specs.List.{count_by}
 use Rattle.dsa_model.specs.Buffer.{buffer_limit}
-use Rattle.csv_instance.specs.Records.{file_limit}
+use Rattle.dsa_model.specs.Limits.{file_limit}
 use Rattle.trace_import.specs.Limits.{AreWithin}
 use Rattle.trace_import.specs.Traces.{Event, Alloc, Free, Trace, is_alloc}
 use Rattle.trace_import.specs.declared.line.Line.{Line}

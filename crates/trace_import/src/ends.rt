@@ -1,7 +1,7 @@
 //! How long each allocation lasts.
 
 ghost use Rattle.std.specs.Prelude.{◌≡◌, ◌≤◌, IfOk, length, map};
-ghost use Rattle.csv_instance.specs.Records.{file_limit};
+ghost use Rattle.dsa_model.specs.Limits.{file_limit};
 ghost use Rattle.trace_import.specs.Found.{ends_from};
 ghost use Rattle.trace_import.specs.Kept.{line_value};
 

@@ -1,6 +1,7 @@
 //! The instance of a trace, written.
 
 ghost use Rattle.std.specs.Prelude.{◌≡◌, ◌≤◌, ◌<◌, ◌++◌, IfOk, OnOk, List, Ok, length, ℕ};
+ghost use Rattle.dsa_model.specs.Limits.{file_limit};
 ghost use Rattle.csv.specs.Writing.{default_writer, row_text};
 ghost use Rattle.csv_instance.specs.Parse.{parse};
 ghost use Rattle.csv_instance.specs.Records.{table_of};
@@ -62,7 +63,7 @@ fn write_row(
 pub fn import(alloc: Global, trace: &Trace) -> Result<Vec<u8>, NoMemory>
     ensures text { IfOk result (λ text. text.items ≡ import_text trace.now) }
     ensures parsed { IfOk result (λ text. parse (table_of text.items) ≡ Ok (imported trace.now)) }
-    ensures short { IfOk result (λ text. length text.items ≤ 67108864) }
+    ensures short { IfOk result (λ text. length text.items ≤ file_limit) }
     ensures traced { IsTraced trace.now (imported trace.now) }
 {
     let lines = trace.kept();

@@ -3,8 +3,9 @@
 ghost use Rattle.std.specs.Prelude.{◌≡◌, ◌≤◌, ℕ, List, Err, Ok, length};
 ghost use Rattle.dsa_terms.specs.Buffers.{IsInstance};
 ghost use Rattle.dsa_model.specs.Buffer.{buffer_limit};
+ghost use Rattle.dsa_model.specs.Limits.{file_limit};
 ghost use Rattle.csv_instance.specs.Parse.{parse};
-ghost use Rattle.csv_instance.specs.Records.{file_limit, table_of};
+ghost use Rattle.csv_instance.specs.Records.{table_of};
 ghost use Rattle.trace_import.specs.Faults.{trace_of};
 ghost use Rattle.trace_import.specs.ImportText.{import_text};
 ghost use Rattle.trace_import.specs.Laws.{IsNotLive, IsStillLive};

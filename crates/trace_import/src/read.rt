@@ -1,8 +1,8 @@
 //! A trace, read.
 
 ghost use Rattle.std.specs.Prelude.{◌≡◌, ◌≤◌, Ok, Err, length};
-ghost use Rattle.csv_instance.specs.Records.{file_limit};
 ghost use Rattle.dsa_model.specs.Fails.{UnlessNoMemory};
+ghost use Rattle.dsa_model.specs.Limits.{file_limit};
 ghost use Rattle.trace_import.specs.Faults.{trace_of};
 
 use crate::fault::TraceFault;
@@ -18,7 +18,7 @@ use std::alloc::Global;
 /// with single spaces, where ID is 1 to 255 bytes of 33 to 126, and SIZE and ALIGNMENT are 1 to 20
 /// digits. An identifier may be allocated again once it was freed. One pass over the bytes.
 pub fn read_trace(alloc: Global, bytes: &[u8]) -> Result<Trace, Fail<TraceFault>>
-    requires { length bytes.now ≤ 67108864 }
+    requires { length bytes.now ≤ file_limit }
     ensures read { UnlessNoMemory result (λ trace. trace_of bytes.now ≡ Ok trace)
         (λ fault. trace_of bytes.now ≡ Err fault) }
 {

@@ -2,8 +2,8 @@
 
 ghost use Rattle.std.specs.Prelude.{◌≡◌, ◌<◌, ◌≤◌, ◌++◌, ◌∷◌, [], ℕ, None, Ok, Err, length, map};
 ghost use Rattle.dsa_model.specs.Buffer.{buffer_limit};
-ghost use Rattle.csv_instance.specs.Records.{file_limit};
 ghost use Rattle.dsa_model.specs.Fails.{UnlessNoMemory};
+ghost use Rattle.dsa_model.specs.Limits.{file_limit};
 ghost use Rattle.trace_import.specs.Faults.{number_fault, place_fault, with_event};
 ghost use Rattle.trace_import.specs.Found.{AreHolders};
 ghost use Rattle.trace_import.specs.Lines.{event_in};

@@ -1,6 +1,6 @@
 use Rattle.std.proofs.Common.{◌≤◌, ◌+◌, arith, length}
+use Rattle.dsa_model.specs.Limits.{file_limit}
 use Rattle.csv.specs.Records.{fields_of}
-use Rattle.csv_instance.specs.Records.{file_limit}
 use Rattle.csv_instance.proofs.FieldLemmas.{short-at}
 use Rattle.csv_instance.proofs.row.read_values.Goals as goal
 

@@ -1,6 +1,6 @@
 use Rattle.std.proofs.Common.{◌≤◌, inl, inr, slice_index, ◌∙◌, arith}
+use Rattle.dsa_model.specs.Limits.{time_limit}
 use Rattle.dsa_plan.specs.Arrays.{arrays_of}
-use Rattle.dsa_plan.specs.Faults.{time_limit}
 use Rattle.dsa_plan.proofs.Faulty.{buffer_is, have_lengths, is_faulty, is_late, is_sound}
 use Rattle.dsa_plan.proofs.building.buffer.Goals.{then-lower-gt-TIME_LIMIT-via-then-lower-gt-TIME_LIMIT, then-lower-gt-TIME_LIMIT-via-else-lower-gt-TIME_LIMIT+then-upper-gt-TIME_LIMIT}
 use Rattle.dsa_plan.proofs.building.buffer.Goals as goal

@@ -1,5 +1,5 @@
 use Rattle.std.proofs.Common.{◌≤◌, ap, arith, count_by, length, subst}
-use Rattle.csv_instance.specs.Records.{file_limit}
+use Rattle.dsa_model.specs.Limits.{file_limit}
 use Rattle.trace_import.specs.Limits.{AreWithin}
 use Rattle.trace_import.specs.Traces.{is_alloc}
 use Rattle.trace_import.proofs.Accepted.{imported_count}

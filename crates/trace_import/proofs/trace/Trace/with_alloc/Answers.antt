@@ -1,5 +1,5 @@
 use Rattle.std.proofs.Common.{◌≡◌, ◌∙◌, ◌+◌, ◌≤◌, ◌++◌, ◌∷◌, [], ap, arith, count_by, length, length-append, List, map, None, Ok, subst, sym}
-use Rattle.csv_instance.specs.Records.{file_limit}
+use Rattle.dsa_model.specs.Limits.{file_limit}
 use Rattle.trace_import.specs.Faults.{holder, place_fault}
 use Rattle.trace_import.specs.Kept.{line_value}
 use Rattle.trace_import.specs.Limits.{AreWithin}

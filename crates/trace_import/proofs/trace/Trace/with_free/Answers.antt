@@ -1,5 +1,5 @@
 use Rattle.std.proofs.Common.{◌≡◌, ◌∙◌, ◌≤◌, ◌++◌, ◌∷◌, [], ap, arith, count_by, is_some, length, length-append, List, map, not, Ok, refl, subst, sym, true}
-use Rattle.csv_instance.specs.Records.{file_limit}
+use Rattle.dsa_model.specs.Limits.{file_limit}
 use Rattle.trace_import.specs.Faults.{holder}
 use Rattle.trace_import.specs.Kept.{line_value}
 use Rattle.trace_import.specs.Limits.{AreWithin}
