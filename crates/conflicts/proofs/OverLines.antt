@@ -7,7 +7,7 @@ use Rattle.dsa_model.proofs.Instances.{sound_buffer}
 use Rattle.dsa_terms.specs.Buffers.{Instance, buffer, is_live}
 use Rattle.dsa_terms.specs.Claims.{Claim, Covers, Entry, IsClaim, IsIn, buffers_of, up}
 use Rattle.dsa_terms.specs.Lean.{IsLeanOver}
-use Rattle.dsa_terms.specs.Logs.{Line, Over, IsLegal, IsOver, greatest, is_stacked, rounded, rounding}
+use Rattle.dsa_terms.specs.Logs.{Line, Over, IsLegal, IsOver, greatest, is_stacked, rounded, rounding, stacked}
 use Rattle.dsa_terms.proofs.Lists.{from_filter, from_map}
 use Rattle.dsa_terms.proofs.Moments.{and_true}
 use Rattle.dsa_terms.proofs.Numbers.{next_at_or_above, next_is_below, next_is_least, next_is_multiple}
@@ -17,7 +17,6 @@ use Rattle.dsa_model.specs.Buffer.{buffer_limit}
 use Rattle.canonical_order.proofs.CoverLemmas.{length_within}
 use Rattle.canonical_order.specs.Claims.{IsBoundedBy}
 use Rattle.canonical_order.specs.Stands.{Stands}
-use Rattle.refute_log.specs.Reasons.{stacked}
 use Rattle.refute_log.specs.Lines.{IsWithin}
 use Rattle.conflicts.proofs.Easings.{IsEased}
 use Rattle.conflicts.specs.Eased.{eased_over, from_height, least_height, reach}

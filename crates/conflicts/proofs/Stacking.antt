@@ -6,8 +6,7 @@ use Rattle.std.specs.List.{sum_by}
 use Rattle.std.specs.Int.{next_multiple_of}
 use Rattle.dsa_terms.specs.Buffers.{Buffer, Instance, buffer}
 use Rattle.dsa_terms.specs.Claims.{Claim, Entry, buffers_of, up}
-use Rattle.dsa_terms.specs.Logs.{greatest, is_stacked, rounded, rounding}
-use Rattle.refute_log.specs.Reasons.{stacked}
+use Rattle.dsa_terms.specs.Logs.{greatest, is_stacked, rounded, rounding, stacked}
 use Rattle.refute_log.specs.Stacks.{stacks}
 
 -- what is known after the first n entries: with the rest they make up the whole

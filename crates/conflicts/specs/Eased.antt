@@ -5,8 +5,7 @@ use Rattle.std.specs.List.{AllZip}
 use Rattle.dsa_terms.specs.Buffers.{Instance, buffer}
 use Rattle.dsa_terms.specs.Claims.{Claim, Entry, IsIn, Rises, buffers_of, up}
 use Rattle.dsa_terms.specs.Lean.{CitesOwn}
-use Rattle.dsa_terms.specs.Logs.{Cite, Line, Over, Cases, IsLegalCite, rounded, rounding, greatest, ends_below, is_twin}
-use Rattle.refute_log.specs.Reasons.{stacked}
+use Rattle.dsa_terms.specs.Logs.{Cite, Line, Over, Cases, IsLegalCite, rounded, rounding, greatest, ends_below, is_twin, stacked}
 
 -- ---- Over lines
 -- how far above its foot a stack of these buffers reaches at least, each at a multiple of G

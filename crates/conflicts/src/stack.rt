@@ -2,12 +2,11 @@
 
 ghost use Rattle.std.specs.Prelude.{◌≡◌, ◌≤◌, ◌<◌, length, map, sum_by, IfOk};
 ghost use Rattle.dsa_terms.specs.Claims.{buffers_of};
-ghost use Rattle.dsa_terms.specs.Logs.{IsOver, greatest, rounded, rounding};
+ghost use Rattle.dsa_terms.specs.Logs.{IsOver, greatest, rounded, rounding, stacked};
 ghost use Rattle.dsa_model.specs.Limits.{number_limit};
 ghost use Rattle.canonical_order.specs.Claims.{IsBoundedBy};
 ghost use Rattle.canonical_order.specs.Stands.{Stands};
 ghost use Rattle.refute_log.specs.Lines.{line_value};
-ghost use Rattle.refute_log.specs.Reasons.{stacked};
 ghost use Rattle.conflicts.specs.Eased.{eased_over};
 
 use canonical_order::Claim;

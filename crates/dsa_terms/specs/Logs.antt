@@ -7,7 +7,7 @@ use Rattle.dsa_terms.specs.Buffers.{Instance, buffer, is_live, have_same_moments
 use Rattle.dsa_terms.specs.Layouts.{IsMultiple}
 use Rattle.dsa_terms.specs.Claims.{Claim, Entry, IsIn, IsClaim, up, child, Covers, IsWhole}
 
--- the entry's buffer is live at moment T, can start at H or above alone, and has an alignment that is a multiple of G
+-- the entry's buffer is live at moment T, cannot start below H, and has an alignment that is a multiple of G
 unfoldable pub is_stacked : Instance → ℕ → ℕ → ℕ → Entry → Bool
 is_stacked I T H G e = is_live (buffer I e.0) T && nat_le H (up I e) && ((buffer I e.0).alignment % G == 0)
 
@@ -24,14 +24,21 @@ abbrev pub greatest : List ℕ → ℕ
 greatest [] = 0
 greatest (x ∷ xs) = max x (greatest xs)
 
--- H with the stacked sizes rounded up to G, less the greatest single rounding, is above C
+-- the entries of the claim that are stacked
+abbrev pub stacked : Instance → Claim → ℕ → ℕ → ℕ → Claim
+stacked I l T H G = filter (is_stacked I T H G) l
+
+-- H with the stacked sizes rounded up to G, less the greatest single rounding: where the stack ends, at least
+abbrev pub stack_height : Instance → Claim → ℕ → ℕ → ℕ → ℕ
+stack_height I l T H G =
+    H + sum_by (rounded I G) (stacked I l T H G) - greatest (map (rounding I G) (stacked I l T H G))
+
+-- some entry is stacked, and the stack ends above C
 pub record IsOver (I : Instance) (C T H G : ℕ) (l : Claim) : Type 0 where
   pub modulus : 1 ≤ G
   pub from_multiple : IsMultiple H G
-  pub some_stacked : filter (is_stacked I T H G) l ≢ []
-  pub too_high :
-      C < H + sum_by (rounded I G) (filter (is_stacked I T H G) l)
-      - greatest (map (rounding I G) (filter (is_stacked I T H G) l))
+  pub some_stacked : stacked I l T H G ≢ []
+  pub too_high : C < stack_height I l T H G
 
 -- the buffer of f, put at its up, ends at or below the up of e
 unfoldable pub ends_below : Instance → Entry → Entry → Bool

@@ -2,10 +2,10 @@
 use Rattle.std.proofs.Common.{◌≡◌, ℕ, inl, inr, [], ◌∷◌, Option, Some, None, refl, cond, nat_le, arith}
 use Rattle.dsa_terms.specs.Buffers.{Buffer, Instance, is_live, buffer, do_share, floor, have_same_moments, some_before}
 use Rattle.dsa_terms.specs.Claims.{IsWhole, up, step, child}
-use Rattle.dsa_terms.specs.Logs.{is_stacked, rounded, rounding, ends_below, is_twin, ByLine, Below, Twin, Line, Over, Cases}
+use Rattle.dsa_terms.specs.Logs.{is_stacked, rounded, rounding, ends_below, is_twin, ByLine, Below, Twin, Line, Over, Cases, stack_height}
 use Rattle.refute_log.specs.Halvings.{halving}
 use Rattle.refute_log.specs.Lines.{HasCites}
-use Rattle.refute_log.specs.Reasons.{covers, first_reason, stack_height}
+use Rattle.refute_log.specs.Reasons.{covers, first_reason}
 use Rattle.refute_log.specs.declared.reason.Reason.TheVariants as reason
 
 abbrev plain : ℕ → ℕ → ℕ → ℕ → Buffer

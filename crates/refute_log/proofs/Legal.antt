@@ -9,14 +9,14 @@ use Rattle.std.specs.Option.{option_or}
 use Rattle.std.specs.List.{AllZip, list_any}
 use Rattle.dsa_terms.specs.Buffers.{Instance}
 use Rattle.dsa_terms.specs.Claims.{Claim, Entry, IsIn, buffers_of, Covers, child, IsWhole}
-use Rattle.dsa_terms.specs.Logs.{Line, Over, Cases, Cite, ByLine, Below, Twin, claim_of, IsLegal, IsOver, IsLegalCite, IsLegalReason, Log, IsAccepted, ends_below, is_twin}
+use Rattle.dsa_terms.specs.Logs.{Line, Over, Cases, Cite, ByLine, Below, Twin, claim_of, IsLegal, IsOver, IsLegalCite, IsLegalReason, Log, IsAccepted, ends_below, is_twin, stacked, stack_height}
 use Rattle.dsa_terms.specs.Parts.{is_empty}
 use Rattle.dsa_terms.specs.Firsts.{when}
 use Rattle.canonical_order.specs.Stands.{Stands}
 use Rattle.dsa_terms.proofs.NumberTests.{equal, same, apart, above, not_at_most, below_or_from}
 use Rattle.dsa_model.specs.Buffer.{buffer_limit}
 use Rattle.dsa_model.proofs.Faults.{neither, not_so}
-use Rattle.refute_log.specs.Reasons.{first_reason, claim_reason, rule_reason, over_reason, cite_reason, cites_reason, line_reason, covers, stacked, stack_height}
+use Rattle.refute_log.specs.Reasons.{first_reason, claim_reason, rule_reason, over_reason, cite_reason, cites_reason, line_reason, covers}
 use Rattle.refute_log.specs.Logs.{OpenLog, Belongs, ended}
 use Rattle.refute_log.specs.declared.reason.Reason.TheVariants as reason
 use Rattle.dsa_search_laws.proofs.LineTests.{other_gives, other_from}

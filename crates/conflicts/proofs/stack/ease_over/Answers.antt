@@ -1,5 +1,5 @@
 use Rattle.std.proofs.Common.{◌∙◌, refl}
-use Rattle.refute_log.specs.Reasons.{stacked}
+use Rattle.dsa_terms.specs.Logs.{stacked}
 use Rattle.conflicts.proofs.OverLines.{from_bounds, from_count, from_is_claim, height_is, most_within, pairs_are}
 use Rattle.conflicts.proofs.stack.ease_over.Goals as goal
 
