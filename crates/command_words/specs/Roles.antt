@@ -1,6 +1,5 @@
 -- The files of commands: the option that names each, and how long it may be.
 use Rattle.std.specs.Prelude.{ℕ, ◌^◌}
-use Rattle.dsa_model.specs.Limits.{file_limit}
 use Rattle.command_words.specs.declared.option.OptionName.{OptionName}
 use Rattle.command_words.specs.declared.option.OptionName.TheVariants as option
 use Rattle.command_words.specs.declared.role.Role.{Role}
@@ -17,4 +16,4 @@ option_of_role role.Output = option.Output
 -- the greatest number of bytes that the file may have
 abbrev pub limit_of : Role → ℕ
 limit_of role.Log = 2 ^ 40
-limit_of other = file_limit
+limit_of other = 2 ^ 26

@@ -4,7 +4,6 @@ ghost use Rattle.std.specs.Prelude.{◌≡◌, ◌<◌, ◌^◌};
 ghost use Rattle.command_words.specs.Roles.{limit_of, option_of_role};
 
 use crate::OptionName;
-use dsa_model::FILE_LIMIT;
 
 /// A file's part in a command, named by its option.
 #[derive(Clone, Copy)]
@@ -42,7 +41,7 @@ impl Role {
     {
         match self {
             Role::Log => 1 << 40,
-            Role::Input | Role::Layout | Role::Trace | Role::Output => FILE_LIMIT,
+            Role::Input | Role::Layout | Role::Trace | Role::Output => 1 << 26,
         }
     }
 }

@@ -6,13 +6,14 @@ use Rattle.std.specs.Str.{bytes_eq}
 use Rattle.dsa_model.proofs.Faults.{map_none, not_so}
 use Rattle.csv_instance.specs.Changed.{changed_header}
 use Rattle.csv_instance.specs.Columns.{column_place, has_column, name_of, named_columns, needed_columns, stands_twice}
-use Rattle.csv_instance.specs.Parse.{header_fault, header_faults, mark}
+use Rattle.csv_instance.specs.Parse.{header_fault, header_faults}
 use Rattle.csv_instance.specs.Records.{Record}
 use Rattle.csv_instance.specs.declared.columns.Column.{Column}
 use Rattle.csv_instance.specs.declared.columns.Column.TheVariants.{Id, Lower, Upper, Size, Alignment, Gaps, Offset, Lowest}
 use Rattle.csv_instance.specs.declared.fault.InstanceFault.TheVariants as fault
 use Rattle.csv_instance.proofs.Basics.{counted_last, find_none, none_counted, not_false, some_if}
 use Rattle.csv_instance.proofs.ChangedFields.{AreOther, place-miss}
+use Rattle.csv_instance.proofs.Mark.{mark}
 use Rattle.csv_instance.proofs.IdLemmas.{all_none, none_any, none_first, none_mapped, none_when}
 use Rattle.csv_instance.proofs.SomeBack.{some_columns}
 

@@ -5,8 +5,11 @@ use Rattle.std.proofs.lemmas.Bool.{cases_Bool, eqb-true}
 use Rattle.std.specs.List.{list_any, starts_with}
 use Rattle.csv.specs.Reading.{strip_bom}
 use Rattle.csv.specs.Writing.{default_writer, field_text, fields_text, needs_byte, row_text, is_blank}
-use Rattle.csv_instance.specs.Parse.{mark}
 use Rattle.csv_instance.specs.Records.{Record}
+
+-- the bytes of a byte order mark
+abbrev pub mark : List ℕ
+mark = 239 ∷ 187 ∷ 191 ∷ []
 
 strip_other : (a : ℕ) (xs : List ℕ) → (a == 239) ≡ false → strip_bom (a ∷ xs) ≡ a ∷ xs
 unfolding strip_bom

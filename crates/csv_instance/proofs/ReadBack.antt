@@ -8,9 +8,8 @@ use Rattle.csv.specs.declared.parser.State.TheVariants as st
 use Rattle.csv.proofs.RoundTrip.{read-write}
 use Rattle.csv_instance.specs.Gives.{records_left}
 use Rattle.csv_instance.specs.Layout.{layout_records, layout_text, rows_with, text_of}
-use Rattle.csv_instance.specs.Parse.{mark}
 use Rattle.csv_instance.specs.Records.{Record, table_of}
-use Rattle.csv_instance.proofs.Mark.{no_mark}
+use Rattle.csv_instance.proofs.Mark.{mark, no_mark}
 use Rattle.csv_instance.proofs.Left.{at_end, left-first}
 
 -- each record reads back as it was

@@ -15,7 +15,7 @@ use Rattle.dsa_model.proofs.Faults.{map_none, neither, not_so}
 use Rattle.csv_instance.specs.Chosen.{chosen_records, chosen_text, rows_at}
 use Rattle.csv_instance.specs.Columns.{has_column, name_of}
 use Rattle.csv_instance.specs.Layout.{text_of}
-use Rattle.csv_instance.specs.Parse.{header_fault, header_faults, mark, parse, row_buffer, row_fault, rows_fault}
+use Rattle.csv_instance.specs.Parse.{header_fault, header_faults, parse, row_buffer, row_fault, rows_fault}
 use Rattle.csv_instance.specs.Records.{Record, table_of}
 use Rattle.csv_instance.specs.RowSteps.{id_faults}
 use Rattle.csv_instance.specs.declared.columns.Column.{Column}
@@ -24,7 +24,7 @@ use Rattle.csv_instance.specs.declared.fault.InstanceFault.TheVariants as fault
 use Rattle.csv_instance.proofs.Basics.{find_none, not_false}
 use Rattle.csv_instance.proofs.IdLemmas.{all_none}
 use Rattle.csv_instance.proofs.LayoutLaw.{good}
-use Rattle.csv_instance.proofs.Mark.{no_mark}
+use Rattle.csv_instance.proofs.Mark.{mark, no_mark}
 use Rattle.csv_instance.proofs.ReadBack.{AllReadBack, text-read}
 use Rattle.csv_instance.proofs.RowStepLemmas.{row_parts}
 use Rattle.csv_instance.proofs.SomeRows.{some_parse}

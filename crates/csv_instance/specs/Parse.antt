@@ -15,14 +15,10 @@ use Rattle.csv_instance.specs.declared.columns.Column.TheVariants.{Id, Lower, Up
 use Rattle.csv_instance.specs.declared.fault.InstanceFault.{InstanceFault}
 use Rattle.csv_instance.specs.declared.fault.InstanceFault.TheVariants as fault
 
--- the bytes of a byte order mark
-abbrev pub mark : List ℕ
-mark = 239 ∷ 187 ∷ 191 ∷ []
-
--- what can be wrong with a header
+-- what can be wrong with a header; 239, 187 and 191 are the bytes of a byte order mark
 abbrev pub header_faults : Record → List (Option InstanceFault)
 header_faults header =
-    when (starts_with nat_eq (slice_index_or header 0 []) mark) fault.MarkedHeader
+    when (starts_with nat_eq (slice_index_or header 0 []) (239 ∷ 187 ∷ 191 ∷ [])) fault.MarkedHeader
     ∷ option_map fault.DuplicateColumn (find (stands_twice header) named_columns)
     ∷ when (has_column header Offset) fault.OffsetColumn
     ∷ option_map fault.MissingColumn (find (λ c. not (has_column header c)) needed_columns)

@@ -28,17 +28,16 @@ greatest (x ∷ xs) = max x (greatest xs)
 abbrev pub stacked : Instance → Claim → ℕ → ℕ → ℕ → Claim
 stacked I l T H G = filter (is_stacked I T H G) l
 
--- H with the stacked sizes rounded up to G, less the greatest single rounding: where the stack ends, at least
-abbrev pub stack_height : Instance → Claim → ℕ → ℕ → ℕ → ℕ
-stack_height I l T H G =
-    H + sum_by (rounded I G) (stacked I l T H G) - greatest (map (rounding I G) (stacked I l T H G))
+-- H with the sizes of a stack rounded up to G, less the greatest single rounding: where the stack ends, at least
+abbrev pub stack_height : Instance → ℕ → ℕ → Claim → ℕ
+stack_height I H G stack = H + sum_by (rounded I G) stack - greatest (map (rounding I G) stack)
 
 -- some entry is stacked, and the stack ends above C
 pub record IsOver (I : Instance) (C T H G : ℕ) (l : Claim) : Type 0 where
   pub modulus : 1 ≤ G
   pub from_multiple : IsMultiple H G
   pub some_stacked : stacked I l T H G ≢ []
-  pub too_high : C < stack_height I l T H G
+  pub too_high : C < stack_height I H G (stacked I l T H G)
 
 -- the buffer of f, put at its up, ends at or below the up of e
 unfoldable pub ends_below : Instance → Entry → Entry → Bool

@@ -2,7 +2,7 @@
 use Rattle.std.proofs.Common.{◌≡◌, ℕ, inl, inr, [], ◌∷◌, Option, Some, None, refl, cond, nat_le, arith}
 use Rattle.dsa_terms.specs.Buffers.{Buffer, Instance, is_live, buffer, do_share, floor, have_same_moments, some_before}
 use Rattle.dsa_terms.specs.Claims.{IsWhole, up, step, child}
-use Rattle.dsa_terms.specs.Logs.{is_stacked, rounded, rounding, ends_below, is_twin, ByLine, Below, Twin, Line, Over, Cases, stack_height}
+use Rattle.dsa_terms.specs.Logs.{is_stacked, rounded, rounding, ends_below, is_twin, ByLine, Below, Twin, Line, Over, Cases, stacked, stack_height}
 use Rattle.refute_log.specs.Halvings.{halving}
 use Rattle.refute_log.specs.Lines.{HasCites}
 use Rattle.refute_log.specs.Reasons.{covers, first_reason}
@@ -60,17 +60,17 @@ legal_4 = refl
 
 -- ---- what Over lines stack
 -- both buffers rounded up to 2, from 2 on, less one rounding
-height_of_two : stack_height three ((0, 2) ∷ (1, 2) ∷ []) 0 2 2 ≡ 5
+height_of_two : stack_height three 2 2 (stacked three ((0, 2) ∷ (1, 2) ∷ []) 0 2 2) ≡ 5
 unfolding is_stacked rounded rounding up is_live buffer
 height_of_two = refl
 
 -- without the rounding they would reach 4 alone
-height_by_ones : stack_height three ((0, 2) ∷ (1, 2) ∷ []) 0 2 1 ≡ 4
+height_by_ones : stack_height three 2 1 (stacked three ((0, 2) ∷ (1, 2) ∷ []) 0 2 1) ≡ 4
 unfolding is_stacked rounded rounding up is_live buffer
 height_by_ones = refl
 
 -- what may start below the height does not count
-low_ones_are_left_out : stack_height three ((0, 0) ∷ (1, 2) ∷ (2, 1) ∷ []) 0 2 1 ≡ 3
+low_ones_are_left_out : stack_height three 2 1 (stacked three ((0, 0) ∷ (1, 2) ∷ (2, 1) ∷ []) 0 2 1) ≡ 3
 unfolding is_stacked rounded rounding up is_live buffer
 low_ones_are_left_out = refl
 

@@ -103,7 +103,7 @@ over_legal I C l T H G h =
       modulus = positive G (not_so (G == 0) reason.ZeroModulus one.0);
       from_multiple = equal (H % G) 0 (so (H % G == 0) reason.NotMultiple two.0);
       some_stacked = not_empty (stacked I l T H G) (not_so (is_empty (stacked I l T H G)) reason.EmptySet three.0);
-      too_high = above (stack_height I l T H G) C (not_so (nat_le (stack_height I l T H G) C) reason.NotOver four.0);
+      too_high = above (stack_height I H G (stacked I l T H G)) C (not_so (nat_le (stack_height I H G (stacked I l T H G)) C) reason.NotOver four.0);
     }
   where
     positive : (n : ℕ) → (n == 0) ≡ false → 1 ≤ n
@@ -115,8 +115,8 @@ over_none I C l T H G h =
     (both_none _ _ (none_unless (H % G == 0) reason.NotMultiple (same (H % G) 0 h.from_multiple))
     (both_none _ _ (none_when (is_empty (stacked I l T H G)) reason.EmptySet
     (is_not_empty (stacked I l T H G) h.some_stacked))
-    (both_none _ _ (none_when (nat_le (stack_height I l T H G) C) reason.NotOver
-    (not_at_most (stack_height I l T H G) C h.too_high)) refl)))
+    (both_none _ _ (none_when (nat_le (stack_height I H G (stacked I l T H G)) C) reason.NotOver
+    (not_at_most (stack_height I H G (stacked I l T H G)) C h.too_high)) refl)))
 
 -- ---- lines
 rule_legal : (I : Instance) (C : ℕ) (earlier : List Line) (line : Line) → rule_reason I C earlier line ≡ None →
