@@ -1,4 +1,4 @@
--- The words of options, and the greatest number that one can have.
+-- The words of options.
 use Rattle.std.specs.Prelude.{ℕ, List, codes}
 use Rattle.command_words.specs.declared.option.OptionName.{OptionName}
 use Rattle.command_words.specs.declared.option.OptionName.TheVariants.{Capacity, Input, Output, Log, Layout, Trace, Steps, Seed, Count, Period}

@@ -3,8 +3,8 @@
 ghost use Rattle.std.specs.Prelude.{◌≡◌, ◌≤◌, None, IfOk, OnOk, IsErrOf, length};
 ghost use Rattle.dsa_model.specs.Counts.{one_more};
 
-use crate::disk_write::write_file;
-use crate::transfer::{counted, read_up_to};
+use crate::disk_write::{target_of, write_file};
+use crate::transfer::{counted, is_want_of_memory, read_up_to};
 use crate::{FileFault, Files};
 use std::alloc::Global;
 use std::fs;
@@ -52,11 +52,16 @@ impl<'a, R: std::rt::Files<File = File>> Files for DiskFiles<'a, R> {
     fn write(&mut self, name: &str, bytes: &[u8]) -> Result<(), FileFault>
         ensures failed { IsErrOf result FileFault.Failed →
             self.new.faults ≡ one_more self.old.faults }
-        ensures cause { ¬ IsErrOf result FileFault.NoMemory }
+        ensures no_memory { IsErrOf result FileFault.NoMemory → self.new.faults ≡ self.old.faults }
         ensures unchanged { OnOk result (self.new.faults ≡ self.old.faults) }
         ensures counts { self.old.faults ≤ self.new.faults }
     {
-        let written = write_file(self.rt, self.alloc, name, bytes);
+        let target = target_of(self.rt, self.alloc, name);
+        if is_want_of_memory(&target) {
+            return Err(FileFault::NoMemory);
+        }
+        let target = counted(&mut self.faults, target)?;
+        let written = write_file(self.rt, name, target, bytes);
         Ok(counted(&mut self.faults, written)?)
     }
 }

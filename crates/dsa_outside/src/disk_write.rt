@@ -21,14 +21,15 @@ const LINKS: usize = 40;
 /// Where the name is a regular file, or is not there, another file is written beside it and renamed
 /// over it: after an error the name holds what it held. So is the file to which links lead. A
 /// regular file in a folder that takes no other one, and whatever is no regular file, is written in
-/// place.
+/// place, and so is what a link leads to by a text that is no UTF-8 or too long. The target is that
+/// of the name.
 pub(crate) fn write_file<R: std::rt::Files<File = File>>(
     rt: &R,
-    alloc: Global,
     name: &str,
+    target: Option<PathText>,
     bytes: &[u8],
 ) -> io::Result<()> {
-    match target_of(rt, alloc, name)? {
+    match target {
         Some(target) => write_named(rt, target.as_str(), bytes),
         None => write_in_place(fs::create(rt, name)?, bytes),
     }
@@ -105,9 +106,10 @@ fn write_in_place(mut file: File, bytes: &[u8]) -> io::Result<()> {
     }
 }
 
-// The path to which links lead from a name, or none where no path is known: a link of the system's
-// own leads to an open file, and another one may lead to a name that is no text.
-fn target_of<R: std::rt::Files<File = File>>(
+/// The path to which links lead from a name, or none where no path is known: a link of the system's
+/// own leads to an open file, and another one may lead to a name that is no text. It changes
+/// nothing, and takes memory where the name is a link.
+pub(crate) fn target_of<R: std::rt::Files<File = File>>(
     rt: &R,
     alloc: Global,
     name: &str,

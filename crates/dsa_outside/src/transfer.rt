@@ -7,7 +7,7 @@ ghost use Rattle.dsa_model.specs.Counts.{one_more};
 use crate::{FileFault, SinkFault};
 use std::alloc::Global;
 use std::io;
-use std::io::{Read, Write};
+use std::io::{ErrorKind, Read, Write};
 
 /// The most bytes of one read, in bytes.
 const PIECE: usize = 65536;
@@ -35,6 +35,14 @@ impl From<Failed> for SinkFault {
 
     fn from(_: Failed) -> Self {
         SinkFault::Failed
+    }
+}
+
+/// Whether memory ran out.
+pub(crate) fn is_want_of_memory<T>(done: &io::Result<T>) -> bool {
+    match done {
+        Ok(_) => false,
+        Err(e) => e.kind() == ErrorKind::OutOfMemory,
     }
 }
 

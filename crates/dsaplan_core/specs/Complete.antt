@@ -92,7 +92,7 @@ IsApproval verb.Draw I offsets (status.Drawn count) = count ≡ length (rectangl
 IsApproval verb I offsets status.NoMemory = Unit {0}
 IsApproval verb I offsets status = ⊥
 
--- no call on a name of the command has failed, and the sink has not
+-- no number of faults rose, of a name of the command or of the sink
 pub record IsUndisturbed (r : Request) (old new : FilesSeen) (before after : SinkSeen) : Type 0 where
   pub files : (name : Word) → IsIn name (names_of r) → IsCalm old new name
   pub sink : ¬ Rose before.faults after.faults

@@ -1,6 +1,6 @@
 -- The promise of a run in few words. The layout that is written with 'feasible', 'least C' or 'open L H' is aligned,
--- within its capacity and free of overlap at every moment; with 'infeasible', 'least C' or 'open L H' the written log,
--- at C - 1 unless C is zero, or at L - 1, is accepted, and an accepted log means that no layout fits.
+-- within its capacity and free of overlap at every moment; with 'infeasible C', 'least C' or 'open L H' the written
+-- log, at C, at C - 1 unless C is zero, or at L - 1, is accepted, and an accepted log means that no layout fits.
 use Rattle.std.specs.Prelude.{◌≡◌, ◌-◌, ◌≤◌, ◌<◌, ℕ, List, IsSome, None, Some, Ok}
 use Rattle.dsa_terms.specs.Buffers.{Instance}
 use Rattle.dsa_terms.specs.Layouts.{IsLayout, IsInfeasible, IsLeast}

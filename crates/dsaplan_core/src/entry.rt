@@ -144,9 +144,9 @@ pub fn run<F: Files, S: Sink>(alloc: Global, words: &[String], files: &mut F, ou
         (F.seen files.old) (F.seen files.new) (S.seen out.old) (S.seen out.new) result }
 
     // The layout that is written with 'feasible', 'least C' or 'open L H' is aligned, within its
-    // capacity and free of overlap at every moment; with 'infeasible', 'least C' or 'open L H' the
-    // written log, at C - 1 unless C is zero, or at L - 1, is accepted, and an accepted log means
-    // that no layout fits.
+    // capacity and free of overlap at every moment; with 'infeasible C', 'least C' or 'open L H'
+    // the written log, at C, at C - 1 unless C is zero, or at L - 1, is accepted, and an accepted
+    // log means that no layout fits.
     ensures headline { Headline (map string_bytes words.now)
         (F.seen files.old) (F.seen files.new) result }
 

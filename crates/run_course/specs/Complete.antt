@@ -16,7 +16,7 @@ pub record IsReadable (files : FilesSeen) (role : Role) (name : Word) : Type 0 w
   pub held : file_at files.held name ≡ Some bytes
   pub short : length bytes ≤ limit_of role
 
--- no call on the name failed
+-- the name's number of faults did not rise
 abbrev pub IsCalm : FilesSeen → FilesSeen → Word → Type 0
 IsCalm old new name = ¬ Rose (old.faults name) (new.faults name)
 

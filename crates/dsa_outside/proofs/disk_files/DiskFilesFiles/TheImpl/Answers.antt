@@ -18,6 +18,6 @@ write-tells g c = record {
   others = refl;
   failed = λ failed. rose_by_one _ _ (c.ensures.failed failed);
   no_memory = λ short. refl;
-  no_memory_counts = λ short. absurd (c.ensures.cause short);
+  no_memory_counts = λ short name. c.ensures.no_memory short;
   counts = λ name. c.ensures.counts;
 }
