@@ -125,7 +125,7 @@ nothing_more = fault.no_end 1 [] (begun [])
 nothing_more_in_2 : IsFirstFault (codes "dsalog 2 3 4\n") NoEnd
 nothing_more_in_2 = fault.no_end 2 [] (begun_in_2 [])
 
-not_3 : IsVersion 3 → ⊥
+pub not_3 : IsVersion 3 → ⊥
 not_3 (inl e) = omega arith
 not_3 (inr e) = omega arith
 

@@ -49,7 +49,7 @@ below_names : number_of_cite (raw_cite.Below 5) ≡ 5
 below_names = refl
 
 -- ---- logs that are kept, and their texts
-abbrev log_with : ℕ → RawLine → RawLog
+abbrev pub log_with : ℕ → RawLine → RawLog
 log_with capacity line = record { count = 3; capacity = capacity; lines = line ∷ []; end = 0 }
 
 log_kept : IsRawKept (log_with 4 line)
@@ -66,14 +66,14 @@ not_above_the_limit k = let w = k.capacity_limit in omega arith
 not_with_an_empty_claim : IsRawKept (log_with 4 (raw_line.Over 0 3 1 [])) → ⊥
 not_with_an_empty_claim k = not_without_claim (k.lines 0 line (omega arith))
 
-its_text : IsTextOf (codes "dsalog 1 3 4\nover 0 3 1 : 2=3\nend 0\n") (log_with 4 line)
+pub its_text : IsTextOf (codes "dsalog 1 3 4\nover 0 3 1 : 2=3\nend 0\n") (log_with 4 line)
 unfolding numeral
 its_text = record { kept = log_kept; cited = All-cons HasCite line [] tt (All-nil HasCite); text = refl }
 
 apart : (m n : ℕ) → n < m → m ≡ n → ⊥
 apart m n lt e = omega arith
 
-not_of_another_capacity : IsTextOf (codes "dsalog 1 3 4\nover 0 3 1 : 2=3\nend 0\n") (log_with 5 line) → ⊥
+pub not_of_another_capacity : IsTextOf (codes "dsalog 1 3 4\nover 0 3 1 : 2=3\nend 0\n") (log_with 5 line) → ⊥
 unfolding numeral
 not_of_another_capacity t = apart 53 52 (lit< tt) (sym (ap (λ (bytes : List ℕ). slice_index bytes 11) t.text))
 

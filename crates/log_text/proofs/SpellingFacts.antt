@@ -78,7 +78,7 @@ unfolding numeral
 written_again = refl
 
 -- ---- a log that has one line twice
-three : Claim
+unfoldable pub three : Claim
 three = (0, 0) ∷ (2, 0) ∷ (4, 0) ∷ []
 
 twice : Log
@@ -94,7 +94,7 @@ first : Spelled
 first = OverAs 0 0 1 (Full three)
 
 -- the second line, spelled so
-second : ℕ → List Change → Spelled
+unfoldable pub second : ℕ → List Change → Spelled
 second base changes = OverAs 0 0 1 (From base changes)
 
 three_within : All IsPairWithin three
@@ -130,7 +130,7 @@ unfolding three
 three_kept = record { not_empty = λ e. cc; rising = three_rise; within = (lit< tt, lit≤ tt, lit≤ tt, three_within) }
 
 -- the first line stands, and then these bytes
-begun : (version : ℕ) → IsVersion version → (text rest : List ℕ) →
+pub begun : (version : ℕ) → IsVersion version → (text rest : List ℕ) →
     text ≡ header_text version 5 11 ++ (spelled_text (OverAs 0 0 1 (Full three)) ++ rest) →
     GoesOn version text (raw_line.Over 0 0 1 three ∷ []) rest
 unfolding first
@@ -147,7 +147,7 @@ begun version known text rest e = record {
 }
 
 -- the second line as a difference
-met : (text : List ℕ) (base : ℕ) (changes : List Change) →
+pub met : (text : List ℕ) (base : ℕ) (changes : List Change) →
     text ≡ header_text 2 5 11 ++ (spelled_text (OverAs 0 0 1 (Full three))
     ++ (spelled_text (second base changes) ++ codes "end 1\n")) →
     Meets text (raw_line.Over 0 0 1 three ∷ []) (LineRow (second base changes)) (codes "end 1\n")
@@ -159,13 +159,13 @@ met text base changes e = record {
   has_row = record { formed = (refl, tt); text = refl };
 }
 
-second_within : (base : ℕ) (changes : List Change) → base ≤ 2 ^ 60 → All IsChangeWithin changes →
+pub second_within : (base : ℕ) (changes : List Change) → base ≤ 2 ^ 60 → All IsChangeWithin changes →
     IsWithin (LineRow (second base changes))
 unfolding second
 second_within base changes b w = (lit< tt, lit≤ tt, lit≤ tt, (b, w))
 
 -- the second line is its own base
-its_own_base : IsFirstFault (codes "dsalog 2 5 11\nover 0 0 1 : 0=0 2=0 4=0\nover 0 0 1 : @1\nend 1\n") (BadBase 1)
+pub its_own_base : IsFirstFault (codes "dsalog 2 5 11\nover 0 0 1 : 0=0 2=0 4=0\nover 0 0 1 : @1\nend 1\n") (BadBase 1)
 unfolding numeral second three
 its_own_base = fault.no_base (raw_line.Over 0 0 1 three ∷ []) (LineRow (second 1 [])) (codes "end 1\n")
     (met _ 1 [] refl) (second_within 1 [] (lit≤ tt) (All-nil IsChangeWithin)) tt (λ k. past k)

@@ -29,3 +29,10 @@ bad_base = refl
 bad_change : text_fault_text (text.BadChange 1) ≡ codes "bad change 1"
 unfolding digits
 bad_change = refl
+
+too_large : text_fault_text (text.NumberTooLarge 12) ≡ codes "number too large 12"
+unfolding digits
+too_large = refl
+
+after_end : text_fault_text text.AfterEnd ≡ codes "after end"
+after_end = refl
