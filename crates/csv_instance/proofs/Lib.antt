@@ -29,6 +29,7 @@ pub mod ChangedFields
 pub mod ChangedHeader
 pub mod ChangedRows
 pub mod ChangedBack
+mod FieldFacts
 mod KeptFacts
 mod RowFacts
 mod TextFacts

@@ -33,6 +33,18 @@ bad_buffer : instance_text (instance.BadBuffer 3 buffer.ZeroSize) ≡ codes "row
 unfolding digits
 bad_buffer = refl
 
+headers : (instance_text instance.MarkedHeader ≡ codes "marked header")
+    × (instance_text instance.OffsetColumn ≡ codes "offset column")
+    × (instance_text instance.TooManyBuffers ≡ codes "too many buffers")
+headers = (refl, refl, refl)
+
+rows : (instance_text (instance.FieldCount 1) ≡ codes "row 1 field count")
+    × (instance_text (instance.EmptyId 2) ≡ codes "row 2 empty id")
+    × (instance_text (instance.IdTooLong 3) ≡ codes "row 3 id too long")
+    × (instance_text (instance.BadGap 4) ≡ codes "row 4 bad gap")
+unfolding digits
+rows = (refl, refl, refl, refl)
+
 -- ---- layout files
 unknown_id : offsets_text (offsets.UnknownId 2) ≡ codes "row 2 unknown id"
 unfolding digits
@@ -45,3 +57,13 @@ bad_offset = refl
 missing_id : offsets_text (offsets.MissingId 5) ≡ codes "missing id 5"
 unfolding digits
 missing_id = refl
+
+headers_of_layouts : (offsets_text offsets.NoHeader ≡ codes "no header")
+    × (offsets_text (offsets.DuplicateColumn column.Offset) ≡ codes "duplicate column offset")
+    × (offsets_text (offsets.MissingColumn column.Id) ≡ codes "missing column id")
+headers_of_layouts = (refl, refl, refl)
+
+rows_of_layouts : (offsets_text (offsets.FieldCount 1) ≡ codes "row 1 field count")
+    × (offsets_text (offsets.DuplicateId 4 1) ≡ codes "row 4 duplicate id 1")
+unfolding digits
+rows_of_layouts = (refl, refl)
