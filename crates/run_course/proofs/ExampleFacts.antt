@@ -16,49 +16,49 @@ use Rattle.run_course.specs.Course.{Comes, Course, Ends, Outcome, Reads, Write, 
 use Rattle.run_course.proofs.Concluding.{IsServed}
 
 -- ---- the course
-abbrev output : List ℕ → Write
+abbrev pub output : List ℕ → Write
 output bytes = record { role = role.Output; name = codes "o"; bytes = bytes }
 
-abbrev log : List ℕ → Write
+abbrev pub log : List ℕ → Write
 log bytes = record { role = role.Log; name = codes "l"; bytes = bytes }
 
-abbrev copied : List ℕ → Outcome
+abbrev pub copied : List ℕ → Outcome
 copied bytes = writes (output bytes ∷ log bytes ∷ []) status.Right
 
-abbrev copy : Course
+abbrev pub copy : Course
 copy = Reads role.Input (codes "i") (λ bytes. Ends (copied bytes))
 
 -- ---- files, and a sink
-abbrev told : FileMap → FilesSeen
+abbrev pub told : FileMap → FilesSeen
 told files = record { held = Some files; faults = λ name. 0 }
 
-abbrev failed : FileMap → List ℕ → FilesSeen
+abbrev pub failed : FileMap → List ℕ → FilesSeen
 failed files name = record { held = Some files; faults = λ other. cond (bytes_eq other name) 1 0 }
 
-abbrev holding : List ℕ → FileMap
+abbrev pub holding : List ℕ → FileMap
 holding bytes = insert empty (codes "i") bytes
 
-abbrev sink : List ℕ → ℕ → SinkSeen
+abbrev pub sink : List ℕ → ℕ → SinkSeen
 sink content faults = record { content = Some content; faults = faults }
 
-reads_i : (bytes : List ℕ) → file_at (Some (holding bytes)) (codes "i") ≡ Some bytes
+pub reads_i : (bytes : List ℕ) → file_at (Some (holding bytes)) (codes "i") ≡ Some bytes
 reads_i bytes = file_at-with_file (Some empty) (codes "i") bytes refl
 
-reads_none : file_at (Some empty) (codes "i") ≡ None
+pub reads_none : file_at (Some empty) (codes "i") ≡ None
 reads_none = grind (gets, rules)
 
 -- two bytes are there, and then their copies
-abbrev before : FileMap
+abbrev pub before : FileMap
 before = holding (codes "ab")
 
-abbrev halfway : FileMap
+abbrev pub halfway : FileMap
 halfway = insert before (codes "o") (codes "ab")
 
-abbrev after : FileMap
+abbrev pub after : FileMap
 after = insert halfway (codes "l") (codes "ab")
 
 -- ---- reading
-comes_to_copies : (new : FilesSeen) → Comes (told before) new copy (copied (codes "ab"))
+pub comes_to_copies : (new : FilesSeen) → Comes (told before) new copy (copied (codes "ab"))
 comes_to_copies new =
     inr (codes "ab", record { held = λ told. reads_i (codes "ab"); short = lit≤ tt }, (tt, refl))
 
@@ -97,7 +97,7 @@ all_written : Leaves (told before) (told after) (copied (codes "ab")).writes Non
 all_written = refl
 
 -- the log's file got one byte
-log_broken : AreBroken (told before) (failed (insert halfway (codes "l") (codes "a")) (codes "l"))
+pub log_broken : AreBroken (told before) (failed (insert halfway (codes "l") (codes "a")) (codes "l"))
     (copied (codes "ab")).writes role.Log
 log_broken = record {
   made = output (codes "ab") ∷ [];

@@ -4,4 +4,6 @@ mod Performing
 pub mod Silently
 pub mod Concluding
 mod ExampleFacts
+mod LeftFacts
+mod ReadingFacts
 mod PreparedFacts
