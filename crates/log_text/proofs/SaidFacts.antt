@@ -33,7 +33,8 @@ with_its_bound : (has_entry (2, 1) ((1, 5) ∷ (2, 1) ∷ []) ≡ true) × (has_
 with_its_bound = (refl, refl)
 
 -- lines are counted from 0, and past the last there is no claim
-claims_of_lines : (claim_at (line ∷ raw_line.Over 0 4 1 ((1, 4) ∷ []) ∷ []) 1 ≡ (1, 4) ∷ []) × (claim_at (line ∷ []) 1 ≡ [])
+claims_of_lines : (claim_at (line ∷ raw_line.Over 0 4 1 ((1, 4) ∷ []) ∷ []) 1 ≡ (1, 4) ∷ [])
+    × (claim_at (line ∷ []) 1 ≡ [])
 claims_of_lines = (refl, refl)
 
 -- ---- numbers at their limits

@@ -61,7 +61,7 @@ unfolding buffer is_live some_before faults.first_unaligned faults.first_too_low
     faults.overlap_after faults.overlap first_common
 apart_at_8 = refl
 
-above_7 : layout_fault two 7 (0 ∷ 4 ∷ []) ≡ Some (layout.Above 1)
+pub above_7 : layout_fault two 7 (0 ∷ 4 ∷ []) ≡ Some (layout.Above 1)
 unfolding buffer is_live some_before faults.first_unaligned faults.first_too_low faults.first_above
 above_7 = refl
 

@@ -7,3 +7,4 @@ pub mod ExampleFacts
 pub mod SampleFacts
 pub mod LogFacts
 mod GivenFacts
+mod RefusedFacts

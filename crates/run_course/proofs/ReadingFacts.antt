@@ -24,7 +24,8 @@ where_nothing_is_told : IsWholeFile (record { held = None; faults = λ name. 0 }
 where_nothing_is_told = record { held = λ told. absurd cc; short = lit≤ tt }
 
 -- as many as the limit are not too many
-at_the_limit : (bytes : List ℕ) → length bytes ≡ 67108864 → IsWholeFile (told (holding bytes)) role.Input (codes "i") bytes
+at_the_limit : (bytes : List ℕ) → length bytes ≡ 67108864 →
+    IsWholeFile (told (holding bytes)) role.Input (codes "i") bytes
 at_the_limit bytes e = record { held = λ told. reads_i bytes; short = omega (arith, e) }
 
 -- and one more is
