@@ -72,6 +72,12 @@ no_folder : folder_of (111 ∷ []) ≡ []
 unfolding path_parent split_last_component rsplit_once trim_trailing
 no_folder = refl
 
+-- of '/a/o' the folder is '/a/'
+folder_in_a_folder : (folder_of (47 ∷ 97 ∷ 47 ∷ 111 ∷ []) ≡ 47 ∷ 97 ∷ 47 ∷ [])
+    × (last_of (47 ∷ 97 ∷ 47 ∷ 111 ∷ []) ≡ 111 ∷ [])
+unfolding path_parent path_file_name split_last_component rsplit_once trim_trailing
+folder_in_a_folder = (refl, refl)
+
 slash_follows : slashed (100 ∷ []) ≡ 100 ∷ 47 ∷ []
 slash_follows = refl
 

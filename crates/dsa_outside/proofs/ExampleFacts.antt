@@ -35,6 +35,28 @@ written_over = grind (gets, rules)
 others_leave_it_out : file_at (without_file (Some one_file) (105 ∷ [])) (105 ∷ []) ≡ None
 others_leave_it_out = grind (gets, rules)
 
+-- and what another name holds stays
+others_stay : file_at (without_file (Some (insert one_file (111 ∷ []) (9 ∷ []))) (105 ∷ [])) (111 ∷ []) ≡ Some (9 ∷ [])
+others_stay = grind (gets, rules)
+
+-- where nothing is told of the files, nothing is after a write
+nothing_is_told_after : (with_file None (105 ∷ []) (9 ∷ []) ≡ None) × (without_file None (105 ∷ []) ≡ None)
+nothing_is_told_after = (refl, refl)
+
+-- a name that is there is not missing, and where nothing is told none is
+not_missing : IsMissing (Some one_file) (105 ∷ []) → ⊥
+not_missing h = let e = three_bytes_are_held in absurd cc
+
+none_is_missing : IsMissing None (105 ∷ []) → ⊥
+none_is_missing h = h
+
+-- of three bytes no more than two are read, and no fewer
+not_all_are_read : IsReadOf (Some one_file) (105 ∷ []) 2 (1 ∷ 2 ∷ 3 ∷ []) → ⊥
+not_all_are_read h = let e = h refl in let f = first_two_are_read refl in absurd cc
+
+not_one_is_read : IsReadOf (Some one_file) (105 ∷ []) 2 (1 ∷ []) → ⊥
+not_one_is_read h = let e = h refl in let f = first_two_are_read refl in absurd cc
+
 text_is_put_last : with_text (Some (1 ∷ [])) (2 ∷ []) ≡ Some (1 ∷ 2 ∷ [])
 text_is_put_last = refl
 

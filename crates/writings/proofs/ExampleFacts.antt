@@ -60,7 +60,7 @@ file_is_below = refl
 abbrev pub start_file : List ℕ
 start_file = codes "id,lower,upper,size,alignment,offset\nA,0,1,3,1,0\nB,0,1,1,4,4\n"
 
-start_text : layout_text below_rows (0 ∷ 4 ∷ []) ≡ start_file
+pub start_text : layout_text below_rows (0 ∷ 4 ∷ []) ≡ start_file
 unfolding digits escaped fields_text is_blank
 start_text = refl
 
@@ -68,7 +68,7 @@ start_text = refl
 abbrev pub low_file : List ℕ
 low_file = codes "id,lower,upper,size,alignment,offset\nA,0,1,3,1,1\nB,0,1,1,4,0\n"
 
-low_text : layout_text below_rows (1 ∷ 0 ∷ []) ≡ low_file
+pub low_text : layout_text below_rows (1 ∷ 0 ∷ []) ≡ low_file
 unfolding digits escaped fields_text is_blank
 low_text = refl
 
@@ -79,7 +79,7 @@ three_log = stack_log small_below 0 0 1 3
 abbrev pub three_file : List ℕ
 three_file = codes "dsalog 1 2 3\nover 0 0 1 : 0=0 1=0\nend 0\n"
 
-three_text : log_text three_log ≡ three_file
+pub three_text : log_text three_log ≡ three_file
 unfolding numeral stack_log stack_line line_height pile counted floor rounded_size is_live buffer
 three_text = refl
 
