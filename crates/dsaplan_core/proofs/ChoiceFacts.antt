@@ -33,13 +33,13 @@ use Rattle.dsaplan_core.specs.Theorem.{Asked}
 use Rattle.dsaplan_core.proofs.WorldFacts.{core_values, pack_values, pack_within, told}
 
 -- ---- the input stands in the file i, and nothing else is there
-abbrev below_alone : FileMap
+abbrev pub below_alone : FileMap
 below_alone = insert empty (codes "i") below_file
 
 reads_below : file_at (Some below_alone) (codes "i") ≡ Some below_file
 reads_below = file_at-with_file (Some empty) (codes "i") below_file refl
 
-its_input : IsInput (told below_alone) (codes "i") below_rows small_below
+pub its_input : IsInput (told below_alone) (codes "i") below_rows small_below
 its_input = record {
   bytes = below_file;
   whole = record { held = λ there. reads_below; short = lit≤ tt };
@@ -48,7 +48,7 @@ its_input = record {
 }
 
 -- it is this table alone
-only_input : (t : List Record) (I : Instance) → IsInput (told below_alone) (codes "i") t I →
+pub only_input : (t : List Record) (I : Instance) → IsInput (told below_alone) (codes "i") t I →
     (t ≡ below_rows) × (I ≡ small_below)
 only_input t I h =
     let held : Some below_file ≡ Some h.bytes = sym reads_below ∙ h.whole.held refl in
@@ -58,8 +58,8 @@ only_input t I h =
     (table, cc)
 
 -- ---- what words ask for on it
-abbrev asking : (words : List Word) (r : Request) → request_of words ≡ Ok r → name_in r.pairs role.Input ≡ codes "i" →
-    Asked words (told below_alone)
+abbrev pub asking : (words : List Word) (r : Request) → request_of words ≡ Ok r →
+    name_in r.pairs role.Input ≡ codes "i" → Asked words (told below_alone)
 asking words r asked named = record {
   verb = r.verb;
   pairs = r.pairs;
@@ -69,16 +69,16 @@ asking words r asked named = record {
   input = rw named its_input;
 }
 
-abbrev solving : Word → List Word
+abbrev pub solving : Word → List Word
 solving capacity = codes "solve" ∷ core_values capacity
 
-abbrev solve_at : Word → Request
+abbrev pub solve_at : Word → Request
 solve_at capacity = record { verb = verb.Solve; pairs = pairs_of (core_values capacity) }
 
-abbrev seeking : List Word
+abbrev pub seeking : List Word
 seeking = codes "least" ∷ pack_values
 
-abbrev seek : Request
+abbrev pub seek : Request
 seek = record { verb = verb.Least; pairs = pairs_of pack_values }
 
 abbrev packing : List Word
@@ -109,7 +109,7 @@ answers words r new s asked named h =
 proof_at_3 : IsProofWithin small_below 3 None three_log
 proof_at_3 = record { refuted = refuted_at_3; by_bound = λ below. below_log; searched = λ le. tt }
 
-abbrev refuted_files : FilesSeen
+abbrev pub refuted_files : FilesSeen
 refuted_files = told (insert below_alone (codes "l") three_file)
 
 refutes_3 : Choice (solving (codes "3")) (told below_alone) refuted_files (status.Infeasible 3)
@@ -122,7 +122,7 @@ refutes_3 = (
 )
 
 -- ---- the least capacity is 4: its plan and the bound's log at 3 are written
-abbrev found_files : FilesSeen
+abbrev pub found_files : FilesSeen
 found_files = told (insert (insert below_alone (codes "o") low_file) (codes "l") three_file)
 
 finds_4 : Choice seeking (told below_alone) found_files (status.Least 4)
@@ -147,7 +147,7 @@ finds_no_5 : (new : FilesSeen) → Choice seeking (told below_alone) new (status
 finds_no_5 new h = let a = answers seeking seek new (status.Least 5) refl refl h in not_sought_at_5 a.0 a.1 a.2
 
 -- ---- within 5 the plan is the best start, and it is written
-abbrev laid_files : List ℕ → FilesSeen
+abbrev pub laid_files : List ℕ → FilesSeen
 laid_files bytes = told (insert below_alone (codes "o") bytes)
 
 within_5 : IsPlanWithin small_below 5 None (0 ∷ 4 ∷ [])

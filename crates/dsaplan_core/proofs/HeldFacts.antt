@@ -44,7 +44,7 @@ use Rattle.dsaplan_core.specs.Theorem.{Asked, Headline, HoldsLayout, HoldsRefuta
 use Rattle.dsaplan_core.proofs.WorldFacts.{asking, bounds_values, core_values, in_parse, input_alone, pack_within, reads_input, reads_no_output, reads_none, told, trial_values}
 
 -- ---- a layout
-abbrev solve_8 : Asked (codes "solve" ∷ core_values (codes "8")) (told input_alone)
+abbrev pub solve_8 : Asked (codes "solve" ∷ core_values (codes "8")) (told input_alone)
 solve_8 = asking (codes "solve" ∷ core_values (codes "8")) verb.Solve (pairs_of (core_values (codes "8"))) refl refl
 
 abbrev laid_files : FilesSeen
@@ -69,7 +69,7 @@ feasible_at_8 : Headline (codes "solve" ∷ core_values (codes "8")) (told input
 feasible_at_8 = (solve_8, refl, output_is_laid)
 
 -- which is what `pack` promises of a capacity that is given, whatever the layout
-abbrev pack_8 : Asked (codes "pack" ∷ pack_within (codes "8")) (told input_alone)
+abbrev pub pack_8 : Asked (codes "pack" ∷ pack_within (codes "8")) (told input_alone)
 pack_8 = asking (codes "pack" ∷ pack_within (codes "8")) verb.Pack (pairs_of (pack_within (codes "8"))) refl refl
 
 packed_is_laid : HoldsLayout pack_8 laid_files 8

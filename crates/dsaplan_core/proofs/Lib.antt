@@ -31,3 +31,6 @@ mod RefutedFacts
 mod PremiseFacts
 mod ChoiceFacts
 mod OutcomeFacts
+mod HeadlineFacts
+mod MadeFacts
+mod LostFacts

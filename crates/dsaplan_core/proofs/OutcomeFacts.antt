@@ -72,7 +72,7 @@ why_it_is : IsCaused (codes "verify" ∷ verify_values (codes "8")) (beside low_
 why_it_is = low_is_refused
 
 -- ---- a log's file that says an accepted log
-abbrev refute_asked : Asked (codes "refute" ∷ refute_values) with_log
+abbrev pub refute_asked : Asked (codes "refute" ∷ refute_values) with_log
 refute_asked = record {
   verb = verb.Refute;
   pairs = pairs_of refute_values;
@@ -87,7 +87,7 @@ refute_asked = record {
   };
 }
 
-says_seven : GivesLog refute_asked seven_log
+pub says_seven : GivesLog refute_asked seven_log
 says_seven = record {
   bytes = seven_file;
   whole = record { held = λ there. reads_log; short = lit≤ tt };
@@ -97,12 +97,12 @@ says_seven = record {
 }
 
 -- ---- a picture with two rectangles
-laid_within_all : IsLayout two (2 ^ 60) (0 ∷ 4 ∷ [])
+pub laid_within_all : IsLayout two (2 ^ 60) (0 ∷ 4 ∷ [])
 unfolding buffer is_live some_before faults.first_unaligned faults.first_too_low faults.first_above faults.first_overlap
     faults.overlap_after faults.overlap first_common
 laid_within_all = (layout_exactly two (2 ^ 60) (0 ∷ 4 ∷ [])).0 refl
 
-abbrev draw_asked : Asked (codes "draw" ∷ draw_values) (beside high_file)
+abbrev pub draw_asked : Asked (codes "draw" ∷ draw_values) (beside high_file)
 draw_asked = record {
   verb = verb.Draw;
   pairs = pairs_of draw_values;
@@ -112,7 +112,7 @@ draw_asked = record {
   input = (verify_8 high_file).input;
 }
 
-is_drawn : HoldsPicture draw_asked
+pub is_drawn : HoldsPicture draw_asked
     (told (insert (insert input_alone (codes "a") high_file) (codes "o")
     (picture_text two (ids_of two_rows) (0 ∷ 4 ∷ []))))
     2
@@ -134,7 +134,7 @@ reads_nothing : trace_of [] ≡ Ok []
 unfolding trace_of holder
 reads_nothing = refl
 
-abbrev import_asked :
+abbrev pub import_asked :
     AskedOf (codes "import" ∷ import_values) (told (insert empty (codes "t") [])) verb.Import role.Trace
 import_asked = record {
   pairs = pairs_of import_values;
@@ -143,7 +143,7 @@ import_asked = record {
   whole = record { held = λ there. file_at-with_file (Some empty) (codes "t") [] refl; short = lit≤ tt };
 }
 
-nothing_is_imported : HoldsImport import_asked
+pub nothing_is_imported : HoldsImport import_asked
     (told (insert (insert empty (codes "t") []) (codes "o") (import_text []))) 0
 unfolding imported
 nothing_is_imported = record {
