@@ -103,7 +103,8 @@ over_legal I C l T H G h =
       modulus = positive G (not_so (G == 0) reason.ZeroModulus one.0);
       from_multiple = equal (H % G) 0 (so (H % G == 0) reason.NotMultiple two.0);
       some_stacked = not_empty (stacked I l T H G) (not_so (is_empty (stacked I l T H G)) reason.EmptySet three.0);
-      too_high = above (stack_height I H G (stacked I l T H G)) C (not_so (nat_le (stack_height I H G (stacked I l T H G)) C) reason.NotOver four.0);
+      too_high = above (stack_height I H G (stacked I l T H G)) C
+          (not_so (nat_le (stack_height I H G (stacked I l T H G)) C) reason.NotOver four.0);
     }
   where
     positive : (n : ℕ) → (n == 0) ≡ false → 1 ≤ n
