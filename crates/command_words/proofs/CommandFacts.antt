@@ -133,7 +133,8 @@ numbers_in v = filter_map number_in (form_of v).needed ++ (form_of v).optional
 
 -- no file is named by one of these
 no_file_is_a_number : map (λ v. filter
-    (λ o. list_any (λ r. bytes_eq (option_word o) (option_word (option_of_role r))) roles) (numbers_in v)) verbs ≡ map (λ v. []) verbs
+    (λ o. list_any (λ r. bytes_eq (option_word o) (option_word (option_of_role r))) roles) (numbers_in v)) verbs
+    ≡ map (λ v. []) verbs
 no_file_is_a_number = refl
 
 -- ---- forms and pairs of the code

@@ -15,7 +15,7 @@ pub record DraftState : Type 0 where
   -- what the name holds, where it is there
   pub named : Option (List ℕ)
 
--- the file may take the name: whatever happens to the machine, the name then holds its whole text
+-- the file may take the name: whatever happens to the machine, the name then holds its whole text, or what it held
 pub record IsReady (s : DraftState) : Type 0 where
   pub has_rights : s.has_rights ≡ true
   pub is_synced : s.is_synced ≡ true

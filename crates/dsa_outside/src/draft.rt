@@ -41,7 +41,8 @@ pub trait Draft {
 }
 
 /// Has a draft in which nothing is written take its name with these bytes. After an error the name
-/// holds what it held. The draft is gone in both cases.
+/// holds what it held. In both cases the draft was renamed, or the system was asked to take it
+/// away.
 pub fn replace<D: Draft>(draft: &mut D, bytes: &[u8]) -> io::Result<()>
     requires { IfSome (D.state draft.old) (λ s. s.text ≡ []) }
     ensures written { OnOk result

@@ -1,13 +1,14 @@
 -- What is seen of one entry of a claim more.
-use Rattle.std.proofs.Common.{◌≡◌, ℕ, ◌+◌, ◌<◌, ◌⊎◌, inl, inr, [], ◌∷◌, length, slice_index_or, take, Option, Some, None, IfNone, is_some, true, false, IsTrue, ◌↔◌, nat_eq, sym, ap, ◌∙◌, subst, arith}
+use Rattle.std.proofs.Common.{◌≡◌, ℕ, ◌+◌, ◌<◌, ◌⊎◌, inl, inr, [], ◌∷◌, length, slice_index_or, take, Option, Some, None, IfNone, is_some, Bool, true, false, ◌&&◌, IsTrue, ◌↔◌, nat_eq, refl, sym, ap, ◌∙◌, subst}
 use Rattle.std.proofs.lemmas.List.{take_more}
-use Rattle.std.proofs.lemmas.Bool.Decides.{nat_tests}
-use Rattle.dsa_terms.specs.Claims.{Claim, Entry, IsIn, Rises, buffers_of}
-use Rattle.dsa_terms.proofs.Lists.{from_append}
+use Rattle.std.specs.List.{list_any}
+use Rattle.dsa_terms.specs.Claims.{Claim, Entry, IsIn}
+use Rattle.dsa_terms.proofs.Lists.{any_from, any_gives, from_append}
+use Rattle.dsa_terms.proofs.Moments.{and_true}
+use Rattle.dsa_terms.proofs.NumberTests.{equal, same}
 use Rattle.dsa_terms.proofs.Places.{in_at}
 use Rattle.canonical_order.specs.Claims.{HasBuffer, bound_of}
-use Rattle.canonical_order.proofs.Entries.{bound_none, bound_some, entry_in, is_entry}
-use Rattle.dsa_search_laws.proofs.Placing.{in_buffers}
+use Rattle.canonical_order.proofs.Entries.{bound_some}
 
 pub in_first : (items k : Claim) (n : ℕ) (f : Entry) → items ≡ k → n < length items → IsIn f (take (n + 1) k) →
     IsIn f (take n k) ⊎ (f ≡ slice_index_or items n (0, 0))
@@ -33,23 +34,19 @@ none_next P items k n q lt new old e i = elim (in_first items k n e q lt i) [
   | inr p ↦ subst P (sym p) new
 ]
 
-pub has_bound : (l : Claim) (pair : Entry) (bound : ℕ) → Rises (buffers_of l) → Some bound ≡ bound_of l pair.0 →
-    IsTrue (nat_eq bound pair.1) ↔ IsIn pair l
-has_bound l pair bound r q =
-    let s = bound_some l pair.0 bound q in (
-      λ t. subst (λ (e : Entry). IsIn e l) (ap (λ (n : ℕ). let e : Entry = (pair.0, n) in e) (sym s.1 ∙ is t))
-          (entry_in l pair.0 s.0),
-      λ i. so (s.1 ∙ sym (ap (λ (e : Entry). e.1) (is_entry l pair r i))),
-    )
-  where
-    is : IsTrue (nat_eq bound pair.1) → bound ≡ pair.1
-    is t = grind (arith, nat_tests)
+-- the test for a pair finds just those of the claim
+pub same_pair : (e f : Entry) → (nat_eq f.0 e.0 && nat_eq f.1 e.1) ≡ true → e ≡ f
+same_pair e f h = let t = and_true (nat_eq f.0 e.0) (nat_eq f.1 e.1) h in
+    ap (λ (b : ℕ). let g : Entry = (b, e.1) in g) (sym (equal f.0 e.0 t.0))
+    ∙ ap (λ (n : ℕ). let g : Entry = (f.0, n) in g) (sym (equal f.1 e.1 t.1))
 
-    so : bound ≡ pair.1 → IsTrue (nat_eq bound pair.1)
-    so e = grind (arith, nat_tests)
-
-pub has_none : (l : Claim) (pair : Entry) → None ≡ bound_of l pair.0 → IsIn pair l → ⊥
-has_none l pair q i = bound_none l pair.0 q (in_buffers l pair i)
+pub has_pair : (e : Entry) (l : Claim) (t : Bool) → t ≡ list_any (λ f. nat_eq f.0 e.0 && nat_eq f.1 e.1) l →
+    IsTrue t ↔ IsIn e l
+has_pair e l t q = (
+  λ s. let k = any_gives (λ f. nat_eq f.0 e.0 && nat_eq f.1 e.1) l (sym q ∙ s) in
+      subst (λ (f : Entry). IsIn f l) (sym (same_pair e k.0 k.2)) k.1,
+  λ i. q ∙ any_from (λ f. nat_eq f.0 e.0 && nat_eq f.1 e.1) l e i (rw (same e.0 e.0 refl, same e.1 e.1 refl) refl),
+)
 
 pub some_in : (l : Claim) (b : ℕ) (o : Option ℕ) → o ≡ bound_of l b → is_some o ≡ true → HasBuffer l b
 some_in l b None q h = absurd cc

@@ -24,10 +24,7 @@ use std::marker::Model;
 fn has(claim: &Claim, pair: (u32, u64)) -> bool
     ensures { IsTrue result ↔ IsIn pair claim.now }
 {
-    match claim.bound(pair.0) {
-        Some(bound) => bound == pair.1,
-        None => false,
-    }
+    claim.pairs().contains(&pair)
 }
 
 /// Yes only where the pair is a bound of k that the claim of the levels does not meet, though it

@@ -30,8 +30,8 @@ pub enum LogCause {
 }
 
 /// How a run ends. The step that comes first decides: words, the count of a trial, reading the
-/// input, its length, its records, reading the second file, its length, its content, deciding,
-/// writing the output, writing the log, printing.
+/// input or the trace, its length, its records or lines, reading the second file, its length, its
+/// content, deciding, writing the output, writing the log, printing.
 #[derive(Clone, Copy)]
 pub enum Status {
     /// A layout within the capacity (bytes) is written.

@@ -26,7 +26,13 @@ meets_in_child-requires g c =
     low_limit _ _ _ _ _ c.requires.low c.low.ensures.stands c.requires.bounds c.requires.b_in in
     let m : c.low.result < 2 ^ 60 + 2 ^ 32 =
     low_limit _ _ _ _ _ c.low.ensures.value c.low.ensures.stands c.requires.bounds h in
-    record { b_in = i; c_in = j; limit_b = omega arith; limit_c = omega arith }
+    record {
+      b_in = i;
+      c_in = j;
+      limit_b = omega arith;
+      end_b = rw c.instance.ensures.value c.requires.end;
+      limit_c = omega arith;
+    }
 
 pub returns : goal.returns
 unfolding up
