@@ -1,18 +1,20 @@
 -- Cites of other buffers: the buffer that ends lowest, and twins.
-use Rattle.std.proofs.Common.{◌≡◌, ◌≢◌, ℕ, ◌+◌, ◌<◌, ◌≤◌, ◌⊎◌, ◌||◌, not, inl, inr, Bool, true, false, [], ◌∷◌, drop, length, refl, subst, ap, arith}
+use Rattle.std.proofs.Common.{◌≡◌, ◌≢◌, ℕ, zero, suc, ◌+◌, ◌<◌, ◌≤◌, ◌==◌, ◌⊎◌, ◌||◌, not, inl, inr, Bool, true, false, [], ◌∷◌, drop, length, refl, subst, ap, arith}
 use Rattle.std.proofs.lemmas.List.{drop_all}
 use Rattle.std.specs.List.{list_any}
 use Rattle.dsa_model.proofs.Instances.{sound_buffer}
-use Rattle.dsa_terms.specs.Buffers.{Buffer, Instance, buffer}
-use Rattle.dsa_terms.specs.Claims.{Claim, Entry, IsIn, up}
+use Rattle.dsa_terms.specs.Buffers.{Buffer, Instance, buffer, have_same_moments}
+use Rattle.dsa_terms.specs.Claims.{Claim, Entry, IsIn, Rises, buffers_of, up}
 use Rattle.dsa_terms.specs.Lean.{CitesOwn}
 use Rattle.dsa_terms.specs.Logs.{Cite, Below, Twin, IsLegalCite, ends_below, is_twin}
 use Rattle.dsa_terms.proofs.Lists.{any_gives}
 use Rattle.dsa_terms.proofs.Moments.{and_true, both_true}
+use Rattle.dsa_search_laws.proofs.Placing.{in_buffers}
 use Rattle.canonical_order.specs.Claims.{HasBuffer, entry_of}
 use Rattle.canonical_order.specs.Stands.{Stands}
 use Rattle.canonical_order.proofs.Entries.{entry_in, in_range}
 use Rattle.dsa_terms.proofs.NumberTests.{apart, at_most, is_at_most}
+use Rattle.prune_rules.proofs.Cites.{twin_not_before}
 use Rattle.conflicts.specs.Eased.{HasNoOwn}
 use Rattle.conflicts.specs.Ends.{IsLeastEnd, end_of}
 
@@ -98,6 +100,31 @@ IsNoTwin I e f = is_twin I f e ≡ true → ⊥
 pub no_twin_next : (I : Instance) (l : Claim) (n : ℕ) (e f : Entry) → drop n l ≡ f ∷ drop (n + 1) l → IsIn f l →
     (IsLegalCite I [] l e (Twin f.0) → ⊥) → HoldsBut (IsNoTwin I e) l n → HoldsBut (IsNoTwin I e) l (n + 1)
 no_twin_next I l n e f at i fails h = but_next (IsNoTwin I e) l n f at (λ t. fails (f, i, refl, t)) h
+
+rises_left : (l : Claim) (n : ℕ) → Rises (buffers_of l) → Rises (buffers_of (drop n l))
+rises_left l zero r = r
+rises_left [] (suc n) r = tt
+rises_left (e ∷ l) (suc n) r = rises_left l n r.1
+
+no_twin_above : (I : Instance) (e f : Entry) → e.0 ≤ f.0 → IsNoTwin I e f
+unfolding is_twin
+no_twin_above I e f le t =
+    let no = twin_not_before f.0 e.0 (up I f) (up I e) (have_same_moments (buffer I f.0) (buffer I e.0))
+    ((buffer I f.0).size == (buffer I e.0).size) ((buffer I f.0).alignment == (buffer I e.0).alignment) le in
+    absurd cc
+
+-- a claim rises, so where the next entry is not below e none of those that are left is a twin before it
+pub no_twin_left : (I : Instance) (l : Claim) (n : ℕ) (e f : Entry) → drop n l ≡ f ∷ drop (n + 1) l →
+    Rises (buffers_of l) → e.0 ≤ f.0 → HoldsBut (IsNoTwin I e) l n → (g : Entry) → IsIn g l → IsNoTwin I e g
+no_twin_left I l n e f at r le h g i = elim (h g i) [
+  | inl j ↦ no_twin_above I e g (elim (subst (λ (k : Claim). IsIn g k) at j) [
+    | inl q ↦ rw q le
+    | inr k ↦
+        let above = (subst (λ (k : Claim). Rises (buffers_of k)) at (rises_left l n r)).0 g.0 (in_buffers _ g k) in
+        omega arith
+  ])
+  | inr p ↦ p
+]
 
 -- ---- eased cites
 module _ (I : Instance) (l : Claim) (e : Entry) where

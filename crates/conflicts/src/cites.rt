@@ -54,6 +54,9 @@ fn twin_of(lows: &LowTable, b: u32) -> Option<u32>
         (λ c. IsLegalCite I [] l (entry_of l b) (Twin c)) }
 {
     for pair in lows.claim.pairs() {
+        if pair.0 >= b {
+            return None;
+        }
         if is_twin(lows, b, pair.0) {
             return Some(pair.0);
         }
