@@ -13,6 +13,7 @@ use canonical_order::{Claim, LowTable, Lows};
 use dsa_model::NoMemory;
 use refute_log::{Cite, Log};
 use std::alloc::{AllocError, Global};
+use std::mem;
 
 /// How many walks are begun after the first one, to find a smaller part.
 const MORE_WALKS: usize = 8;
@@ -135,15 +136,16 @@ fn needed_below(lows: &LowTable, walk: &Walk, cites: &[Cite]) -> Option<u32>
 }
 
 /// The walk from a buffer of the claim, up to the limit of buffers to meet. All buffers of the
-/// claim are unmet before it, and again after it.
+/// claim are unmet before it, and again after it. What it meets goes into the spare list, which is
+/// cleared first: where that has room for the claim's buffers, the walk takes no memory.
 fn walk_from(
-    alloc: Global,
     log: &Log,
     lows: &LowTable,
     cites: &[Cite],
     unmet: &mut [bool],
     start: u32,
     limit: usize,
+    spare: Vec<u32>,
 ) -> Result<Walk, AllocError>
     requires each { length cites.now ≡ length lows.now.instance.now }
     requires unmet { IsWalk lows.now.instance.now lows.now.claim.now unmet.old [] }
@@ -152,9 +154,10 @@ fn walk_from(
 {
     let count = lows.instance.len() as usize;
     let mut walk = Walk {
-        met: Vec::with_capacity(alloc, limit.min(lows.claim.pairs().len()))?,
+        met: spare,
         least_end: u64::MAX,
     };
+    walk.met.clear();
     meet(lows, unmet, &mut walk, start)?;
     let mut turn = 0;
     for _ in 0..2 * count {
@@ -192,17 +195,21 @@ fn small_part(
     let first = lows.claim.pair(0).0;
     let mut marks = all_unmet(alloc, lows)?;
     let unmet = marks.as_mut_slice();
-    let mut best = walk_from(alloc, log, lows, &cites, unmet, first, usize::MAX)?;
+    let count = lows.claim.pairs().len();
+    let met = Vec::with_capacity(alloc, count)?;
+    let mut spare = Vec::with_capacity(alloc, count)?;
+    let mut best = walk_from(log, lows, &cites, unmet, first, usize::MAX, met)?;
     for back in 1..=MORE_WALKS {
         let fewest = best.met.len();
         if fewest < back {
             break;
         }
         let start = best.met[fewest - back];
-        let walk = walk_from(alloc, log, lows, &cites, unmet, start, fewest)?;
+        let mut walk = walk_from(log, lows, &cites, unmet, start, fewest, spare)?;
         if walk.met.len() < fewest {
-            best = walk;
+            mem::swap(&mut best, &mut walk);
         }
+        spare = walk.met;
     }
     unmet.fill(false);
     mark(unmet, best.met.as_slice());

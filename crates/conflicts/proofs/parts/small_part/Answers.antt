@@ -7,7 +7,7 @@ pub loop-back-preserved : goal.loop-back-preserved
 loop-back-preserved c = record {
   unmet = c.in_ok-walk.ensures.unmet;
   of_claim = elim c.if-len-fewest.branch [
-    | then-len-fewest w ↦ rw w.best-is c.in_ok-walk.ensures.of_claim
+    | then-len-fewest w ↦ rw (w.best-is, w.swap.ensures.x_after) c.in_ok-walk.ensures.of_claim
     | else-len-fewest w ↦ rw w.best-is c.loop-back.invariant.of_claim
   ];
 }
