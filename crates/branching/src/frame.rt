@@ -79,6 +79,8 @@ impl Frame {
         ensures { OnOk result (self.new ≡ noted_by self.old line) }
     {
         let buffer = self.chosen();
+        let left = self.order.len() - self.notes.refuted.len();
+        self.notes.refuted.reserve(left)?;
         self.notes.refuted.push(Refuted { buffer, line })?;
         Ok(())
     }
