@@ -1,11 +1,9 @@
 -- The levels of a child in the making, one buffer after another.
 use Rattle.std.proofs.Common.{◌≡◌, ◌≢◌, ℕ, ◌+◌, ◌-◌, ◌<◌, ◌≤◌, ◌^◌, ◌⊎◌, inl, inr, List, [], ◌∷◌, ◌++◌, max, All, Bool, true, false, cond, nat_lt, length, slice_index, slice_set, ap, sym, ◌∙◌, subst, refl, arith, length-set}
 use Rattle.std.proofs.lemmas.List.{get_or_past}
-use Rattle.claim_levels.proofs.Words.{Instance, IsInstance, buffer, do_share, Claim, Entry, IsIn, child, step, true_or_false, sound, below_or_from, less, same_or_not, left_append, right_append, from_append, AreSectionsOf, SectionList, members_of, sections_of, entry_of, AreLevels, IsLevel, from_child, in_child_by, has_level, level_in_range, level_inside}
+use Rattle.claim_levels.proofs.Words.{Instance, IsInstance, buffer, do_share, Claim, Entry, IsIn, child, step, true_or_false, below_or_from, less, same_or_not, left_append, right_append, from_append, AreSectionsOf, SectionList, members_of, sections_of, entry_of, AreLevels, IsLevel, from_child, in_child_by, has_level, level_in_range, level_inside}
 use Rattle.skyline.proofs.SectionFacts.{listed_in, section_in_range, shared_sections}
-use Rattle.claim_levels.specs.declared.placed.Placed.{Placed}
 use Rattle.claim_levels.specs.declared.raising.Raising.{Raising}
-use Rattle.claim_levels.specs.Placings.{IsPlaced}
 use Rattle.claim_levels.specs.Children.{AreOfChild}
 use Rattle.claim_levels.specs.Levels.{HasLowChild, IsLeastLevel}
 use Rattle.claim_levels.specs.Raisings.{IsRaised, IsRaising}
@@ -166,19 +164,7 @@ raised_near I S levels b r s low p first h near own c = elim (h.each c) [
       )
 ]
 
--- ---- what is passed by
-step_within : (I : Instance) (b c : ℕ) → IsInstance I → step I b c ≤ (buffer I b).size
-unfolding step
-step_within I b c s = go (do_share (buffer I b) (buffer I c)) (nat_lt c b)
-  where
-    some : 1 ≤ (buffer I b).size
-    some = (sound I b s).0
-
-    go : (t u : Bool) → cond t (buffer I b).size (cond u 1 0) ≤ (buffer I b).size
-    go true u = omega arith
-    go false true = some
-    go false false = omega arith
-
+-- ---- one buffer
 module _ (I : Instance) (levels : List ℕ) (b c : ℕ) (r : Raising) (h : IsRaising I levels b r) where
   pub some_before : 0 < slice_index r.numbers.items c → 0 < slice_index levels c
   some_before more = elim (below_or_from 0 (slice_index levels c)) [
@@ -191,32 +177,6 @@ module _ (I : Instance) (levels : List ℕ) (b c : ℕ) (r : Raising) (h : IsRai
     | inl same ↦ λ more l a. absurd (omega (arith, same, z, more))
     | inr done ↦ done
   ]
-
-  pub raised_high : (end : ℕ) → IsInstance I → slice_index levels b + (buffer I b).size ≡ end + 1 →
-      0 < slice_index levels b → end < slice_index r.numbers.items c → IsRaised I levels b r.numbers.items c
-  raised_high end s q some le = elim (h.each c) [
-    | inl same ↦ λ more l a. subst (IsLevel I (child I l (entry_of l b)) c) (sym same)
-        (level_stays I l _ b a c (slice_index levels b - 1 + step I b c) s (has_level I l levels a b some) more
-        (other same) refl (let k = step_within I b c s in omega (arith, k, q, le, same, some)))
-    | inr done ↦ done
-  ]
-    where
-      other : slice_index r.numbers.items c ≡ slice_index levels c → c ≢ b
-      other same e = let p = ap (slice_index levels) e in let n = (sound I b s).0 in omega (arith, p, n, q, le, same)
-
--- a buffer that is not in the claim, or stands at or above the end of the placed one, has its level in the child
-pub raised_already : (I : Instance) (levels : List ℕ) (p : Placed) (c now : ℕ) (r : Raising) → IsInstance I →
-    IsPlaced I levels p → IsRaising I levels p.buffer r → now ≡ slice_index r.numbers.items c →
-    (0 < now → now ≤ p.end → ⊥) → IsRaised I levels p.buffer r.numbers.items c
-raised_already I levels p c now r s placed h at none = elim (below_or_from 0 now) [
-  | inl some ↦ elim (below_or_from p.end now) [
-    | inl high ↦ raised_high I levels p.buffer c r h p.end s
-        (let o = placed.offset in let e = placed.end in omega (arith, o, e))
-        (let o = placed.offset in omega (arith, o)) (omega (arith, at, high))
-    | inr low ↦ absurd (none some low)
-  ]
-  | inr le ↦ raised_without I levels p.buffer c r h (omega (arith, at, le))
-]
 
 -- one buffer after another
 abbrev pub AreRaisedBut : Instance → List ℕ → ℕ → Raising → List ℕ → List ℕ → Type 0

@@ -43,8 +43,8 @@ fn raise(
     Ok(())
 }
 
-/// Writes the levels of these buffers, as far as they are in the claim. A buffer whose level is
-/// above the end of the one that is placed does not rise, so most are passed by with one look.
+/// Writes the levels of these buffers, as far as they are in the claim. Where one does not rise, it
+/// keeps its level, and nothing is written.
 fn raise_each(
     raising: &mut Raising,
     instance: &Instance,
@@ -62,11 +62,10 @@ fn raise_each(
         IsRaised instance.now levels placed.buffer raising.old.numbers.items d →
         OnOk result (IsRaised instance.now levels placed.buffer raising.new.numbers.items d) }
 {
-    let _count = instance.len();
     for i in 0..buffers.len() {
         let c = buffers[i];
         let now = level_at(&raising.numbers, c as usize);
-        if 0 < now && now <= placed.end {
+        if 0 < now {
             raise(raising, instance, placed, c, now)?;
         }
     }

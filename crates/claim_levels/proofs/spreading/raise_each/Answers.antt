@@ -1,7 +1,7 @@
 use Rattle.std.proofs.Common.{arith}
 use Rattle.claim_levels.proofs.Words.{next_of}
-use Rattle.claim_levels.proofs.RaisingSteps.{raised_already, raised_next}
-use Rattle.claim_levels.proofs.spreading.raise_each.Goals.{then-now-gt0+then-now-placed+in_ok-raise, else-now-gt0, else-now-gt0-via-then-now-gt0+else-now-placed, else-now-gt0-via-else-now-gt0}
+use Rattle.claim_levels.proofs.RaisingSteps.{raised_next, raised_without}
+use Rattle.claim_levels.proofs.spreading.raise_each.Goals.{then-now-gt0+in_ok-raise, else-now-gt0}
 use Rattle.claim_levels.proofs.spreading.raise_each.Goals as goal
 
 pub loop-i-preserved : goal.loop-i-preserved
@@ -12,11 +12,8 @@ loop-i-preserved g c =
     let i = c.loop-i.invariant in
     let next = next_of buffers c.loop-i.i 0 c.loop-i-test.true in
     let at = rw c.deref.ensures.value at c.level_at-now.ensures.value in
-    let passed = raised_already I g.levels c.args.placed _ c.level_at-now.result c.loop-i.raising
-    (λ k d h. (c.len-count.ensures.buffers k d h).sound) c.requires.0 i.raising at in
-    let same = raised_next I g.levels b c.loop-i.raising c.loop-i.raising buffers _ _ _ next in
     elim c.if-now-gt0.branch [
-      | then-now-gt0+then-now-placed+in_ok-raise w ↦ rw w.raising-is (record {
+      | then-now-gt0+in_ok-raise w ↦ rw w.raising-is (record {
         raising = w.in_ok-raise.ensures.raising;
         done = raised_next I g.levels b c.loop-i.raising w.raise.new.raising buffers _ _ _ next
             w.in_ok-raise.ensures.done w.in_ok-raise.ensures.kept i.done;
@@ -24,11 +21,9 @@ loop-i-preserved g c =
       })
       | else-now-gt0 w ↦ rw w.raising-is (record {
         raising = i.raising;
-        done = same (elim w.else-now-gt0.branch [
-          | else-now-gt0-via-then-now-gt0+else-now-placed v ↦
-              passed (λ some low. let f = v.if-now-placed.false in omega (arith, f, low))
-          | else-now-gt0-via-else-now-gt0 v ↦ passed (λ some low. let f = v.if-now-gt0.false in omega (arith, f, some))
-        ]) (λ d h. h) i.done;
+        done = raised_next I g.levels b c.loop-i.raising c.loop-i.raising buffers _ _ _ next
+            (raised_without I g.levels b _ c.loop-i.raising i.raising
+            (let f = w.if-now-gt0.false in omega (arith, at, f))) (λ d h. h) i.done;
         kept = i.kept;
       })
     ]
