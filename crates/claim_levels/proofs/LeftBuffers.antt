@@ -1,8 +1,9 @@
 -- The buffers that have a level: found one after another, and those that are left in a child.
-use Rattle.std.proofs.Common.{◌≡◌, ◌≢◌, ℕ, ◌+◌, ◌<◌, ◌≤◌, inl, inr, true, false, List, [], ◌∷◌, ◌++◌, length, slice_index, sym, ap, ◌∙◌, subst, arith}
-use Rattle.claim_levels.proofs.Words.{IsIn, Rises, has, from_append, has_in, in_has, left_append, right_append, below_or_last, same_or_not}
+use Rattle.std.proofs.Common.{◌≡◌, ◌≢◌, ℕ, ◌+◌, ◌-◌, ◌<◌, ◌≤◌, inl, inr, true, false, List, [], ◌∷◌, ◌++◌, length, slice_index, slice_index_or, sym, ap, ◌∙◌, subst, arith}
+use Rattle.claim_levels.proofs.Words.{IsIn, Rises, has, from_append, has_in, in_has, left_append, right_append, below_or_from, below_or_last, same_or_not}
 use Rattle.dsa_terms.proofs.Ranges.{rises-push}
 use Rattle.lifetime.specs.Switching.{IsSwitched}
+use Rattle.lifetime.proofs.Lists.{rises_at}
 use Rattle.claim_levels.specs.Children.{AreOfChild}
 use Rattle.claim_levels.specs.Levels.{AreLeft}
 use Rattle.claim_levels.proofs.Grounding.{some_within}
@@ -88,3 +89,26 @@ module _ (levels numbers left others : List ℕ) (b : ℕ) (h : AreOfChild level
       | inr ne ↦ has_in c left (sw.others c ne ∙ in_has c others (a.all c (h.all c ne more)))
     ];
   }
+
+-- ---- a place in a rising list, by its neighbours
+module _ (left : List ℕ) (b place : ℕ) (r : Rises left) where
+  pub less_before : place ≤ length left → (0 < place → slice_index_or left (place - 1) 0 < b) →
+      (k : ℕ) → k < length left → k < place → slice_index_or left k 0 < b
+  less_before within near k kn lt =
+      let previous = near (omega (arith, lt)) in
+      elim (below_or_from k (place - 1)) [
+        | inl less ↦ (let m = rises_at left k (place - 1) 0 r less (omega (arith, within, lt)) in
+            omega (arith, m, previous))
+        | inr le ↦ (let q : k ≡ place - 1 = omega (arith, le, lt) in
+            subst (λ (n : ℕ). slice_index_or left n 0 < b) (sym q) previous)
+      ]
+
+  pub greater_from : (place < length left → b < slice_index_or left place 0) →
+      (k : ℕ) → k < length left → place ≤ k → b < slice_index_or left k 0
+  greater_from near k kn le =
+      let next = near (omega (arith, kn, le)) in
+      elim (below_or_from place k) [
+        | inl less ↦ (let m = rises_at left place k 0 r less kn in omega (arith, m, next))
+        | inr back ↦ (let q : k ≡ place = omega (arith, le, back) in
+            subst (λ (n : ℕ). b < slice_index_or left n 0) (sym q) next)
+      ]

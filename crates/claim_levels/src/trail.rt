@@ -22,11 +22,13 @@ use std::alloc::Global;
 use std::marker::Model;
 use std::mem;
 
-/// How a claim was left for a child: by which buffer, the number that no level of the claim is
-/// above, and the buffers whose levels changed, each with its level in the claim.
+/// How a claim was left for a child: by which buffer, where it stood among the buffers that had a
+/// level, the number that no level of the claim is above, and the buffers whose levels changed,
+/// each with its level in the claim.
 #[derive(Drop)]
 pub(crate) struct Step {
     pub(crate) buffer: u32,
+    pub(crate) place: usize,
     pub(crate) top: u64,
     pub(crate) changes: Vec<(u32, u64)>,
 }
@@ -116,7 +118,7 @@ impl Trail {
             b,
             is_first,
         )?;
-        take_out(&mut self.left, b);
+        let place = take_out(&mut self.left, b);
         let spare = match self.spares.pop() {
             Some(spare) => spare,
             None => Vec::new(alloc),
@@ -124,6 +126,7 @@ impl Trail {
         let changes = mem::replace(&mut self.raising.changes, spare);
         self.steps.push_reserved(Step {
             buffer: b,
+            place,
             top,
             changes,
         });
@@ -153,7 +156,7 @@ impl Trail {
         // What may fail comes first.
         self.spares.reserve(1)?;
         match self.steps.last() {
-            Some(step) => put_in(&mut self.left, step.buffer)?,
+            Some(step) => put_in(&mut self.left, step.buffer, step.place)?,
             None => return Ok(()),
         }
         if let Some(step) = self.steps.pop() {

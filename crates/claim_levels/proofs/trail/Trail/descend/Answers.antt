@@ -15,7 +15,12 @@ low : (c : In_ok-reserve) → HasLowChild c.args.instance.now c.self.inside.rais
 low c = subst (λ (xs : List ℕ). HasLowChild c.args.instance.now xs c.args.b) (sym (last c)) c.requires.low
 
 abbrev step_of : After-push_reserved → Step
-step_of c = record { buffer = c.args.b; top = c.self.inside.raising.top; changes = c.replace-changes.result }
+step_of c = record {
+  buffer = c.args.b;
+  place = c.take_out-place.result;
+  top = c.self.inside.raising.top;
+  changes = c.replace-changes.result;
+}
 
 steps_are : (c : After-push_reserved) → c.push_reserved.new.self.items ≡ c.self.inside.steps.items ++ step_of c ∷ []
 steps_are c = c.push_reserved.ensures.items
@@ -28,11 +33,11 @@ pub invariant_of-self-2 : goal.invariant_of-self-2
 invariant_of-self-2 c =
     let r = c.raise_child.new.raising in
     let k = (goal.at.invariant_of-self-2 c).After-push_reserved in
-    subst (λ (ss : List Step). IsTrail r.numbers.items c.take_out.new.left.items r.top ss) (sym (steps_are k))
+    subst (λ (ss : List Step). IsTrail r.numbers.items c.take_out-place.new.left.items r.top ss) (sym (steps_are k))
     (trail_below c.args.instance.now c.self.inside.raising.numbers.items c.args.b c.self.inside.raising.top r
     (step_of k) refl refl (noted k) c.in_ok-raise_child.ensures.raising c.self.inside.left.items c.self.invariant.led
-    (low (goal.at.invariant_of-self-2 c).In_ok-reserve) c.in_ok-raise_child.ensures.done c.take_out.new.left.items
-    c.self.inside.steps.items c.take_out.ensures c.self.invariant.down)
+    (low (goal.at.invariant_of-self-2 c).In_ok-reserve) c.in_ok-raise_child.ensures.done c.take_out-place.new.left.items
+    c.self.inside.steps.items c.take_out-place.ensures c.self.invariant.down)
 
 pub returns-clause-last : goal.returns-clause-last
 returns-clause-last c = λ l h.
