@@ -1,13 +1,13 @@
 //! A buffer that is placed.
 
-ghost use Rattle.std.specs.Prelude.{◌≡◌, ◌+◌, ◌<◌, ◌≤◌, ◌^◌, List, ℕ, length, slice_index};
-ghost use Rattle.dsa_terms.specs.Claims.{Claim as ClaimTerm, child as child_of, step as step_of};
-ghost use Rattle.dsa_model.specs.Buffer.{size_limit};
+ghost use Rattle.std.specs.Prelude.{◌≡◌, ◌<◌, ◌≤◌, ◌^◌, List, ℕ, slice_index};
+ghost use Rattle.dsa_terms.specs.Claims.{Claim as ClaimTerm, child as child_of};
 ghost use Rattle.canonical_order.specs.Claims.{entry_of};
 ghost use Rattle.canonical_order.specs.Levels.{AreLevels, IsLevel};
 ghost use Rattle.claim_levels.specs.Levels.{HasLowChild};
 ghost use Rattle.claim_levels.specs.Placings.{IsPlaced};
 
+use canonical_order::least_past;
 use dsa_model::Instance;
 
 /// The buffer by which a claim is left for a child, and where it stands: its offset is its low in
@@ -20,24 +20,6 @@ pub(crate) struct Placed {
 }
 
 impl Placed {
-    /// How high c has to start in the child, in bytes, so as to come past this buffer. The answer
-    /// is chosen without a branch.
-    fn least_of(self, instance: &Instance, c: u32) -> u64
-        ghost levels: { List ℕ }
-        requires placed { IsPlaced instance.now levels self }
-        requires b_in { self.buffer < length instance.now }
-        requires c_in { c < length instance.now }
-        ensures value { result ≡ self.offset + step_of instance.now self.buffer c }
-        ensures limit { result ≤ 2 ^ 55 + size_limit }
-    {
-        let _count = instance.len();
-        if instance.do_share(self.buffer, c) {
-            self.end
-        } else {
-            self.offset + (c < self.buffer) as u64
-        }
-    }
-
     /// The level of c in the child, by the one that it has in the claim. One that it has in the
     /// child already stays.
     pub(crate) fn level_of(self, instance: &Instance, c: u32, level: u64) -> u64
@@ -58,7 +40,7 @@ impl Placed {
         if c == self.buffer {
             return 0;
         }
-        let least = self.least_of(instance, c);
+        let least = least_past(instance, self.buffer, self.offset, self.end, c);
         if least < level {
             level
         } else {
