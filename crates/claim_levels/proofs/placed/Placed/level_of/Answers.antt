@@ -26,7 +26,10 @@ pub buffer-requires : goal.buffer-requires
 buffer-requires g c = in_instance _ _ _ c.args.c c.requires.1.0 c.requires.1.1.0
 
 pub least_offset-requires : goal.least_offset-requires
-least_offset-requires g c = let m = c.least_past-least.ensures.limit in let o = c.requires.0.limit in omega (arith, m, o)
+least_offset-requires g c =
+    let m = c.least_past-least.ensures.limit in
+    let o = c.requires.0.limit in
+    omega (arith, m, o)
 
 pub returns-then-least-level-clause-level : goal.returns-then-least-level-clause-level
 returns-then-least-level-clause-level g c =
