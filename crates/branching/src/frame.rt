@@ -8,6 +8,9 @@ use dsa_model::NoMemory;
 use std::alloc::Global;
 use std::marker::Model;
 
+/// For how many choices at most the first note takes room: most claims have fewer.
+const ROOM: usize = 16;
+
 /// The choices of a claim in order, and for the first ones of them the lines by which they are
 /// refuted. Below the number `asked` no line of the log covers the claim.
 #[derive(Drop)]
@@ -79,8 +82,9 @@ impl Frame {
         ensures { OnOk result (self.new ≡ noted_by self.old line) }
     {
         let buffer = self.chosen();
-        let left = self.order.len() - self.notes.refuted.len();
-        self.notes.refuted.reserve(left)?;
+        if self.notes.refuted.is_empty() {
+            self.notes.refuted.reserve(self.order.len().min(ROOM))?;
+        }
         self.notes.refuted.push(Refuted { buffer, line })?;
         Ok(())
     }

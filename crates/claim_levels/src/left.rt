@@ -23,8 +23,8 @@ pub(crate) fn left_of(alloc: Global, levels: &[u64]) -> Result<Vec<u32>, NoMemor
     Ok(left)
 }
 
-/// Takes the buffer out of the rising list, and answers the place where it was, and 0 where it was
-/// not in.
+/// Takes the buffer out of the rising list, and guesses where it belongs: no clause hangs on the
+/// place.
 pub(crate) fn take_out(left: &mut Vec<u32>, b: u32) -> usize
     requires { Rises left.old.items }
     ensures { IsSwitched left.old.items b false left.new.items }
@@ -38,8 +38,8 @@ pub(crate) fn take_out(left: &mut Vec<u32>, b: u32) -> usize
     }
 }
 
-/// Whether the rising list rises still with the buffer at the place: only its neighbours are looked
-/// at.
+/// Yes only where the rising list rises still with the buffer at the place: its neighbours alone are
+/// looked at.
 fn belongs_at(left: &[u32], b: u32, place: usize) -> bool
     requires { Rises left.now }
     ensures within { result ≡ true → place ≤ length left.now }

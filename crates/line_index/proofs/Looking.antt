@@ -34,12 +34,12 @@ none_next P items k n q lt new old e i = elim (in_first items k n e q lt i) [
   | inr p ↦ subst P (sym p) new
 ]
 
--- the test for a pair finds just those of the claim
-pub same_pair : (e f : Entry) → (nat_eq f.0 e.0 && nat_eq f.1 e.1) ≡ true → e ≡ f
+same_pair : (e f : Entry) → (nat_eq f.0 e.0 && nat_eq f.1 e.1) ≡ true → e ≡ f
 same_pair e f h = let t = and_true (nat_eq f.0 e.0) (nat_eq f.1 e.1) h in
     ap (λ (b : ℕ). let g : Entry = (b, e.1) in g) (sym (equal f.0 e.0 t.0))
     ∙ ap (λ (n : ℕ). let g : Entry = (f.0, n) in g) (sym (equal f.1 e.1 t.1))
 
+-- the test for a pair finds just those of the claim
 pub has_pair : (e : Entry) (l : Claim) (t : Bool) → t ≡ list_any (λ f. nat_eq f.0 e.0 && nat_eq f.1 e.1) l →
     IsTrue t ↔ IsIn e l
 has_pair e l t q = (

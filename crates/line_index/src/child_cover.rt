@@ -11,8 +11,8 @@ use crate::levels::level_at;
 use canonical_order::{Claim, meets_in_child};
 use dsa_model::Instance;
 
-/// Yes only where the child by b, which in the claim takes the bytes from `low_b` to `end_b`,
-/// covers what the buffer with its bound asks.
+/// Yes only where the child by b covers what the buffer with its bound asks. In the claim b takes
+/// the bytes from `low_b` to `end_b`.
 fn covers_pair(
     instance: &Instance,
     levels: &[u64],

@@ -30,7 +30,7 @@ meets_in_child-requires g c =
       b_in = i;
       c_in = j;
       limit_b = omega arith;
-      end_b = rw c.instance.ensures.value c.requires.end;
+      end = rw c.instance.ensures.value c.requires.end;
       limit_c = omega arith;
     }
 
