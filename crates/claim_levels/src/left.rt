@@ -38,8 +38,8 @@ pub(crate) fn take_out(left: &mut Vec<u32>, b: u32) -> usize
     }
 }
 
-/// Yes only where the rising list rises still with the buffer at the place: its neighbours alone are
-/// looked at.
+/// Yes only where the rising list rises still with the buffer at the place: its neighbours alone
+/// are looked at.
 fn belongs_at(left: &[u32], b: u32, place: usize) -> bool
     requires { Rises left.now }
     ensures within { result ≡ true → place ≤ length left.now }

@@ -43,8 +43,8 @@ fn raise(
     Ok(())
 }
 
-/// Writes the levels of these buffers, as far as they are in the claim. Where a level stays as it is,
-/// nothing is written.
+/// Writes the levels of these buffers, as far as they are in the claim. Where a level stays as it
+/// is, nothing is written.
 fn raise_each(
     raising: &mut Raising,
     instance: &Instance,

@@ -23,8 +23,8 @@ use std::marker::Model;
 use std::mem;
 
 /// How a claim was left for a child: by which buffer, a guess where it stood among the buffers that
-/// had a level, the number that no level of the claim is above, and the buffers whose levels changed,
-/// each with its level in the claim.
+/// had a level, the number that no level of the claim is above, and the buffers whose levels
+/// changed, each with its level in the claim.
 #[derive(Drop)]
 pub(crate) struct Step {
     pub(crate) buffer: u32,

@@ -6,9 +6,9 @@ ghost use Rattle.command_words.specs.Forms.{form_of, form_value, use_of, verb_of
 use crate::form::{Form, Use, row};
 use crate::{OptionName, Role};
 
-/// A command. C is a capacity in bytes, S a seed, N a count of buffers, the P of `--period` a period
-/// in moments and K a budget in units, each a claim that is opened, or for `pack` also so much
-/// placing; the others are names of files.
+/// A command. C is a capacity in bytes, S a seed, N a count of buffers, the P of `--period` a
+/// period in moments and K a budget in units, each a claim that is opened, or for `pack` also so
+/// much placing; the others are names of files.
 #[derive(Clone, Copy, Debug, PartialEq, Eq)]
 pub enum Verb {
     /// `solve --capacity C --input I --output O --log L`, and `--steps K` where it is given: lay
