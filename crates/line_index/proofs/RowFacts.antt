@@ -1,5 +1,5 @@
 -- Worked facts: marks of two buffers in rows, in groups of 3 bytes.
-use Rattle.std.proofs.Common.{◌≡◌, ℕ, zero, suc, ◌<◌, List, [], ◌∷◌, Some, inl, inr, slice_get, slice_index_or, refl, sym, ap, ◌∙◌, subst, arith}
+use Rattle.std.proofs.Common.{◌≡◌, ℕ, ◌+◌, ◌/◌, ◌^◌, zero, suc, ◌<◌, List, [], ◌∷◌, Some, inl, inr, slice_get, slice_index_or, refl, sym, ap, ◌∙◌, subst, arith}
 use Rattle.dsa_terms.specs.Claims.{Entry}
 use Rattle.dsa_terms.proofs.Lists.{same_some}
 use Rattle.dsa_model.specs.Buffer.{buffer_limit}
@@ -8,26 +8,30 @@ use Rattle.line_index.specs.Rows.{AreAmong, AreAppended, AreFiled, AreWith, HasM
 use Rattle.line_index.specs.Watches.{row_at}
 
 -- ---- groups
+-- the scale of groups of 3 bytes
+abbrev pub by_3 : ℕ
+by_3 = 2 ^ 63 / 3 + 1
+
 there_are_sixteen : groups ≡ 16
 there_are_sixteen = refl
 
-last_of_the_first_group : group_of 3 2 ≡ 0
+last_of_the_first_group : group_of by_3 2 ≡ 0
 last_of_the_first_group = refl
 
-first_of_the_second_group : group_of 3 3 ≡ 1
+first_of_the_second_group : group_of by_3 3 ≡ 1
 first_of_the_second_group = refl
 
-in_the_last_group : group_of 3 45 ≡ 15
+in_the_last_group : group_of by_3 45 ≡ 15
 in_the_last_group = refl
 
 -- higher bounds are in the last group too
-far_above : group_of 3 1000 ≡ 15
+far_above : group_of by_3 1000 ≡ 15
 far_above = refl
 
-row_of_a_pair : row_of 3 (1, 5) ≡ 17
+row_of_a_pair : row_of by_3 (1, 5) ≡ 17
 row_of_a_pair = refl
 
-last_row_of_buffer_1 : row_of 3 (1, 1000) ≡ 31
+last_row_of_buffer_1 : row_of by_3 (1, 1000) ≡ 31
 last_row_of_buffer_1 = refl
 
 is_row_of_1 : IsRowOf 1 31
@@ -73,7 +77,7 @@ abbrev watches : List Entry
 watches = (0, 1) ∷ []
 
 abbrev table : WatchedLines
-table = record { watches = watches; rows = (mark_of 0 2 0 ∷ mark_of 0 1 0 ∷ []) ∷ []; width = 3 }
+table = record { watches = watches; rows = (mark_of 0 2 0 ∷ mark_of 0 1 0 ∷ []) ∷ []; scale = by_3 }
 
 row_that_is_there : row_at table.rows 0 ≡ mark_of 0 2 0 ∷ mark_of 0 1 0 ∷ []
 row_that_is_there = refl
@@ -81,21 +85,18 @@ row_that_is_there = refl
 row_that_is_not : row_at table.rows 1 ≡ []
 row_that_is_not = refl
 
-filed : AreFiled watches table.rows 3
-filed = record { wide = omega arith; filed = in_row }
+filed : AreFiled watches table.rows by_3
+filed = record { filed = in_row }
   where
     in_row : (k : ℕ) (e : Entry) → slice_get watches k ≡ Some e → e.0 < buffer_limit →
-        HasMark (row_at table.rows (row_of 3 e)) k e
-    in_row zero e at lt = subst (λ (e : Entry). HasMark (row_at table.rows (row_of 3 e)) 0 e) (same_some at)
+        HasMark (row_at table.rows (row_of by_3 e)) k e
+    in_row zero e at lt = subst (λ (e : Entry). HasMark (row_at table.rows (row_of by_3 e)) 0 e) (same_some at)
         (record { note = 0; inside = inr (inl refl) })
     in_row (suc k) e at lt = absurd cc
 
 -- where groups are 1 byte wide, the bound 1 is in the second one
-in_another_row : AreFiled watches table.rows 1 → ⊥
+in_another_row : AreFiled watches table.rows (2 ^ 63 + 1) → ⊥
 in_another_row h = let r = h.filed 0 (0, 1) refl (omega arith) in r.inside
-
-without_width : AreFiled watches table.rows 0 → ⊥
-without_width h = absurd (let k = h.wide in omega arith)
 
 appended : AreAppended table.rows ((mark_of 0 2 0 ∷ mark_of 0 1 0 ∷ mark_of 1 2 0 ∷ []) ∷ [])
 appended zero = (mark_of 1 2 0 ∷ [], refl)

@@ -1,7 +1,7 @@
 -- The rows of a buffer that are gone through, the last first, and each row from behind.
-use Rattle.std.proofs.Common.{◌≡◌, ℕ, ◌+◌, ◌-◌, ◌/◌, ◌<◌, ◌≤◌, ◌⊎◌, inl, inr, List, [], ◌∷◌, ◌++◌, length, min, slice_get, slice_index, slice_set, take, Some, sym, ap, ◌∙◌, subst, arith}
+use Rattle.std.proofs.Common.{◌≡◌, ℕ, ◌+◌, ◌-◌, ◌*◌, ◌/◌, ◌^◌, ◌<◌, ◌≤◌, ◌⊎◌, inl, inr, List, [], ◌∷◌, ◌++◌, length, min, slice_get, slice_index, slice_set, take, Some, sym, ap, ◌∙◌, subst, arith}
 use Rattle.std.proofs.lemmas.List.{take_more}
-use Rattle.std.proofs.lemmas.Nat.{div-add-mod', le-div}
+use Rattle.std.proofs.Math.Nat.{mul-le-mul_right}
 use Rattle.std.proofs.lemmas.Option.{get_or_from_slice_get, slice_get_within}
 use Rattle.dsa_terms.specs.Claims.{Claim, Entry, IsIn}
 use Rattle.dsa_terms.specs.Logs.{Line, claim_of}
@@ -49,63 +49,64 @@ last_group n m = grind arith
 low_group : (n m k : ℕ) → n ≤ k → min n m ≤ min k m
 low_group n m k le = grind arith
 
-pub buffer_of_row : (width b p : ℕ) (e : Entry) → IsRowOf b p → row_of width e ≡ p → e.0 ≡ b
-buffer_of_row width b p e r q =
+pub buffer_of_row : (scale b p : ℕ) (e : Entry) → IsRowOf b p → row_of scale e ≡ p → e.0 ≡ b
+buffer_of_row scale b p e r q =
     let f = r.from in
     let t = r.below in
-    let k = last_group (e.1 / width) 15 in
+    let k = last_group (e.1 * scale / 2 ^ 63) 15 in
     omega arith
 
-div_rises : (m n width : ℕ) → 0 < width → m ≤ n → m / width ≤ n / width
-div_rises m n width wide le = le-div (m / width) n width wide (let q = div-add-mod' m width in omega arith)
+div_rises : (m n : ℕ) → m ≤ n → m / 2 ^ 63 ≤ n / 2 ^ 63
+div_rises m n le = omega arith
 
 -- the row of a higher bound is no lower
-pub row_rises : (width : ℕ) (e f : Entry) → 0 < width → e.0 ≡ f.0 → e.1 ≤ f.1 → row_of width e ≤ row_of width f
-row_rises width e f wide same le =
-    let k = low_group (e.1 / width) 15 (f.1 / width) (div_rises e.1 f.1 width wide le) in
+pub row_rises : (scale : ℕ) (e f : Entry) → e.0 ≡ f.0 → e.1 ≤ f.1 → row_of scale e ≤ row_of scale f
+row_rises scale e f same le =
+    let k = low_group (e.1 * scale / 2 ^ 63) 15 (f.1 * scale / 2 ^ 63)
+    (div_rises (e.1 * scale) (f.1 * scale) (mul-le-mul_right scale le)) in
     omega arith
 
-module _ (lines : List Line) (width : ℕ) (levels : List ℕ) (b low : ℕ) where
+module _ (lines : List Line) (scale : ℕ) (levels : List ℕ) (b low : ℕ) where
   -- each watch of b with a bound in the range fails, or is in a row below n
   abbrev pub FailOrBelow : List Entry → ℕ → Type 0
   FailOrBelow watches n = (k : ℕ) (line : Line) (e : Entry) → slice_get lines k ≡ Some line →
       slice_get watches k ≡ Some e → e.0 ≡ b → low ≤ e.1 → e.1 < slice_index levels b →
-      Fails levels (claim_of line) e ⊎ (row_of width e < n)
+      Fails levels (claim_of line) e ⊎ (row_of scale e < n)
 
-  pub fail_or_below_last : (watches : List Entry) (high last : ℕ) → 0 < width → high ≡ slice_index levels b →
-      low < high → last ≡ row_of width (b, high - 1) → FailOrBelow watches (last + 1)
-  fail_or_below_last watches high last wide top lt q k line e at stands same from below =
-      inr (let le : row_of width e ≤ row_of width (b, high - 1) =
-      row_rises width e (b, high - 1) wide same (omega arith) in omega arith)
+  pub fail_or_below_last : (watches : List Entry) (high last : ℕ) → high ≡ slice_index levels b →
+      low < high → last ≡ row_of scale (b, high - 1) → FailOrBelow watches (last + 1)
+  fail_or_below_last watches high last top lt q k line e at stands same from below =
+      inr (let le : row_of scale e ≤ row_of scale (b, high - 1) =
+      row_rises scale e (b, high - 1) same (omega arith) in omega arith)
 
   pub fail_or_below_next : (watches after : List Entry) (n p : ℕ) → n ≡ p + 1 → AreMoved lines levels watches after →
-      FailInRow lines after width levels b low p → FailOrBelow watches n → FailOrBelow after p
+      FailInRow lines after scale levels b low p → FailOrBelow watches n → FailOrBelow after p
   fail_or_below_next watches after n p next moved row h k line e at stands same from below =
       elim (moved k line at) [
         | inr u ↦ inl (subst (Fails levels (claim_of line)) (same_some (sym u.1 ∙ stands)) (λ has. u.2.unmet))
         | inl still ↦ elim (h k line e at (sym still ∙ stands) same from below) [
           | inl fails ↦ inl fails
-          | inr lt ↦ elim (below_or_last (row_of width e) p (omega arith)) [
+          | inr lt ↦ elim (below_or_last (row_of scale e) p (omega arith)) [
             | inl less ↦ inr less
             | inr here ↦ inl (row k line e at stands here from below)
           ]
         ]
       ]
 
-  pub fail_at_end : (watches : List Entry) (n first : ℕ) → 0 < width → first ≡ row_of width (b, low) → n ≤ first →
+  pub fail_at_end : (watches : List Entry) (n first : ℕ) → first ≡ row_of scale (b, low) → n ≤ first →
       FailOrBelow watches n → FailAt lines watches levels b low
-  fail_at_end watches n first wide q le h k line e at stands same from below =
+  fail_at_end watches n first q le h k line e at stands same from below =
       elim (h k line e at stands same from below) [
         | inl fails ↦ fails
-        | inr lt ↦ absurd (let up : row_of width (b, low) ≤ row_of width e =
-            row_rises width (b, low) e wide (sym same) from in omega arith)
+        | inr lt ↦ absurd (let up : row_of scale (b, low) ≤ row_of scale e =
+            row_rises scale (b, low) e (sym same) from in omega arith)
       ]
 
   -- ---- one row that is gone through from behind
   -- each watch in row p with a bound in the range fails, or has a mark at one of the first n places of the row
   abbrev pub FailOrBefore : List Entry → List (List Mark) → ℕ → ℕ → Type 0
   FailOrBefore watches rows p n = (k : ℕ) (line : Line) (e : Entry) → slice_get lines k ≡ Some line →
-      slice_get watches k ≡ Some e → row_of width e ≡ p → low ≤ e.1 → e.1 < slice_index levels b →
+      slice_get watches k ≡ Some e → row_of scale e ≡ p → low ≤ e.1 → e.1 < slice_index levels b →
       Fails levels (claim_of line) e ⊎ HasMark (take n (row_at rows p)) k e
 
   -- the mark at the last of these places was looked at
@@ -139,7 +140,7 @@ module _ (lines : List Line) (width : ℕ) (levels : List ℕ) (b low : ℕ) whe
       here note this =
           let number : k ≡ m.line = ap (λ (m : Mark). m.line) this in
           let bound : e.1 ≡ m.bound = ap (λ (m : Mark). m.bound) this in
-          let same : e ≡ (b, m.bound) = pair e (buffer_of_row width b p e row q) bound in
+          let same : e ≡ (b, m.bound) = pair e (buffer_of_row scale b p e row q) bound in
           subst (Fails levels (claim_of line)) (sym same) (seen (omega arith) (omega arith) line
           (ap (slice_get lines) (sym number) ∙ at) (ap (slice_get after) (sym number) ∙ stands ∙ ap Some same))
         where
@@ -148,25 +149,25 @@ module _ (lines : List Line) (width : ℕ) (levels : List ℕ) (b low : ℕ) whe
 
 -- ---- what is needed to take out or look at a mark
 -- the line of the mark has another watch
-pub stale : (watches : List Entry) (rows : List (List Mark)) (width b p i : ℕ) (mark : Mark) (watch : Entry) →
+pub stale : (watches : List Entry) (rows : List (List Mark)) (scale b p i : ℕ) (mark : Mark) (watch : Entry) →
     IsRowOf b p → slice_get (row_at rows p) i ≡ Some mark → slice_get watches mark.line ≡ Some watch →
     (watch.0 ≡ b → watch.1 ≡ mark.bound → ⊥) →
-    IsUnwatched (record { watches = watches; rows = rows; width = width }) p i
-stale watches rows width b p i mark watch row is had other m e at stands bound q =
+    IsUnwatched (record { watches = watches; rows = rows; scale = scale }) p i
+stale watches rows scale b p i mark watch row is had other m e at stands bound q =
     let same : m ≡ mark = same_some (sym at ∙ is) in
     let one : e ≡ watch = same_some (sym stands ∙ ap (λ (m : Mark). slice_get watches m.line) same ∙ had) in
-    let buffer : e.0 ≡ b = buffer_of_row width b p e row q in
+    let buffer : e.0 ≡ b = buffer_of_row scale b p e row q in
     absurd (other (ap (λ (e : Entry). e.0) (sym one) ∙ buffer)
     (ap (λ (e : Entry). e.1) (sym one) ∙ bound ∙ ap (λ (m : Mark). m.bound) same))
 
 -- the line of a mark whose bound is met has another watch by now, whose bound is not met
-pub moved_away : (watches after : List Entry) (rows more : List (List Mark)) (width : ℕ) (levels : List ℕ) (k : Claim)
+pub moved_away : (watches after : List Entry) (rows more : List (List Mark)) (scale : ℕ) (levels : List ℕ) (k : Claim)
     (b p i : ℕ) (mark : Mark) (e : Entry) → IsRowOf b p → slice_get (row_at rows p) i ≡ Some mark →
     i < length (row_at rows p) → AreAppended rows more → after ≡ slice_set watches mark.line e →
     mark.line < length watches → IsUnmet k levels e → mark.bound < slice_index levels b →
-    IsUnwatched (record { watches = after; rows = more; width = width }) p i
-moved_away watches after rows more width levels k b p i mark e row is inside a q lt u met =
-    stale after more width b p i mark e row (appended_get rows more p i a inside ∙ is)
+    IsUnwatched (record { watches = after; rows = more; scale = scale }) p i
+moved_away watches after rows more scale levels k b p i mark e row is inside a q lt u met =
+    stale after more scale b p i mark e row (appended_get rows more p i a inside ∙ is)
     (ap (λ (xs : List Entry). slice_get xs mark.line) q ∙ get_set_same watches mark.line e lt) (λ buffer bound.
     (let level : slice_index levels e.0 ≡ slice_index levels b = ap (slice_index levels) buffer in
     let le : slice_index levels e.0 ≤ e.1 = u.unmet in

@@ -90,63 +90,59 @@ among_row rows p old row lt e new q x i = elim (from_row rows p row q x lt i) [
 
 -- ---- watches in rows
 -- a line more gets a watch of no buffer
-pub filed_more : (watches more : List Entry) (rows : List (List Mark)) (width : ℕ) (e : Entry) →
-    more ≡ watches ++ e ∷ [] → e.0 ≡ buffer_limit → AreFiled watches rows width → AreFiled more rows width
-filed_more watches more rows width e q none h = record {
-  wide = h.wide;
+pub filed_more : (watches more : List Entry) (rows : List (List Mark)) (scale : ℕ) (e : Entry) →
+    more ≡ watches ++ e ∷ [] → e.0 ≡ buffer_limit → AreFiled watches rows scale → AreFiled more rows scale
+filed_more watches more rows scale e q none h = record {
   filed = λ k f at lt. elim (get_more watches e f k (ap (λ (xs : List Entry). slice_get xs k) (sym q) ∙ at)) [
     | inl before ↦ h.filed k f before lt
     | inr last ↦ absurd (let b : f.0 ≡ e.0 = ap (λ (e : Entry). e.0) last in omega arith)
   ];
 }
 
-pub filed_same : (watches : List Entry) (rows after : List (List Mark)) (width : ℕ) →
-    ((p : ℕ) → row_at after p ≡ row_at rows p) → AreFiled watches rows width → AreFiled watches after width
-filed_same watches rows after width q h = record {
-  wide = h.wide;
-  filed = λ k e at lt. subst (λ (xs : List Mark). HasMark xs k e) (sym (q (row_of width e))) (h.filed k e at lt);
+pub filed_same : (watches : List Entry) (rows after : List (List Mark)) (scale : ℕ) →
+    ((p : ℕ) → row_at after p ≡ row_at rows p) → AreFiled watches rows scale → AreFiled watches after scale
+filed_same watches rows after scale q h = record {
+  filed = λ k e at lt. subst (λ (xs : List Mark). HasMark xs k e) (sym (q (row_of scale e))) (h.filed k e at lt);
 }
 
-pub filed_appended : (watches : List Entry) (rows after : List (List Mark)) (width : ℕ) → AreAppended rows after →
-    AreFiled watches rows width → AreFiled watches after width
-filed_appended watches rows after width a h = record {
-  wide = h.wide;
+pub filed_appended : (watches : List Entry) (rows after : List (List Mark)) (scale : ℕ) → AreAppended rows after →
+    AreFiled watches rows scale → AreFiled watches after scale
+filed_appended watches rows after scale a h = record {
   filed = λ k e at lt.
       (let r = h.filed k e at lt in
       record {
         note = r.note;
-        inside = in_appended rows after (row_of width e) (mark_of k e.1 r.note) a r.inside;
+        inside = in_appended rows after (row_of scale e) (mark_of k e.1 r.note) a r.inside;
       });
 }
 
 -- a line gets another watch, of which there is a mark
-pub filed_set : (watches : List Entry) (rows : List (List Mark)) (width k note : ℕ) (e : Entry) → k < length watches →
-    IsIn (mark_of k e.1 note) (row_at rows (row_of width e)) → AreFiled watches rows width →
-    AreFiled (slice_set watches k e) rows width
-filed_set watches rows width k note e lt i h = record { wide = h.wide; filed = filed }
+pub filed_set : (watches : List Entry) (rows : List (List Mark)) (scale k note : ℕ) (e : Entry) → k < length watches →
+    IsIn (mark_of k e.1 note) (row_at rows (row_of scale e)) → AreFiled watches rows scale →
+    AreFiled (slice_set watches k e) rows scale
+filed_set watches rows scale k note e lt i h = record { filed = filed }
   where
     filed : (j : ℕ) (f : Entry) → slice_get (slice_set watches k e) j ≡ Some f → f.0 < buffer_limit →
-        HasMark (row_at rows (row_of width f)) j f
+        HasMark (row_at rows (row_of scale f)) j f
     filed j f at below = elim (same_or_not j k) [
       | inr other ↦ h.filed j f (sym (get_set_other watches k j e other) ∙ at) below
       | inl same ↦
           let q : f ≡ e = same_some (sym at ∙ ap (slice_get (slice_set watches k e)) same
           ∙ get_set_same watches k e lt) in
-          subst (λ (g : Entry). HasMark (row_at rows (row_of width g)) j g) (sym q)
-          (subst (λ (n : ℕ). HasMark (row_at rows (row_of width e)) n e) (sym same)
+          subst (λ (g : Entry). HasMark (row_at rows (row_of scale g)) j g) (sym q)
+          (subst (λ (n : ℕ). HasMark (row_at rows (row_of scale e)) n e) (sym same)
           (record { note = note; inside = i }))
     ]
 
 -- a row is written that keeps a mark for each watch
-module _ (watches : List Entry) (rows : List (List Mark)) (width p : ℕ) (old row : List Mark)
-    (lt : p < length rows) (e : old ≡ slice_index_or rows p old) (h : AreFiled watches rows width) where
-  filed_row : ((k : ℕ) (f : Entry) → slice_get watches k ≡ Some f → row_of width f ≡ p → HasMark old k f →
-      HasMark row k f) → AreFiled watches (slice_set rows p row) width
+module _ (watches : List Entry) (rows : List (List Mark)) (scale p : ℕ) (old row : List Mark)
+    (lt : p < length rows) (e : old ≡ slice_index_or rows p old) (h : AreFiled watches rows scale) where
+  filed_row : ((k : ℕ) (f : Entry) → slice_get watches k ≡ Some f → row_of scale f ≡ p → HasMark old k f →
+      HasMark row k f) → AreFiled watches (slice_set rows p row) scale
   filed_row keeps = record {
-    wide = h.wide;
-    filed = λ k f at below. elim (same_or_not (row_of width f) p) [
+    filed = λ k f at below. elim (same_or_not (row_of scale f) p) [
       | inr other ↦ subst (λ (xs : List Mark). HasMark xs k f)
-          (sym (get_or-set_other rows p (row_of width f) row [] other)) (h.filed k f at below)
+          (sym (get_or-set_other rows p (row_of scale f) row [] other)) (h.filed k f at below)
       | inl same ↦ subst (λ (xs : List Mark). HasMark xs k f)
           (sym (ap (row_at (slice_set rows p row)) same ∙ get_or-set_same rows p row [] lt))
           (keeps k f at same (subst (λ (xs : List Mark). HasMark xs k f)
@@ -156,11 +152,11 @@ module _ (watches : List Entry) (rows : List (List Mark)) (width p : ℕ) (old r
 
   -- a mark that no line has for its watch is taken out
   pub filed_taken : (i : ℕ) → i < length old → ((m : Mark) → row ≡ swap_remove old i m) →
-      IsUnwatched (record { watches = watches; rows = rows; width = width }) p i →
-      AreFiled watches (slice_set rows p row) width
+      IsUnwatched (record { watches = watches; rows = rows; scale = scale }) p i →
+      AreFiled watches (slice_set rows p row) scale
   filed_taken i inside q unwatched = filed_row keeps
     where
-      keeps : (k : ℕ) (f : Entry) → slice_get watches k ≡ Some f → row_of width f ≡ p → HasMark old k f →
+      keeps : (k : ℕ) (f : Entry) → slice_get watches k ≡ Some f → row_of scale f ≡ p → HasMark old k f →
           HasMark row k f
       keeps k f at same r =
           let m = mark_of k f.1 r.note in
@@ -172,10 +168,10 @@ module _ (watches : List Entry) (rows : List (List Mark)) (width p : ℕ) (old r
 
   -- a mark gets another note
   pub filed_noted : (i note : ℕ) (m : Mark) → i < length old → slice_get old i ≡ Some m →
-      row ≡ slice_set old i (with_note m note) → AreFiled watches (slice_set rows p row) width
+      row ≡ slice_set old i (with_note m note) → AreFiled watches (slice_set rows p row) scale
   filed_noted i note m inside is q = filed_row keeps
     where
-      keeps : (k : ℕ) (f : Entry) → slice_get watches k ≡ Some f → row_of width f ≡ p → HasMark old k f →
+      keeps : (k : ℕ) (f : Entry) → slice_get watches k ≡ Some f → row_of scale f ≡ p → HasMark old k f →
           HasMark row k f
       keeps k f at same r =
           let x = mark_of k f.1 r.note in

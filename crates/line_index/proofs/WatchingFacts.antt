@@ -8,6 +8,7 @@ use Rattle.line_index.specs.Looks.{IsUnmet}
 use Rattle.line_index.specs.Rows.{mark_of, row_of}
 use Rattle.line_index.specs.Watches.{Fails, RulesOut}
 use Rattle.line_index.specs.Watching.{AreExtended, AreMoved, AreOwnMoved, FailAt, FailInRow, FailsAtMark, IsWatched}
+use Rattle.line_index.proofs.RowFacts.{by_3}
 use Rattle.line_index.proofs.WatchFacts.{met_at_other, other}
 
 abbrev first_line : Line
@@ -80,15 +81,15 @@ none_from_six zero line e at stands q from below has = absurd (let k : e.1 ≡ 5
 none_from_six (suc k) line e at stands q from below has = absurd cc
 
 -- groups of 3 bytes: the bound 5 is in group 1 of buffer 1
-not_in_its_row : FailInRow lines watches 3 other 1 0 17 → ⊥
+not_in_its_row : FailInRow lines watches by_3 other 1 0 17 → ⊥
 not_in_its_row h = met_at_other (h 0 first_line (1, 5) refl refl refl (omega arith) (omega arith))
 
-none_in_another : FailInRow lines watches 3 other 1 0 16
+none_in_another : FailInRow lines watches by_3 other 1 0 16
 none_in_another zero line e at stands q from below has = absurd
-    (let k : 17 ≡ 16 = ap (row_of 3) (same_some stands) ∙ q in omega arith)
+    (let k : 17 ≡ 16 = ap (row_of by_3) (same_some stands) ∙ q in omega arith)
 none_in_another (suc k) line e at stands q from below has = absurd cc
 
-none_in_row_from_six : FailInRow lines watches 3 other 1 6 17
+none_in_row_from_six : FailInRow lines watches by_3 other 1 6 17
 none_in_row_from_six zero line e at stands q from below has = absurd (let k : e.1 ≡ 5 = sym (ap (λ (e : Entry). e.1)
     (same_some stands)) in omega arith)
 none_in_row_from_six (suc k) line e at stands q from below has = absurd cc

@@ -1,5 +1,5 @@
 -- Marks in rows: a row for each buffer and each group of its bounds.
-use Rattle.std.specs.Prelude.{◌≡◌, ℕ, ◌+◌, ◌-◌, ◌*◌, ◌/◌, ◌<◌, ◌≤◌, ◌⊎◌, List, ◌++◌, min, slice_get, Some}
+use Rattle.std.specs.Prelude.{◌≡◌, ℕ, ◌+◌, ◌-◌, ◌*◌, ◌/◌, ◌^◌, ◌<◌, ◌≤◌, ◌⊎◌, List, ◌++◌, min, slice_get, Some}
 use Rattle.dsa_terms.specs.Claims.{Entry, IsIn}
 use Rattle.dsa_model.specs.Buffer.{buffer_limit}
 use Rattle.line_index.specs.declared.watch_row.Mark.{Mark}
@@ -9,19 +9,19 @@ use Rattle.line_index.specs.Watches.{row_at}
 abbrev pub groups : ℕ
 groups = 16
 
--- the watches by line, the marks by row, and how many bytes wide a group is
+-- the watches by line, the marks by row, and the scale, by which a bound is multiplied to find its group
 pub record WatchedLines : Type 0 where
   pub watches : List Entry
   pub rows : List (List Mark)
-  pub width : ℕ
+  pub scale : ℕ
 
--- the group of a bound: groups are equally wide, and the last one has all higher bounds too
+-- the group of a bound: the bound times the scale, in units of 2^63; the last group has all higher bounds too
 abbrev pub group_of : ℕ → ℕ → ℕ
-group_of width bound = min (bound / width) (groups - 1)
+group_of scale bound = min (bound * scale / 2 ^ 63) (groups - 1)
 
 -- the number of the row of a pair
 abbrev pub row_of : ℕ → Entry → ℕ
-row_of width e = e.0 * groups + group_of width e.1
+row_of scale e = e.0 * groups + group_of scale e.1
 
 -- the row is one of those of buffer b
 pub record IsRowOf (b p : ℕ) : Type 0 where
@@ -41,11 +41,10 @@ pub record HasMark (row : List Mark) (k : ℕ) (e : Entry) : Type 0 where
   pub note : ℕ
   pub inside : IsIn (mark_of k e.1 note) row
 
--- groups have a width, and each watch of a number that a buffer may have has a mark in its row
-pub record AreFiled (watches : List Entry) (rows : List (List Mark)) (width : ℕ) : Type 0 where
-  pub wide : 0 < width
+-- each watch of a number that a buffer may have has a mark in its row
+pub record AreFiled (watches : List Entry) (rows : List (List Mark)) (scale : ℕ) : Type 0 where
   pub filed : (k : ℕ) (e : Entry) → slice_get watches k ≡ Some e → e.0 < buffer_limit →
-      HasMark (row_at rows (row_of width e)) k e
+      HasMark (row_at rows (row_of scale e)) k e
 
 -- each row is as it was, with some marks behind it
 abbrev pub AreAppended : List (List Mark) → List (List Mark) → Type 0
@@ -62,4 +61,4 @@ AreAmong before after = (p : ℕ) (x : Mark) → IsIn x (row_at after p) → IsI
 -- no line has the mark at that place of row p for its watch
 abbrev pub IsUnwatched : WatchedLines → ℕ → ℕ → Type 0
 IsUnwatched table p i = (m : Mark) (e : Entry) → slice_get (row_at table.rows p) i ≡ Some m →
-    slice_get table.watches m.line ≡ Some e → e.1 ≡ m.bound → row_of table.width e ≡ p → ⊥
+    slice_get table.watches m.line ≡ Some e → e.1 ≡ m.bound → row_of table.scale e ≡ p → ⊥

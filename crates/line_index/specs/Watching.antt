@@ -37,8 +37,8 @@ FailAt lines watches levels b low = (k : ℕ) (line : Line) (e : Entry) → slic
 
 -- those of them that are in row p fail
 abbrev pub FailInRow : List Line → List Entry → ℕ → List ℕ → ℕ → ℕ → ℕ → Type 0
-FailInRow lines watches width levels b low p = (k : ℕ) (line : Line) (e : Entry) → slice_get lines k ≡ Some line →
-    slice_get watches k ≡ Some e → row_of width e ≡ p → low ≤ e.1 → e.1 < slice_index levels b →
+FailInRow lines watches scale levels b low p = (k : ℕ) (line : Line) (e : Entry) → slice_get lines k ≡ Some line →
+    slice_get watches k ≡ Some e → row_of scale e ≡ p → low ≤ e.1 → e.1 < slice_index levels b →
     Fails levels (claim_of line) e
 
 -- if the mark is of buffer b and of the watch of its line, then that fails at the levels

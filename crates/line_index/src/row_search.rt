@@ -58,7 +58,7 @@ fn try_mark(
         OnOk result (AreNoted log.now.lines table.new.rows) }
     ensures before { OnOk result
         (take i (row_at table.new.rows p) ≡ take i (row_at table.old.rows p)) }
-    ensures width { OnOk result (table.new.width ≡ table.old.width) }
+    ensures scale { OnOk result (table.new.scale ≡ table.old.scale) }
 {
     let mark = table.mark(p, i);
     let k = mark.line;
@@ -99,14 +99,14 @@ fn find_in_row(
     requires few { length now.now ≤ buffer_limit }
     ensures some { (I : Instance) (l : ClaimTerm) → AreLevels I l now.now →
         IfOk result (λ found. IfSome found (IsCoveredBy I log.now.lines l)) }
-    ensures none { let width = table.old.width in AreNoted log.now.lines table.old.rows →
+    ensures none { let scale = table.old.scale in AreNoted log.now.lines table.old.rows →
         IfOk result (λ found. IfNone found
-        (FailInRow log.now.lines table.new.watches width now.now b low p)) }
+        (FailInRow log.now.lines table.new.watches scale now.now b low p)) }
     ensures moved { let lines = log.now.lines in
         OnOk result (AreMoved lines now.now table.old.watches table.new.watches) }
     ensures noted { AreNoted log.now.lines table.old.rows →
         OnOk result (AreNoted log.now.lines table.new.rows) }
-    ensures width { OnOk result (table.new.width ≡ table.old.width) }
+    ensures scale { OnOk result (table.new.scale ≡ table.old.scale) }
 {
     let high = level_at(now, b as usize);
     for i in (0..table.row_len(p)).rev() {

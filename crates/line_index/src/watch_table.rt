@@ -13,7 +13,7 @@ use std::alloc::Global;
 use std::marker::Model;
 
 /// How many groups the bounds of a buffer have.
-const GROUPS: u64 = 16;
+const GROUPS: usize = 16;
 
 /// What lines have for a watch until they are looked at: of no buffer.
 const NO_WATCH: (u32, u64) = (BUFFER_LIMIT, 0);
@@ -21,11 +21,11 @@ const NO_WATCH: (u32, u64) = (BUFFER_LIMIT, 0);
 /// For each line its watch, a pair of buffer and bound in bytes, and for each buffer and group of
 /// its bounds a row of marks, of the lines that watch such a bound. A row may have marks of lines
 /// that watch another bound by now. Rows are made as they are needed. Contracts see the watches by
-/// line, the rows by number, and the width of a group in bytes.
+/// line, the rows by number, and the scale, by which a bound is multiplied to find its group.
 #[derive(Drop)]
 pub(crate) struct WatchTable {
     alloc: Global,
-    width: u64,
+    scale: u64,
     watches: Vec<(u32, u64)>,
     rows: Vec<Row>,
 }
@@ -38,10 +38,10 @@ impl Model for WatchTable {
     ghost view = { λ t. record {
       watches = t.watches.items;
       rows = t.rows.items;
-      width = t.width;
+      scale = t.scale;
     } };
 
-    ghost invariant = { λ t. AreFiled t.watches.items t.rows.items t.width };
+    ghost invariant = { λ t. AreFiled t.watches.items t.rows.items t.scale };
 }
 
 impl WatchTable {
@@ -53,7 +53,7 @@ impl WatchTable {
     {
         WatchTable {
             alloc,
-            width: capacity / GROUPS + 1,
+            scale: (1 << 63) / (capacity / GROUPS as u64 + 1) + 1,
             watches: Vec::new(alloc),
             rows: Vec::new(alloc),
         }
@@ -85,21 +85,20 @@ impl WatchTable {
         Ok(())
     }
 
-    /// The number of the row of the pair. Groups of bounds are equally wide, and the last one has
-    /// all higher bounds too.
+    /// The number of the row of the pair. Groups of bounds are about equally wide, and the last one
+    /// has all higher bounds too.
     pub(crate) fn row_of(&self, b: u32, bound: u64) -> usize
-        ensures value { result ≡ row_of self.now.width (b, bound) }
-        ensures filed { AreFiled self.now.watches self.now.rows self.now.width }
+        ensures { result ≡ row_of self.now.scale (b, bound) }
     {
-        let group = (bound / self.width).min(GROUPS - 1);
-        b as usize * GROUPS as usize + group as usize
+        let group = (bound as u128 * self.scale as u128) >> 63;
+        b as usize * GROUPS + group.min(GROUPS as u128 - 1) as usize
     }
 
     /// Makes the rows below that number, if they are not there.
     fn make_rows(&mut self, count: usize) -> Result<(), NoMemory>
         ensures watches { self.new.watches ≡ self.old.watches }
         ensures rows { (p : ℕ) → row_at self.new.rows p ≡ row_at self.old.rows p }
-        ensures width { self.new.width ≡ self.old.width }
+        ensures scale { self.new.scale ≡ self.old.scale }
         ensures count { OnOk result (count ≤ length self.new.rows) }
     {
         for _ in self.rows.len()..count {
@@ -112,10 +111,10 @@ impl WatchTable {
     fn add(&mut self, b: u32, mark: Mark) -> Result<(), NoMemory>
         ensures watches { self.new.watches ≡ self.old.watches }
         ensures rows { AreAppended self.old.rows self.new.rows }
-        ensures width { self.new.width ≡ self.old.width }
+        ensures scale { self.new.scale ≡ self.old.scale }
         ensures with { AreWith mark self.old.rows self.new.rows }
         ensures added { OnOk result
-            (IsIn mark (row_at self.new.rows (row_of self.new.width (b, mark.bound)))) }
+            (IsIn mark (row_at self.new.rows (row_of self.new.scale (b, mark.bound)))) }
     {
         let p = self.row_of(b, mark.bound);
         self.make_rows(p + 1)?;
@@ -129,7 +128,7 @@ impl WatchTable {
         requires { k < length self.old.watches }
         ensures watches { OnOk result (self.new.watches ≡ slice_set self.old.watches k watch) }
         ensures rows { OnOk result (AreAppended self.old.rows self.new.rows) }
-        ensures width { OnOk result (self.new.width ≡ self.old.width) }
+        ensures scale { OnOk result (self.new.scale ≡ self.old.scale) }
         ensures with { OnOk result (AreWith (mark_of k watch.1 note) self.old.rows self.new.rows) }
     {
         let (b, bound) = watch;
@@ -142,7 +141,7 @@ impl WatchTable {
     /// How many marks the row has.
     pub(crate) fn row_len(&self, p: usize) -> usize
         ensures value { result ≡ length (row_at self.now.rows p) }
-        ensures filed { AreFiled self.now.watches self.now.rows self.now.width }
+        ensures filed { AreFiled self.now.watches self.now.rows self.now.scale }
     {
         if p < self.rows.len() {
             self.rows[p].len()
@@ -164,7 +163,7 @@ impl WatchTable {
         requires { i < length (row_at self.old.rows p) }
         ensures watches { self.new.watches ≡ self.old.watches }
         ensures before { take i (row_at self.new.rows p) ≡ take i (row_at self.old.rows p) }
-        ensures width { self.new.width ≡ self.old.width }
+        ensures scale { self.new.scale ≡ self.old.scale }
         ensures with { (m : MarkTerm) → slice_get (row_at self.old.rows p) i ≡ Some m →
             AreWith (with_note m note) self.old.rows self.new.rows }
     {
@@ -178,7 +177,7 @@ impl WatchTable {
         requires unwatched { IsUnwatched self.old p i }
         ensures watches { self.new.watches ≡ self.old.watches }
         ensures before { take i (row_at self.new.rows p) ≡ take i (row_at self.old.rows p) }
-        ensures width { self.new.width ≡ self.old.width }
+        ensures scale { self.new.scale ≡ self.old.scale }
         ensures among { AreAmong self.old.rows self.new.rows }
     {
         let row = &mut self.rows[p];

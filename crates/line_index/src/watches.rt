@@ -83,11 +83,11 @@ fn ask_line(table: &mut WatchTable, log: &Log, levels: &[u64], k: u64) -> Result
 /// back up undoes nothing, since lows fall on the way.
 ///
 /// The lines that watch a bound of a buffer have marks in the rows of that buffer, one row for each
-/// group of bounds. Groups are equally wide in bytes and share the capacity out, and the last one
-/// has all higher bounds too. So only the groups are looked through that the level rose through. A
-/// mark holds a note, one of its line's buffers: the one that a claim which met the mark was last
-/// found to lack, and any until then. A child without it is not covered by the line, which is not
-/// read. Contracts see the watches by line and the marks by row.
+/// group of bounds. Groups are about equally wide in bytes and share the capacity out, and the last
+/// one has all higher bounds too. So only the groups are looked through that the level rose
+/// through. A mark holds a note, one of its line's buffers: the one that a claim which met the mark
+/// was last found to lack, and any until then. A child without it is not covered by the line, which
+/// is not read. Contracts see the watches by line and the marks by row.
 ///
 /// A claim is given by its levels: for each buffer of the instance one more than its low in bytes,
 /// and 0 where it is not in the claim.

@@ -27,9 +27,9 @@ loop-i-preserved-else-is_some c =
       moved = moved_trans _ _ _ _ _ i.moved found.moved;
       within = length_of_taken (row_at before.rows c.args.p) (row_at after.rows c.args.p) (c.loop-i.i - 1)
           (let w = i.within in let t = c.loop-i-test.true in omega arith) found.before;
-      width = found.width ∙ i.width;
+      scale = found.scale ∙ i.scale;
       noted = λ h. found.noted (i.noted h);
-      seen = λ h. fail_or_before c.args.log.now.lines c.args.table.now.width c.args.now.now c.args.b c.args.low _ _
+      seen = λ h. fail_or_before c.args.log.now.lines c.args.table.now.scale c.args.now.now c.args.b c.args.low _ _
           before.rows after.rows c.args.p _ (c.loop-i.i - 1) mark (let t = c.loop-i-test.true in omega arith)
           c.requires.row c.mark-mark.ensures found.moved found.before
           (λ from below. from_none _ (sym c.if-is_some.ensures) (found.none mark c.mark-mark.ensures)) (i.seen h);
@@ -45,9 +45,9 @@ loop-i-preserved c =
     record {
       moved = i.moved;
       within = (let w = i.within in omega arith);
-      width = i.width;
+      scale = i.scale;
       noted = i.noted;
-      seen = λ h. fail_or_before lines c.args.table.now.width levels c.args.b c.args.low _ _ table.rows table.rows
+      seen = λ h. fail_or_before lines c.args.table.now.scale levels c.args.b c.args.low _ _ table.rows table.rows
           c.args.p _ (c.loop-i.i - 1) mark (let t = c.loop-i-test.true in omega arith) c.requires.row
           c.mark-mark.ensures (moved_refl lines levels table.watches) refl
           (λ from below. passed_fails lines table.watches table.rows levels c.args.b c.args.p (c.loop-i.i - 1) mark

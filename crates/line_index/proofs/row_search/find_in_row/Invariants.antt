@@ -8,8 +8,8 @@ abbrev pub invariant-loop-i : goal.invariant-loop-i
 invariant-loop-i l = record {
   moved : AreMoved l.log.lines l.now l.initial.table.watches l.table.watches;
   within : l.i ≤ length (row_at l.table.rows l.p);
-  width : l.table.width ≡ l.initial.table.width;
+  scale : l.table.scale ≡ l.initial.table.scale;
   noted : AreNoted l.log.lines l.initial.table.rows → AreNoted l.log.lines l.table.rows;
   seen : AreNoted l.log.lines l.initial.table.rows →
-      FailOrBefore l.log.lines l.initial.table.width l.now l.b l.low l.table.watches l.table.rows l.p l.i;
+      FailOrBefore l.log.lines l.initial.table.scale l.now l.b l.low l.table.watches l.table.rows l.p l.i;
 }

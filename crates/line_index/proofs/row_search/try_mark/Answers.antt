@@ -25,7 +25,7 @@ in_table : (c : In_ok-file-in-Unmet) → c.mark-mark.result.line < length c.args
 in_table c = (let v = c.len-else-k-len.ensures in let t = c.if-k-len-2.false in omega arith)
 
 unwatched : (c : In_ok-file-in-Unmet) → IsUnwatched c.file.new.self c.args.p c.args.i
-unwatched c = moved_away c.args.table.now.watches c.file.new.self.watches _ c.file.new.self.rows c.file.new.self.width _
+unwatched c = moved_away c.args.table.now.watches c.file.new.self.watches _ c.file.new.self.rows c.file.new.self.scale _
     _ c.args.b c.args.p c.args.i c.mark-mark.result _ c.requires.row c.mark-mark.ensures c.requires.in_row
     c.in_ok-file-in-Unmet.ensures.rows c.in_ok-file-in-Unmet.ensures.watches (in_table c) (unmet c)
     (c.requires.met c.mark-mark.result c.mark-mark.ensures)

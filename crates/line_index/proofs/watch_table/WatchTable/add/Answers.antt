@@ -46,9 +46,9 @@ returns-clause-added c =
     let rows = c.self.inside.rows.items in
     let k = (goal.at.returns-clause-added c).In_ok-push in
     let row = c.push.new.self in
-    let width = ap (λ (t : WatchedLines). t.width) c.self.view_is ∙ c.make_rows.ensures.width in
+    let scale = ap (λ (t : WatchedLines). t.scale) c.self.view_is ∙ c.make_rows.ensures.scale in
     let e : Entry = (c.args.b, c.args.mark.bound) in
     subst (λ (p : ℕ). IsIn c.args.mark (row_at (slice_set rows c.row_of-p.result row) p))
-    (c.row_of-p.ensures.value ∙ ap (λ (w : ℕ). row_of w e) (sym width))
+    (c.row_of-p.ensures ∙ ap (λ (w : ℕ). row_of w e) (sym scale))
     (in_new_row rows c.row_of-p.result c.index_mut-row.result.now row c.args.mark (within k)
     c.in_ok-push.ensures.appended)

@@ -16,6 +16,6 @@ loop-preserved c =
       filed = filed_same _ old c.push.new.self.items _ same i.filed;
       same = λ p. same p ∙ i.same p;
       watches = i.watches;
-      width = i.width;
+      scale = i.scale;
       count = (let n = ap length more in let m = length-append old in let k = i.count in omega arith);
     }

@@ -5,9 +5,9 @@ use Rattle.line_index.proofs.watch_table.WatchTable.make_rows.Given as goal
 
 abbrev pub invariant-loop : goal.invariant-loop
 invariant-loop l = record {
-  filed : AreFiled l.self-inside.watches.items l.self-inside.rows.items l.self-inside.width;
+  filed : AreFiled l.self-inside.watches.items l.self-inside.rows.items l.self-inside.scale;
   same : (p : ℕ) → row_at l.self-inside.rows.items p ≡ row_at l.fn.self.rows p;
   watches : l.self-inside.watches.items ≡ l.fn.self.watches;
-  width : l.self-inside.width ≡ l.fn.self.width;
+  scale : l.self-inside.scale ≡ l.fn.self.scale;
   count : l.counter ≤ length l.self-inside.rows.items;
 }
