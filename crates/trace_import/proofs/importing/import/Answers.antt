@@ -1,4 +1,4 @@
-use Rattle.std.proofs.Common.{◌∙◌, ◌++◌, ap, arith, sym}
+use Rattle.std.proofs.Common.{◌≡◌, ◌∙◌, ◌++◌, IfOk, List, ℕ, ap, arith, subst, sym}
 use Rattle.csv.specs.Writing.{default_writer, row_text}
 use Rattle.trace_import.specs.ImportText.{import_header, import_row, import_text}
 use Rattle.trace_import.specs.Kept.{line_value}
@@ -43,6 +43,16 @@ loop-place-preserved c =
             (ap line_value w.in_default.is) is,
       )
     ]
+
+pub returns-clause-text : goal.returns-clause-text
+returns-clause-text c =
+    let (text, wrote, is) = c.loop-place.invariant in
+    subst (λ (t : List ℕ). IfOk c.written_text.result (λ made. made.items ≡ t))
+    (whole_text c.args.trace.now c.kept-lines.result.now c.loop-place.place text c.loop-place-test.false is)
+    (c.written_text.ensures text wrote)
+
+pub returns-clause-traced : goal.returns-clause-traced
+returns-clause-traced c = c.kept-lines.ensures.traced
 
 pub returns-clause-parsed : goal.returns-clause-parsed
 returns-clause-parsed c =
