@@ -1,7 +1,7 @@
 -- Runs of flags, read one by one, and lists by number.
 use Rattle.std.proofs.Common.{◌≡◌, ℕ, zero, suc, ◌+◌, ◌<◌, ◌≤◌, Bool, true, false, cond, List, [], ◌∷◌, ◌++◌, length, drop, take, get_or, map, filter, refl, ap, sym, ◌∙◌, arith, append_assoc, append-nil}
 use Rattle.std.specs.List.{All, flat_map, range_with_len}
-use Rattle.std.proofs.lemmas.List.{flat_map_more, map-append, take_all, take_more}
+use Rattle.std.proofs.lemmas.List.{flat_map_more, map-append, map_push, take_all, take_more}
 use Rattle.dsa_terms.specs.Buffers.{Buffer, Instance, buffer, is_live}
 use Rattle.dsa_terms.specs.Parts.{numbers}
 use Rattle.dsa_terms.proofs.Lists.{from_flat, from_map}
@@ -72,6 +72,16 @@ pub put_more : {X Y : Type 0} (f : X → List Y) (xs : List X) (i : ℕ) (d : X)
 put_more {X} {Y} f xs i d start text more lt h m =
     m ∙ ap (λ (ys : List Y). ys ++ f (get_or xs i d)) h ∙ flat_map_more f start (take i xs) (get_or xs i d)
     ∙ ap (λ (ys : List X). start ++ flat_map f ys) (sym (take_more xs i d lt))
+
+-- one more item, and what stands for it
+pub push_more : {X Y : Type 0} (f : X → Y) (xs : List X) (i : ℕ) (d : X) (start before more : List Y) → i < length xs →
+    before ≡ start ++ map f (take i xs) → more ≡ before ++ f (get_or xs i d) ∷ [] →
+    more ≡ start ++ map f (take (i + 1) xs)
+push_more {X} {Y} f xs i d start before more lt h m =
+    m ∙ ap (λ (ys : List Y). ys ++ f (get_or xs i d) ∷ []) h
+    ∙ append_assoc start (map f (take i xs)) (f (get_or xs i d) ∷ [])
+    ∙ ap (λ (ys : List Y). start ++ ys)
+    (sym (ap (map f) (take_more xs i d lt) ∙ map_push f (take i xs) (get_or xs i d)))
 
 -- at the end all items
 pub put_all : {X Y : Type 0} (f : X → List Y) (xs : List X) (i : ℕ) (start text : List Y) → length xs ≤ i →
