@@ -8,6 +8,7 @@ pub mod LeftBuffers
 pub mod LevelFacts
 pub mod Leveling
 pub mod Lifting
+pub mod Looking
 pub mod PlacedLevels
 pub mod RaisingFacts
 pub mod RaisingSteps

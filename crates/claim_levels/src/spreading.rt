@@ -9,7 +9,7 @@ ghost use Rattle.claim_levels.specs.Placings.{IsPlaced};
 ghost use Rattle.claim_levels.specs.Raisings.{IsRaised, IsRaising};
 
 use crate::placed::Placed;
-use crate::raising::{Raising, put_back};
+use crate::raising::Raising;
 use dsa_model::{Instance, NoMemory};
 use lifetime::Sections;
 use line_index::level_at;
@@ -109,7 +109,7 @@ fn are_few(sections: &Sections, own: &[u32], most: usize) -> bool
 /// Writes each level of the child. Where the placed buffer is the first choice, only buffers that
 /// share a moment with it rise, so the members of its sections alone are gone over, if these are
 /// fewer than the buffers that are left.
-fn raise_all(
+pub(crate) fn raise_all(
     raising: &mut Raising,
     instance: &Instance,
     placed: Placed,
@@ -137,45 +137,4 @@ fn raise_all(
     }
     raise_each(raising, instance, placed, left)?;
     Ok(())
-}
-
-/// Makes the levels of a claim those of its child by b, and notes what changes. After an `Err` they
-/// are those of the claim.
-pub(crate) fn raise_child(
-    raising: &mut Raising,
-    instance: &Instance,
-    sections: &Sections,
-    left: &[u32],
-    b: u32,
-    is_first: bool,
-) -> Result<(), NoMemory>
-    requires low { HasLowChild instance.now raising.old.numbers.items b }
-    requires under { All (λ level. level ≤ raising.old.top) raising.old.numbers.items }
-    requires limit { raising.old.top ≤ 2 ^ 55 }
-    requires sections { AreSectionsOf instance.now sections.now }
-    requires left { AreLeft raising.old.numbers.items left.now }
-    requires first { is_first ≡ true → IsLeastLevel raising.old.numbers.items b }
-    ensures raising { OnOk result
-        (IsRaising instance.now raising.old.numbers.items b raising.new) }
-    ensures done { OnOk result ((c : ℕ) →
-        IsRaised instance.now raising.old.numbers.items b raising.new.numbers.items c) }
-    ensures unchanged { OnErr result ((raising.new.numbers.items ≡ raising.old.numbers.items)
-        × (raising.new.top ≡ raising.old.top)) }
-{
-    let top = raising.top;
-    let offset = raising.numbers[b as usize] - 1;
-    let placed = Placed {
-        buffer: b,
-        offset,
-        end: offset + instance.buffer(b).size(),
-    };
-    raising.changes.clear();
-    match raise_all(raising, instance, placed, sections, left, is_first) {
-        Ok(()) => Ok(()),
-        Err(fault) => {
-            put_back(&mut raising.numbers, &raising.changes);
-            raising.top = top;
-            Err(fault)
-        }
-    }
 }

@@ -1,7 +1,9 @@
 -- What is watched at the claims above the one that the search is at, and the levels of all of them.
-use Rattle.std.proofs.Common.{◌≡◌, ℕ, ◌<◌, List, [], ◌∷◌, ◌++◌, length, reverse, Option, refl, sym, ap, ◌∙◌, subst}
+use Rattle.std.proofs.Common.{◌≡◌, ℕ, ◌<◌, List, [], ◌∷◌, ◌++◌, length, reverse, Option, Some, None, Result, Ok, Err, IfNone, IfOk, IfSome, OnOk, refl, sym, ap, ◌∙◌, subst}
 use Rattle.skyline.proofs.Carrying.{last_of_append}
+use Rattle.line_index.specs.Covered.{IsCoveredBy, NoneCovers}
 use Rattle.line_index.proofs.Rising.{child_raised}
+use Rattle.line_index.proofs.WatchLemmas.{raised_refl}
 use Rattle.claim_levels.proofs.AllLevels.{levels_are, levels_of_are}
 use Rattle.claim_levels.specs.Levels.{levels_of}
 use Rattle.claim_levels.specs.Trails.{Tracks}
@@ -9,7 +11,7 @@ use Rattle.branching.specs.Logs.{Extends}
 use Rattle.branching.specs.Tries.{Tried, chosen_of}
 use Rattle.branching.proofs.Descent.{is_instance}
 use Rattle.search_core.specs.Descents.{Descends, IsPath, above_of, claim_at}
-use Rattle.search_core.specs.Walks.{HasWatches, child_by, place_of, place_on, tracks_below, tracks_of}
+use Rattle.search_core.specs.Walks.{HasWatches, IsLookedUp, child_by, place_of, place_on, tracks_below, tracks_of}
 use Rattle.search_core.specs.Watches.{AreWatchedAbove, AreWatchedAlong, AreWatchedTo}
 use Rattle.search_core.specs.Ways.{Way}
 use Rattle.search_core.specs.declared.walk.Walk.{Walk}
@@ -94,29 +96,53 @@ module _ (I : Instance) (C : ℕ) (lines : List Line) (walk : Walk) (p : IsPath 
   pub levels_here : IsClaim I (claim_at (place_of walk)) → AreLevels I (claim_at (place_of walk)) walk.trail.last
   levels_here claim = rw last_levels (levels_of_are I (claim_at (place_of walk)) claim)
 
+  all_here : AreWatchedTo lines walk.watches walk.path (length lines) →
+      AreWatched lines walk.watches walk.trail.last (length lines)
+  all_here held = subst (λ (levels : List ℕ). AreWatched lines walk.watches levels (length lines))
+      (sym (ap (λ (t : Tracks). t.last) h.tracks)) held
+
   -- a child of it is looked up, where watches move
-  module _ (s : Stands I (claim_at (place_of walk))) (b : ℕ) (levels : List ℕ)
-      (child : AreLevels I (child_by I walk b) levels) where
-    pub raised_below : AreRaised walk.trail.last levels
-    raised_below = child_raised I (claim_at (place_of walk)) b _ _ (is_instance I _ s) (levels_here s.claim) child
+  module _ (b : ℕ) (t : Tracks) (w : LineWatches) (s : Stands I (claim_at (place_of walk)))
+      (held : AreWatchedTo lines walk.watches walk.path (length lines)) where
+    abbrev next : Walk
+    next = record walk { trail = t; watches = w }
 
-    pub looked_up : (new : LineWatches) → ((above : List ℕ) (n : ℕ) → AreRaised above levels →
-        AreWatched lines walk.watches above n → AreWatched lines new above n) →
-        (AreNoted lines walk.watches.rows → AreNoted lines new.rows) →
-        AreWatchedTo lines walk.watches walk.path (length lines) →
-        AreWatchedAbove lines new walk.path × AreWatchedTo lines new walk.path (length lines)
-    looked_up new kept noted held = (
-      above_kept I C (is_instance I _ s) lines walk.watches new levels kept walk.path walk.line p s.claim
-          (subst (λ (above : List ℕ). AreRaised above levels) last_levels raised_below) noted h.above,
-      kept _ _ (subst (λ (above : List ℕ). AreRaised above levels) (ap (λ (t : Tracks). t.last) h.tracks) raised_below)
-          held,
-    )
+    module _ (kept : (before : List ℕ) (n : ℕ) → AreRaised before walk.trail.last →
+        AreWatched lines walk.watches before n → AreWatched lines w before n)
+        (noted : AreNoted lines walk.watches.rows → AreNoted lines w.rows) where
+      still_above : AreWatchedAbove lines w walk.path
+      still_above = above_kept I C (is_instance I _ s) lines walk.watches w walk.trail.last kept walk.path walk.line p
+          s.claim (subst (λ (before : List ℕ). AreRaised before walk.trail.last) last_levels
+          (raised_refl walk.trail.last)) noted h.above
 
-    pub all_below : AreWatchedTo lines walk.watches walk.path (length lines) →
-        AreWatched lines walk.watches walk.trail.last (length lines)
-    all_below held = subst (λ (above : List ℕ). AreWatched lines walk.watches above (length lines))
-        (sym (ap (λ (t : Tracks). t.last) h.tracks)) held
+      still_here : AreWatchedTo lines w walk.path (length lines)
+      still_here = subst (λ (levels : List ℕ). AreWatched lines w levels (length lines))
+          (ap (λ (t : Tracks). t.last) h.tracks) (kept _ _ (raised_refl walk.trail.last) (all_here held))
 
-    pub track_below : (t : Tracks) → t.last ≡ levels → t.above ≡ walk.trail.last ∷ walk.trail.above →
-        t ≡ tracks_below walk.path (levels_of I (child_by I walk b))
-    track_below t q e = rw (q ∙ levels_are I _ levels child, e, h.tracks) refl
+    pub looked_up : {E : Type 0} (r : Result (Option ℕ) E) →
+        IfOk r (λ o. IfNone o (AreLevels I (child_by I walk b) t.last)) →
+        IfOk r (λ o. IfNone o (t.above ≡ walk.trail.last ∷ walk.trail.above)) →
+        IfOk r (λ o. IfSome o (IsCoveredBy I lines (child_by I walk b))) →
+        IfOk r (λ o. IfSome o (λ _. t ≡ walk.trail)) →
+        (AreNoted lines walk.watches.rows → AreWatched lines walk.watches walk.trail.last (length lines) →
+        IfOk r (λ o. IfNone o (NoneCovers I lines (child_by I walk b)))) →
+        (AreNoted lines walk.watches.rows → AreWatched lines walk.watches walk.trail.last (length lines) →
+        IfOk r (λ o. IfNone o (AreWatched lines w t.last (length lines)))) →
+        ((before : List ℕ) (n : ℕ) → AreRaised before walk.trail.last → AreWatched lines walk.watches before n →
+        IfOk r (λ _. AreWatched lines w before n)) →
+        (AreNoted lines walk.watches.rows → OnOk r (AreNoted lines w.rows)) →
+        IfOk r (IsLookedUp I lines b walk next)
+    looked_up (Ok (Some k)) last above covered stays uncovered watched kept noted = record {
+      covered = covered;
+      watched = record { tracks = stays ∙ h.tracks; above = still_above kept noted };
+      held = still_here kept noted;
+    }
+    looked_up (Ok None) last above covered stays uncovered watched kept noted = record {
+      fresh = uncovered h.above.noted (all_here held);
+      trail = rw (levels_are I _ t.last last, above, h.tracks) refl;
+      child = subst (λ (levels : List ℕ). AreWatched lines w levels (length lines)) (levels_are I _ t.last last)
+          (watched h.above.noted (all_here held));
+      held = still_here kept noted;
+      above = still_above kept noted;
+    }
+    looked_up (Err e) last above covered stays uncovered watched kept noted = tt

@@ -26,7 +26,7 @@ use claim_levels::Trail;
 use conflicts::Lemmas;
 use dsa_model::Fail;
 use lifetime::Sections;
-use line_index::{Recent, Watches};
+use line_index::Watches;
 use skyline::Skyline;
 use std::alloc::Global;
 
@@ -139,13 +139,11 @@ pub(crate) fn search(
 {
     let sky = Skyline::new(alloc, task.instance, sections, members)?;
     let trail = Trail::of(alloc, &sky)?;
-    let recent = Recent::new(alloc, task.instance.len())?;
     let watches = Watches::new(alloc, task.capacity);
     let mut walk = Walk {
         path: Path::new(alloc, sky),
         trail,
         line: None,
-        recent,
         watches,
     };
     'turns: loop {

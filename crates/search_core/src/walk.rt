@@ -19,17 +19,16 @@ use canonical_order::Lows;
 use claim_levels::Trail;
 use conflicts::Lemmas;
 use dsa_model::NoMemory;
-use line_index::{Recent, Watches};
+use line_index::Watches;
 use std::alloc::Global;
 
 /// Where a search is, the levels of the claims down to that one, the number of a line that covers
-/// the claim there, if one is known, the lines that covered last, and the watches of all lines.
+/// the claim there, if one is known, and the watches of all lines.
 #[derive(Drop)]
 pub(crate) struct Walk<'a> {
     pub(crate) path: Path<'a>,
     pub(crate) trail: Trail,
     pub(crate) line: Option<u64>,
-    pub(crate) recent: Recent,
     pub(crate) watches: Watches,
 }
 
@@ -58,28 +57,15 @@ impl<'a> Walk<'a> {
             IfOk result (IsLookedUp I log.now.lines b self.old self.new) }
     {
         let _count = self.path.instance().len();
-        let levels = self.trail.levels();
-        if let Some(line) = self
-            .recent
-            .find(log.log(), task.instance, levels.as_slice(), b)
-        {
-            return Ok(Some(line));
-        }
-        let sections = self.path.sky().sections();
-        self.trail
-            .descend(alloc, task.instance, sections, b, is_first)?;
-        let levels = self.trail.levels();
-        match self
-            .watches
-            .find(log.log(), levels.as_slice(), self.trail.raised())?
-        {
-            Some(line) => {
-                self.trail.ascend()?;
-                self.recent.note(b, line);
-                Ok(Some(line))
-            }
-            None => Ok(None),
-        }
+        self.trail.descend(
+            alloc,
+            task.instance,
+            self.path.sky().sections(),
+            log.log(),
+            &mut self.watches,
+            b,
+            is_first,
+        )
     }
 
     /// Refutes the claim that the search is at by a line: no line covers it, and each of its
@@ -216,8 +202,7 @@ impl<'a> Walk<'a> {
             OnOk result (GoesOn I C f log.old log.new self.old self.new) }
     {
         let _count = self.path.instance().len();
-        self.trail.ascend()?;
-        self.recent.note(kept.chosen, k);
+        self.trail.ascend(log.log(), k)?;
         let levels = self.trail.levels();
         let asked = kept.notes.asked;
         if let Some(line) = self.watches.ask(log.log(), levels.as_slice(), asked)? {

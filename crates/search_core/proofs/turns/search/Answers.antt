@@ -10,12 +10,11 @@ pub turns-init : goal.turns-init
 turns-init c =
     let s = started c.args.task.now.instance.now c.args.task.now.capacity c.args.sections.now c.args.members.now
     c.args.log.now.lines (record {
-      path = c.new-3.result;
+      path = c.new-2.result;
       trail = c.in_ok-trail.trail;
       line = None;
-      recent = c.in_ok-recent.recent;
       watches = c.new-watches.result;
-    }) c.requires.empty (rw c.in_ok-sky.ensures at c.new-3.ensures) refl c.new-watches.ensures
+    }) c.requires.empty (rw c.in_ok-sky.ensures at c.new-2.ensures) refl c.new-watches.ensures
     (rw c.in_ok-sky.ensures at c.in_ok-trail.ensures.last) c.in_ok-trail.ensures.above in
     record {
       log = c.requires.log;
@@ -28,8 +27,8 @@ turns-init c =
       taken = inl refl;
       units = omega arith;
       left = omega (arith, s.owed);
-      counted = more_by_nothing c.args.meter.now (due_lines c.args.log.now.lines c.new-3.result)
-          (rw (c.requires.empty, c.new-3.ensures) refl);
+      counted = more_by_nothing c.args.meter.now (due_lines c.args.log.now.lines c.new-2.result)
+          (rw (c.requires.empty, c.new-2.ensures) refl);
     }
 
 pub turns-preserved : goal.turns-preserved

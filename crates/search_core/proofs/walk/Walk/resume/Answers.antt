@@ -24,7 +24,7 @@ stands c = rw (c.instance.ensures.value, c.requires.opened.path.subject) at c.in
 
 -- the walk, once it is asked
 abbrev asked : (c : In_ok-line) → Walk
-asked c = record c.args.self.now { trail = c.ascend.new.self; recent = c.note.new.self; watches = c.ask.new.self }
+asked c = record c.args.self.now { trail = c.ascend.new.self; watches = c.ask.new.self }
 
 tracks : (c : In_ok-line) → c.ascend.new.self ≡ tracks_of c.args.self.now.path
 tracks c = c.in_ok-ascend.ensures.some _ _ (ap (λ (t : Tracks). t.above) c.requires.trail.1)
@@ -37,10 +37,10 @@ watched : (c : In_ok-line) → HasWatches c.args.log.now.lines (asked c)
 watched c = record {
   tracks = tracks c;
   above = above_kept _ _ (is_instance _ _ (stands c)) _ _ _ _
-      (rw (c.as_slice.ensures.value, c.log.ensures) at c.in_ok-line.ensures.kept) c.args.self.now.path
+      (rw (c.as_slice.ensures.value, c.log-2.ensures) at c.in_ok-line.ensures.kept) c.args.self.now.path
       c.args.self.now.line c.requires.opened.path (stands c).claim
       (subst (λ (xs : List ℕ). AreRaised xs c.levels-levels.result) (levels_are _ _ _ (levels c))
-      (raised_refl c.levels-levels.result)) (rw c.log.ensures at c.in_ok-line.ensures.noted) c.requires.above;
+      (raised_refl c.levels-levels.result)) (rw c.log-2.ensures at c.in_ok-line.ensures.noted) c.requires.above;
 }
 
 pub returns-in-Some : goal.returns-in-Some
@@ -48,7 +48,7 @@ returns-in-Some c =
     let I = c.args.task.now.instance.now in
     let l = claim_at (place_of c.args.self.now) in
     let d = (goal.at.returns-in-Some c).In_ok-line in
-    let h = (rw (c.as_slice.ensures.value, c.log.ensures, c.in-Some.is) at c.in_ok-line.ensures.some) I l (levels d) in
+    let h = (rw (c.as_slice.ensures.value, c.log-2.ensures, c.in-Some.is) at c.in_ok-line.ensures.some) I l (levels d) in
     let same = extends_none l c.args.log.now.lines in
     record {
       log = c.requires.log;
@@ -63,9 +63,9 @@ returns-in-Some c =
 pub frame-requires : goal.frame-requires
 frame-requires c = (levels (goal.at.frame-requires c).In_ok-line).count
 
-pub note-requires-2 : goal.note-requires-2
-note-requires-2 c =
-    let d = (goal.at.note-requires-2 c).In_ok-line in
+pub note-requires : goal.note-requires
+note-requires c =
+    let d = (goal.at.note-requires c).In_ok-line in
     rw (c.in_ok-frame.ensures _ (levels d) c.requires.kept.order) c.requires.kept.left
 
 trying : (c : In_ok-line) → IsTrying c.args.task.now.instance.now c.args.task.now.capacity c.args.log.now.lines
@@ -78,7 +78,7 @@ pub proceed-requires-clause-ready : goal.proceed-requires-clause-ready
 proceed-requires-clause-ready c =
     let d = (goal.at.proceed-requires-clause-ready c).In_ok-line in
     let o = c.requires.opened in
-    let uncovered = rw (c.as_slice.ensures.value, c.log.ensures, c.in_default.is) at c.in_ok-line.ensures.uncovered in
+    let uncovered = rw (c.as_slice.ensures.value, c.log-2.ensures, c.in_default.is) at c.in_ok-line.ensures.uncovered in
     rw (c.ask_to.ensures, c.in_ok-note.ensures, c.in_ok-frame.ensures _ (levels d) c.requires.kept.order) (record {
       opened = record {
         path = o.path;
@@ -86,7 +86,7 @@ proceed-requires-clause-ready c =
         trying = trying_asked _ _ _ _ _ c.len.result (trying d);
       };
       fresh = uncovered _ _ (levels d) (rw (c.levels-levels.ensures, tracks d) c.requires.held);
-      asked = rw c.log-2.ensures at c.len.ensures.value;
+      asked = rw c.log-3.ensures at c.len.ensures.value;
     })
 
 pub proceed-requires-clause-watched : goal.proceed-requires-clause-watched
@@ -95,13 +95,13 @@ proceed-requires-clause-watched c = watched (goal.at.proceed-requires-clause-wat
 pub returns : goal.returns
 returns c =
     let d = (goal.at.returns c).In_ok-line in
-    let none = rw (c.as_slice.ensures.value, c.log.ensures, c.in_default.is, c.levels-levels.ensures, tracks d)
+    let none = rw (c.as_slice.ensures.value, c.log-2.ensures, c.in_default.is, c.levels-levels.ensures, tracks d)
     at c.in_ok-line.ensures.none in
     let q = c.in_ok-frame.ensures _ (levels d) c.requires.kept.order in
     on_ok_weaker c.proceed.result (goes_on _ _ c.args.log.now _ _ (asked d) _ (record {
       trying = trying_asked _ _ _ _ _ c.len.result (trying d);
       less = le_refl _;
-      asked = rw c.log-2.ensures at c.len.ensures.value;
+      asked = rw c.log-3.ensures at c.len.ensures.value;
       path = refl;
       line = refl;
       watched = watched d;
