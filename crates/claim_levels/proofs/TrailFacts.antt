@@ -2,7 +2,6 @@
 -- claim of both by the first buffer, which stands at 0, and back up.
 use Rattle.std.proofs.Common.{◌≡◌, ◌+◌, ℕ, zero, suc, ◌<◌, ◌≤◌, ◌^◌, List, [], ◌∷◌, length, slice_index, slice_index_or, inl, inr, refl, sym, ap, subst, arith}
 use Rattle.claim_levels.proofs.Words.{buffer, small_below, Entry, IsIn}
-use Rattle.line_index.specs.Watches.{AreTheRaised}
 use Rattle.claim_levels.specs.declared.placed.Placed.{Placed}
 use Rattle.claim_levels.specs.declared.trail.Step.{Step}
 use Rattle.claim_levels.specs.Children.{AreOfChild}
@@ -76,17 +75,11 @@ module _ (s : Step) (b : s.buffer ≡ 0) (t : s.top ≡ 1) (q : s.changes.items 
     count = refl;
     has = (let k = ap (slice_index both) b in omega (arith, k));
     child = subst (λ (n : ℕ). AreOfChild both n rest) (sym b) second_left;
-    raised = subst (AreTheRaised both rest) (sym q) raised;
     noted = λ e i. noted e (subst (IsIn e) q i);
     under = λ c. (let k = under c in omega (arith, k, t));
     limit = omega (arith, t);
   }
     where
-      raised : AreTheRaised both rest changes
-      raised zero lt = absurd (omega arith)
-      raised (suc zero) lt = inr (inl refl)
-      raised (suc (suc c)) lt = absurd (omega arith)
-
       noted : (e : Entry) → IsIn e changes → e.0 < 2
       noted e (inl p) = let k = ap (λ (e : Entry). e.0) p in omega (arith, k)
       noted e (inr (inl p)) = let k = ap (λ (e : Entry). e.0) p in omega (arith, k)
@@ -137,18 +130,6 @@ not_fewer s h = let k = h.count in omega (arith, k)
 
 not_of_another : (s : Step) → s.buffer ≡ 1 → IsStep both rest s → ⊥
 not_of_another s b h = let k = h.child.own in let m = ap (slice_index rest) b in omega (arith, k, m)
-
-not_unnoted : (s : Step) → s.changes.items ≡ (0, 1) ∷ [] → IsStep both rest s → ⊥
-not_unnoted s q h = elim (subst (λ (cs : List Entry). IsIn (1, 1) cs) q (h.raised 1 (omega arith))) [
-  | inl p ↦ (let k = ap (λ (e : Entry). e.0) p in omega (arith, k))
-  | inr z ↦ z
-]
-
-not_with_the_level_below : (s : Step) → s.changes.items ≡ (1, 5) ∷ [] → IsStep both rest s → ⊥
-not_with_the_level_below s q h = elim (subst (λ (cs : List Entry). IsIn (1, 1) cs) q (h.raised 1 (omega arith))) [
-  | inl p ↦ (let k = ap (λ (e : Entry). e.1) p in omega (arith, k))
-  | inr z ↦ z
-]
 
 no_third_buffer : (s : Step) → s.changes.items ≡ (2, 0) ∷ [] → IsStep both rest s → ⊥
 no_third_buffer s q h =

@@ -39,7 +39,6 @@ module _ (I : Instance) (levels : List ℕ) (b top : ℕ) (r : Raising) (s : Ste
           let n = ap (slice_index levels) e in
           omega (arith, k, n));
       child = subst (λ (b : ℕ). AreOfChild levels b r.numbers.items) (sym e) (raised_child I levels b r low h done);
-      raised = λ c lt. subst (IsIn (c, slice_index levels c)) (sym q) (h.noted c (λ p. omega (arith, p, lt)));
       noted = λ c i. some_within levels c.0 (h.some c (subst (IsIn c) q i));
       under = λ c. (let k = under_each levels top led.under c in omega (arith, k, t));
       limit = (let k = led.limit in omega (arith, k, t));

@@ -1,7 +1,6 @@
 -- The levels of the claims down to one, by those of the last one and what changed on the way.
 use Rattle.std.specs.Prelude.{◌≡◌, ℕ, ◌<◌, ◌≤◌, ◌^◌, ⊤, List, [], ◌∷◌, length, reverse, slice_index, slice_set}
 use Rattle.dsa_terms.specs.Claims.{Entry, IsIn}
-use Rattle.line_index.specs.Watches.{AreTheRaised}
 use Rattle.claim_levels.specs.declared.trail.Step.{Step}
 use Rattle.claim_levels.specs.Children.{AreOfChild}
 use Rattle.claim_levels.specs.Levels.{AreLed}
@@ -35,9 +34,7 @@ pub record IsStep (old new : List ℕ) (s : Step) : Type 0 where
   pub has : 0 < slice_index old s.buffer
   -- the others that have a level have one still
   pub child : AreOfChild old s.buffer new
-  -- what rose is noted
-  pub raised : AreTheRaised old new s.changes.items
-  -- and nothing that is no buffer
+  -- nothing is noted that is no buffer
   pub noted : (e : Entry) → IsIn e s.changes.items → e.0 < length old
   -- no level of the claim is above the top
   pub under : (c : ℕ) → slice_index old c ≤ s.top

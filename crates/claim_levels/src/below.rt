@@ -1,4 +1,4 @@
-//! The levels of a child that no line covers.
+//! The levels of a child, and a line that covers it.
 
 ghost use Rattle.std.specs.Prelude.{◌≡◌, ◌≤◌, ◌^◌, ℕ, List, IfNone, IfOk, IfSome, OnErr, OnOk, length, true};
 ghost use Rattle.std.specs.List.{All};
@@ -66,8 +66,8 @@ fn look_below(
     watches.find(log, &raising.numbers, &raising.changes)
 }
 
-/// Makes the levels of a claim those of its child by b, and notes what changes, unless a line
-/// covers the child. Where one does, and after an `Err`, they are those of the claim.
+/// Makes the levels of a claim those of its child by b, and notes what changes, unless a line is
+/// found that covers the child. Where one is, and after an `Err`, they are those of the claim.
 pub(crate) fn raise_child(
     raising: &mut Raising,
     instance: &Instance,

@@ -1,6 +1,6 @@
 //! The levels of a child, one buffer after another.
 
-ghost use Rattle.std.specs.Prelude.{◌≡◌, ◌≤◌, ◌^◌, ℕ, ◌<◌, List, OnErr, OnOk, slice_index, true};
+ghost use Rattle.std.specs.Prelude.{◌≡◌, ℕ, ◌<◌, List, OnOk, slice_index, true};
 ghost use Rattle.std.specs.List.{All};
 ghost use Rattle.dsa_terms.specs.Claims.{IsIn};
 ghost use Rattle.lifetime.specs.SectionList.{AreSectionsOf, count_of, members_of, sections_of};

@@ -1,6 +1,6 @@
 //! The levels of the claims down to one, kept as those of the last one and what changed on the way.
 
-ghost use Rattle.std.specs.Prelude.{◌≡◌, ◌∷◌, ◌++◌, ℕ, [], List, IfNone, IfOk, IfSome, OnErr, OnOk, length, true};
+ghost use Rattle.std.specs.Prelude.{◌≡◌, ◌∷◌, ℕ, [], List, IfNone, IfOk, IfSome, OnErr, OnOk, length, true};
 ghost use Rattle.dsa_terms.specs.Claims.{Claim as ClaimTerm, child as child_of};
 ghost use Rattle.lifetime.specs.SectionList.{AreSectionsOf};
 ghost use Rattle.canonical_order.specs.Claims.{entry_of};
@@ -42,8 +42,9 @@ pub(crate) struct Step {
 /// notes what it changed, and the way back up undoes that. Lists of changes that are no longer
 /// needed are kept as spares, so that going up and down takes no memory anew. All changes together
 /// take up to 16 bytes for each pair of buffers, so 134 MB for 4,096, and as much again for room.
-/// Beside them stand the lines that covered last where a buffer was chosen, which are tried first.
-/// Contracts see all levels.
+/// Beside them stand the lines that covered last where a buffer was chosen, which are tried first,
+/// and which buffers the claim has, as bits, which show that some need not be tried. Contracts see
+/// all levels.
 #[derive(Drop)]
 pub struct Trail {
     raising: Raising,
@@ -99,13 +100,15 @@ impl Trail {
         Levels::of(&self.raising.numbers, &self.left, self.raising.top)
     }
 
-    /// Goes down to the child by the buffer, which is in the last claim, unless a line covers it:
-    /// then the line is given, and all is as before. No bound of the child may be above 2^54, and
-    /// where `is_first` is yes, the buffer is the one of least low, and of these the one of least
-    /// number: then only the members of its sections are gone over, where these are fewer than the
-    /// buffers that are left. Where each mark has a note of its line, and all lines are watched at
-    /// the last claim, then no line covers the child that is gone down to, and all are watched
-    /// there. What is watched at claims above stays so. After an `Err` all levels are as before.
+    /// Goes down to the child by the buffer, which is in the last claim, unless a line is found that
+    /// covers the child: then the line is given, and all levels are as before. Where each mark has a
+    /// note of its line, and all lines are watched at the last claim, no line covers a child that is
+    /// gone down to, and all are watched there. What is watched at the last claim and at claims
+    /// above stays so, and marks that each have a note of their line keep one. No bound of the child
+    /// may be above 2^54, and where `is_first` is yes, the buffer is the one of least low, and of
+    /// these the one of least number: then only the members of its sections are gone over, where
+    /// these are fewer than the buffers that are left. After an `Err` all levels are as before, and
+    /// nothing is said of what is watched.
     pub fn descend(
         &mut self,
         alloc: Global,

@@ -38,15 +38,6 @@ fn seen_line(log: &Log, line: u64) -> Seen {
     Seen { line, bits }
 }
 
-/// The places of the lines that have none of the missing buffers, as bits.
-fn places_of(row: &[Seen; KEPT], missing: u64) -> u32 {
-    let mut places = 0;
-    for i in 0..KEPT {
-        places |= ((row[i].bits & missing == 0) as u32) << i as u32;
-    }
-    places
-}
-
 /// Yes only where the log has the line of that number, and it covers the child by b of the claim of
 /// the levels.
 fn is_child_covered_by(log: &Log, instance: &Instance, levels: &[u64], b: u32, k: u64) -> bool
@@ -115,16 +106,11 @@ impl Recent {
     {
         if (b as usize) < self.rows.len() {
             let row = &self.rows[b as usize];
-            let mut places = places_of(row, missing);
-            for _ in 0..KEPT {
-                let i = places.trailing_zeros() as usize;
-                if KEPT <= i {
-                    return None;
+            for i in 0..KEPT {
+                let Seen { line, bits } = row[i];
+                if bits & missing == 0 && is_child_covered_by(log, instance, levels, b, line) {
+                    return Some(line);
                 }
-                if is_child_covered_by(log, instance, levels, b, row[i].line) {
-                    return Some(row[i].line);
-                }
-                places &= places.wrapping_sub(1);
             }
         }
         None

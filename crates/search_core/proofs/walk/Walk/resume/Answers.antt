@@ -48,7 +48,8 @@ returns-in-Some c =
     let I = c.args.task.now.instance.now in
     let l = claim_at (place_of c.args.self.now) in
     let d = (goal.at.returns-in-Some c).In_ok-line in
-    let h = (rw (c.as_slice.ensures.value, c.log-2.ensures, c.in-Some.is) at c.in_ok-line.ensures.some) I l (levels d) in
+    let h = (rw (c.as_slice.ensures.value, c.log-2.ensures, c.in-Some.is) at c.in_ok-line.ensures.some) I l
+    (levels d) in
     let same = extends_none l c.args.log.now.lines in
     record {
       log = c.requires.log;
