@@ -15,11 +15,8 @@ use refute_log::{Cite, Log};
 use std::alloc::{AllocError, Global};
 use std::mem;
 
-/// How many walks are begun after the first one, to find a smaller part, at most.
+/// How many walks are begun after the first one, to find a smaller part.
 const MORE_WALKS: usize = 8;
-
-/// After so many walks in a row that find no smaller part no other is begun.
-const VAIN_WALKS: usize = 3;
 
 /// A claim with a cite for each of its buffers.
 #[derive(Drop)]
@@ -202,18 +199,15 @@ fn small_part(
     let met = Vec::with_capacity(alloc, count)?;
     let mut spare = Vec::with_capacity(alloc, count)?;
     let mut best = walk_from(log, lows, &cites, unmet, first, usize::MAX, met)?;
-    let mut vain = 0;
     for back in 1..=MORE_WALKS {
         let fewest = best.met.len();
-        if fewest < back || VAIN_WALKS <= vain {
+        if fewest < back {
             break;
         }
-        vain += 1;
         let start = best.met[fewest - back];
         let mut walk = walk_from(log, lows, &cites, unmet, start, fewest, spare)?;
         if walk.met.len() < fewest {
             mem::swap(&mut best, &mut walk);
-            vain = 0;
         }
         spare = walk.met;
     }
