@@ -2,6 +2,7 @@
 use Rattle.std.proofs.Common.{ℕ}
 use Rattle.branching.proofs.Words.{buffer, do_share, have_same_moments, is_live, some_before, child, step, up, ends_below, is_twin, is_cut, last_cut, part_of, parts, searched, comes_before, first, is_tall, work}
 use Rattle.dsa_terms.specs.Plans.{layout_height}
+use Rattle.dsa_terms.specs.Parts.{is_first, are_parted, are_uncut}
 use Rattle.branching.specs.Trying.{through}
 
 -- the first layout of a claim
@@ -17,5 +18,5 @@ computing_work = 0
 
 -- the layout of all parts, and its height
 unfoldable pub computing_searched : ℕ
-unfolding computing_first searched parts part_of last_cut is_cut layout_height
+unfolding computing_first searched parts part_of is_first are_uncut are_parted is_cut layout_height
 computing_searched = 0

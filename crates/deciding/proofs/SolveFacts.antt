@@ -1,10 +1,11 @@
 -- What `solve` concludes of two buffers whose best start ends at 5, and whose lower bound and least capacity are 4.
 use Rattle.std.proofs.Common.{◌≡◌, ℕ, List, length, map, [], ◌∷◌, Option, Some, None, refl, sym, ap, subst, lit≤, arith}
-use Rattle.dsa_terms.specs.Bounds.{counted, highest_stack, lower_bound, moduli, moments, rounded_size, stack, stack_log, pile, heights, highest_at}
+use Rattle.dsa_terms.specs.Bounds.{counted, highest_stack, lower_bound, moduli, moments, stack, stack_log, heights, highest_at}
 use Rattle.dsa_terms.specs.Buffers.{buffer, is_live, floor}
-use Rattle.dsa_terms.specs.Logs.{Log}
+use Rattle.dsa_terms.specs.Logs.{Log, is_stacked, rounded, rounding}
 use Rattle.dsa_terms.proofs.ExamplePlanFacts.{small_below_plan_at_4}
 use Rattle.dsa_terms.proofs.Examples.{evens, sample, small_below}
+use Rattle.dsa_terms.specs.Claims.{up}
 use Rattle.planner.specs.Openings.{AreGiven}
 use Rattle.planner.proofs.ExampleLeastFacts.{below_best, below_bound, below_log, four_is_open}
 use Rattle.planner.proofs.ShortageFacts.{four_of_four, short_of_four_steps}
@@ -77,8 +78,8 @@ not_to_the_output h =
 
 -- four steps are too few for a log of five lines
 evens_bound : lower_bound evens ≡ 4
-unfolding lower_bound highest_stack highest_at heights moduli moments stack pile counted floor rounded_size is_live
-    buffer
+unfolding lower_bound highest_stack highest_at heights moduli moments stack counted is_stacked rounded rounding up
+    floor is_live buffer
 evens_bound = refl
 
 not_refuted_with_four_steps : IsProofWithin evens 4 (Some 4) sample → ⊥

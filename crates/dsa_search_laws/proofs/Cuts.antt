@@ -45,7 +45,7 @@ none_at_zero (x ∷ xs) = go (none_at_zero xs) (nat_lt x.lower 0) (zero_below x.
     go ih false q = ih
 
 last_cut_is : (I : Instance) (t : ℕ) → is_cut I (last_cut I t) ≡ true
-unfolding is_cut last_cut
+unfolding is_cut
 last_cut_is I zero = ap not (none_at_zero I)
 last_cut_is I (suc t) = go (last_cut_is I t) (is_cut I (suc t)) refl
   where
@@ -55,7 +55,7 @@ last_cut_is I (suc t) = go (last_cut_is I t) (is_cut I (suc t)) refl
     go ih false q = ih
 
 pub last_cut_le : (I : Instance) (t : ℕ) → last_cut I t ≤ t
-unfolding last_cut
+unfolding
 last_cut_le I zero = omega arith
 last_cut_le I (suc t) = go (last_cut_le I t) (is_cut I (suc t))
   where
@@ -64,7 +64,7 @@ last_cut_le I (suc t) = go (last_cut_le I t) (is_cut I (suc t))
     go ih false = omega arith
 
 last_cut_is_greatest : (I : Instance) (t s : ℕ) → is_cut I s ≡ true → s ≤ t → s ≤ last_cut I t
-unfolding last_cut
+unfolding
 last_cut_is_greatest I zero s h le = omega arith
 last_cut_is_greatest I (suc t) s h le = go (last_cut_is_greatest I t s h) (is_cut I (suc t)) refl
   where

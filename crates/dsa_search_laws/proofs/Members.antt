@@ -3,7 +3,7 @@ use Rattle.std.proofs.Common.{◌≡◌, ℕ, suc, ◌<◌, ◌≤◌, true, not
 use Rattle.dsa_terms.specs.Buffers.{Buffer, Instance, buffer, floor}
 use Rattle.dsa_terms.specs.Claims.{Entry, IsIn, buffers_of, IsClaim, IsWhole}
 use Rattle.dsa_terms.specs.Logs.{greatest}
-use Rattle.dsa_terms.specs.Parts.{part_of, numbers, members, is_empty, parts, whole}
+use Rattle.dsa_terms.specs.Parts.{part_of, numbers, members, is_empty, parts, whole, is_first, are_parted, are_uncut}
 use Rattle.dsa_terms.proofs.Lists.{into_map, from_map, into_filter, from_filter}
 use Rattle.dsa_terms.proofs.NumberTests.{equal, same}
 use Rattle.dsa_terms.proofs.Ranges.{from_range, into_range, rises-range, rises-filter_numbers}
@@ -26,7 +26,7 @@ empty_false [] b i = absurd i
 empty_false (x ∷ xs) b i = refl
 
 pub part_is_in : (I : Instance) (b : ℕ) → b < length I → IsIn (members I (part_of I b)) (parts I)
-unfolding parts part_of
+unfolding parts part_of is_first are_uncut are_parted
 part_is_in I b lt =
     into_filter (λ p. not (is_empty p)) (map (members I) (numbers (suc (greatest (map (λ (b : Buffer). b.lower) I)))))
     (members I (part_of I b))

@@ -97,7 +97,7 @@ unrounded x = omega arith
 pub stack_by_one : (I : Instance) (p : List ℕ) →
     sum_by (rounded_size I 1) p - greatest (map (λ b. rounded_size I 1 b - (buffer I b).size) p) ≡ sum_by
     (λ b. (buffer I b).size) p
-unfolding rounded_size
+unfolding
 stack_by_one I p = let z = no_roundings p in let s = sums p in omega arith
   where
     no_roundings : (p : List ℕ) → greatest (map (λ b. next_multiple_of (buffer I b).size 1 - (buffer I b).size) p) ≡ 0
@@ -119,7 +119,7 @@ in_sum f (c ∷ cs) b (inl q) = rw (sum_by-cons f c cs) (let k : f b ≡ f c = a
 in_sum f (c ∷ cs) b (inr i) = rw (sum_by-cons f c cs) (let k = in_sum f cs b i in omega arith)
 
 positive_pile : (I : Instance) (t b : ℕ) → IsInstance I → b < length I → IsLive (buffer I b) t → 1 ≤ pile I t 0 1
-unfolding pile
+unfolding
 positive_pile I t b s lt live =
     let q = stack_by_one I (counted I t 0 1) in
     let k = in_sum (λ b. (buffer I b).size) (counted I t 0 1) b (one_counts I t b lt live) in

@@ -4,8 +4,8 @@ use Rattle.std.specs.List.{range_with_len}
 use Rattle.std.specs.Option.{unwrap_or}
 use Rattle.std.proofs.lemmas.List.Sums.{sum_by-cons}
 use Rattle.dsa_terms.specs.Buffers.{Buffer, Instance, buffer, is_live, IsLive, floor}
-use Rattle.dsa_terms.specs.Claims.{IsIn}
-use Rattle.dsa_terms.specs.Logs.{greatest}
+use Rattle.dsa_terms.specs.Claims.{IsIn, up}
+use Rattle.dsa_terms.specs.Logs.{greatest, is_stacked, rounded, rounding}
 use Rattle.dsa_terms.specs.Parts.{numbers}
 use Rattle.dsa_terms.specs.Plans.{load}
 use Rattle.dsa_terms.specs.Bounds.{counted, rounded_size, pile, stack, moduli, heights, moments, highest_at, highest_stack, lower_bound, least_of, bound_modulus}
@@ -52,7 +52,7 @@ record IsWithin (I : Instance) (t H s K G : ℕ) : Type 0 where
 
 pile_within : (I : Instance) (t H s K G : ℕ) →
     ((b : ℕ) → IsIn b (counted I t H G) → IsIn b (counted I s K G)) → pile I t H G ≤ pile I s K G
-unfolding pile counted
+unfolding counted is_stacked rounded rounding up
 pile_within I t H s K G w =
     close (sum_by f (filter p all)) (greatest (map g (filter p all))) (sum_by f (filter q all))
     (greatest (map g (filter q all))) (r.less) (greatest_in_sum f g (filter q all) low)
@@ -334,14 +334,14 @@ all_by_one I t = same (numbers (length I))
     ) refl
 
 pub load_is_pile : (I : Instance) (t : ℕ) → pile I t 0 1 ≡ load I t
-unfolding pile load
+unfolding load
 load_is_pile I t =
     stack_by_one I (counted I t 0 1) ∙ (ap (λ p. sum_by (λ b. (buffer I b).size) p) (all_by_one I t)
     ∙ sizes_from I (λ b. is_live b t) 0 I (λ i lt. let e : 0 + i ≡ i = omega arith in rw e refl))
 
 -- where nothing is counted there is no pile
 no_pile : (I : Instance) (t H G : ℕ) → counted I t H G ≡ [] → pile I t H G ≡ 0
-unfolding pile
+unfolding
 no_pile I t H G e = rw e refl
 
 pub load_is_stack : (I : Instance) (t : ℕ) → stack I t 0 1 ≡ load I t

@@ -5,7 +5,7 @@ use Rattle.std.proofs.lemmas.Bool.Decides.{nat_tests}
 use Rattle.dsa_terms.specs.Buffers.{Instance, buffer, IsInstance, floor}
 use Rattle.dsa_terms.specs.Layouts.{IsApart}
 use Rattle.dsa_terms.specs.Claims.{Entry, IsIn}
-use Rattle.dsa_terms.specs.Fits.{top, highest, is_free, first_passing, FitRule, first_place, Range, stretches, free_ranges, least_from, holds, tightest, start_in, best_place}
+use Rattle.dsa_terms.specs.Fits.{top, highest, is_free, first_passing, FitRule, first_place, Range, stretches, free_ranges, least_from, holds, tightest, start_in, best_place, is_clear}
 use Rattle.dsa_terms.proofs.Numbers.{next_is_least, next_is_multiple, multiple_sum, multiple_steps}
 use Rattle.dsa_terms.proofs.Lists.{from_filter, all_at, all_from}
 use Rattle.dsa_terms.proofs.Moments.{and_true, sound}
@@ -18,7 +18,7 @@ use Rattle.dsa_search_laws.proofs.Members.{lowest_to_floor}
 -- ---- the first multiple that passes
 pub passing_passes : (test : ℕ → Bool) (a n x : ℕ) → 1 ≤ a → ((y : ℕ) → x + n ≤ y → test y ≡ true) →
     test (first_passing test a n x) ≡ true
-unfolding first_passing
+unfolding is_clear least_from
 passing_passes test a zero x pos h = h x (omega arith)
 passing_passes test a (suc n) x pos h = go (passing_passes test a n (x + a) pos (λ y le. h y (omega arith)))
     (test x) refl
@@ -29,7 +29,7 @@ passing_passes test a (suc n) x pos h = go (passing_passes test a n (x + a) pos 
     go ih false e = ih
 
 pub passing_multiple : (test : ℕ → Bool) (a n x : ℕ) → x % a ≡ 0 → a % a ≡ 0 → first_passing test a n x % a ≡ 0
-unfolding first_passing
+unfolding is_clear least_from
 passing_multiple test a zero x h k = h
 passing_multiple test a (suc n) x h k = go (passing_multiple test a n (x + a) (multiple_sum x a a h k) k) (test x)
   where
@@ -39,7 +39,7 @@ passing_multiple test a (suc n) x h k = go (passing_multiple test a n (x + a) (m
 
 pub passing_least : (test : ℕ → Bool) (a n x y : ℕ) → 1 ≤ a → x % a ≡ 0 → a % a ≡ 0 → x ≤ y → y % a ≡ 0 →
     test y ≡ true → first_passing test a n x ≤ y
-unfolding first_passing
+unfolding is_clear least_from
 passing_least test a zero x y pos h k le m t = le
 passing_least test a (suc n) x y pos h k le m t =
     go (λ q. passing_least test a n (x + a) y pos (multiple_sum x a a h k) k q m t) (test x) refl
@@ -56,7 +56,7 @@ passing_least test a (suc n) x y pos h k le m t =
     ]
 
 pub passing_from : (test : ℕ → Bool) (a n x : ℕ) → x ≤ first_passing test a n x
-unfolding first_passing
+unfolding is_clear least_from
 passing_from test a zero x = omega arith
 passing_from test a (suc n) x = go (passing_from test a n (x + a)) (test x)
   where

@@ -102,7 +102,7 @@ all_stacked I t H G h = all_pass (is_stacked I t h G) (all_at_bound h (counted I
 
 sum-bound : (I : Instance) (G h : ℕ) (p : List ℕ) →
     sum_by (rounded I G) (all_at_bound h p) ≡ sum_by (rounded_size I G) p
-unfolding rounded rounded_size
+unfolding rounded
 sum-bound I G h [] = refl
 sum-bound I G h (b ∷ bs) = rw (
   sum_by-cons (rounded I G) (b, h) (all_at_bound h bs),
@@ -112,7 +112,7 @@ sum-bound I G h (b ∷ bs) = rw (
 
 roundings-bound : (I : Instance) (G h : ℕ) (p : List ℕ) →
     map (rounding I G) (all_at_bound h p) ≡ map (λ b. rounded_size I G b - (buffer I b).size) p
-unfolding rounding rounded rounded_size
+unfolding rounding rounded
 roundings-bound I G h [] = refl
 roundings-bound I G h (b ∷ bs) = ap (λ ys. rounding I G (b, h) ∷ ys) (roundings-bound I G h bs)
 
@@ -126,7 +126,7 @@ over_pile : (I : Instance) (t H G h : ℕ) →
     h + sum_by (rounded I G) (filter (is_stacked I t h G) (all_at_bound h (counted I t H G)))
     - greatest (map (rounding I G) (filter (is_stacked I t h G) (all_at_bound h (counted I t H G))))
     ≡ h + pile I t H G
-unfolding pile
+unfolding
 over_pile I t H G h =
     rw (all_stacked I t H G h, sum-bound I G h (counted I t H G), roundings-bound I G h (counted I t H G))
     (close h (sum_by (rounded_size I G) (counted I t H G))

@@ -2,7 +2,7 @@
 use Rattle.std.proofs.Common.{◌≡◌, ℕ, ◌+◌, ◌==◌, inl, inr, Bool, true, false, List, [], ◌∷◌, map, Some, None, refl}
 use Rattle.dsa_terms.specs.Buffers.{Buffer, Instance, is_live, buffer, do_share, some_before, floor}
 use Rattle.dsa_terms.specs.Claims.{Entry, IsIn}
-use Rattle.dsa_terms.specs.Fits.{top, highest, neighbours, is_free, first_passing, FitRule, first_place, Range, stretches, free_ranges, holds, is_tighter, tightest, start_in, best_place, fitted, least_from}
+use Rattle.dsa_terms.specs.Fits.{top, highest, neighbours, is_free, FitRule, first_place, Range, stretches, free_ranges, holds, is_tighter, tightest, start_in, best_place, fitted, least_from, is_clear}
 use Rattle.dsa_terms.specs.Sorts.{comes_first, put_by, ordered_by, IsOrdered}
 use Rattle.dsa_terms.specs.Orders.{falls_by, area}
 use Rattle.dsa_terms.proofs.Examples.{plain, evens, gapped, filled, overrun}
@@ -17,9 +17,14 @@ sizes = plain 0 1 1 1 ∷ plain 0 1 1 1 ∷ plain 0 1 1 1 ∷ plain 0 1 2 3 ∷ 
 
 -- the two rules: the lowest place, and the shortest range
 two_rules : map (λ (rule : FitRule). rule sizes 2 taken) (first_place ∷ best_place ∷ []) ≡ 0 ∷ 4 ∷ []
-unfolding first_place floor first_passing best_place free_ranges stretches holds least_from is_tighter is_free highest
+unfolding first_place floor is_clear best_place free_ranges stretches holds least_from is_tighter is_free highest
     top buffer
 two_rules = refl
+
+-- ---- where 3 is clear: at 3 it meets what is taken, and 1 and 2 are no multiples of three
+clear_at : map (is_clear sizes 3 taken) (0 ∷ 1 ∷ 2 ∷ 3 ∷ 6 ∷ []) ≡ true ∷ false ∷ false ∷ false ∷ true ∷ []
+unfolding is_clear is_free top buffer
+clear_at = refl
 
 -- ---- ranges
 unfoldable pub range : ℕ → ℕ → Range
@@ -60,7 +65,7 @@ start_past_all = refl
 
 -- ---- placed in turn, the last first: each beside those alone that it shares a moment with
 evens_fitted : fitted first_place evens (2 ∷ 0 ∷ 1 ∷ []) [] ≡ (1, 4) ∷ (0, 2) ∷ (2, 0) ∷ []
-unfolding neighbours first_place floor first_passing is_free highest top do_share some_before is_live buffer
+unfolding neighbours first_place floor is_clear least_from is_free highest top do_share some_before is_live buffer
 evens_fitted = refl
 
 -- in the gap of the first, and past it
@@ -76,7 +81,7 @@ overrun_fitted = refl
 
 -- beside two that are placed already
 fitted_on : fitted first_place evens (1 ∷ []) ((2, 1) ∷ (0, 0) ∷ []) ≡ (1, 4) ∷ (2, 1) ∷ (0, 0) ∷ []
-unfolding neighbours first_place floor first_passing is_free highest top do_share some_before is_live buffer
+unfolding neighbours first_place floor is_clear least_from is_free highest top do_share some_before is_live buffer
 fitted_on = refl
 
 -- ---- what comes first: the smaller measure, whatever the numbers are, and of equal measures the smaller number; none

@@ -1,10 +1,10 @@
 -- Parts: which buffers no cut lies between, and answers of the parts put together.
-use Rattle.std.proofs.Common.{◌≡◌, ℕ, ◌≤◌, true, false, [], ◌∷◌, Some, None, sym, refl, ap, ◌∙◌, arith}
-use Rattle.dsa_terms.specs.Buffers.{is_live, buffer, do_share, have_same_moments, some_before}
+use Rattle.std.proofs.Common.{◌≡◌, ℕ, true, false, [], ◌∷◌, map, Some, None, refl}
+use Rattle.dsa_terms.specs.Buffers.{Instance, is_live, buffer, do_share, have_same_moments, some_before}
 use Rattle.dsa_terms.specs.Claims.{up, step, child}
 use Rattle.dsa_terms.specs.Logs.{ends_below, is_twin}
 use Rattle.dsa_terms.specs.Search.{is_tall, comes_before, first}
-use Rattle.dsa_terms.specs.Parts.{is_cut, is_empty, Separates, IsUncut, join, first_of_all, offsets_of, offsets_found}
+use Rattle.dsa_terms.specs.Parts.{is_cut, is_empty, are_parted, are_uncut, part_of, is_first, parts, join, first_of_all, offsets_of, offsets_found}
 use Rattle.dsa_terms.proofs.Examples.{plain, five, evens, two_parts}
 
 some_item : is_empty {X = ℕ} (7 ∷ []) ≡ false
@@ -13,41 +13,55 @@ some_item = refl
 no_item : is_empty {X = ℕ} [] ≡ true
 no_item = refl
 
--- ---- a cut at 2 separates a buffer of 0..2 from one of 2..3, and not the other way round; one at 1 does not
-cut_at_2 : Separates 2 (plain 0 2 1 1) (plain 2 3 1 2)
-cut_at_2 = (omega arith, omega arith)
+-- ---- a cut parts two buffers: 2 lies between the first of two parts and the others, and not the other way round
+parted : map (are_parted two_parts 0) (0 ∷ 1 ∷ 2 ∷ 3 ∷ []) ≡ false ∷ true ∷ true ∷ true ∷ []
+unfolding are_parted is_cut buffer
+parted = refl
 
-cut_backwards : Separates 2 (plain 2 3 1 2) (plain 0 2 1 1) → ⊥
-cut_backwards s = let h = s.0 in omega arith
+parted_backwards : map (λ b. are_parted two_parts b 0) (1 ∷ 2 ∷ 3 ∷ []) ≡ false ∷ false ∷ false ∷ []
+unfolding are_parted is_cut buffer
+parted_backwards = refl
 
-cut_at_1 : Separates 1 (plain 0 2 1 1) (plain 2 3 1 2) → ⊥
-cut_at_1 s = let h = s.0 in omega arith
+-- whichever comes first
+uncut : map (λ b. are_uncut two_parts b 1) (0 ∷ 1 ∷ 2 ∷ 3 ∷ []) ≡ false ∷ true ∷ true ∷ true ∷ []
+unfolding are_uncut are_parted is_cut buffer
+uncut = refl
 
-cut_at_3 : Separates 3 (plain 0 2 1 1) (plain 2 3 1 2) → ⊥
-cut_at_3 s = let h = s.1 in omega arith
+uncut_from_first : map (are_uncut two_parts 0) (0 ∷ 1 ∷ 2 ∷ 3 ∷ []) ≡ true ∷ false ∷ false ∷ false ∷ []
+unfolding are_uncut are_parted is_cut buffer
+uncut_from_first = refl
 
 -- 0..3 is followed by 3..9, and a third one is live before 3 and at 3, so that 3 is no cut
-followed_uncut : IsUncut five 0 1
-unfolding is_cut buffer
-followed_uncut = record { forth = λ t c s. forth t c s.0 s.1; back = λ t c s. back t s.0 s.1 }
-  where
-    at : (t : ℕ) → 3 ≤ t → t ≤ 3 → t ≡ 3
-    at t a b = omega arith
+followed_uncut : are_uncut five 0 1 ≡ true
+unfolding are_uncut are_parted is_cut buffer
+followed_uncut = refl
 
-    forth : (t : ℕ) → is_cut five t ≡ true → 3 ≤ t → t ≤ 3 → ⊥
-    forth t c a b = let h : is_cut five 3 ≡ true = ap (is_cut five) (sym (at t a b)) ∙ c in cc
+-- each moment from 2 to 5 is a cut between the two
+abbrev pub paused : Instance
+paused = plain 0 2 1 1 ∷ plain 5 6 1 1 ∷ []
 
-    back : (t : ℕ) → 9 ≤ t → t ≤ 0 → ⊥
-    back t a b = omega arith
+pause_parts : map (are_parted paused 0) (0 ∷ 1 ∷ []) ≡ false ∷ true ∷ []
+unfolding are_parted is_cut buffer
+pause_parts = refl
 
--- 2 is a cut between the first buffer and the second of two parts
-cut_between : IsUncut two_parts 0 1 → ⊥
-unfolding is_cut buffer
-cut_between u = u.forth 2 refl (omega arith, omega arith)
+-- ---- the part of each buffer, and which of them have the smallest number in it
+parts_of_each :
+    map (part_of two_parts) (0 ∷ 1 ∷ 2 ∷ 3 ∷ [])
+    ≡ (0 ∷ []) ∷ (1 ∷ 2 ∷ 3 ∷ []) ∷ (1 ∷ 2 ∷ 3 ∷ []) ∷ (1 ∷ 2 ∷ 3 ∷ []) ∷ []
+unfolding part_of are_uncut are_parted is_cut buffer
+parts_of_each = refl
 
-cut_before : IsUncut two_parts 3 0 → ⊥
-unfolding is_cut buffer
-cut_before u = u.back 2 refl (omega arith, omega arith)
+firsts : map (is_first two_parts) (0 ∷ 1 ∷ 2 ∷ 3 ∷ []) ≡ true ∷ true ∷ false ∷ false ∷ []
+unfolding is_first part_of are_uncut are_parted is_cut buffer
+firsts = refl
+
+-- the parts go by time, and not by number
+abbrev pub later_first : Instance
+later_first = plain 4 7 1 1 ∷ plain 0 2 1 1 ∷ plain 6 9 1 1 ∷ plain 1 3 1 1 ∷ []
+
+by_time : parts later_first ≡ (1 ∷ 3 ∷ []) ∷ (0 ∷ 2 ∷ []) ∷ []
+unfolding parts part_of is_first are_uncut are_parted is_cut buffer
+by_time = refl
 
 -- ---- answers put together: none where one of them is none
 joined : join (Some ((0, 3) ∷ [])) (Some ((1, 4) ∷ (2, 0) ∷ [])) ≡ Some ((0, 3) ∷ (1, 4) ∷ (2, 0) ∷ [])

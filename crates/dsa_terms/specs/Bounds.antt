@@ -1,31 +1,20 @@
 -- The lower bound: sizes that are stacked at one moment, from one height on, rounded up to one modulus.
-use Rattle.std.specs.Prelude.{ℕ, ◌+◌, ◌-◌, ◌%◌, min, cond, ◌==◌, ◌&&◌, nat_le, List, [], ◌∷◌, map, length}
-use Rattle.std.specs.List.{filter, sum_by, reduce}
+use Rattle.std.specs.Prelude.{ℕ, ◌+◌, ◌-◌, ◌%◌, min, cond, ◌==◌, List, [], ◌∷◌, map, length}
+use Rattle.std.specs.List.{filter, reduce}
 use Rattle.std.specs.Option.{unwrap_or}
 use Rattle.std.specs.Int.{next_multiple_of}
-use Rattle.dsa_terms.specs.Buffers.{Buffer, Instance, buffer, is_live, floor}
-use Rattle.dsa_terms.specs.Logs.{greatest, Line, Log, Over}
-use Rattle.dsa_terms.specs.Parts.{is_empty, numbers}
+use Rattle.dsa_terms.specs.Buffers.{Buffer, Instance, floor}
+use Rattle.dsa_terms.specs.Claims.{Claim}
+use Rattle.dsa_terms.specs.Logs.{greatest, stacked, stack_height, Line, Log, Over}
+use Rattle.dsa_terms.specs.Parts.{is_empty, numbers, whole}
 
 -- the buffers that are live at t, cannot start below H, and have an alignment that is a multiple of G
-unfoldable pub counted : Instance → ℕ → ℕ → ℕ → List ℕ
-counted I t H G =
-    filter (λ b. is_live (buffer I b) t && nat_le H (floor (buffer I b)) && ((buffer I b).alignment % G == 0))
-    (numbers (length I))
+unfoldable pub counted : Instance → ℕ → ℕ → ℕ → Claim
+counted I t H G = stacked I (whole I (numbers (length I))) t H G
 
--- the size of b rounded up to a multiple of G
-unfoldable pub rounded_size : Instance → ℕ → ℕ → ℕ
-rounded_size I G b = next_multiple_of (buffer I b).size G
-
--- the sum of the counted sizes rounded up to G, less the greatest single rounding
-unfoldable pub pile : Instance → ℕ → ℕ → ℕ → ℕ
-pile I t H G =
-    sum_by (rounded_size I G) (counted I t H G)
-    - greatest (map (λ b. rounded_size I G b - (buffer I b).size) (counted I t H G))
-
--- H with the pile on it, and 0 where none is counted
+-- where they end, stacked from H on, and 0 where there are none
 unfoldable pub stack : Instance → ℕ → ℕ → ℕ → ℕ
-stack I t H G = cond (is_empty (counted I t H G)) 0 (H + pile I t H G)
+stack I t H G = cond (is_empty (counted I t H G)) 0 (stack_height I H G (counted I t H G))
 
 -- the moduli in question: 1 and the alignments
 unfoldable pub moduli : Instance → List ℕ
@@ -59,13 +48,13 @@ least_of numbers other = unwrap_or (reduce min numbers) other
 unfoldable pub bound_modulus : Instance → ℕ
 bound_modulus I = least_of (filter (λ G. highest_stack I G == lower_bound I) (moduli I)) 1
 
--- the least multiple of G on which the pile from H on is above C
+-- the least multiple of G from which on they end above C
 unfoldable pub line_height : Instance → ℕ → ℕ → ℕ → ℕ → ℕ
-line_height I t H G C = next_multiple_of (C + 1 - pile I t H G) G
+line_height I t H G C = next_multiple_of (C + 1 - stack_height I 0 G (counted I t H G)) G
 
 -- the Over line at t by G of the buffers that are counted from H on, with the height and all bounds h
 unfoldable pub stack_line : Instance → ℕ → ℕ → ℕ → ℕ → Line
-stack_line I t H G h = Over (map (λ b. (b, h)) (counted I t H G)) t h G
+stack_line I t H G h = Over (map (λ e. (e.0, h)) (counted I t H G)) t h G
 
 -- the log of that line alone, as low as it is above C
 unfoldable pub stack_log : Instance → ℕ → ℕ → ℕ → ℕ → Log

@@ -1,13 +1,13 @@
 -- First-fit and best-fit: where a buffer goes beside those that are placed, and an order of buffers placed so.
-use Rattle.std.specs.Prelude.{ℕ, max, zero, suc, ◌+◌, ◌-◌, cond, not, ◌||◌, ◌&&◌, nat_le, nat_lt, Bool, List, [], ◌∷◌, map, Option}
+use Rattle.std.specs.Prelude.{ℕ, max, ◌+◌, ◌-◌, ◌%◌, not, ◌==◌, ◌||◌, ◌&&◌, nat_le, nat_lt, Bool, List, [], ◌∷◌, map, Option}
 use Rattle.std.specs.declared.option.Option.TheVariants.{Some, None}
-use Rattle.std.specs.List.{filter, find, flat_map, list_all}
+use Rattle.std.specs.List.{filter, find, flat_map, list_all, position_or_len}
 use Rattle.std.specs.Int.{next_multiple_of}
-use Rattle.dsa_terms.specs.Buffers.{Instance, buffer, do_share, floor}
+use Rattle.dsa_terms.specs.Buffers.{Instance, buffer, do_share}
 use Rattle.dsa_terms.specs.Claims.{Entry}
 use Rattle.dsa_terms.specs.Sorts.{comes_first}
 use Rattle.dsa_terms.specs.Logs.{greatest}
-use Rattle.dsa_terms.specs.Parts.{offsets_of}
+use Rattle.dsa_terms.specs.Parts.{numbers, offsets_of}
 
 -- where the buffer of a placed entry ends
 unfoldable pub top : Instance → Entry → ℕ
@@ -25,20 +25,22 @@ neighbours I b placed = filter (λ e. do_share (buffer I b) (buffer I e.0)) plac
 unfoldable pub is_free : Instance → List Entry → ℕ → ℕ → Bool
 is_free I placed x y = list_all (λ e. nat_le y e.1 || nat_le (top I e) x) placed
 
--- of x, x + a, x + a + a and so on, the first that passes the test, or the one after n that fail
-unfoldable pub first_passing : (ℕ → Bool) → ℕ → ℕ → ℕ → ℕ
-first_passing test a zero x = x
-first_passing test a (suc n) x = cond (test x) x (first_passing test a n (x + a))
-
 -- a rule gives a buffer its offset beside the placed ones that share a moment with it
 abbrev pub FitRule : Type 0
 FitRule = Instance → ℕ → List Entry → ℕ
 
--- first-fit: the least multiple of b's alignment, from its floor on, at which b is apart from each of them
+-- the least multiple of b's alignment at or above both x and b's lowest
+unfoldable pub least_from : Instance → ℕ → ℕ → ℕ
+least_from I b x = next_multiple_of (max x (buffer I b).lowest) (buffer I b).alignment
+
+-- b at x is aligned, at or above its lowest, and apart from each placed one
+unfoldable pub is_clear : Instance → ℕ → List Entry → ℕ → Bool
+is_clear I b placed x =
+    (x % (buffer I b).alignment == 0) && nat_le (buffer I b).lowest x && is_free I placed x (x + (buffer I b).size)
+
+-- first-fit: the least place at which b is clear, which is at the latest the first past all the placed
 unfoldable pub first_place : FitRule
-first_place I b placed =
-    first_passing (λ x. is_free I placed x (x + (buffer I b).size)) (buffer I b).alignment (highest I placed)
-    (floor (buffer I b))
+first_place I b placed = position_or_len (is_clear I b placed) (numbers (least_from I b (highest I placed)))
 
 -- addresses from one up to and not including another
 pub record Range : Type 0 where
@@ -54,10 +56,6 @@ stretches I placed =
 unfoldable pub free_ranges : Instance → List Entry → List Range
 free_ranges I placed =
     filter (λ (r : Range). nat_lt r.start r.stop && is_free I placed r.start r.stop) (stretches I placed)
-
--- the least multiple of b's alignment at or above both x and b's lowest
-unfoldable pub least_from : Instance → ℕ → ℕ → ℕ
-least_from I b x = next_multiple_of (max x (buffer I b).lowest) (buffer I b).alignment
 
 -- the range has room for b at the least place that b may have there
 unfoldable pub holds : Instance → ℕ → Range → Bool

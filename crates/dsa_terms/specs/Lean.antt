@@ -5,7 +5,7 @@ use Rattle.std.specs.List.{list_any, AllZip}
 use Rattle.dsa_terms.specs.Buffers.{Instance, buffer, IsLive}
 use Rattle.dsa_terms.specs.Claims.{Claim, Entry, IsIn, Covers}
 use Rattle.dsa_terms.specs.Logs.{Cite, ByLine, Below, Twin, Line, Over, Cases, claim_of, IsLegal, Log, ends_below, is_twin}
-use Rattle.dsa_terms.specs.Parts.{IsUncut}
+use Rattle.dsa_terms.specs.Parts.{are_uncut}
 
 -- a below or a twin cite
 abbrev pub IsOwnCite : Cite → Type 0
@@ -37,4 +37,4 @@ pub record IsLean (I : Instance) (log : Log) : Type 0 where
       IsLeanLine I log.capacity (take k log.lines) line
   pub one_part : (j k : ℕ) (other line : Line) (e f : Entry) →
       slice_get log.lines j ≡ Some other → slice_get log.lines k ≡ Some line →
-      IsIn e (claim_of other) → IsIn f (claim_of line) → IsUncut I e.0 f.0
+      IsIn e (claim_of other) → IsIn f (claim_of line) → are_uncut I e.0 f.0 ≡ true

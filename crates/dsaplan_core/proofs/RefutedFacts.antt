@@ -1,9 +1,10 @@
 -- A log by which 7 bytes are too few for two buffers that are both live at 4, and its text.
 use Rattle.std.proofs.Common.{◌≡◌, ◌<◌, ℕ, zero, suc, List, [], ◌∷◌, codes, refl, subst, inl, inr, lit<, lit≤, arith}
 use Rattle.std.proofs.lemmas.List.Elements.{All-cons, All-nil}
-use Rattle.dsa_terms.specs.Bounds.{counted, line_height, pile, rounded_size, stack, stack_line, stack_log}
+use Rattle.dsa_terms.specs.Bounds.{counted, line_height, stack, stack_line, stack_log}
 use Rattle.dsa_terms.specs.Buffers.{IsInstance, buffer, floor, is_live}
-use Rattle.dsa_terms.specs.Claims.{IsIn}
+use Rattle.dsa_terms.specs.Claims.{IsIn, up}
+use Rattle.dsa_terms.specs.Logs.{is_stacked, rounded, rounding}
 use Rattle.planner.specs.Decides.{LeavesNoLayout}
 use Rattle.planner.proofs.ExampleLeastFacts.{line_refutes}
 use Rattle.log_text.specs.Numerals.{numeral}
@@ -21,11 +22,11 @@ two_sound (suc zero) d lt = (lit≤ tt, lit≤ tt, lit< tt)
 two_sound (suc (suc k)) d lt = absurd (omega arith)
 
 is_seven_log : stack_log two 4 0 1 7 ≡ seven_log
-unfolding stack_log stack_line line_height pile counted floor rounded_size is_live buffer
+unfolding stack_log stack_line line_height counted is_stacked rounded rounding up floor is_live buffer
 is_seven_log = refl
 
 eight_stacked : stack two 4 0 1 ≡ 8
-unfolding stack pile counted floor rounded_size is_live buffer
+unfolding stack counted is_stacked rounded rounding up floor is_live buffer
 eight_stacked = refl
 
 pub refuted_at_7 : LeavesNoLayout two 7 seven_log

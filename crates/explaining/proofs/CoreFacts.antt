@@ -2,11 +2,11 @@
 use Rattle.std.proofs.Common.{◌≡◌, ◌∙◌, ◌<◌, ℕ, zero, suc, List, [], ◌∷◌, Ok, refl, sym, ap, subst, inl, inr, lit<, lit≤, arith}
 use Rattle.std.proofs.lemmas.List.Elements.{All-cons, All-nil}
 use Rattle.csv.specs.Writing.{escaped, fields_text, is_blank}
-use Rattle.dsa_terms.specs.Bounds.{counted, line_height, pile, rounded_size, stack, stack_line, stack_log}
+use Rattle.dsa_terms.specs.Bounds.{counted, line_height, stack, stack_line, stack_log}
 use Rattle.dsa_terms.specs.Buffers.{Instance, IsInstance, buffer, floor, is_live, some_before}
-use Rattle.dsa_terms.specs.Claims.{IsIn}
+use Rattle.dsa_terms.specs.Claims.{IsIn, up}
 use Rattle.dsa_terms.specs.Layouts.{IsFeasible, IsInfeasible}
-use Rattle.dsa_terms.specs.Logs.{Log, IsAccepted, Over}
+use Rattle.dsa_terms.specs.Logs.{Log, IsAccepted, Over, is_stacked, rounded, rounding}
 use Rattle.dsa_model.specs.Chosen.{some_of}
 use Rattle.dsa_model.specs.LayoutFaults as faults
 use Rattle.dsa_model.specs.Moments.{first_common}
@@ -58,11 +58,11 @@ abbrev pub seven_log : Log
 seven_log = record { count = 2; capacity = 7; lines = Over ((0, 0) ∷ (1, 0) ∷ []) 4 0 1 ∷ []; final = 0 }
 
 is_seven_log : stack_log two 4 0 1 7 ≡ seven_log
-unfolding stack_log stack_line line_height pile counted floor rounded_size is_live buffer
+unfolding stack_log stack_line line_height counted is_stacked rounded rounding up floor is_live buffer
 is_seven_log = refl
 
 eight_stacked : stack two 4 0 1 ≡ 8
-unfolding stack pile counted floor rounded_size is_live buffer
+unfolding stack counted is_stacked rounded rounding up floor is_live buffer
 eight_stacked = refl
 
 two_sound : IsInstance two

@@ -2,7 +2,7 @@
 use Rattle.std.proofs.Common.{◌≡◌, ◌^◌, ◌-◌, ◌<◌, ◌⊎◌, inl, inr, true, false, ℕ, [], ◌∷◌, length, None, Some, refl, arith}
 use Rattle.dsa_terms.specs.Buffers.{buffer, do_share, floor, is_live, some_before}
 use Rattle.dsa_terms.specs.Claims.{IsIn}
-use Rattle.dsa_terms.specs.Fits.{best_place, first_passing, first_place, free_ranges, highest, holds, is_free, is_tighter, least_from, neighbours, stretches, top}
+use Rattle.dsa_terms.specs.Fits.{best_place, first_place, free_ranges, highest, holds, is_free, is_tighter, least_from, neighbours, stretches, top, is_clear}
 use Rattle.dsa_terms.specs.Orders.{falls_by, rises_by}
 use Rattle.dsa_terms.proofs.Examples.{evens, five, high_fours, lifted, low, two_of_four, unlike}
 use Rattle.dsa_terms.proofs.Places.{all_from_in}
@@ -79,7 +79,8 @@ by_area = refl
 
 -- two of the starts
 first_by_lower : offsets_by unlike (First, LowerRising) ≡ 0 ∷ 9 ∷ 1 ∷ 2 ∷ 13 ∷ 6 ∷ []
-unfolding rises_by neighbours first_place first_passing is_free highest top floor do_share some_before is_live buffer
+unfolding rises_by neighbours first_place is_clear least_from is_free highest top floor do_share some_before is_live
+    buffer
 first_by_lower = refl
 
 best_by_lower : offsets_by unlike (Best, LowerRising) ≡ 0 ∷ 9 ∷ 1 ∷ 8 ∷ 1 ∷ 6 ∷ []
@@ -89,7 +90,8 @@ best_by_lower = refl
 
 -- the first of `low` goes to its lowest, and the other below it
 first_of_low : offsets_by low (First, SizeFalling) ≡ 6 ∷ 0 ∷ []
-unfolding falls_by neighbours first_place first_passing is_free highest top floor do_share some_before is_live buffer
+unfolding falls_by neighbours first_place is_clear least_from is_free highest top floor do_share some_before is_live
+    buffer
 first_of_low = refl
 
 best_of_low : offsets_by low (Best, SizeFalling) ≡ 6 ∷ 0 ∷ []
@@ -99,7 +101,8 @@ best_of_low = refl
 
 -- the first of `lifted` goes to 1, and leaves no room below it
 first_of_lifted : offsets_by lifted (First, SizeFalling) ≡ 1 ∷ 4 ∷ []
-unfolding falls_by neighbours first_place first_passing is_free highest top floor do_share some_before is_live buffer
+unfolding falls_by neighbours first_place is_clear least_from is_free highest top floor do_share some_before is_live
+    buffer
 first_of_lifted = refl
 
 best_of_lifted : offsets_by lifted (Best, SizeFalling) ≡ 1 ∷ 4 ∷ []

@@ -150,7 +150,7 @@ height_limit I b C a h =
     omega arith
 
 pile_limit : (I : Instance) (t H G : ℕ) → All IsBuffer I → length I ≤ buffer_limit → IsModulus G → pile I t H G ≤ 2 ^ 53
-unfolding pile total_of
+unfolding total_of
 pile_limit I t H G h few m =
     let k = total_limit I G (counted I t H G) (λ b i. sound_buffer I b h (in_counted I t H G b i).0) m in
     let n = few_counted I t H G in

@@ -1,16 +1,18 @@
 -- The moments of the bounds of small instances: where the bound is reached first, and where more is live later.
 use Rattle.std.proofs.Common.{◌≡◌, ℕ, zero, suc, ◌<◌, ◌≤◌, true, false, [], ◌∷◌, refl, arith}
 use Rattle.std.proofs.lemmas.Bool.Decides.{nat_tests}
-use Rattle.dsa_terms.specs.Bounds.{bound_modulus, counted, heights, highest_at, highest_stack, least_of, lower_bound, moduli, moments, pile, rounded_size, stack}
+use Rattle.dsa_terms.specs.Bounds.{bound_modulus, counted, heights, highest_at, highest_stack, least_of, lower_bound, moduli, moments, stack}
 use Rattle.dsa_terms.specs.Buffers.{Instance, IsLive, buffer, floor, is_live}
 use Rattle.dsa_terms.proofs.Examples.{five, low, plain, small_below, two_of_four}
+use Rattle.dsa_terms.specs.Logs.{is_stacked, rounded, rounding}
+use Rattle.dsa_terms.specs.Claims.{up}
 use Rattle.lower_bounds.specs.BoundMoment.{Gathers, HasAllOf, IsBoundMoment}
 use Rattle.lower_bounds.proofs.FirstSection.{all_at_zero, at_zero}
 
 -- ---- all buffers are live at 0
 pub two_moment : IsBoundMoment two_of_four 0
-unfolding bound_modulus least_of lower_bound highest_stack highest_at heights floor stack pile counted rounded_size
-    moduli moments is_live buffer
+unfolding bound_modulus least_of lower_bound highest_stack highest_at heights floor stack counted is_stacked rounded
+    rounding up moduli moments is_live buffer
 two_moment = all_at_zero two_of_four refl all
   where
     all : (b : ℕ) → b < 2 → IsLive (buffer two_of_four b) 0
@@ -19,8 +21,8 @@ two_moment = all_at_zero two_of_four refl all
     all (suc (suc b)) lt = absurd (omega arith)
 
 pub below_moment : IsBoundMoment small_below 0
-unfolding bound_modulus least_of lower_bound highest_stack highest_at heights floor stack pile counted rounded_size
-    moduli moments is_live buffer
+unfolding bound_modulus least_of lower_bound highest_stack highest_at heights floor stack counted is_stacked rounded
+    rounding up moduli moments is_live buffer
 below_moment = all_at_zero small_below refl all
   where
     all : (b : ℕ) → b < 2 → IsLive (buffer small_below b) 0
@@ -29,8 +31,8 @@ below_moment = all_at_zero small_below refl all
     all (suc (suc b)) lt = absurd (omega arith)
 
 pub low_moment : IsBoundMoment low 0
-unfolding bound_modulus least_of lower_bound highest_stack highest_at heights floor stack pile counted rounded_size
-    moduli moments is_live buffer
+unfolding bound_modulus least_of lower_bound highest_stack highest_at heights floor stack counted is_stacked rounded
+    rounding up moduli moments is_live buffer
 low_moment = all_at_zero low refl all
   where
     all : (b : ℕ) → b < 2 → IsLive (buffer low b) 0
@@ -57,8 +59,8 @@ five_at_zero u h (suc (suc (suc (suc zero)))) lt l = refl
 five_at_zero u h (suc (suc (suc (suc (suc b))))) lt l = absurd (omega arith)
 
 pub five_moment : IsBoundMoment five 0
-unfolding bound_modulus least_of lower_bound highest_stack highest_at heights floor stack pile counted rounded_size
-    moduli moments is_live buffer
+unfolding bound_modulus least_of lower_bound highest_stack highest_at heights floor stack counted is_stacked rounded
+    rounding up moduli moments is_live buffer
 five_moment = at_zero five refl five_at_zero
 
 -- ---- two of size 5 aligned to eight come to 13 from 0 on, and at 1 a small one joins them, which starts their section
@@ -73,8 +75,8 @@ all_at_one (suc (suc zero)) lt = refl
 all_at_one (suc (suc (suc b))) lt = absurd (omega arith)
 
 joined_moment : IsBoundMoment joined 1
-unfolding bound_modulus least_of lower_bound highest_stack highest_at heights floor stack pile counted rounded_size
-    moduli moments is_live buffer
+unfolding bound_modulus least_of lower_bound highest_stack highest_at heights floor stack counted is_stacked rounded
+    rounding up moduli moments is_live buffer
 joined_moment = record {
   first = 0;
   reached = refl;

@@ -60,7 +60,7 @@ unfolding spare_of total_of
 spare_in_total I G bs = greatest_in_sum (rounded_size I G) (rounding_of I G) bs (λ b. omega arith)
 
 pub rounded_limit : (I : Instance) (G b : ℕ) → IsBuffer (buffer I b) → IsModulus G → rounded_size I G b ≤ 2 ^ 41
-unfolding rounded_size
+unfolding
 rounded_limit I G b h m =
     let s = h.within_size in
     let k = next_is_below (buffer I b).size G m.some in

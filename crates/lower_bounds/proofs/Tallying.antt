@@ -42,7 +42,7 @@ pub added_by : (I : Instance) (G b its_floor size again rounded : ℕ) (buf : Bu
     its_floor ≡ floor buf → size ≡ buf.size → again ≡ buf.size → rounded ≡ next_multiple_of size G →
     IsAdded x y its_floor rounded (rounded - again) →
     IsAdded x y (floor (buffer I b)) (rounded_size I G b) (rounding_of I G b)
-unfolding rounded_size
+unfolding
 added_by I G b its_floor size again rounded buf x y e f s a r h =
     subst (λ (c : Buffer). IsAdded x y (floor c) (next_multiple_of c.size G) (next_multiple_of c.size G - c.size)) e
     (rw (← f, ← s, ← r) (rw (a, ← s) at h))

@@ -1,10 +1,10 @@
 -- Worked cases: the sample log is trimmed and takes five steps, five buffers are packed at once, and two stay open.
 use Rattle.std.proofs.Common.{◌≡◌, ◌+◌, ◌<◌, ℕ, zero, suc, inl, inr, [], ◌∷◌, slice_get, Some, None, refl, sym, ap, ◌∙◌, subst, lit<, lit≤, arith}
-use Rattle.dsa_terms.specs.Bounds.{bound_modulus, counted, heights, highest_at, highest_stack, least_of, lower_bound, moduli, moments, pile, rounded_size, stack, stack_log}
+use Rattle.dsa_terms.specs.Bounds.{bound_modulus, counted, heights, highest_at, highest_stack, least_of, lower_bound, moduli, moments, stack, stack_log}
 use Rattle.dsa_terms.specs.Buffers.{IsInstance, buffer, floor, is_live}
-use Rattle.dsa_terms.specs.Claims.{IsIn}
+use Rattle.dsa_terms.specs.Claims.{IsIn, up}
 use Rattle.dsa_terms.specs.Layouts.{IsLayout, IsLeast}
-use Rattle.dsa_terms.specs.Logs.{IsAccepted, Line, Log}
+use Rattle.dsa_terms.specs.Logs.{IsAccepted, Line, Log, is_stacked, rounded, rounding}
 use Rattle.dsa_terms.specs.Plans.{layout_height}
 use Rattle.dsa_terms.specs.Trims.{Cites, IsCited}
 use Rattle.dsa_terms.proofs.Examples.{case_12, case_all, evens, five, over_1, over_2, sample, small_below}
@@ -85,17 +85,17 @@ five_sound (suc (suc (suc (suc zero)))) d lt = (lit≤ tt, lit≤ tt, lit< tt)
 five_sound (suc (suc (suc (suc (suc k))))) d lt = absurd (omega arith)
 
 twelve_stacked : stack five 0 0 1 ≡ 12
-unfolding stack pile counted floor rounded_size is_live buffer
+unfolding stack counted is_stacked rounded rounding up floor is_live buffer
 twelve_stacked = refl
 
 five_bound : lower_bound five ≡ 12
-unfolding lower_bound highest_stack highest_at heights moduli moments stack pile counted floor rounded_size is_live
-    buffer
+unfolding lower_bound highest_stack highest_at heights moduli moments stack counted is_stacked rounded rounding up
+    floor is_live buffer
 five_bound = refl
 
 five_modulus : bound_modulus five ≡ 1
-unfolding bound_modulus least_of lower_bound highest_stack highest_at heights moduli moments stack pile counted floor
-    rounded_size is_live buffer
+unfolding bound_modulus least_of lower_bound highest_stack highest_at heights moduli moments stack counted
+    is_stacked rounded rounding up floor is_live buffer
 five_modulus = refl
 
 abbrev pub five_log : Log

@@ -2,14 +2,14 @@
 -- capacity is 7, and on a small buffer that belongs below, whose least capacity stays open without steps.
 use Rattle.std.proofs.Common.{◌≡◌, ◌<◌, ℕ, ◌+◌, ◌≤◌, inl, inr, [], ◌∷◌, length, Some, None, refl, sym, ap, subst, ◌∙◌, ◌-◌, lit<, lit≤, arith}
 use Rattle.std.specs.Global.{Vec}
-use Rattle.dsa_terms.specs.Bounds.{counted, highest_stack, lower_bound, moduli, moments, rounded_size, stack, stack_log, pile, heights, highest_at, stack_line, line_height}
+use Rattle.dsa_terms.specs.Bounds.{counted, highest_stack, lower_bound, moduli, moments, stack, stack_log, heights, highest_at, stack_line, line_height}
 use Rattle.dsa_terms.specs.Buffers.{Instance, buffer, do_share, have_same_moments, is_live, some_before, floor}
 use Rattle.dsa_terms.specs.Claims.{child, step, up}
-use Rattle.dsa_terms.specs.Fits.{best_fit, best_place, first_fit, first_passing, first_place, free_ranges, highest, holds, is_free, is_tighter, neighbours, stretches, top, least_from}
+use Rattle.dsa_terms.specs.Fits.{best_fit, best_place, first_fit, first_place, free_ranges, highest, holds, is_free, is_tighter, neighbours, stretches, top, least_from, is_clear}
 use Rattle.dsa_terms.specs.Layouts.{IsInfeasible, IsLayout}
-use Rattle.dsa_terms.specs.Logs.{Log, ends_below, is_twin}
+use Rattle.dsa_terms.specs.Logs.{Log, ends_below, is_twin, is_stacked, rounded, rounding}
 use Rattle.dsa_terms.specs.Orders.{falls_by, orders, rises_by}
-use Rattle.dsa_terms.specs.Parts.{is_cut, last_cut, part_of, parts, searched, whole_work}
+use Rattle.dsa_terms.specs.Parts.{is_cut, part_of, parts, searched, whole_work, is_first, are_parted, are_uncut}
 use Rattle.dsa_terms.specs.Plans.{hunt, layout_height, plan}
 use Rattle.dsa_terms.specs.Search.{comes_before, first, is_tall, work}
 use Rattle.dsa_terms.specs.Starts.{best_start, hunted, lowest_place, planned, starts}
@@ -71,7 +71,7 @@ refuted_at_6 = line_refutes two_of_four 0 0 4 6 two_sound (lit≤ tt) refl (let 
 
 -- the log is one at 6
 not_refuted_at_5 : Decides two_of_four 5 None (Refuted six_log) → ⊥
-unfolding stack_log stack_line line_height pile
+unfolding stack_log stack_line line_height
 not_refuted_at_5 r = let k : 6 ≡ 5 = r.its_capacity in omega arith
 
 -- no log refutes 7, at which there is a layout
@@ -89,7 +89,7 @@ by_the_bound_at_6 = bound_log
 
 -- the same line at another capacity
 not_by_the_bound_at_5 : IsByBound two_of_four 5 (Refuted one_line) → ⊥
-unfolding stack_log stack_line line_height pile
+unfolding stack_log stack_line line_height
 not_by_the_bound_at_5 h = apart 6 5 (lit< tt) (ap (λ (log : Log). log.capacity) h.one_line)
   where
     apart : (m n : ℕ) → n < m → m ≡ n → ⊥
@@ -130,10 +130,10 @@ open_is_not_exact I C b h = h.1.1 (λ offsets layout. h.0.1 (offsets, layout))
 -- ---- least capacities
 below_work : work_of_least small_below ≡ 4
 unfolding hunted hunt whole_work work planned plan layout_height starts orders falls_by rises_by first_fit best_fit
-    neighbours first_place floor first_passing best_place free_ranges stretches holds least_from is_tighter is_free
-    highest top do_share some_before is_live buffer searched parts part_of is_cut last_cut first is_tall comes_before
-    ends_below is_twin child up step have_same_moments lower_bound highest_stack highest_at heights moduli moments stack
-    pile counted rounded_size best_start lowest_place
+    neighbours first_place floor is_clear best_place free_ranges stretches holds least_from is_tighter is_free
+    highest top do_share some_before is_live buffer searched parts part_of is_first are_uncut are_parted is_cut
+    first is_tall comes_before ends_below is_twin child up step have_same_moments lower_bound highest_stack
+    highest_at heights moduli moments stack counted is_stacked rounded rounding best_start lowest_place
 below_work = refl
 
 -- three steps are too few

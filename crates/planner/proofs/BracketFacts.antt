@@ -1,12 +1,13 @@
 -- The lower bound of two buffers of size 3 aligned to four, which is 7, with the log below it, and the first bracket of
 -- a small buffer that belongs below, from 4 to 5.
 use Rattle.std.proofs.Common.{◌≡◌, ℕ, ◌≤◌, inl, inr, List, [], ◌∷◌, Some, None, refl, sym, ap, ◌∙◌, lit≤, arith}
-use Rattle.dsa_terms.specs.Bounds.{bound_modulus, counted, highest_stack, lower_bound, moduli, moments, rounded_size, stack, stack_log, pile, heights, highest_at, least_of, stack_line, line_height}
+use Rattle.dsa_terms.specs.Bounds.{bound_modulus, counted, highest_stack, lower_bound, moduli, moments, stack, stack_log, heights, highest_at, least_of, stack_line, line_height}
 use Rattle.dsa_terms.specs.Buffers.{buffer, is_live, floor}
-use Rattle.dsa_terms.specs.Logs.{Cases, Line, Log, Over}
+use Rattle.dsa_terms.specs.Logs.{Cases, Line, Log, Over, is_stacked, rounded, rounding}
 use Rattle.dsa_terms.specs.Plans.{layout_height}
 use Rattle.dsa_terms.proofs.Examples.{small_below, two_of_four}
 use Rattle.dsa_terms.proofs.ExamplePlanFacts.{small_below_plan_at_5, two_of_four_plan_at_7}
+use Rattle.dsa_terms.specs.Claims.{up}
 use Rattle.dsa_start_laws.proofs.Stacks.{zero_height}
 use Rattle.dsa_start_laws.proofs.Planned.{planned_is_layout}
 use Rattle.lower_bounds.specs.declared.value.Bound.{Bound}
@@ -18,13 +19,13 @@ use Rattle.planner.proofs.ExampleLeastFacts.{below_best, below_bound, below_log,
 
 -- ---- the lower bound with its modulus
 two_bound : lower_bound two_of_four ≡ 7
-unfolding lower_bound highest_stack highest_at heights moduli moments stack pile counted floor rounded_size is_live
-    buffer
+unfolding lower_bound highest_stack highest_at heights moduli moments stack counted is_stacked rounded rounding up
+    floor is_live buffer
 two_bound = refl
 
 two_modulus : bound_modulus two_of_four ≡ 4
-unfolding bound_modulus least_of lower_bound highest_stack highest_at heights moduli moments stack pile counted floor
-    rounded_size is_live buffer
+unfolding bound_modulus least_of lower_bound highest_stack highest_at heights moduli moments stack counted
+    is_stacked rounded rounding up floor is_live buffer
 two_modulus = refl
 
 abbrev bound_at : ℕ → ℕ → ℕ → Bound
@@ -50,7 +51,7 @@ seven_by_one h = let m = h.modulus in let e = two_modulus in omega arith
 
 -- nothing is live at moment 1
 none_stacked : stack two_of_four 1 0 4 ≡ 0
-unfolding stack pile counted floor rounded_size is_live buffer
+unfolding stack counted is_stacked rounded rounding up floor is_live buffer
 none_stacked = refl
 
 seven_at_another_moment : IsLowerBound two_of_four (bound_at 7 1 4) → ⊥
@@ -81,7 +82,7 @@ modulus_of (Over l T H G ∷ lines) = G
 modulus_of (Cases l cites ∷ lines) = 0
 
 not_by_another_modulus : IsStackRefutation two_of_four 5 (stack_log two_of_four 0 0 1 5) → ⊥
-unfolding stack_log stack_line line_height pile
+unfolding stack_log stack_line line_height
 not_by_another_modulus h =
     let q : 1 ≡ bound_modulus two_of_four = ap (λ (log : Log). modulus_of log.lines) h.by_bound.one_line in
     let e = two_modulus in

@@ -1,14 +1,14 @@
 -- Least capacities of small instances, and what stays open on them.
 use Rattle.std.proofs.Common.{◌≡◌, ◌%◌, ℕ, zero, suc, ◌<◌, ◌≤◌, inl, inr, [], ◌∷◌, ◌-◌, length, Option, Some, None, refl, sym, ap, ◌∙◌, subst, lit<, lit≤, arith}
 use Rattle.std.specs.Prelude.{option_map}
-use Rattle.dsa_terms.specs.Bounds.{bound_modulus, counted, highest_stack, lower_bound, moduli, moments, rounded_size, stack, stack_log, pile, heights, highest_at, least_of, stack_line, line_height}
+use Rattle.dsa_terms.specs.Bounds.{bound_modulus, counted, highest_stack, lower_bound, moduli, moments, stack, stack_log, heights, highest_at, least_of, stack_line, line_height}
 use Rattle.dsa_terms.specs.Buffers.{Instance, IsInstance, buffer, do_share, have_same_moments, is_live, some_before, floor}
 use Rattle.dsa_terms.specs.Claims.{child, step, up}
-use Rattle.dsa_terms.specs.Fits.{best_fit, best_place, first_fit, first_passing, first_place, free_ranges, highest, holds, is_free, is_tighter, neighbours, stretches, top, least_from}
+use Rattle.dsa_terms.specs.Fits.{best_fit, best_place, first_fit, first_place, free_ranges, highest, holds, is_free, is_tighter, neighbours, stretches, top, least_from, is_clear}
 use Rattle.dsa_terms.specs.Layouts.{IsLayout, IsLeast}
-use Rattle.dsa_terms.specs.Logs.{Log, ends_below, is_twin}
+use Rattle.dsa_terms.specs.Logs.{Log, ends_below, is_twin, is_stacked, rounded, rounding}
 use Rattle.dsa_terms.specs.Orders.{falls_by, orders, rises_by}
-use Rattle.dsa_terms.specs.Parts.{is_cut, last_cut, part_of, parts, searched, whole_work}
+use Rattle.dsa_terms.specs.Parts.{is_cut, part_of, parts, searched, whole_work, is_first, are_parted, are_uncut}
 use Rattle.dsa_terms.specs.Plans.{hunt, layout_height, plan}
 use Rattle.dsa_terms.specs.Search.{comes_before, first, is_tall, work}
 use Rattle.dsa_terms.specs.Starts.{best_start, hunted, lowest_place, planned, starts}
@@ -29,10 +29,10 @@ use Rattle.planner.specs.Openings.{AreTooFew, StaysOpen, IsSpentAt}
 -- five steps are too few for three buffers, six are enough, and without a number there are never too few
 evens_work : work_of_least evens ≡ 6
 unfolding hunted hunt whole_work work planned plan layout_height starts orders falls_by rises_by first_fit best_fit
-    neighbours first_place floor first_passing best_place free_ranges stretches holds least_from is_tighter is_free
-    highest top do_share some_before is_live buffer searched parts part_of is_cut last_cut first is_tall comes_before
-    ends_below is_twin child up step have_same_moments lower_bound highest_stack highest_at heights moduli moments stack
-    pile counted rounded_size best_start lowest_place
+    neighbours first_place floor is_clear best_place free_ranges stretches holds least_from is_tighter is_free
+    highest top do_share some_before is_live buffer searched parts part_of is_first are_uncut are_parted is_cut
+    first is_tall comes_before ends_below is_twin child up step have_same_moments lower_bound highest_stack
+    highest_at heights moduli moments stack counted is_stacked rounded rounding best_start lowest_place
 evens_work = refl
 
 five_steps : AreTooFew (Some 5) (work_of_least evens)
@@ -47,14 +47,14 @@ no_number work h = let g = h.given in cc
 -- the start's ends are left only where its halving is not done
 halving_evens : hunted evens 4 5 ≡ 6
 unfolding hunted hunt whole_work work planned plan layout_height starts orders falls_by rises_by first_fit best_fit
-    neighbours first_place floor first_passing best_place free_ranges stretches holds least_from is_tighter is_free
-    highest top do_share some_before is_live buffer searched parts part_of is_cut last_cut first is_tall comes_before
-    ends_below is_twin child up step have_same_moments
+    neighbours first_place floor is_clear best_place free_ranges stretches holds least_from is_tighter is_free
+    highest top do_share some_before is_live buffer searched parts part_of is_first are_uncut are_parted is_cut
+    first is_tall comes_before ends_below is_twin child up step have_same_moments
 halving_evens = refl
 
 evens_at_4 : whole_work evens 4 ≡ 6
-unfolding whole_work work parts part_of is_cut last_cut first is_tall comes_before ends_below is_twin child up step
-    do_share some_before have_same_moments is_live buffer
+unfolding whole_work work parts part_of is_first are_uncut are_parted is_cut first is_tall comes_before ends_below
+    is_twin child up step do_share some_before have_same_moments is_live buffer
 evens_at_4 = refl
 
 ends_after_five : (b : Bracket) → b.low ≡ 4 → b.high ≡ 5 → HasHalved evens (Some 5) (Open b)
@@ -69,7 +69,7 @@ ends_after_six b low high h =
 -- ---- logs of one line
 pub line_refutes : (I : Instance) (t H G C : ℕ) → IsInstance I → 1 ≤ G → H % G ≡ 0 → C < stack I t H G →
     LeavesNoLayout I C (stack_log I t H G C)
-unfolding stack_log stack_line line_height pile
+unfolding stack_log stack_line line_height
 line_refutes I t H G C s pos m lt = record {
   accepted = stack_is_accepted I t H G C pos m lt;
   its_capacity = refl;
@@ -88,11 +88,11 @@ below_sound (suc zero) d lt = (lit≤ tt, lit≤ tt, lit< tt)
 below_sound (suc (suc k)) d lt = absurd (omega arith)
 
 pub seven_stacked : stack two_of_four 0 0 4 ≡ 7
-unfolding stack pile counted floor rounded_size is_live buffer
+unfolding stack counted is_stacked rounded rounding up floor is_live buffer
 seven_stacked = refl
 
 pub four_stacked : stack small_below 0 0 1 ≡ 4
-unfolding stack pile counted floor rounded_size is_live buffer
+unfolding stack counted is_stacked rounded rounding up floor is_live buffer
 four_stacked = refl
 
 seven_high : layout_height two_of_four (0 ∷ 4 ∷ []) ≡ 7
@@ -123,9 +123,9 @@ seven_is_exact b low high layout log = record {
 -- no buffers need no bytes and have no log, and some buffers need some
 nothing_planned : planned [] 0 ≡ Some []
 unfolding planned plan layout_height starts orders falls_by rises_by first_fit best_fit neighbours first_place floor
-    first_passing best_place free_ranges stretches holds least_from is_tighter is_free highest top do_share some_before
-    is_live buffer searched parts part_of is_cut last_cut first is_tall comes_before ends_below is_twin child up step
-    have_same_moments
+    is_clear best_place free_ranges stretches holds least_from is_tighter is_free highest top do_share some_before
+    is_live buffer searched parts part_of is_first are_uncut are_parted is_cut first is_tall comes_before ends_below
+    is_twin child up step have_same_moments
 nothing_planned = refl
 
 zero_is_exact : (b : Bracket) → b.low ≡ 0 → b.high ≡ 0 → b.layout.items ≡ [] → b.log ≡ None → IsExactly [] b
@@ -166,23 +166,23 @@ four_is_open = record {
 }
 
 pub four_steps : whole_work small_below 4 ≡ 4
-unfolding whole_work work parts part_of is_cut last_cut first is_tall comes_before ends_below is_twin child up step
-    do_share some_before have_same_moments is_live buffer
+unfolding whole_work work parts part_of is_first are_uncut are_parted is_cut first is_tall comes_before ends_below
+    is_twin child up step do_share some_before have_same_moments is_live buffer
 four_steps = refl
 
 pub below_bound : lower_bound small_below ≡ 4
-unfolding lower_bound highest_stack highest_at heights moduli moments stack pile counted floor rounded_size is_live
-    buffer
+unfolding lower_bound highest_stack highest_at heights moduli moments stack counted is_stacked rounded rounding up
+    floor is_live buffer
 below_bound = refl
 
 pub below_modulus : bound_modulus small_below ≡ 1
-unfolding bound_modulus least_of lower_bound highest_stack highest_at heights moduli moments stack pile counted floor
-    rounded_size is_live buffer
+unfolding bound_modulus least_of lower_bound highest_stack highest_at heights moduli moments stack counted
+    is_stacked rounded rounding up floor is_live buffer
 below_modulus = refl
 
 pub below_best : best_start small_below ≡ 0 ∷ 4 ∷ []
 unfolding best_start lowest_place layout_height starts orders falls_by rises_by first_fit best_fit neighbours
-    first_place floor first_passing best_place free_ranges stretches holds least_from is_tighter is_free highest top
+    first_place floor is_clear best_place free_ranges stretches holds least_from is_tighter is_free highest top
     do_share some_before is_live buffer
 below_best = refl
 
@@ -235,7 +235,7 @@ other_layout (inl e) = let k = e ∙ below_best in absurd cc
 other_layout (inr le) = le
 
 other_log : {k low : ℕ} → IsLogWithin small_below k low (Some (stack_log small_below 0 0 1 4)) → 1 ≤ k
-unfolding stack_log stack_line line_height pile
+unfolding stack_log stack_line line_height
 other_log (inl h) =
     let e = below_bound in let c : 4 ≡ lower_bound small_below - 1 = h.1.refutation.its_capacity in
     absurd (omega (arith, e, c))
@@ -255,7 +255,7 @@ one_step_for_both low h =
     omega (arith, k, l, g)
 
 two_steps_for_both : AreWithinSteps small_below (Some 2) 5 (1 ∷ 0 ∷ []) (Some (stack_log small_below 0 0 1 4))
-unfolding stack_log stack_line line_height pile
+unfolding stack_log stack_line line_height
 two_steps_for_both = record {
   layout_steps = 1;
   log_steps = 1;
@@ -267,7 +267,7 @@ two_steps_for_both = record {
 -- the lower end does not rise by a log of the search at the bound
 two_steps_at_the_bound :
     AreWithinSteps small_below (Some 2) 4 (1 ∷ 0 ∷ []) (Some (stack_log small_below 0 0 1 4)) → ⊥
-unfolding stack_log stack_line line_height pile
+unfolding stack_log stack_line line_height
 two_steps_at_the_bound h = go h.log
   where
     go : {k : ℕ} → IsLogWithin small_below k 4 (Some (stack_log small_below 0 0 1 4)) → ⊥

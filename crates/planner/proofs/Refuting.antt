@@ -1,7 +1,7 @@
 -- Accepted logs as refutations of their capacity.
 use Rattle.std.proofs.Common.{◌≡◌, ℕ, List, ◌<◌, ◌≤◌, inl, inr, refl, sym, ap, subst, ◌∙◌, arith}
 use Rattle.std.specs.List.{All}
-use Rattle.dsa_terms.specs.Bounds.{bound_modulus, heights, lower_bound, stack, stack_log, stack_line, line_height, pile}
+use Rattle.dsa_terms.specs.Bounds.{bound_modulus, heights, lower_bound, stack, stack_log, stack_line, line_height}
 use Rattle.dsa_terms.specs.Buffers.{Instance, IsInstance}
 use Rattle.dsa_terms.specs.Claims.{IsIn}
 use Rattle.dsa_terms.specs.Layouts.{IsInfeasible}
@@ -52,7 +52,7 @@ is_lower_bound I starts b c m t h is from moment least = record {
 
 -- ---- the log of the bound
 stack_capacity : (I : Instance) (t H G C : ℕ) → (stack_log I t H G C).capacity ≡ C
-unfolding stack_log stack_line line_height pile
+unfolding stack_log stack_line line_height
 stack_capacity I t H G C = refl
 
 stack_refutes : (I : Instance) (t H G C : ℕ) (log : Log) → All IsBuffer I → log ≡ stack_log I t H G C →

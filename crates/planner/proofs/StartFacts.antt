@@ -2,7 +2,7 @@
 use Rattle.std.proofs.Common.{◌≡◌, ℕ, [], ◌∷◌, Some, None, refl, sym, ap, ◌∙◌, arith}
 use Rattle.std.specs.Global.{Vec}
 use Rattle.dsa_terms.specs.Buffers.{buffer, do_share, is_live, some_before, floor}
-use Rattle.dsa_terms.specs.Fits.{best_fit, best_place, first_fit, first_passing, first_place, free_ranges, highest, holds, is_free, is_tighter, neighbours, stretches, top, least_from}
+use Rattle.dsa_terms.specs.Fits.{best_fit, best_place, first_fit, first_place, free_ranges, highest, holds, is_free, is_tighter, neighbours, stretches, top, least_from, is_clear}
 use Rattle.dsa_terms.specs.Orders.{falls_by, orders, rises_by}
 use Rattle.dsa_terms.specs.Plans.{layout_height}
 use Rattle.dsa_terms.specs.Starts.{starts}
@@ -13,13 +13,15 @@ use Rattle.planner.specs.declared.starting.Fitting.TheVariants.{Past, Within}
 use Rattle.planner.proofs.ExampleLeastFacts.{below_best, four_is_open}
 
 within_5 : start_within small_below 5 ≡ Some (0 ∷ 4 ∷ [])
-unfolding layout_height starts orders falls_by rises_by first_fit best_fit neighbours first_place floor first_passing
-    best_place free_ranges stretches holds least_from is_tighter is_free highest top do_share some_before is_live buffer
+unfolding layout_height starts orders falls_by rises_by first_fit best_fit neighbours first_place floor is_clear
+    best_place free_ranges stretches holds least_from is_tighter is_free highest top do_share some_before is_live
+    buffer
 within_5 = refl
 
 none_within_4 : start_within small_below 4 ≡ None
-unfolding layout_height starts orders falls_by rises_by first_fit best_fit neighbours first_place floor first_passing
-    best_place free_ranges stretches holds least_from is_tighter is_free highest top do_share some_before is_live buffer
+unfolding layout_height starts orders falls_by rises_by first_fit best_fit neighbours first_place floor is_clear
+    best_place free_ranges stretches holds least_from is_tighter is_free highest top do_share some_before is_live
+    buffer
 none_within_4 = refl
 
 -- ---- the best start

@@ -2,7 +2,7 @@
 use Rattle.std.proofs.Common.{◌≡◌, inr, [], ◌∷◌, Some, None, refl, ap, ◌∙◌, lit≤, arith}
 use Rattle.dsa_terms.specs.Bounds.{stack_log}
 use Rattle.dsa_terms.specs.Buffers.{buffer, do_share, is_live, some_before, floor}
-use Rattle.dsa_terms.specs.Fits.{best_fit, best_place, first_fit, first_passing, first_place, free_ranges, highest, holds, is_free, is_tighter, neighbours, stretches, top, least_from}
+use Rattle.dsa_terms.specs.Fits.{best_fit, best_place, first_fit, first_place, free_ranges, highest, holds, is_free, is_tighter, neighbours, stretches, top, least_from, is_clear}
 use Rattle.dsa_terms.specs.Layouts.{IsLayout, IsLeast}
 use Rattle.dsa_terms.specs.Orders.{falls_by, orders, rises_by}
 use Rattle.dsa_terms.specs.Plans.{layout_height}
@@ -15,7 +15,7 @@ use Rattle.planner.specs.FirstStart.{start_within}
 use Rattle.planner.proofs.ExampleLeastFacts.{below_best, below_sound, four_is_open, four_stacked, line_refutes}
 
 pub none_within_4 : start_within small_below 4 ≡ None
-unfolding starts orders falls_by rises_by first_fit best_fit neighbours first_place floor first_passing best_place
+unfolding starts orders falls_by rises_by first_fit best_fit neighbours first_place floor is_clear best_place
     free_ranges stretches holds least_from is_tighter is_free highest top do_share some_before is_live buffer
     layout_height
 none_within_4 = refl
@@ -39,7 +39,7 @@ refuted_at_3 = line_refutes small_below 0 0 1 3 below_sound (lit≤ tt) refl (le
 
 -- the best start itself is within 5
 start_within_5 : start_within small_below 5 ≡ Some (0 ∷ 4 ∷ [])
-unfolding starts orders falls_by rises_by first_fit best_fit neighbours first_place floor first_passing best_place
+unfolding starts orders falls_by rises_by first_fit best_fit neighbours first_place floor is_clear best_place
     free_ranges stretches holds least_from is_tighter is_free highest top do_share some_before is_live buffer
     layout_height
 start_within_5 = refl

@@ -4,7 +4,7 @@ use Rattle.std.proofs.Math.Nat.{mul-le-mul_right, mul-zero, zero-mul}
 use Rattle.std.proofs.lemmas.Bool.Decides.{nat_tests}
 use Rattle.std.proofs.lemmas.List.Sums.{sum_by-cons}
 use Rattle.dsa_terms.specs.Buffers.{Instance, buffer, floor, is_live, IsInstance}
-use Rattle.dsa_terms.specs.Bounds.{counted, moments, pile}
+use Rattle.dsa_terms.specs.Bounds.{counted, moments}
 use Rattle.dsa_terms.specs.Claims.{IsIn}
 use Rattle.dsa_terms.specs.Layouts.{IsInfeasible, IsLeast}
 use Rattle.dsa_terms.specs.Parts.{numbers}
@@ -31,7 +31,7 @@ sum_is f m (x ∷ xs) h =
     let k = mul-suc m (length xs) in omega arith
 
 load_is_product : (I : Instance) (size t : ℕ) → AllOf I size → load I t ≡ size * length (counted I t 0 1)
-unfolding pile
+unfolding
 load_is_product I size t h =
     sym (load_is_pile I t) ∙ stack_by_one I (counted I t 0 1)
     ∙ sum_is (λ b. (buffer I b).size) size (counted I t 0 1) (λ b i. h b (in_counted I t 0 1 b i).0)

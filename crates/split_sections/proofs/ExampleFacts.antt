@@ -2,7 +2,7 @@
 use Rattle.std.proofs.Common.{◌≡◌, ℕ, zero, suc, ◌<◌, ◌≤◌, inl, inr, [], ◌∷◌, List, refl, lit<, lit≤, arith}
 use Rattle.dsa_terms.specs.Buffers.{Buffer, Instance, buffer}
 use Rattle.dsa_terms.specs.Claims.{IsIn}
-use Rattle.dsa_terms.specs.Parts.{is_cut, last_cut, part_of, parts}
+use Rattle.dsa_terms.specs.Parts.{is_cut, part_of, parts, is_first, are_parted, are_uncut}
 use Rattle.dsa_model.specs.Lists.{pair_at}
 use Rattle.split_sections.specs.PartList.{AreInRange, IsPart}
 use Rattle.split_sections.specs.Sweep.{BeginsAt, IsRun, lower_entry}
@@ -16,7 +16,7 @@ abbrev pub three : Instance
 three = lives 5 7 ∷ lives 0 3 ∷ lives 3 5 ∷ []
 
 three_parts : parts three ≡ (1 ∷ []) ∷ (2 ∷ []) ∷ (0 ∷ []) ∷ []
-unfolding parts part_of last_cut is_cut buffer
+unfolding parts part_of is_first are_uncut are_parted is_cut buffer
 three_parts = refl
 
 entry_of_first : lower_entry three 0 ≡ (5, 0)
@@ -38,7 +38,7 @@ unfolding buffer
 holds_on h = let k = h 0 (lit< tt) in omega (arith, k)
 
 first_is_run : IsRun three order 0 1
-unfolding part_of last_cut is_cut buffer
+unfolding part_of is_cut buffer
 first_is_run = record { some = omega arith; within = omega arith; same = same; ended = λ _. second_begins }
   where
     same : (k : ℕ) → 0 ≤ k → k < 1 → part_of three (pair_at order k).1 ≡ (pair_at order 0).0
@@ -47,7 +47,7 @@ first_is_run = record { some = omega arith; within = omega arith; same = same; e
 
 -- the second is of another part
 two_parts_are_no_run : IsRun three order 0 2 → ⊥
-unfolding part_of last_cut is_cut buffer
+unfolding part_of is_cut buffer
 two_parts_are_no_run h = let k = h.same 1 (lit≤ tt) (lit< tt) in omega (arith, k)
 
 -- ---- parts

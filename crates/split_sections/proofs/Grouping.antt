@@ -21,7 +21,7 @@ use Rattle.split_sections.proofs.Beginnings.{below, kept, part_starts, parts_are
 
 -- a cut that is no later than the moment is no later than the last cut there
 last_cut_from : (I : Instance) (s t : ℕ) → is_cut I s ≡ true → s ≤ t → s ≤ last_cut I t
-unfolding last_cut
+unfolding
 last_cut_from I s zero h le = omega arith
 last_cut_from I s (suc t) h le = go (is_cut I (suc t)) refl (last_cut_from I s t h) (last_or_before s t le)
   where

@@ -6,10 +6,10 @@ use Rattle.std.specs.Fmt.{digits}
 use Rattle.csv.specs.Machine.{next_record}
 use Rattle.csv.specs.Reading.{records_from, strip_bom}
 use Rattle.csv.specs.Writing.{escaped, fields_text, is_blank}
-use Rattle.dsa_terms.specs.Bounds.{counted, stack_log, stack_line, line_height, pile, rounded_size}
+use Rattle.dsa_terms.specs.Bounds.{counted, stack_log, stack_line, line_height}
 use Rattle.dsa_terms.specs.Buffers.{buffer, is_live, some_before, floor}
-use Rattle.dsa_terms.specs.Claims.{IsIn}
-use Rattle.dsa_terms.specs.Logs.{Log}
+use Rattle.dsa_terms.specs.Claims.{IsIn, up}
+use Rattle.dsa_terms.specs.Logs.{Log, is_stacked, rounded, rounding}
 use Rattle.dsa_terms.proofs.Examples.{small_below}
 use Rattle.dsa_model.specs.Buffer.{is_ever_live}
 use Rattle.csv_instance.specs.Layout.{layout_text}
@@ -80,14 +80,14 @@ abbrev pub three_file : List ℕ
 three_file = codes "dsalog 1 2 3\nover 0 0 1 : 0=0 1=0\nend 0\n"
 
 pub three_text : log_text three_log ≡ three_file
-unfolding numeral stack_log stack_line line_height pile counted floor rounded_size is_live buffer
+unfolding numeral stack_log stack_line line_height counted is_stacked rounded rounding up floor is_live buffer
 three_text = refl
 
 abbrev three_line : RawLine
 three_line = raw_line.Over 0 0 1 ((0, 0) ∷ (1, 0) ∷ [])
 
 pub three_reads : ReadsBack three_log
-unfolding stack_log stack_line line_height pile counted floor rounded_size is_live buffer
+unfolding stack_log stack_line line_height counted is_stacked rounded rounding up floor is_live buffer
 three_reads = record {
   kept = record {
     count_limit = lit≤ tt;
