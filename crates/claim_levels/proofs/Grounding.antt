@@ -2,7 +2,7 @@
 use Rattle.std.proofs.Common.{◌≡◌, ℕ, ◌+◌, ◌-◌, ◌<◌, ◌≤◌, ◌^◌, inl, inr, List, [], ◌∷◌, ◌++◌, length, map, slice_index, ap, sym, ◌∙◌, subst, arith, refl, append-nil, append_assoc, All}
 use Rattle.std.proofs.lemmas.List.{get_or_past}
 use Rattle.claim_levels.proofs.Words.{Instance, Claim, Entry, IsIn, Rises, buffers_of, up, from_map, below_or_from, buffer_limit, in_buffers, IsBoundedBy, entry_of, AreLevels, length_within, entry_in, is_entry, has_level, level_inside}
-use Rattle.split_sections.proofs.Lists.{rises_same}
+use Rattle.dsa_search_laws.proofs.Rising.{rises_same}
 use Rattle.claim_levels.specs.Levels.{AreKept, AreLeft}
 use Rattle.claim_levels.specs.Lifted.{lift, lifted}
 use Rattle.claim_levels.proofs.Lifting.{buffers_of-lifted}

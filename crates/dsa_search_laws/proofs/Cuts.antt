@@ -4,10 +4,11 @@ use Rattle.std.specs.List.{list_any}
 use Rattle.std.proofs.lemmas.Bool.Decides.{nat_tests}
 use Rattle.dsa_terms.specs.Buffers.{Buffer, Instance, buffer, IsLive, IsInstance}
 use Rattle.dsa_terms.specs.Claims.{IsIn}
-use Rattle.dsa_terms.specs.Parts.{is_cut, last_cut, part_of, Separates}
+use Rattle.dsa_terms.specs.Parts.{is_cut}
 use Rattle.dsa_terms.proofs.Lists.{any_from}
 use Rattle.dsa_terms.proofs.Moments.{live_before, live_at_or_after, both_true, lasts, not_true}
 use Rattle.dsa_terms.proofs.NumberTests.{below_or_from, is_below}
+use Rattle.dsa_search_laws.specs.PartsByTime.{last_cut, start_of, Separates}
 
 -- ---- cuts
 not_inside : (b : Buffer) (t : ℕ) → b.lower < t → t < b.upper → (nat_lt b.lower t && nat_lt t b.upper) ≡ true
@@ -19,7 +20,7 @@ item [] b lt = absurd (omega arith)
 item (x ∷ xs) zero lt = inl refl
 item (x ∷ xs) (suc b) lt = inr (item xs b (omega arith))
 
-cut_outside : (I : Instance) (t b : ℕ) → is_cut I t ≡ true → b < length I → (buffer I b).lower < t →
+pub cut_outside : (I : Instance) (t b : ℕ) → is_cut I t ≡ true → b < length I → (buffer I b).lower < t →
     (buffer I b).upper ≤ t
 unfolding is_cut
 cut_outside I t b h lt low = go (below_or_from t (buffer I b).upper)
@@ -44,8 +45,8 @@ none_at_zero (x ∷ xs) = go (none_at_zero xs) (nat_lt x.lower 0) (zero_below x.
     go ih true q = absurd cc
     go ih false q = ih
 
-last_cut_is : (I : Instance) (t : ℕ) → is_cut I (last_cut I t) ≡ true
-unfolding is_cut
+pub last_cut_is : (I : Instance) (t : ℕ) → is_cut I (last_cut I t) ≡ true
+unfolding is_cut last_cut
 last_cut_is I zero = ap not (none_at_zero I)
 last_cut_is I (suc t) = go (last_cut_is I t) (is_cut I (suc t)) refl
   where
@@ -55,7 +56,7 @@ last_cut_is I (suc t) = go (last_cut_is I t) (is_cut I (suc t)) refl
     go ih false q = ih
 
 pub last_cut_le : (I : Instance) (t : ℕ) → last_cut I t ≤ t
-unfolding
+unfolding last_cut
 last_cut_le I zero = omega arith
 last_cut_le I (suc t) = go (last_cut_le I t) (is_cut I (suc t))
   where
@@ -63,8 +64,8 @@ last_cut_le I (suc t) = go (last_cut_le I t) (is_cut I (suc t))
     go ih true = omega arith
     go ih false = omega arith
 
-last_cut_is_greatest : (I : Instance) (t s : ℕ) → is_cut I s ≡ true → s ≤ t → s ≤ last_cut I t
-unfolding
+pub last_cut_is_greatest : (I : Instance) (t s : ℕ) → is_cut I s ≡ true → s ≤ t → s ≤ last_cut I t
+unfolding last_cut
 last_cut_is_greatest I zero s h le = omega arith
 last_cut_is_greatest I (suc t) s h le = go (last_cut_is_greatest I t s h) (is_cut I (suc t)) refl
   where
@@ -79,38 +80,38 @@ last_cut_is_greatest I (suc t) s h le = go (last_cut_is_greatest I t s h) (is_cu
     ]
 
 -- ---- between buffers of two parts lies the cut at which the later part begins
-pub cut_between : (I : Instance) (b c : ℕ) → b < length I → part_of I b < part_of I c →
-    (is_cut I (part_of I c) ≡ true) × Separates (part_of I c) (buffer I b) (buffer I c)
-unfolding part_of
+pub cut_between : (I : Instance) (b c : ℕ) → b < length I → start_of I b < start_of I c →
+    (is_cut I (start_of I c) ≡ true) × Separates (start_of I c) (buffer I b) (buffer I c)
+unfolding start_of
 cut_between I b c lt less =
     let cut = last_cut_is I (buffer I c).lower in
-    (cut, (cut_outside I (part_of I c) b cut lt below, last_cut_le I (buffer I c).lower))
+    (cut, (cut_outside I (start_of I c) b cut lt below, last_cut_le I (buffer I c).lower))
   where
-    below : (buffer I b).lower < part_of I c
-    below = elim (below_or_from (buffer I b).lower (part_of I c)) [
+    below : (buffer I b).lower < start_of I c
+    below = elim (below_or_from (buffer I b).lower (start_of I c)) [
       | inl q ↦ q
-      | inr q ↦ absurd (let k = last_cut_is_greatest I (buffer I b).lower (part_of I c)
+      | inr q ↦ absurd (let k = last_cut_is_greatest I (buffer I b).lower (start_of I c)
           (last_cut_is I (buffer I c).lower) q in omega arith)
     ]
 
 -- and no cut lies between buffers of one part
-pub no_cut_between : (I : Instance) (b c t : ℕ) → IsInstance I → b < length I → part_of I b ≡ part_of I c →
+pub no_cut_between : (I : Instance) (b c t : ℕ) → IsInstance I → b < length I → start_of I b ≡ start_of I c →
     is_cut I t ≡ true → Separates t (buffer I b) (buffer I c) → ⊥
-unfolding part_of
+unfolding start_of
 no_cut_between I b c t s lt same cut sep =
     let k = last_cut_is_greatest I (buffer I c).lower t cut sep.1 in
     let a = last_cut_le I (buffer I b).lower in let z = lasts I b s lt in let w = sep.0 in
     omega arith
 
 pub sharing_is_one_part : (I : Instance) (b c t : ℕ) → b < length I → c < length I → IsLive (buffer I b) t →
-    IsLive (buffer I c) t → part_of I b ≡ part_of I c
-sharing_is_one_part I b c t bn cn p q = go (cases (part_of I b) (part_of I c))
+    IsLive (buffer I c) t → start_of I b ≡ start_of I c
+sharing_is_one_part I b c t bn cn p q = go (cases (start_of I b) (start_of I c))
   where
     cases : (m n : ℕ) → (m < n) ⊎ ((n < m) ⊎ (m ≡ n))
     cases m n = grind arith
 
-    go : (part_of I b < part_of I c) ⊎ ((part_of I c < part_of I b) ⊎ (part_of I b ≡ part_of I c)) →
-        part_of I b ≡ part_of I c
+    go : (start_of I b < start_of I c) ⊎ ((start_of I c < start_of I b) ⊎ (start_of I b ≡ start_of I c)) →
+        start_of I b ≡ start_of I c
     go (inl h) = absurd (let k = cut_between I b c bn h in let a = k.1.0 in let d = k.1.1 in
         let e = live_before (buffer I b) t p in let f = live_at_or_after (buffer I c) t q in omega arith)
     go (inr (inl h)) = absurd (let k = cut_between I c b cn h in let a = k.1.0 in let d = k.1.1 in

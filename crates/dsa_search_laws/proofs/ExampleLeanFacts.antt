@@ -4,13 +4,14 @@ use Rattle.std.specs.List.{list_any, list_all, AllZip}
 use Rattle.dsa_terms.specs.Buffers.{Instance, buffer, is_live, have_same_moments, some_before}
 use Rattle.dsa_terms.specs.Claims.{Entry, Claim, IsIn, up, Covers}
 use Rattle.dsa_terms.specs.Logs.{is_stacked, rounded, rounding, ends_below, is_twin, Cite, ByLine, Below, Twin, Line, Over, Cases, claim_of}
-use Rattle.dsa_terms.specs.Parts.{is_cut, IsUncut, numbers}
+use Rattle.dsa_terms.specs.Parts.{is_cut, are_uncut, are_parted, numbers}
 use Rattle.dsa_terms.specs.Lean.{CitesOwn, IsLeanLine, IsLean}
 use Rattle.dsa_terms.proofs.Moments.{and_true, not_true}
 use Rattle.dsa_terms.proofs.Lists.{all_at}
 use Rattle.dsa_terms.proofs.Examples.{evens, one_by_one, over_2, over_1, case_12, over_01, case_all, sample}
 use Rattle.dsa_terms.proofs.NumberTests.{equal, is_below, less}
 use Rattle.dsa_terms.proofs.Ranges.{into_range}
+use Rattle.dsa_search_laws.proofs.Uncut.{uncut_exactly}
 use Rattle.dsa_search_laws.proofs.LineTests.{does_cover, covers_exactly, do_rise, is_claim, is_over, has_reason, is_legal, legal, not_legal}
 
 -- ---- tests of a lean line
@@ -153,11 +154,11 @@ ends (suc zero) lt = refl
 ends (suc (suc zero)) lt = refl
 ends (suc (suc (suc b))) lt = absurd (omega arith)
 
-uncut : (b c : ℕ) → b < 3 → c < 3 → IsUncut evens b c
-uncut b c before after = record {
+uncut : (b c : ℕ) → b < 3 → c < 3 → are_uncut evens b c ≡ true
+uncut b c before after = (uncut_exactly evens b c).1 (record {
   forth = λ t cut s. none t b c before s.0 s.1;
   back = λ t cut s. none t c b after s.0 s.1;
-}
+})
   where
     none : (t b c : ℕ) → b < 3 → (buffer evens b).upper ≤ t → t ≤ (buffer evens c).lower → ⊥
     none t b c lt ended begun = let p = ends b lt in let q = begins c in omega arith
@@ -245,8 +246,11 @@ not_one_part :
       lines = Over ((0, 0) ∷ []) 0 0 1 ∷ Over ((1, 0) ∷ []) 1 0 1 ∷ [];
       final = 0;
     }) → ⊥
-unfolding is_cut buffer
+unfolding are_uncut are_parted is_cut buffer
 not_one_part h =
     let u = h.one_part 0 1 (Over ((0, 0) ∷ []) 0 0 1) (Over ((1, 0) ∷ []) 1 0 1) (0, 0) (1, 0) refl refl (inl refl)
     (inl refl) in
-    u.forth 1 refl (omega arith, omega arith)
+    false_is_not_true u
+  where
+    false_is_not_true : false ≡ true → ⊥
+    false_is_not_true u = cc

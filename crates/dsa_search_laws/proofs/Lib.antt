@@ -9,6 +9,10 @@ pub mod Packing
 pub mod Logs
 pub mod Search
 pub mod Cuts
+pub mod Uncut
+pub mod Rising
+pub mod InTime
+pub mod ByTime
 pub mod Members
 pub mod Parts
 pub mod PartLists
@@ -21,3 +25,4 @@ mod ExampleLowFacts
 mod ExampleLeanFacts
 mod PlacementFacts
 mod SearchFacts
+mod PartsByTimeFacts

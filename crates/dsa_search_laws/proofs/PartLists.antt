@@ -1,50 +1,50 @@
 -- The list of parts: each is a greatest set that no cut separates, and they stand in order of time.
-use Rattle.std.proofs.Common.{◌≡◌, ℕ, zero, suc, ◌<◌, ◌≤◌, ◌≢◌, inl, inr, Bool, true, false, cond, not, ◌==◌, List, [], ◌∷◌, map, length, filter, slice_get, Some, sym, subst, ◌∙◌, arith}
+use Rattle.std.proofs.Common.{◌≡◌, ℕ, zero, suc, ◌<◌, ◌≤◌, ◌≢◌, ◌⊎◌, inl, inr, true, List, [], ◌∷◌, map, length, slice_get, Some, sym, refl, subst, ◌∙◌, arith}
 use Rattle.dsa_terms.specs.Buffers.{Instance, buffer, IsInstance}
 use Rattle.dsa_terms.specs.Claims.{IsIn, Rises}
-use Rattle.dsa_terms.specs.Logs.{greatest}
-use Rattle.dsa_terms.specs.Parts.{part_of, numbers, members, is_empty, parts, IsUncut}
-use Rattle.dsa_terms.proofs.Lists.{from_map, from_filter}
-use Rattle.dsa_terms.proofs.Ranges.{rises-range, rises-filter_numbers}
-use Rattle.dsa_search_laws.proofs.Cuts.{cut_between}
-use Rattle.dsa_search_laws.proofs.Members.{in_members, member_of, part_is_in, part_is_members}
-use Rattle.dsa_search_laws.proofs.Parts.{same_part_uncut, uncut_same_part}
+use Rattle.dsa_terms.specs.Parts.{is_cut, is_first, part_of, parts}
+use Rattle.dsa_terms.proofs.Lists.{from_map}
+use Rattle.dsa_terms.proofs.NumberTests.{below_or_from}
+use Rattle.dsa_search_laws.specs.PartsByTime.{start_of, members, Separates, IsUncut}
+use Rattle.dsa_search_laws.proofs.ByTime.{part_is_in}
+use Rattle.dsa_search_laws.proofs.Cuts.{cut_outside}
+use Rattle.dsa_search_laws.proofs.InTime.{GoesUp, in_time_are_firsts, in_time_goes_up}
+use Rattle.dsa_search_laws.proofs.Members.{member_of}
+use Rattle.dsa_search_laws.proofs.Uncut.{firsts_are_one, from_part, in_time, into_part, part_is_of, rises-part, same_part_uncut, uncut_or_parted, uncut_through, uncut_turned}
 
 -- ---- one part
-pub part_not_empty : (I : Instance) (p : List ℕ) → IsIn p (parts I) → p ≢ []
-unfolding parts
-part_not_empty I p i q =
-    absurd (some p (from_filter (λ p. not (is_empty p))
-    (map (members I) (numbers (suc (greatest (map (λ b. b.lower) I))))) p i).1 q)
+pub part_not_empty : (I : Instance) (p : List ℕ) → IsInstance I → IsIn p (parts I) → p ≢ []
+part_not_empty I p s i q =
+    let r = part_is_of I p i in
+    let own = into_part I r.0 r.0 r.1 (same_part_uncut I r.0 r.0 s r.1 r.1 refl) in
+    none r.0 (subst (λ (p : List ℕ). IsIn r.0 p) (sym r.2 ∙ q) own)
   where
-    some : (p : List ℕ) → not (is_empty p) ≡ true → p ≡ [] → ⊥
-    some [] h q = cc
-    some (x ∷ xs) h q = cc
+    none : (b : ℕ) → IsIn b [] → ⊥
+    none b i = i
 
 pub part_in_range : (I : Instance) (p : List ℕ) (b : ℕ) → IsIn p (parts I) → IsIn b p → b < length I
-part_in_range I p b i j = let r = part_is_members I p i in (in_members I r.0 b (rw r.1 at j)).0
+part_in_range I p b i j = let r = part_is_of I p i in (from_part I r.0 b (rw r.2 at j)).0
 
 pub part_rises : (I : Instance) (p : List ℕ) → IsIn p (parts I) → Rises p
-part_rises I p i = let r = part_is_members I p i in
-    rw r.1 (rises-filter_numbers (λ b. part_of I b == r.0) (numbers (length I)) (rises-range (length I) 0))
+part_rises I p i = let r = part_is_of I p i in rw r.2 (rises-part I r.0)
 
-pub parts_cover : (I : Instance) (b : ℕ) → b < length I → (p : List ℕ) × IsIn p (parts I) × IsIn b p
-parts_cover I b lt = (members I (part_of I b), part_is_in I b lt, member_of I b lt)
+pub parts_cover : (I : Instance) (b : ℕ) → IsInstance I → b < length I → (p : List ℕ) × IsIn p (parts I) × IsIn b p
+parts_cover I b s lt = (members I (start_of I b), part_is_in I b s lt, member_of I b lt)
 
 pub part_is_uncut : (I : Instance) (p : List ℕ) (b c : ℕ) → IsInstance I → IsIn p (parts I) → IsIn b p → IsIn c p →
     IsUncut I b c
 part_is_uncut I p b c s i j k =
-    let r = part_is_members I p i in
-    let x = in_members I r.0 b (rw r.1 at j) in
-    let y = in_members I r.0 c (rw r.1 at k) in
-    same_part_uncut I b c s x.0 y.0 (x.1 ∙ sym y.1)
+    let r = part_is_of I p i in
+    let x = from_part I r.0 b (rw r.2 at j) in
+    let y = from_part I r.0 c (rw r.2 at k) in
+    uncut_through I b r.0 c r.1 (uncut_turned I r.0 b x.1) y.1
 
 pub part_is_greatest : (I : Instance) (p : List ℕ) (b c : ℕ) → IsIn p (parts I) → IsIn b p → c < length I →
     IsUncut I b c → IsIn c p
 part_is_greatest I p b c i j lt u =
-    let r = part_is_members I p i in
-    let x = in_members I r.0 b (rw r.1 at j) in
-    rw r.1 (subst (λ (t : ℕ). IsIn c (members I t)) (sym (uncut_same_part I b c x.0 lt u) ∙ x.1) (member_of I c lt))
+    let r = part_is_of I p i in
+    let x = from_part I r.0 b (rw r.2 at j) in
+    rw r.2 (into_part I r.0 c lt (uncut_through I r.0 b c x.0 x.1 u))
 
 -- ---- all parts, in order of time
 -- each buffer of a list ends before any of a later list begins
@@ -53,27 +53,53 @@ AreInOrder I [] = Unit {0}
 AreInOrder I (p ∷ ps) = ((q : List ℕ) → IsIn q ps → (b c : ℕ) → IsIn b p → IsIn c q →
     (buffer I b).upper ≤ (buffer I c).lower) × AreInOrder I ps
 
-order_members : (I : Instance) (ts : List ℕ) → Rises ts → AreInOrder I (map (members I) ts)
-order_members I [] r = tt
-order_members I (t ∷ ts) r = (later, order_members I ts r.1)
+-- the buffers of the part of one that begins earlier end before those of the other begin
+ends_before : (I : Instance) (b c x y : ℕ) → (buffer I b).lower ≤ (buffer I c).lower → b ≢ c →
+    (b < length I) × (is_first I b ≡ true) → (c < length I) × (is_first I c ≡ true) →
+    IsIn x (part_of I b) → IsIn y (part_of I c) → (buffer I x).upper ≤ (buffer I y).lower
+ends_before I b c x y le ne f g i j = elim (uncut_or_parted I b c) [
+  | inl u ↦ absurd (ne (firsts_are_one I b c f.1 g.1 f.0 g.0 u))
+  | inr r ↦ at_cut r.0 r.1 r.2
+]
   where
-    later : (q : List ℕ) → IsIn q (map (members I) ts) → (b c : ℕ) → IsIn b (members I t) → IsIn c q →
-        (buffer I b).upper ≤ (buffer I c).lower
-    later q i b c j k =
-        let u = from_map (members I) ts q i in
-        let l = r.0 u.0 u.1 in
-        let x = in_members I t b j in
-        let y = in_members I u.0 c (subst (λ (q : List ℕ). IsIn c q) u.2 k) in
-        let z = cut_between I b c x.0 (let e = x.1 in let f = y.1 in omega arith) in
-        let e = z.1.0 in let f = z.1.1 in omega arith
+    with_x : (x < length I) × IsUncut I b x
+    with_x = from_part I b x i
 
-order_filter : (I : Instance) (f : List ℕ → Bool) (ps : List (List ℕ)) → AreInOrder I ps → AreInOrder I (filter f ps)
-order_filter I f [] a = tt
-order_filter I f (p ∷ ps) a = go (order_filter I f ps a.1) (f p)
+    with_y : (y < length I) × IsUncut I c y
+    with_y = from_part I c y j
+
+    ended : (t : ℕ) → is_cut I t ≡ true → (buffer I b).upper ≤ t → (buffer I x).upper ≤ t
+    ended t cut up = elim (below_or_from (buffer I x).lower t) [
+      | inl low ↦ cut_outside I t x cut with_x.0 low
+      | inr high ↦ absurd (with_x.1.forth t cut (up, high))
+    ]
+
+    begun : (t : ℕ) → is_cut I t ≡ true → t ≤ (buffer I c).lower → t ≤ (buffer I y).lower
+    begun t cut low = elim (below_or_from (buffer I y).lower t) [
+      | inl q ↦ absurd (with_y.1.back t cut (cut_outside I t y cut with_y.0 q, low))
+      | inr q ↦ q
+    ]
+
+    own : IsUncut I c c
+    own = uncut_through I c y c with_y.0 with_y.1 (uncut_turned I c y with_y.1)
+
+    at_cut : (t : ℕ) → is_cut I t ≡ true →
+        Separates t (buffer I b) (buffer I c) ⊎ Separates t (buffer I c) (buffer I b) →
+        (buffer I x).upper ≤ (buffer I y).lower
+    at_cut t cut (inl s) = let k = ended t cut s.0 in let l = begun t cut s.1 in omega arith
+    at_cut t cut (inr s) = absurd (own.forth t cut (s.0, (let z = s.1 in omega arith)))
+
+order_of : (I : Instance) (bs : List ℕ) → ((b : ℕ) → IsIn b bs → (b < length I) × (is_first I b ≡ true)) →
+    GoesUp (λ b. (buffer I b).lower) bs → AreInOrder I (map (part_of I) bs)
+order_of I [] f g = tt
+order_of I (b ∷ bs) f g = (later, order_of I bs (λ c i. f c (inr i)) g.1)
   where
-    go : AreInOrder I (filter f ps) → (b : Bool) → AreInOrder I (cond b (p ∷ filter f ps) (filter f ps))
-    go ih true = ((λ q i. a.0 q (from_filter f ps q i).0), ih)
-    go ih false = ih
+    later : (q : List ℕ) → IsIn q (map (part_of I) bs) → (x y : ℕ) → IsIn x (part_of I b) → IsIn y q →
+        (buffer I x).upper ≤ (buffer I y).lower
+    later q i x y j k =
+        let r = from_map (part_of I) bs q i in
+        ends_before I b r.0 x y (g.0 r.0 r.1).0 (g.0 r.0 r.1).1 (f b (inl refl)) (f r.0 (inr r.1)) j
+        (subst (λ (q : List ℕ). IsIn y q) r.2 k)
 
 pub got_in : {X : Type 0} (xs : List X) (k : ℕ) (x : X) → slice_get xs k ≡ Some x → IsIn x xs
 got_in [] k x h = absurd cc
@@ -89,10 +115,7 @@ order_at I (x ∷ xs) a (suc j) (suc k) p q b c lt g h m n = order_at I xs a.1 j
 
 parts_order : (I : Instance) → AreInOrder I (parts I)
 unfolding parts
-parts_order I = order_filter I (λ p. not (is_empty p))
-    (map (members I) (numbers (suc (greatest (map (λ b. b.lower) I)))))
-    (order_members I (numbers (suc (greatest (map (λ b. b.lower) I))))
-    (rises-range (suc (greatest (map (λ b. b.lower) I))) 0))
+parts_order I = order_of I (in_time I) (in_time_are_firsts I) (in_time_goes_up I)
 
 pub parts_in_order : (I : Instance) (j k : ℕ) (p q : List ℕ) (b c : ℕ) → j < k → slice_get (parts I) j ≡ Some p →
     slice_get (parts I) k ≡ Some q →

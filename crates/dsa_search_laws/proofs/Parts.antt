@@ -1,37 +1,38 @@
 -- What places each part is a layout of all; two buffers are in one part exactly where no cut separates them.
-use Rattle.std.proofs.Common.{◌≡◌, ℕ, suc, ◌<◌, ◌≢◌, ◌⊎◌, ◌↔◌, inl, inr, Bool, true, false, cond, not, ◌==◌, List, [], ◌∷◌, ◌++◌, map, length, filter, Option, Some, None, sym, refl, ◌∙◌, subst, arith, slice_index}
+use Rattle.std.proofs.Common.{◌≡◌, ℕ, ◌<◌, ◌≢◌, ◌⊎◌, ◌↔◌, inl, inr, Bool, true, false, cond, ◌==◌, List, [], ◌∷◌, ◌++◌, map, length, Option, Some, None, sym, refl, ◌∙◌, subst, arith, slice_index}
 use Rattle.std.specs.List.{flat_map, AllZip}
 use Rattle.std.proofs.lemmas.Bool.Decides.{nat_tests}
 use Rattle.std.proofs.lemmas.List.FromFn.{get_or-map-range_with_len, length-map-range_with_len}
-use Rattle.dsa_terms.specs.Buffers.{Buffer, Instance, buffer, IsInstance}
+use Rattle.dsa_terms.specs.Buffers.{Instance, buffer, IsInstance}
 use Rattle.dsa_terms.specs.Layouts.{IsLayout, IsInfeasible}
 use Rattle.dsa_terms.specs.Claims.{Entry, IsIn, Rises, buffers_of, IsClaim, number_of, Places, IsPlacement, IsRefuted}
-use Rattle.dsa_terms.specs.Logs.{greatest}
 use Rattle.dsa_terms.specs.Search.{first}
-use Rattle.dsa_terms.specs.Parts.{part_of, numbers, members, is_empty, parts, whole, IsUncut, join, first_of_all, offsets_of, offsets_found, searched}
-use Rattle.dsa_terms.proofs.Lists.{into_map, from_map, from_filter, none_or_some}
-use Rattle.dsa_terms.proofs.Ranges.{rises-range}
+use Rattle.dsa_terms.specs.Parts.{are_uncut, parts, whole, join, first_of_all, offsets_of, offsets_found, searched}
+use Rattle.dsa_terms.proofs.Lists.{into_map, from_map, none_or_some}
+use Rattle.dsa_search_laws.specs.PartsByTime.{start_of, members, IsUncut}
 use Rattle.dsa_search_laws.specs.Together.{AreTogether}
 use Rattle.dsa_search_laws.proofs.Claims.{not_placed, places_like}
 use Rattle.dsa_search_laws.proofs.First.{first_exactly, first_places}
 use Rattle.dsa_search_laws.proofs.Logs.{layout_places}
 pub use Rattle.dsa_search_laws.proofs.Cuts.{cut_between, no_cut_between, sharing_is_one_part}
-pub use Rattle.dsa_search_laws.proofs.Members.{in_members, member_of, part_is_in, part_is_members}
+pub use Rattle.dsa_search_laws.proofs.Uncut.{part_exactly, same_part_uncut, uncut_exactly, uncut_same_part}
+pub use Rattle.dsa_search_laws.proofs.ByTime.{begins, by_begins, part_is_in, part_is_members, rises-begins}
+pub use Rattle.dsa_search_laws.proofs.Members.{in_members, member_of}
 pub use Rattle.dsa_search_laws.proofs.Members.{buffers_of-whole, in_whole, claim_of_part, whole_is_whole}
 
 -- ---- offsets that place each part are a layout
 in_own_part : (I : Instance) (b : ℕ) → b < length I →
-    IsIn (b, (buffer I b).lowest) (whole I (members I (part_of I b)))
+    IsIn (b, (buffer I b).lowest) (whole I (members I (start_of I b)))
 in_own_part I b lt =
-    into_map (λ (b : ℕ). let f : Entry = (b, (buffer I b).lowest) in f) (members I (part_of I b)) b (member_of I b lt)
+    into_map (λ (b : ℕ). let f : Entry = (b, (buffer I b).lowest) in f) (members I (start_of I b)) b (member_of I b lt)
 
 pub offset_at : (I : Instance) (seats : List Entry) (b : ℕ) → b < length I →
     slice_index (offsets_of I seats) b ≡ number_of seats b
 offset_at I seats b lt = get_or-map-range_with_len (number_of seats) 0 (length I) b b 0 lt (omega arith)
 
-pub parts_are_layout : (I : Instance) (C : ℕ) (seats : List Entry) →
+pub parts_are_layout : (I : Instance) (C : ℕ) (seats : List Entry) → IsInstance I →
     ((p : List ℕ) → IsIn p (parts I) → Places I C (whole I p) (number_of seats)) → IsLayout I C (offsets_of I seats)
-parts_are_layout I C seats h = record {
+parts_are_layout I C seats s h = record {
   count = length-map-range_with_len (number_of seats) 0 (length I);
   aligned = λ b lt. rw (offset_at I seats b lt) ((own b lt).aligned (b, (buffer I b).lowest) (in_own_part I b lt));
   above = λ b lt. rw (offset_at I seats b lt) ((own b lt).above (b, (buffer I b).lowest) (in_own_part I b lt));
@@ -43,8 +44,8 @@ parts_are_layout I C seats h = record {
       q);
 }
   where
-    own : (b : ℕ) → b < length I → Places I C (whole I (members I (part_of I b))) (number_of seats)
-    own b lt = h (members I (part_of I b)) (part_is_in I b lt)
+    own : (b : ℕ) → b < length I → Places I C (whole I (members I (start_of I b))) (number_of seats)
+    own b lt = h (members I (start_of I b)) (part_is_in I b s lt)
 
 -- a part that is refuted
 pub part_refutes : (I : Instance) (C : ℕ) (p : List ℕ) → IsIn p (parts I) → IsRefuted I C (whole I p) → IsInfeasible I C
@@ -142,20 +143,8 @@ apart_members I (t ∷ ts) r = ((λ q i b j k. apart q i b j k), apart_members I
         let n = (in_members I u.0 b (subst (λ (q : List ℕ). IsIn b q) u.2 k)).1 in
         omega arith
 
-apart_filter : (f : List ℕ → Bool) (ps : List (List ℕ)) → AllApart ps → AllApart (filter f ps)
-apart_filter f [] a = tt
-apart_filter f (p ∷ ps) a = go (apart_filter f ps a.1) (f p)
-  where
-    go : AllApart (filter f ps) → (b : Bool) → AllApart (cond b (p ∷ filter f ps) (filter f ps))
-    go ih true = ((λ q i. a.0 q (from_filter f ps q i).0), ih)
-    go ih false = ih
-
-pub parts_apart : (I : Instance) → AllApart (parts I)
-unfolding parts
-parts_apart I = apart_filter (λ p. not (is_empty p))
-    (map (members I) (numbers (suc (greatest (map (λ (b : Buffer). b.lower) I)))))
-    (apart_members I (numbers (suc (greatest (map (λ (b : Buffer). b.lower) I))))
-    (rises-range (suc (greatest (map (λ (b : Buffer). b.lower) I))) 0))
+pub parts_apart : (I : Instance) → IsInstance I → AllApart (parts I)
+parts_apart I s = rw (by_begins I s) (apart_members I (begins I) (rises-begins I))
 
 pub found_some : (I : Instance) (o : Option (List Entry)) (offsets : List ℕ) → offsets_found I o ≡ Some offsets →
     (seats : List Entry) × (o ≡ Some seats) × (offsets_of I seats ≡ offsets)
@@ -171,7 +160,8 @@ pub searched_is_layout : (I : Instance) (C : ℕ) (offsets : List ℕ) → IsIns
 unfolding searched
 searched_is_layout I C offsets s h =
     let r = found_some I (first_of_all I C (parts I)) offsets h in
-    rw (← r.2) (parts_are_layout I C r.0 (all_placed I C (parts I) r.0 s (claim_of_part I) (parts_apart I) r.1))
+    rw (← r.2) (parts_are_layout I C r.0 s
+    (all_placed I C (parts I) r.0 s (claim_of_part I) (parts_apart I s) r.1))
 
 pub searched_none : (I : Instance) (C : ℕ) → IsInstance I → searched I C ≡ None → IsInfeasible I C
 unfolding searched
@@ -185,41 +175,19 @@ searched_exactly I C s = (
   λ h. elim (none_or_some (searched I C)) [ inl q ↦ q | inr q ↦ absurd (h q.0 (searched_is_layout I C q.0 s q.1)) ],
 )
 
--- ---- one part exactly where no cut separates
-pub same_part_uncut : (I : Instance) (b c : ℕ) → IsInstance I → b < length I → c < length I →
-    part_of I b ≡ part_of I c → IsUncut I b c
-same_part_uncut I b c s lb lc same = record {
-  forth = λ t cut sep. no_cut_between I b c t s lb same cut sep;
-  back = λ t cut sep. no_cut_between I c b t s lc (sym same) cut sep;
-}
-
-pub uncut_same_part : (I : Instance) (b c : ℕ) → b < length I → c < length I → IsUncut I b c → part_of I b ≡ part_of I c
-uncut_same_part I b c lb lc u = go (cases (part_of I b) (part_of I c))
-  where
-    cases : (m n : ℕ) → (m < n) ⊎ ((n < m) ⊎ (m ≡ n))
-    cases m n = grind arith
-
-    go : (part_of I b < part_of I c) ⊎ ((part_of I c < part_of I b) ⊎ (part_of I b ≡ part_of I c)) →
-        part_of I b ≡ part_of I c
-    go (inl h) = absurd (let k = cut_between I b c lb h in u.forth (part_of I c) k.0 k.1)
-    go (inr (inl h)) = absurd (let k = cut_between I c b lc h in u.back (part_of I b) k.0 k.1)
-    go (inr (inr h)) = h
-
-pub part_exactly : (I : Instance) (b c : ℕ) → IsInstance I → b < length I → c < length I →
-    (part_of I b ≡ part_of I c) ↔ IsUncut I b c
-part_exactly I b c s lb lc = (same_part_uncut I b c s lb lc, uncut_same_part I b c lb lc)
-
-together : (I : Instance) (b c : ℕ) → b < length I → c < length I → part_of I b ≡ part_of I c → AreTogether I b c
-together I b c lb lc same = record {
-  part = members I (part_of I b);
-  is_part = part_is_in I b lb;
+-- ---- in one part exactly where no cut separates
+together : (I : Instance) (b c : ℕ) → IsInstance I → b < length I → c < length I → start_of I b ≡ start_of I c →
+    AreTogether I b c
+together I b c s lb lc same = record {
+  part = members I (start_of I b);
+  is_part = part_is_in I b s lb;
   has_first = member_of I b lb;
   has_second = subst (λ (t : ℕ). IsIn c (members I t)) (sym same) (member_of I c lc);
 }
 
-of_together : (I : Instance) (b c : ℕ) → AreTogether I b c → part_of I b ≡ part_of I c
-of_together I b c h =
-    let r = part_is_members I h.part h.is_part in
+of_together : (I : Instance) (b c : ℕ) → IsInstance I → AreTogether I b c → start_of I b ≡ start_of I c
+of_together I b c s h =
+    let r = part_is_members I h.part s h.is_part in
     let x = (in_members I r.0 b (rw r.1 at h.has_first)).1 in
     let y = (in_members I r.0 c (rw r.1 at h.has_second)).1 in
     x ∙ sym y
@@ -227,9 +195,16 @@ of_together I b c h =
 pub together_exactly : (I : Instance) (b c : ℕ) → IsInstance I → b < length I → c < length I →
     AreTogether I b c ↔ IsUncut I b c
 together_exactly I b c s lb lc = (
-  λ h. same_part_uncut I b c s lb lc (of_together I b c h),
-  λ u. together I b c lb lc (uncut_same_part I b c lb lc u),
+  λ h. same_part_uncut I b c s lb lc (of_together I b c s h),
+  λ u. together I b c s lb lc (uncut_same_part I b c lb lc u),
 )
+
+pub together_by_test : (I : Instance) (b c : ℕ) → IsInstance I → b < length I → c < length I →
+    AreTogether I b c ↔ (are_uncut I b c ≡ true)
+together_by_test I b c s lb lc =
+    let k = together_exactly I b c s lb lc in
+    let u = uncut_exactly I b c in
+    (λ h. u.1 (k.0 h), λ h. k.1 (u.0 h))
 
 -- ---- placements of all parts, put together
 pub put_together : (I : Instance) (C : ℕ) (ps : List (List ℕ)) (answers : List (List Entry)) →
@@ -252,8 +227,8 @@ put_together I C (q ∷ qs) (x ∷ xs) c a z p i = go (put_together I C qs xs (�
         (λ e m. number_of-right x (flat_map (λ seats. seats) xs) e.0
         (λ y. a.0 p k e.0 (rw same at y) (in_whole I p e m).0)) (ih k)
 
-pub all_put_together : (I : Instance) (C : ℕ) (answers : List (List Entry)) →
+pub all_put_together : (I : Instance) (C : ℕ) (answers : List (List Entry)) → IsInstance I →
     AllZip (λ p seats. IsPlacement I C (whole I p) seats) (parts I) answers →
     IsLayout I C (offsets_of I (flat_map (λ seats. seats) answers))
-all_put_together I C answers z = parts_are_layout I C (flat_map (λ seats. seats) answers)
-    (put_together I C (parts I) answers (claim_of_part I) (parts_apart I) z)
+all_put_together I C answers s z = parts_are_layout I C (flat_map (λ seats. seats) answers) s
+    (put_together I C (parts I) answers (claim_of_part I) (parts_apart I s) z)

@@ -1,3 +1,4 @@
+pub mod PartsByTime
 pub mod Placements
 pub mod Searches
 pub mod Together

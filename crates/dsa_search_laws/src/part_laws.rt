@@ -4,27 +4,37 @@ ghost use Rattle.std.specs.Prelude.{◌≡◌, ◌≢◌, true, ℕ, ◌<◌, �
 ghost use Rattle.dsa_terms.specs.Buffers.{Instance, IsInstance, IsLive, buffer};
 ghost use Rattle.dsa_terms.specs.Claims.{Places, Entry, IsIn, IsPlacement, IsRefuted, Rises, number_of};
 ghost use Rattle.dsa_terms.specs.Layouts.{IsInfeasible, IsLayout};
-ghost use Rattle.dsa_terms.specs.Parts.{is_cut, IsUncut, offsets_of, part_of, parts, Separates, whole};
+ghost use Rattle.dsa_terms.specs.Parts.{are_uncut, is_cut, offsets_of, parts, whole};
+ghost use Rattle.dsa_search_laws.specs.PartsByTime.{IsUncut, parts_by_time, Separates, start_of};
 ghost use Rattle.dsa_search_laws.specs.Together.{AreTogether};
 ghost use Rattle.std.specs.List.{AllZip, flat_map};
 
 /// Buffers that share a moment are in one part, and what lies between the parts is a cut.
 pub fn parts_share_no_moment()
     ensures sharing { (I : Instance) (b c t : ℕ) → b < length I → c < length I →
-        IsLive (buffer I b) t → IsLive (buffer I c) t → part_of I b ≡ part_of I c }
-    ensures between { (I : Instance) (b c : ℕ) → b < length I → part_of I b < part_of I c →
-        (is_cut I (part_of I c) ≡ true) × Separates (part_of I c) (buffer I b) (buffer I c) }
+        IsLive (buffer I b) t → IsLive (buffer I c) t → start_of I b ≡ start_of I c }
+    ensures between { (I : Instance) (b c : ℕ) → b < length I → start_of I b < start_of I c →
+        (is_cut I (start_of I c) ≡ true) × Separates (start_of I c) (buffer I b) (buffer I c) }
     ensures within { (I : Instance) (b c t : ℕ) → IsInstance I → b < length I →
-        part_of I b ≡ part_of I c → is_cut I t ≡ true →
+        start_of I b ≡ start_of I c → is_cut I t ≡ true →
         Separates t (buffer I b) (buffer I c) → ⊥ }
 {}
 
 /// Two buffers are in one part exactly where no cut lies between them.
 pub fn parts_are_uncut()
     ensures number { (I : Instance) (b c : ℕ) → IsInstance I → b < length I → c < length I →
-        (part_of I b ≡ part_of I c) ↔ IsUncut I b c }
+        (start_of I b ≡ start_of I c) ↔ IsUncut I b c }
     ensures part { (I : Instance) (b c : ℕ) → IsInstance I → b < length I → c < length I →
         AreTogether I b c ↔ IsUncut I b c }
+    ensures test { (I : Instance) (b c : ℕ) → IsInstance I → b < length I → c < length I →
+        AreTogether I b c ↔ (are_uncut I b c ≡ true) }
+{}
+
+/// The parts are, for each cut at which one begins, the buffers whose part begins there, in order
+/// of time. The test of two buffers says that no cut lies between them exactly where none does.
+pub fn parts_by_time_are_the_parts()
+    ensures parts { (I : Instance) → IsInstance I → parts I ≡ parts_by_time I }
+    ensures uncut { (I : Instance) (b c : ℕ) → (are_uncut I b c ≡ true) ↔ IsUncut I b c }
 {}
 
 /// Each part is a greatest set of buffers that no cut separates: it is not empty, and has each

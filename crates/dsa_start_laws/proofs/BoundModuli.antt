@@ -6,12 +6,14 @@ use Rattle.std.proofs.lemmas.List.Sums.{sum_by-cons}
 use Rattle.dsa_terms.specs.Buffers.{Instance, buffer, IsLive, IsInstance}
 use Rattle.dsa_terms.specs.Claims.{IsIn}
 use Rattle.dsa_terms.specs.Logs.{greatest}
-use Rattle.dsa_terms.specs.Bounds.{counted, rounded_size, pile, moduli, highest_stack, lower_bound, least_of, bound_modulus}
+use Rattle.dsa_terms.specs.Bounds.{moduli, highest_stack, lower_bound, least_of, bound_modulus}
 use Rattle.dsa_terms.proofs.Lists.{from_map, from_filter, into_filter}
 use Rattle.dsa_terms.proofs.Moments.{sound}
 use Rattle.dsa_terms.proofs.NumberTests.{equal, same}
 use Rattle.dsa_search_laws.proofs.Logs.{in_greatest}
-use Rattle.dsa_start_laws.proofs.Stacks.{greatest_is, into_counted, stack_of_some, stack_under_bound, zero_height}
+use Rattle.dsa_start_laws.specs.Piles.{counted_buffers, rounded_size, pile}
+use Rattle.dsa_start_laws.proofs.Piles.{into_counted, stack_of_some}
+use Rattle.dsa_start_laws.proofs.Stacks.{greatest_is, stack_under_bound, zero_height}
 
 -- ---- the least modulus that reaches the bound
 some_modulus : (I : Instance) → (G : ℕ) × IsIn G (moduli I) × (highest_stack I G ≡ lower_bound I)
@@ -86,7 +88,7 @@ bound_modulus_least I G i q = (bound_modulus_is I).least G
     (same (highest_stack I G) (lower_bound I) q))
 
 -- ---- a buffer that is live at some moment lifts the bound above 0
-one_counts : (I : Instance) (t b : ℕ) → b < length I → IsLive (buffer I b) t → IsIn b (counted I t 0 1)
+one_counts : (I : Instance) (t b : ℕ) → b < length I → IsLive (buffer I b) t → IsIn b (counted_buffers I t 0 1)
 one_counts I t b lt live = into_counted I t 0 1 b lt live (omega arith)
     (same ((buffer I b).alignment % 1) 0 (omega arith))
 
@@ -97,7 +99,7 @@ unrounded x = omega arith
 pub stack_by_one : (I : Instance) (p : List ℕ) →
     sum_by (rounded_size I 1) p - greatest (map (λ b. rounded_size I 1 b - (buffer I b).size) p) ≡ sum_by
     (λ b. (buffer I b).size) p
-unfolding
+unfolding rounded_size
 stack_by_one I p = let z = no_roundings p in let s = sums p in omega arith
   where
     no_roundings : (p : List ℕ) → greatest (map (λ b. next_multiple_of (buffer I b).size 1 - (buffer I b).size) p) ≡ 0
@@ -119,10 +121,10 @@ in_sum f (c ∷ cs) b (inl q) = rw (sum_by-cons f c cs) (let k : f b ≡ f c = a
 in_sum f (c ∷ cs) b (inr i) = rw (sum_by-cons f c cs) (let k = in_sum f cs b i in omega arith)
 
 positive_pile : (I : Instance) (t b : ℕ) → IsInstance I → b < length I → IsLive (buffer I b) t → 1 ≤ pile I t 0 1
-unfolding
+unfolding pile
 positive_pile I t b s lt live =
-    let q = stack_by_one I (counted I t 0 1) in
-    let k = in_sum (λ b. (buffer I b).size) (counted I t 0 1) b (one_counts I t b lt live) in
+    let q = stack_by_one I (counted_buffers I t 0 1) in
+    let k = in_sum (λ b. (buffer I b).size) (counted_buffers I t 0 1) b (one_counts I t b lt live) in
     let z = (sound I b s).0 in
     omega arith
 
@@ -131,7 +133,7 @@ pub bound_is_positive : (I : Instance) (t b : ℕ) → IsInstance I → b < leng
 unfolding moduli
 bound_is_positive I t b s lt live =
     let a = stack_under_bound I t 0 1 (inl refl) (zero_height I 1) in
-    let e = stack_of_some I t 0 1 (filled (counted I t 0 1) (one_counts I t b lt live)) in
+    let e = stack_of_some I t 0 1 (filled (counted_buffers I t 0 1) (one_counts I t b lt live)) in
     let k = positive_pile I t b s lt live in
     omega arith
   where

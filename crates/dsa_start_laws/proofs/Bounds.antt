@@ -1,20 +1,20 @@
--- A stack never falls where more is live: the starts of sections, and the loads.
-use Rattle.std.proofs.Common.{◌≡◌, ℕ, suc, ◌+◌, ◌-◌, ◌%◌, ◌<◌, ◌≤◌, ◌≢◌, ◌⊎◌, inl, inr, Bool, true, false, ◌&&◌, ◌==◌, cond, nat_le, List, [], ◌∷◌, map, length, filter, sum_by, find, Option, Some, None, le_antisymm, sym, refl, ap, ◌∙◌, arith}
-use Rattle.std.specs.List.{range_with_len}
+-- A stack never falls where more is live: the starts of sections.
+use Rattle.std.proofs.Common.{◌≡◌, ℕ, ◌+◌, ◌-◌, ◌%◌, ◌<◌, ◌≤◌, ◌≢◌, ◌⊎◌, inl, inr, Bool, true, false, ◌&&◌, ◌==◌, cond, nat_le, List, [], ◌∷◌, map, length, filter, sum_by, find, Option, Some, None, le_antisymm, sym, refl, ap, ◌∙◌, subst, arith}
 use Rattle.std.specs.Option.{unwrap_or}
 use Rattle.std.proofs.lemmas.List.Sums.{sum_by-cons}
-use Rattle.dsa_terms.specs.Buffers.{Buffer, Instance, buffer, is_live, IsLive, floor}
-use Rattle.dsa_terms.specs.Claims.{IsIn, up}
-use Rattle.dsa_terms.specs.Logs.{greatest, is_stacked, rounded, rounding}
-use Rattle.dsa_terms.specs.Parts.{numbers}
-use Rattle.dsa_terms.specs.Plans.{load}
-use Rattle.dsa_terms.specs.Bounds.{counted, rounded_size, pile, stack, moduli, heights, moments, highest_at, highest_stack, lower_bound, least_of, bound_modulus}
-use Rattle.dsa_terms.proofs.Lists.{from_filter, into_filter, nil_or_not, none_found}
-use Rattle.dsa_terms.proofs.NumberTests.{equal, is_at_most, same}
+use Rattle.dsa_terms.specs.Buffers.{Instance, buffer, is_live, IsLive, floor}
+use Rattle.dsa_terms.specs.Claims.{Claim, Entry, IsIn}
+use Rattle.dsa_terms.specs.Logs.{greatest}
+use Rattle.dsa_terms.specs.Parts.{numbers, whole}
+use Rattle.dsa_terms.specs.Bounds.{counted, stack, heights, moments, highest_at, highest_stack, lower_bound, least_of, bound_modulus}
+use Rattle.dsa_terms.proofs.Lists.{from_filter, into_filter, into_map, nil_or_not, none_found}
+use Rattle.dsa_terms.proofs.NumberTests.{equal, same}
+use Rattle.dsa_start_laws.specs.Piles.{counted_buffers, rounded_size, pile}
 use Rattle.dsa_start_laws.specs.Reaching.{bound_moment, bound_height, HasSections}
 use Rattle.dsa_search_laws.proofs.Logs.{in_greatest}
-use Rattle.dsa_start_laws.proofs.Stacks.{found_in, found_passes, in_counted, into_counted, greatest_in_sum, greatest_of, greatest_all, stack_of_some, stack_of_none, at_reached, at_under_highest, zero_height, stack_under_bound}
-use Rattle.dsa_start_laws.proofs.BoundModuli.{bound_modulus_reaches, least_is, stack_by_one}
+use Rattle.dsa_start_laws.proofs.Piles.{counted_are, in_counted, into_counted, greatest_in_sum, stack_of_some, stack_of_none}
+use Rattle.dsa_start_laws.proofs.Stacks.{found_in, found_passes, greatest_of, greatest_all, at_reached, at_under_highest}
+use Rattle.dsa_start_laws.proofs.BoundModuli.{bound_modulus_reaches, least_is}
 
 -- ---- a stack never falls when a buffer is added
 -- what is kept by p is kept by q
@@ -48,11 +48,11 @@ less_for_more f g p q (x ∷ xs) h w = go (p x) (q x) (w x (inl refl)) (less_for
 -- what is counted for one stack is counted for the other, which is from no lower height
 record IsWithin (I : Instance) (t H s K G : ℕ) : Type 0 where
   higher : H ≤ K
-  counts : (b : ℕ) → IsIn b (counted I t H G) → IsIn b (counted I s K G)
+  counts : (b : ℕ) → IsIn b (counted_buffers I t H G) → IsIn b (counted_buffers I s K G)
 
 pile_within : (I : Instance) (t H s K G : ℕ) →
-    ((b : ℕ) → IsIn b (counted I t H G) → IsIn b (counted I s K G)) → pile I t H G ≤ pile I s K G
-unfolding counted is_stacked rounded rounding up
+    ((b : ℕ) → IsIn b (counted_buffers I t H G) → IsIn b (counted_buffers I s K G)) → pile I t H G ≤ pile I s K G
+unfolding pile counted_buffers
 pile_within I t H s K G w =
     close (sum_by f (filter p all)) (greatest (map g (filter p all))) (sum_by f (filter q all))
     (greatest (map g (filter q all))) (r.less) (greatest_in_sum f g (filter q all) low)
@@ -84,18 +84,19 @@ pile_within I t H s K G w =
     close : (a m b n : ℕ) → a + n ≤ b + m → n ≤ b → a - m ≤ b - n
     close a m b n u v = omega arith
 
-filled : (p : List ℕ) (b : ℕ) → IsIn b p → p ≢ []
+pub filled : (p : List ℕ) (b : ℕ) → IsIn b p → p ≢ []
 filled [] b i = absurd i
 filled (c ∷ cs) b i = λ e. cc
 
 stack_within : (I : Instance) (t H s K G : ℕ) → IsWithin I t H s K G → stack I t H G ≤ stack I s K G
-stack_within I t H s K G w = go (nil_or_not (counted I t H G))
+stack_within I t H s K G w = go (nil_or_not (counted_buffers I t H G))
   where
-    go : (counted I t H G ≡ []) ⊎ ((b : ℕ) × IsIn b (counted I t H G)) → stack I t H G ≤ stack I s K G
+    go : (counted_buffers I t H G ≡ []) ⊎ ((b : ℕ) × IsIn b (counted_buffers I t H G)) →
+        stack I t H G ≤ stack I s K G
     go (inl e) = let z = stack_of_none I t H G e in omega arith
     go (inr b) =
-        let x = stack_of_some I t H G (filled (counted I t H G) b.0 b.1) in
-        let y = stack_of_some I s K G (filled (counted I s K G) b.0 (w.counts b.0 b.1)) in
+        let x = stack_of_some I t H G (filled (counted_buffers I t H G) b.0 b.1) in
+        let y = stack_of_some I s K G (filled (counted_buffers I s K G) b.0 (w.counts b.0 b.1)) in
         let k = pile_within I t H s K G w.counts in
         let h = w.higher in
         omega arith
@@ -141,10 +142,10 @@ least_image f (x ∷ y ∷ ys) n = go (least_image f (y ∷ ys) (λ e. cc))
       )
     ]
 
-pub floor_reaches : (I : Instance) (t H G : ℕ) → counted I t H G ≢ [] →
-    (b : ℕ) × IsIn b (counted I t H G) × (stack I t H G ≤ stack I t (floor (buffer I b)) G)
-floor_reaches I t H G some =
-    let m = least_image (λ b. floor (buffer I b)) (counted I t H G) some in (
+least_floor_reaches : (I : Instance) (t H G : ℕ) → counted_buffers I t H G ≢ [] →
+    (b : ℕ) × IsIn b (counted_buffers I t H G) × (stack I t H G ≤ stack I t (floor (buffer I b)) G)
+least_floor_reaches I t H G some =
+    let m = least_image (λ b. floor (buffer I b)) (counted_buffers I t H G) some in (
       m.0,
       m.1,
       stack_within I t H t (floor (buffer I m.0)) G (record {
@@ -153,6 +154,18 @@ floor_reaches I t H G some =
             into_counted I t (floor (buffer I m.0)) G b r.0 r.1 (m.2 b i) r.3;
       }),
     )
+
+pub floor_reaches : (I : Instance) (t H G : ℕ) → counted I t H G ≢ [] →
+    (e : Entry) × IsIn e (counted I t H G) × (stack I t H G ≤ stack I t (floor (buffer I e.0)) G)
+floor_reaches I t H G some = (
+  (b.0, (buffer I b.0).lowest),
+  subst (λ (l : Claim). IsIn (b.0, (buffer I b.0).lowest) l) (sym (counted_are I t H G))
+      (into_map (λ (b : ℕ). let e : Entry = (b, (buffer I b).lowest) in e) (counted_buffers I t H G) b.0 b.1),
+  b.2,
+)
+  where
+    b : (b : ℕ) × IsIn b (counted_buffers I t H G) × (stack I t H G ≤ stack I t (floor (buffer I b)) G)
+    b = least_floor_reaches I t H G (λ e. some (counted_are I t H G ∙ ap (whole I) e))
 
 -- ---- over the starts of sections
 pub at_grows : (I : Instance) (t s G : ℕ) →
@@ -165,7 +178,7 @@ at_grows I t s G h =
 
 -- a moment with a stack above 0 has a buffer
 stack_has : (I : Instance) (t H G : ℕ) → 1 ≤ stack I t H G → (b : ℕ) × (b < length I) × IsLive (buffer I b) t
-stack_has I t H G pos = elim (nil_or_not (counted I t H G)) [
+stack_has I t H G pos = elim (nil_or_not (counted_buffers I t H G)) [
   | inl e ↦ absurd (let z = stack_of_none I t H G e in omega arith)
   | inr b ↦ (let r = in_counted I t H G b.0 b.1 in (b.0, r.0, r.1))
 ]
@@ -269,89 +282,3 @@ bound_height_reaches I starts h pos = go (at_reached I (bound_moment I starts) (
           equal (stack I (bound_moment I starts) (least_of (filter test (heights I (bound_modulus I))) 0)
               (bound_modulus I)) (lower_bound I) f.1,
         )
-
--- ---- the load of each moment is at most the bound
-head : (x : Buffer) (xs : Instance) → buffer (x ∷ xs) 0 ≡ x
-unfolding buffer
-head x xs = refl
-
-next : (x : Buffer) (xs : Instance) (i : ℕ) → buffer (x ∷ xs) (suc i) ≡ buffer xs i
-unfolding buffer
-next x xs i = refl
-
-sizes_from : (J : Instance) (p : Buffer → Bool) (n : ℕ) (I : Instance) →
-    ((i : ℕ) → i < length J → buffer I (n + i) ≡ buffer J i) →
-    sum_by (λ b. (buffer I b).size) (filter (λ b. p (buffer I b)) (range_with_len n (length J))) ≡ sum_by
-    (λ (b : Buffer). b.size) (filter p J)
-sizes_from [] p n I h = refl
-sizes_from (x ∷ xs) p n I h = go (p x) refl here
-    (sizes_from xs p (n + 1) I (λ i lt. let e : n + 1 + i ≡ n + suc i = omega arith in
-    rw e (h (suc i) (omega arith) ∙ next x xs i)))
-  where
-    here : buffer I n ≡ x
-    here = let e : n + 0 ≡ n = omega arith in rw e at (h 0 (omega arith) ∙ head x xs)
-
-    go : (b : Bool) → p x ≡ b → buffer I n ≡ x →
-        sum_by (λ b. (buffer I b).size) (filter (λ b. p (buffer I b)) (range_with_len (n + 1) (length xs))) ≡ sum_by
-        (λ (b : Buffer). b.size) (filter p xs) →
-        sum_by (λ b. (buffer I b).size) (cond (p (buffer I n))
-        (n ∷ filter (λ b. p (buffer I b)) (range_with_len (n + 1) (length xs)))
-        (filter (λ b. p (buffer I b)) (range_with_len (n + 1) (length xs))))
-        ≡ sum_by (λ (b : Buffer). b.size) (cond b (x ∷ filter p xs) (filter p xs))
-    go true e q ih = rw (
-      q,
-      e,
-      sum_by-cons (λ b. (buffer I b).size) n
-          (filter (λ b. p (buffer I b)) (range_with_len (n + 1) (length xs))),
-      sum_by-cons (λ (b : Buffer). b.size) x (filter p xs),
-      q,
-      ih,
-    ) refl
-    go false e q ih = rw (q, e) ih
-
-all_by_one : (I : Instance) (t : ℕ) → counted I t 0 1 ≡ filter (λ b. is_live (buffer I b) t) (numbers (length I))
-unfolding counted
-all_by_one I t = same (numbers (length I))
-  where
-    zero : (m : ℕ) → (m % 1 == 0) ≡ true
-    zero m = let e : m % 1 ≡ 0 = omega arith in rw e refl
-
-    low : (m : ℕ) → nat_le 0 m ≡ true
-    low m = is_at_most 0 m (omega arith)
-
-    and_two : (a b c : Bool) → b ≡ true → c ≡ true → (a && b && c) ≡ a
-    and_two true b c h k = rw (h, k) refl
-    and_two false b c h k = refl
-
-    same : (bs : List ℕ) →
-        filter (λ b. is_live (buffer I b) t && nat_le 0 (floor (buffer I b)) && ((buffer I b).alignment % 1 == 0)) bs
-        ≡ filter (λ b. is_live (buffer I b) t) bs
-    same [] = refl
-    same (b ∷ bs) = rw (
-      and_two (is_live (buffer I b) t) (nat_le 0 (floor (buffer I b))) ((buffer I b).alignment % 1 == 0)
-          (low (floor (buffer I b))) (zero (buffer I b).alignment),
-      same bs,
-    ) refl
-
-pub load_is_pile : (I : Instance) (t : ℕ) → pile I t 0 1 ≡ load I t
-unfolding load
-load_is_pile I t =
-    stack_by_one I (counted I t 0 1) ∙ (ap (λ p. sum_by (λ b. (buffer I b).size) p) (all_by_one I t)
-    ∙ sizes_from I (λ b. is_live b t) 0 I (λ i lt. let e : 0 + i ≡ i = omega arith in rw e refl))
-
--- where nothing is counted there is no pile
-no_pile : (I : Instance) (t H G : ℕ) → counted I t H G ≡ [] → pile I t H G ≡ 0
-unfolding
-no_pile I t H G e = rw e refl
-
-pub load_is_stack : (I : Instance) (t : ℕ) → stack I t 0 1 ≡ load I t
-load_is_stack I t = elim (nil_or_not (counted I t 0 1)) [
-  | inl e ↦ (let a = stack_of_none I t 0 1 e in let b = no_pile I t 0 1 e in let c = load_is_pile I t in omega arith)
-  | inr b ↦ (let a = stack_of_some I t 0 1 (filled (counted I t 0 1) b.0 b.1) in let c = load_is_pile I t in
-      omega arith)
-]
-
-pub load_under_bound : (I : Instance) (t : ℕ) → load I t ≤ lower_bound I
-unfolding moduli
-load_under_bound I t = let a = stack_under_bound I t 0 1 (inl refl) (zero_height I 1) in let e = load_is_stack I t in
-    omega arith

@@ -1,7 +1,11 @@
+pub mod Piles
+pub mod OverLines
 pub mod Stacks
 pub mod BoundModuli
 pub mod Bounds
+pub mod Loads
 pub mod Places
+pub mod Climbs
 pub mod Fits
 pub mod Orders
 pub mod Ranges

@@ -6,14 +6,17 @@ use Rattle.dsa_terms.specs.Claims.{Claim, Entry, IsIn}
 use Rattle.dsa_terms.specs.Logs.{greatest, Line, Over, claim_of, IsLegal}
 use Rattle.dsa_terms.specs.Parts.{IsUncut}
 use Rattle.dsa_terms.specs.Plans.{load, IsPeak}
-use Rattle.dsa_terms.specs.Bounds.{counted, moments, line_height, stack_line, stack_log}
+use Rattle.dsa_terms.specs.Bounds.{moments, line_height, stack_line, stack_log}
 use Rattle.dsa_terms.specs.Lean.{IsLeanLine, IsLean}
 use Rattle.dsa_terms.proofs.Lists.{true_or_false}
 use Rattle.dsa_terms.proofs.Moments.{live_at_or_after, live_before}
 use Rattle.dsa_terms.proofs.NumberTests.{differ, equal, same, same_or_not}
 use Rattle.dsa_search_laws.proofs.Logs.{feasible_higher}
-use Rattle.dsa_start_laws.proofs.Stacks.{all_at_bound, in_bound, in_counted, greatest_of, under_moments, dead_stack, legal_is_over, legal_height}
-use Rattle.dsa_start_laws.proofs.Bounds.{load_is_stack}
+use Rattle.dsa_start_laws.specs.Piles.{counted_buffers}
+use Rattle.dsa_start_laws.proofs.Piles.{in_counted, stack_line_is_pile}
+use Rattle.dsa_start_laws.proofs.OverLines.{all_at_bound, in_bound, in_line, legal_is_over, legal_height}
+use Rattle.dsa_start_laws.proofs.Stacks.{greatest_of, under_moments, dead_stack}
+use Rattle.dsa_start_laws.proofs.Loads.{load_is_stack}
 
 -- ---- the least number that passes
 record IsLeastPassing (p : ℕ → Bool) (t : ℕ) : Type 0 where
@@ -93,21 +96,20 @@ lowered h G (b ∷ bs) = ap (λ es. let f : Entry = (b, h - G) in f ∷ es) (low
 
 stack_line_is_lean : (I : Instance) (t H G C : ℕ) (earlier : List Line) →
     IsLeanLine I C earlier (stack_line I t H G (line_height I t H G C))
-unfolding stack_line
-stack_line_is_lean I t H G C earlier = record {
-  live = λ e i. (in_counted I t H G e.0 (in_bound (line_height I t H G C) (counted I t H G) e i).0).1;
-  bounds = λ e i. (in_bound (line_height I t H G C) (counted I t H G) e i).1;
-  lowest = elim (same_or_not (line_height I t H G C) 0) [
-    | inl z ↦ inl z
-    | inr n ↦ inr (λ l. not_lower I t H G C earlier n (subst (λ (m : Claim). IsLegal I C earlier
-        (Over m t (line_height I t H G C - G) G)) (lowered (line_height I t H G C) G (counted I t H G)) l))
-  ];
-}
-
-in_line : (I : Instance) (t H G h : ℕ) (e : Entry) → IsIn e (claim_of (stack_line I t H G h)) →
-    IsIn e.0 (counted I t H G)
-unfolding stack_line
-in_line I t H G h e i = (in_bound h (counted I t H G) e i).0
+stack_line_is_lean I t H G C earlier = subst (λ (line : Line). IsLeanLine I C earlier line)
+    (sym (stack_line_is_pile I t H G h)) (record {
+      live = λ e i. (in_counted I t H G e.0 (in_bound h (counted_buffers I t H G) e i).0).1;
+      bounds = λ e i. (in_bound h (counted_buffers I t H G) e i).1;
+      lowest = elim (same_or_not h 0) [
+        | inl z ↦ inl z
+        | inr n ↦ inr (λ l. not_lower I t H G C earlier n (subst (λ (line : Line). IsLegal I C earlier line)
+            (sym (stack_line_is_pile I t H G (h - G))) (subst (λ (m : Claim). IsLegal I C earlier (Over m t (h - G) G))
+            (lowered h G (counted_buffers I t H G)) l)))
+      ];
+    })
+  where
+    h : ℕ
+    h = line_height I t H G C
 
 pub stack_is_lean : (I : Instance) (t H G C : ℕ) → IsLean I (stack_log I t H G C)
 unfolding stack_log
@@ -132,9 +134,9 @@ stack_is_lean I t H G C = record {
     lean (suc k) line q = absurd cc
 
     among : (k : ℕ) (line : Line) (e : Entry) → slice_get (stack_line I t H G h ∷ []) k ≡ Some line →
-        IsIn e (claim_of line) → IsIn e.0 (counted I t H G)
+        IsIn e (claim_of line) → IsIn e.0 (counted_buffers I t H G)
     among zero line e m i = let q : stack_line I t H G h ≡ line = cc in
-        in_line I t H G h e (subst (λ (line : Line). IsIn e (claim_of line)) (sym q) i)
+        (in_line I t H G h e (subst (λ (line : Line). IsIn e (claim_of line)) (sym q) i)).0
     among (suc k) line e m i = absurd cc
 
     ends_first : (b c s : ℕ) → IsLive (buffer I b) t → IsLive (buffer I c) t → (buffer I b).upper ≤ s →
@@ -142,7 +144,8 @@ stack_is_lean I t H G C = record {
     ends_first b c s p q ended begun =
         let x = live_before (buffer I b) t p in let y = live_at_or_after (buffer I c) t q in omega arith
 
-    together : (e f : Entry) → IsIn e.0 (counted I t H G) → IsIn f.0 (counted I t H G) → IsUncut I e.0 f.0
+    together : (e f : Entry) → IsIn e.0 (counted_buffers I t H G) → IsIn f.0 (counted_buffers I t H G) →
+        IsUncut I e.0 f.0
     together e f i j =
         let a = (in_counted I t H G e.0 i).1 in
         let b = (in_counted I t H G f.0 j).1 in

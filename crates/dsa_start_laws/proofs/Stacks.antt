@@ -1,20 +1,21 @@
 -- The lower bound: its one line is legal at each smaller capacity, from the least height on, and so it is low.
-use Rattle.std.proofs.Common.{◌≡◌, ℕ, zero, suc, ◌+◌, ◌-◌, ◌%◌, ◌<◌, ◌≤◌, ◌≢◌, ◌⊎◌, inl, inr, Bool, true, false, ◌&&◌, ◌==◌, cond, List, [], ◌∷◌, map, length, filter, sum_by, slice_get, take, find, nat_le, max, Some, sym, refl, ap, ◌∙◌, subst, arith}
-use Rattle.std.proofs.lemmas.List.Sums.{sum_by-cons}
+use Rattle.std.proofs.Common.{◌≡◌, ℕ, zero, suc, ◌+◌, ◌%◌, ◌<◌, ◌≤◌, ◌≢◌, ◌⊎◌, inl, inr, Bool, true, false, ◌==◌, cond, List, [], ◌∷◌, map, length, slice_get, take, find, max, Some, sym, refl, ◌∙◌, subst, arith}
 use Rattle.dsa_terms.specs.Buffers.{Buffer, Instance, buffer, is_live, IsInstance, floor}
 use Rattle.dsa_terms.specs.Layouts.{IsFeasible}
-use Rattle.dsa_terms.specs.Claims.{Claim, Entry, IsIn, IsClaim, IsWhole, buffers_of, up}
-use Rattle.dsa_terms.specs.Logs.{is_stacked, rounded, rounding, greatest, IsOver, Line, claim_of, IsLegal, IsAccepted}
-use Rattle.dsa_terms.specs.Parts.{is_empty, numbers}
-use Rattle.dsa_terms.specs.Bounds.{counted, rounded_size, pile, stack, moduli, heights, moments, highest_at, highest_stack, lower_bound, line_height, stack_line, stack_log}
-use Rattle.dsa_terms.proofs.Lists.{from_map, from_filter, into_filter}
-use Rattle.dsa_terms.proofs.Moments.{and_true, both_true, live_before, sound}
-use Rattle.dsa_terms.proofs.Numbers.{next_at_or_above, next_is_multiple, next_is_least}
-use Rattle.dsa_terms.proofs.NumberTests.{at_most, below_or_from, equal, is_at_most, same}
-use Rattle.dsa_terms.proofs.Ranges.{from_range, into_range, rises-range, rises-filter_numbers}
+use Rattle.dsa_terms.specs.Claims.{IsIn}
+use Rattle.dsa_terms.specs.Logs.{greatest, Line, IsLegal, IsAccepted}
+use Rattle.dsa_terms.specs.Parts.{numbers}
+use Rattle.dsa_terms.specs.Bounds.{stack, moduli, heights, moments, highest_at, highest_stack, lower_bound, line_height, stack_line, stack_log}
+use Rattle.dsa_terms.proofs.Lists.{from_map, from_filter, into_filter, nil_or_not}
+use Rattle.dsa_terms.proofs.Moments.{live_before, sound}
+use Rattle.dsa_terms.proofs.NumberTests.{below_or_from, equal, same}
+use Rattle.dsa_terms.proofs.Ranges.{into_range}
+use Rattle.dsa_start_laws.specs.Piles.{counted_buffers, pile}
 use Rattle.dsa_start_laws.specs.Reaching.{IsReached}
 use Rattle.dsa_search_laws.proofs.Logs.{in_greatest, accepted_is_infeasible}
 use Rattle.dsa_search_laws.proofs.Cuts.{item}
+use Rattle.dsa_start_laws.proofs.Piles.{in_counted, over_stack, stack_of_none}
+use Rattle.dsa_start_laws.proofs.OverLines.{line_is_legal, height_is_over, height_is_multiple, height_is_least, line_is_whole}
 
 pub found_in : {X : Type 0} (p : X → Bool) (xs : List X) (x : X) → find p xs ≡ Some x → IsIn x xs
 found_in p [] x h = absurd cc
@@ -32,190 +33,6 @@ found_passes {X} p (y ∷ ys) x h = go (found_passes p ys x) (p y) refl h
     go ih true e q = let z : y ≡ x = cc in rw (← z) e
     go ih false e q = ih q
 
--- ---- the counted buffers
-pub in_counted : (I : Instance) (t H G b : ℕ) → IsIn b (counted I t H G) →
-    (b < length I) × (is_live (buffer I b) t ≡ true) × (H ≤ floor (buffer I b))
-    × (((buffer I b).alignment % G == 0) ≡ true)
-unfolding counted
-in_counted I t H G b i =
-    let r = from_filter (λ b. is_live (buffer I b) t && nat_le H (floor (buffer I b))
-    && ((buffer I b).alignment % G == 0)) (numbers (length I)) b i in
-    let k = from_range (length I) 0 b r.0 in
-    let q = and_true (is_live (buffer I b) t && nat_le H (floor (buffer I b))) ((buffer I b).alignment % G == 0) r.1 in
-    let p = and_true (is_live (buffer I b) t) (nat_le H (floor (buffer I b))) q.0 in
-    ((let z = k.1 in omega arith), p.0, at_most H (floor (buffer I b)) p.1, q.1)
-
-pub into_counted : (I : Instance) (t H G b : ℕ) → b < length I → is_live (buffer I b) t ≡ true →
-    H ≤ floor (buffer I b) → ((buffer I b).alignment % G == 0) ≡ true → IsIn b (counted I t H G)
-unfolding counted
-into_counted I t H G b lt live high m =
-    into_filter (λ b. is_live (buffer I b) t && nat_le H (floor (buffer I b)) && ((buffer I b).alignment % G == 0))
-    (numbers (length I)) b (into_range (length I) 0 b (omega arith) (omega arith))
-    (both_true (is_live (buffer I b) t && nat_le H (floor (buffer I b))) ((buffer I b).alignment % G == 0)
-    (both_true (is_live (buffer I b) t) (nat_le H (floor (buffer I b))) live (is_at_most H (floor (buffer I b)) high))
-    m)
-
--- ---- the claim that gives each of some buffers one bound
-abbrev pub all_at_bound : ℕ → List ℕ → Claim
-all_at_bound h p = map (λ b. (b, h)) p
-
-buffers_at_bound : (h : ℕ) (p : List ℕ) → buffers_of (all_at_bound h p) ≡ p
-buffers_at_bound h [] = refl
-buffers_at_bound h (x ∷ xs) = ap (λ ys. x ∷ ys) (buffers_at_bound h xs)
-
-pub in_bound : (h : ℕ) (p : List ℕ) (e : Entry) → IsIn e (all_at_bound h p) → IsIn e.0 p × (e.1 ≡ h)
-in_bound h p e i = let r = from_map (λ (b : ℕ). let f : Entry = (b, h) in f) p e i in
-    (subst (λ (c : ℕ). IsIn c p) (sym (ap (λ (e : Entry). e.0) r.2)) r.1, ap (λ (e : Entry). e.1) r.2)
-
-counted_claim : (I : Instance) (t H G h : ℕ) → IsClaim I (all_at_bound h (counted I t H G))
-unfolding counted
-counted_claim I t H G h = record {
-  rises = rw (buffers_at_bound h (counted I t H G)) (rises-filter_numbers
-      (λ b. is_live (buffer I b) t && nat_le H (floor (buffer I b)) && ((buffer I b).alignment % G == 0))
-      (numbers (length I)) (rises-range (length I) 0));
-  in_range = λ e i. (in_counted I t H G e.0 (in_bound h (counted I t H G) e i).0).0;
-}
-
--- all of them are stacked at t from that bound on
-all_pass : {X : Type 0} (p : X → Bool) (xs : List X) → ((x : X) → IsIn x xs → p x ≡ true) → filter p xs ≡ xs
-all_pass p [] h = refl
-all_pass p (x ∷ xs) h = rw (h x (inl refl)) (ap (λ ys. x ∷ ys) (all_pass p xs (λ y i. h y (inr i))))
-
-bound_to_up : (I : Instance) (e : Entry) → e.1 ≤ up I e
-unfolding up
-bound_to_up I e = omega arith
-
-all_stacked : (I : Instance) (t H G h : ℕ) →
-    filter (is_stacked I t h G) (all_at_bound h (counted I t H G)) ≡ all_at_bound h (counted I t H G)
-unfolding is_stacked
-all_stacked I t H G h = all_pass (is_stacked I t h G) (all_at_bound h (counted I t H G)) passes
-  where
-    passes : (e : Entry) → IsIn e (all_at_bound h (counted I t H G)) →
-        (is_live (buffer I e.0) t && nat_le h (up I e) && ((buffer I e.0).alignment % G == 0)) ≡ true
-    passes e i =
-        let b = in_bound h (counted I t H G) e i in
-        let r = in_counted I t H G e.0 b.0 in
-        let u = bound_to_up I e in
-        let q = b.1 in
-        both_true (is_live (buffer I e.0) t && nat_le h (up I e)) ((buffer I e.0).alignment % G == 0)
-        (both_true (is_live (buffer I e.0) t) (nat_le h (up I e)) r.1 (is_at_most h (up I e) (omega arith))) r.3
-
-sum-bound : (I : Instance) (G h : ℕ) (p : List ℕ) →
-    sum_by (rounded I G) (all_at_bound h p) ≡ sum_by (rounded_size I G) p
-unfolding rounded
-sum-bound I G h [] = refl
-sum-bound I G h (b ∷ bs) = rw (
-  sum_by-cons (rounded I G) (b, h) (all_at_bound h bs),
-  sum_by-cons (rounded_size I G) b bs,
-  sum-bound I G h bs,
-) refl
-
-roundings-bound : (I : Instance) (G h : ℕ) (p : List ℕ) →
-    map (rounding I G) (all_at_bound h p) ≡ map (λ b. rounded_size I G b - (buffer I b).size) p
-unfolding rounding rounded
-roundings-bound I G h [] = refl
-roundings-bound I G h (b ∷ bs) = ap (λ ys. rounding I G (b, h) ∷ ys) (roundings-bound I G h bs)
-
-pub greatest_in_sum : (f g : ℕ → ℕ) (xs : List ℕ) → ((x : ℕ) → g x ≤ f x) → greatest (map g xs) ≤ sum_by f xs
-greatest_in_sum f g [] h = omega arith
-greatest_in_sum f g (x ∷ xs) h = rw (sum_by-cons f x xs) (let k = greatest_in_sum f g xs h in let z = h x in
-    omega arith)
-
--- what is over from h on is h with the pile
-over_pile : (I : Instance) (t H G h : ℕ) →
-    h + sum_by (rounded I G) (filter (is_stacked I t h G) (all_at_bound h (counted I t H G)))
-    - greatest (map (rounding I G) (filter (is_stacked I t h G) (all_at_bound h (counted I t H G))))
-    ≡ h + pile I t H G
-unfolding
-over_pile I t H G h =
-    rw (all_stacked I t H G h, sum-bound I G h (counted I t H G), roundings-bound I G h (counted I t H G))
-    (close h (sum_by (rounded_size I G) (counted I t H G))
-    (greatest (map (λ b. rounded_size I G b - (buffer I b).size) (counted I t H G)))
-    (greatest_in_sum (rounded_size I G) (λ b. rounded_size I G b - (buffer I b).size) (counted I t H G)
-    (λ x. omega arith)))
-  where
-    close : (h s g : ℕ) → g ≤ s → h + s - g ≡ h + (s - g)
-    close h s g le = omega arith
-
--- ---- its line is legal just where it is over
-no_map : (h : ℕ) (p : List ℕ) → p ≢ [] → all_at_bound h p ≢ []
-no_map h [] n e = n refl
-no_map h (b ∷ bs) n e = cc
-
-pub line_is_over : (I : Instance) (t H G h C : ℕ) → 1 ≤ G → h % G ≡ 0 → counted I t H G ≢ [] → C < h + pile I t H G →
-    IsOver I C t h G (all_at_bound h (counted I t H G))
-line_is_over I t H G h C pos m some lt = record {
-  modulus = pos;
-  from_multiple = m;
-  some_stacked = rw (all_stacked I t H G h) (no_map h (counted I t H G) some);
-  too_high = (let e = over_pile I t H G h in omega arith);
-}
-
-pub line_is_legal : (I : Instance) (t H G h C : ℕ) (earlier : List Line) → 1 ≤ G → h % G ≡ 0 → counted I t H G ≢ [] →
-    C < h + pile I t H G → IsLegal I C earlier (stack_line I t H G h)
-unfolding stack_line
-line_is_legal I t H G h C earlier pos m some lt = record {
-  claim = counted_claim I t H G h;
-  not_empty = no_map h (counted I t H G) some;
-  reason = line_is_over I t H G h C pos m some lt;
-}
-
-pub legal_is_over : (I : Instance) (t H G h C : ℕ) (earlier : List Line) →
-    IsLegal I C earlier (stack_line I t H G h) → (1 ≤ G) × (h % G ≡ 0) × (C < h + pile I t H G)
-unfolding stack_line
-legal_is_over I t H G h C earlier l =
-    let o = l.reason in (o.modulus, o.from_multiple, (let k = o.too_high in let e = over_pile I t H G h in omega arith))
-
--- ---- the least height with which it is legal
-pub height_is_over : (I : Instance) (t H G C : ℕ) → 1 ≤ G → C < line_height I t H G C + pile I t H G
-unfolding line_height
-height_is_over I t H G C pos = let k = next_at_or_above (C + 1 - pile I t H G) G pos in omega arith
-
-pub height_is_multiple : (I : Instance) (t H G C : ℕ) → 1 ≤ G → line_height I t H G C % G ≡ 0
-unfolding line_height
-height_is_multiple I t H G C pos = next_is_multiple (C + 1 - pile I t H G) G pos
-
-pub height_is_least : (I : Instance) (t H G C h : ℕ) → 1 ≤ G → h % G ≡ 0 → C < h + pile I t H G →
-    line_height I t H G C ≤ h
-unfolding line_height
-height_is_least I t H G C h pos m lt = next_is_least (C + 1 - pile I t H G) G h pos (omega arith) m
-
-pub legal_height : (I : Instance) (t H G C h : ℕ) (earlier : List Line) →
-    IsLegal I C earlier (stack_line I t H G h) → line_height I t H G C ≤ h
-legal_height I t H G C h earlier l =
-    let o = legal_is_over I t H G h C earlier l in height_is_least I t H G C h o.0 o.1 o.2
-
--- ---- the stack
-pub over_stack : (I : Instance) (t H G C : ℕ) → C < stack I t H G →
-    (counted I t H G ≢ []) × (C < H + pile I t H G)
-unfolding stack
-over_stack I t H G C lt = go (counted I t H G) lt
-  where
-    go : (p : List ℕ) → C < cond (is_empty p) 0 (H + pile I t H G) → (p ≢ []) × (C < H + pile I t H G)
-    go [] q = absurd (omega arith)
-    go (b ∷ bs) q = ((λ h. cc), q)
-
-pub stack_of_some : (I : Instance) (t H G : ℕ) → counted I t H G ≢ [] → stack I t H G ≡ H + pile I t H G
-unfolding stack
-stack_of_some I t H G some = go (counted I t H G) some
-  where
-    go : (p : List ℕ) → p ≢ [] → cond (is_empty p) 0 (H + pile I t H G) ≡ H + pile I t H G
-    go [] n = absurd (n refl)
-    go (b ∷ bs) n = refl
-
-pub stack_of_none : (I : Instance) (t H G : ℕ) → counted I t H G ≡ [] → stack I t H G ≡ 0
-unfolding stack
-stack_of_none I t H G e = rw e refl
-
--- a line that is no higher than what it counts from is whole
-line_is_whole : (I : Instance) (t H G h : ℕ) → h ≤ H → IsWhole I (claim_of (stack_line I t H G h))
-unfolding stack_line
-line_is_whole I t H G h le e i =
-    let b = in_bound h (counted I t H G) e i in
-    let r = (in_counted I t H G e.0 b.0).2 in
-    let q = b.1 in
-    omega arith
-
 pub stack_is_accepted : (I : Instance) (t H G C : ℕ) → 1 ≤ G → H % G ≡ 0 → C < stack I t H G →
     IsAccepted I (stack_log I t H G C)
 unfolding stack_log
@@ -230,7 +47,7 @@ stack_is_accepted I t H G C pos m lt = record {
   );
 }
   where
-    over : (counted I t H G ≢ []) × (C < H + pile I t H G)
+    over : (counted_buffers I t H G ≢ []) × (C < H + pile I t H G)
     over = over_stack I t H G C lt
 
     ok : (earlier : List Line) → IsLegal I C earlier (stack_line I t H G (line_height I t H G C))
@@ -346,13 +163,11 @@ bound_is_low I C s f = elim (bound_reached I) [
 ]
 
 -- ---- no stack is above the lower bound, and a buffer that is live at some moment lifts it above 0
-pub no_stack_past : (I : Instance) (t H G : ℕ) → ((b : ℕ) → IsIn b (counted I t H G) → ⊥) → stack I t H G ≡ 0
-unfolding stack
-no_stack_past I t H G h = go (counted I t H G) h
-  where
-    go : (p : List ℕ) → ((b : ℕ) → IsIn b p → ⊥) → cond (is_empty p) 0 (H + pile I t H G) ≡ 0
-    go [] h = refl
-    go (b ∷ bs) h = absurd (h b (inl refl))
+pub no_stack_past : (I : Instance) (t H G : ℕ) → ((b : ℕ) → IsIn b (counted_buffers I t H G) → ⊥) → stack I t H G ≡ 0
+no_stack_past I t H G h = elim (nil_or_not (counted_buffers I t H G)) [
+  | inl e ↦ stack_of_none I t H G e
+  | inr b ↦ absurd (h b.0 b.1)
+]
 
 -- nothing is live at t
 abbrev pub IsDead : Instance → ℕ → Type 0

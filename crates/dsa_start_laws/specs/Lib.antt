@@ -1,3 +1,4 @@
 pub mod Reaching
 pub mod Fitting
 pub mod Ordering
+pub mod Piles

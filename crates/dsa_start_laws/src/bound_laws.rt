@@ -1,13 +1,16 @@
 //! Laws of the lower bound.
 
-ghost use Rattle.std.specs.Prelude.{◌≡◌, ◌≢◌, ℕ, ◌<◌, ◌≤◌, ◌⊎◌, List, [], length, map};
+ghost use Rattle.std.specs.Prelude.{◌≡◌, ◌≢◌, ℕ, ◌+◌, ◌-◌, ◌<◌, ◌≤◌, ◌⊎◌, cond, List, [], length, map};
+ghost use Rattle.std.specs.Int.{next_multiple_of};
 ghost use Rattle.dsa_terms.specs.Buffers.{Instance, IsInstance, IsLive, buffer, floor};
-ghost use Rattle.dsa_terms.specs.Claims.{IsIn};
+ghost use Rattle.dsa_terms.specs.Claims.{Entry, IsIn};
 ghost use Rattle.dsa_terms.specs.Layouts.{IsFeasible, IsMultiple};
 ghost use Rattle.dsa_terms.specs.Bounds.{bound_modulus, counted, heights, highest_at, highest_stack, line_height, lower_bound, moduli, stack, stack_line, stack_log};
 ghost use Rattle.dsa_terms.specs.Lean.{IsLean};
-ghost use Rattle.dsa_terms.specs.Logs.{IsAccepted, IsLegal, Line, greatest};
+ghost use Rattle.dsa_terms.specs.Logs.{IsAccepted, IsLegal, Line, Over, greatest};
+ghost use Rattle.dsa_terms.specs.Parts.{is_empty, whole};
 ghost use Rattle.dsa_terms.specs.Plans.{load};
+ghost use Rattle.dsa_start_laws.specs.Piles.{counted_buffers, pile};
 ghost use Rattle.dsa_start_laws.specs.Reaching.{bound_height, bound_moment, HasSections, IsReached};
 
 /// The line of a stack, at the least height with which it is legal, is accepted at each capacity
@@ -60,6 +63,19 @@ pub fn sections_reach_the_bound()
 /// No stack is higher than the one from the least floor of what it counts. So the floors of the
 /// buffers that are live at a moment are enough heights for it.
 pub fn floors_are_enough()
-    ensures { (I : Instance) (t H G : ℕ) → counted I t H G ≢ [] → (b : ℕ)
-        × IsIn b (counted I t H G) × (stack I t H G ≤ stack I t (floor (buffer I b)) G) }
+    ensures { (I : Instance) (t H G : ℕ) → counted I t H G ≢ [] → (e : Entry)
+        × IsIn e (counted I t H G) × (stack I t H G ≤ stack I t (floor (buffer I e.0)) G) }
+{}
+
+/// What a stack counts, where it ends, its line and the least height of that line, over the numbers
+/// of the buffers that are counted: the pile of their rounded sizes, less the greatest rounding.
+pub fn stacks_are_piles()
+    ensures counted { (I : Instance) (t H G : ℕ) →
+        counted I t H G ≡ whole I (counted_buffers I t H G) }
+    ensures stack { (I : Instance) (t H G : ℕ) → stack I t H G
+        ≡ cond (is_empty (counted_buffers I t H G)) 0 (H + pile I t H G) }
+    ensures height { (I : Instance) (t H G C : ℕ) →
+        line_height I t H G C ≡ next_multiple_of (C + 1 - pile I t H G) G }
+    ensures line { (I : Instance) (t H G h : ℕ) →
+        stack_line I t H G h ≡ Over (map (λ b. (b, h)) (counted_buffers I t H G)) t h G }
 {}

@@ -1,7 +1,7 @@
 -- The tallies of all sections, one buffer after another, and for each buffer one of its sections after another.
 use Rattle.std.proofs.Common.{◌≡◌, ◌≢◌, ℕ, ◌+◌, ◌<◌, ◌≤◌, ◌⊎◌, inl, inr, Bool, true, false, List, [], ◌∷◌, ◌++◌, length, filter, take, slice_index_or, slice_set, sym, refl, subst, ◌∙◌, arith}
 use Rattle.std.proofs.lemmas.List.{get_or-set_other, get_or-set_same, length-set, take_all, take_more}
-use Rattle.dsa_terms.specs.Bounds.{rounded_size}
+use Rattle.dsa_start_laws.specs.Piles.{rounded_size}
 use Rattle.dsa_terms.specs.Buffers.{Instance, buffer, floor, is_live}
 use Rattle.dsa_terms.specs.Claims.{IsIn, Rises}
 use Rattle.dsa_terms.specs.Parts.{numbers}

@@ -1,11 +1,13 @@
 -- Bounds of a few small instances, and the best of several.
 use Rattle.std.proofs.Common.{◌≡◌, ◌+◌, ◌-◌, ◌<◌, ◌≤◌, ◌⊎◌, ◌&&◌, ℕ, zero, suc, inl, inr, Bool, true, false, cond, nat_le, [], ◌∷◌, map, sum_by, refl, ◌∙◌, sym, lit<, lit≤, arith}
-use Rattle.dsa_terms.specs.Bounds.{counted, heights, highest_at, rounded_size, stack}
+use Rattle.dsa_terms.specs.Bounds.{counted, heights, highest_at, stack}
 use Rattle.dsa_terms.specs.Buffers.{buffer, floor, is_live}
 use Rattle.dsa_terms.specs.Claims.{IsIn, up}
 use Rattle.dsa_terms.specs.Logs.{greatest, is_stacked, rounded, rounding}
 use Rattle.dsa_terms.specs.Parts.{is_empty}
 use Rattle.dsa_terms.proofs.Examples.{low}
+use Rattle.dsa_start_laws.specs.Piles.{counted_buffers, pile, rounded_size}
+use Rattle.dsa_start_laws.proofs.Piles.{stack_is_pile}
 use Rattle.dsa_start_laws.proofs.Stacks.{zero_height}
 use Rattle.lower_bounds.specs.Best.{IsBest, IsBoundOf, IsFirstToReach, IsLeastHeight, IsRaised, no_bound, stack_at}
 use Rattle.lower_bounds.specs.declared.value.Bound.{Bound}
@@ -71,8 +73,8 @@ unfolding highest_at heights stack counted is_stacked rounded rounding up floor 
 fours_at_start = refl
 
 fours_from : (H : ℕ) → stack fours 0 H 4 ≡ cond (nat_le H 8) (H + 7) 0
-unfolding stack counted is_stacked rounded rounding up floor buffer is_live
-fours_from H = go (nat_le H 8)
+unfolding pile counted_buffers rounded_size floor buffer is_live
+fours_from H = stack_is_pile fours 0 H 4 ∙ go (nat_le H 8)
   where
     go : (c : Bool) →
         (let bs = cond (true && c && true) (0 ∷ cond (true && c && true) (1 ∷ []) [])

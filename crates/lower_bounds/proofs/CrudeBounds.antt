@@ -2,15 +2,16 @@
 use Rattle.std.proofs.Common.{◌≡◌, ◌^◌, ℕ, ◌+◌, ◌*◌, ◌<◌, ◌≤◌, ◌⊎◌, inl, inr, Bool, true, false, ◌&&◌, cond, max, nat_le, List, [], ◌∷◌, ◌++◌, length, filter, sum_by, sym, refl, ap, ◌∙◌, arith, append-nil}
 use Rattle.std.proofs.lemmas.List.Sums.{sum_by-cons}
 use Rattle.std.specs.Int.{next_multiple_of}
-use Rattle.dsa_terms.specs.Bounds.{counted, heights, highest_at, pile, rounded_size, stack}
+use Rattle.dsa_terms.specs.Bounds.{heights, highest_at, stack}
 use Rattle.dsa_terms.specs.Buffers.{Buffer, Instance, buffer, floor, is_live}
-use Rattle.dsa_terms.specs.Claims.{IsIn, up}
+use Rattle.dsa_terms.specs.Claims.{IsIn}
 use Rattle.dsa_terms.specs.Parts.{numbers}
 use Rattle.dsa_terms.proofs.Lists.{nil_or_not}
 use Rattle.dsa_terms.proofs.Moments.{and_true}
 use Rattle.dsa_terms.proofs.NumberTests.{below_or_last}
-use Rattle.dsa_terms.specs.Logs.{is_stacked, rounded, rounding}
-use Rattle.dsa_start_laws.proofs.Stacks.{greatest_all, in_counted, stack_of_none, stack_of_some}
+use Rattle.dsa_start_laws.specs.Piles.{counted_buffers, pile, rounded_size}
+use Rattle.dsa_start_laws.proofs.Piles.{in_counted, stack_of_none, stack_of_some}
+use Rattle.dsa_start_laws.proofs.Stacks.{greatest_all}
 use Rattle.dsa_model.specs.Buffer.{IsBuffer}
 use Rattle.lifetime.proofs.Lists.{filter_more}
 use Rattle.lower_bounds.specs.Stacks.{IsModulus, counts_at, is_counted, total_of}
@@ -51,7 +52,7 @@ pub crude_more : (I : Instance) (G k top total floor_of size rounded new_top : �
     x ≡ buffer I k → IsBuffer x → is_counted I G k ≡ true → floor_of ≡ floor x → size ≡ x.size →
     rounded ≡ next_multiple_of size G → new_top ≡ max floor_of top → IsCrude I G k top total →
     IsCrude I G (k + 1) new_top (total + rounded)
-unfolding
+unfolding rounded_size
 crude_more I G k top total floor_of size rounded new_top x m e sound here f s r t h = record {
   floors = λ b lt c. elim (below_or_last b k lt) [
     | inl q ↦ (let z = h.floors b q c in omega arith)
@@ -89,7 +90,7 @@ sum_within f p q (x ∷ xs) h = go (p x) (q x) (h x) (sum_within f p q xs h)
     go false false k ih = ih
 
 pile_within : (I : Instance) (t H G : ℕ) → pile I t H G ≤ total_of I G (filter (is_counted I G) (numbers (length I)))
-unfolding counted is_stacked rounded rounding up total_of
+unfolding pile counted_buffers total_of
 pile_within I t H G =
     let k = sum_within (rounded_size I G) (counts_at I t H G) (is_counted I G) (numbers (length I))
     (λ b c. (and_true (is_live (buffer I b) t && nat_le H (floor (buffer I b))) (is_counted I G b) c).1) in
@@ -99,9 +100,11 @@ pub crude_is_over : (I : Instance) (G k top total t : ℕ) → k ≡ length I �
     highest_at I t G ≤ top + total
 unfolding highest_at
 crude_is_over I G k top total t e h =
-    greatest_all (λ H. stack I t H G) (heights I G) (top + total) (λ H i. under H (nil_or_not (counted I t H G)))
+    greatest_all (λ H. stack I t H G) (heights I G) (top + total)
+    (λ H i. under H (nil_or_not (counted_buffers I t H G)))
   where
-    under : (H : ℕ) → (counted I t H G ≡ []) ⊎ ((b : ℕ) × IsIn b (counted I t H G)) → stack I t H G ≤ top + total
+    under : (H : ℕ) → (counted_buffers I t H G ≡ []) ⊎ ((b : ℕ) × IsIn b (counted_buffers I t H G)) →
+        stack I t H G ≤ top + total
     under H (inl n) = let z = stack_of_none I t H G n in omega arith
     under H (inr b) =
         let c = in_counted I t H G b.0 b.1 in

@@ -5,7 +5,7 @@ use Rattle.std.proofs.lemmas.List.FromFn.{length-range_with_len}
 use native.Mathlib.Nat.{mod-eq_of_lt}
 use Rattle.std.specs.Int.{next_multiple_of}
 use Rattle.std.specs.List.{All}
-use Rattle.dsa_terms.specs.Bounds.{counted, line_height, pile, stack, stack_line, stack_log}
+use Rattle.dsa_terms.specs.Bounds.{line_height, stack, stack_line, stack_log}
 use Rattle.dsa_terms.specs.Buffers.{Instance, buffer}
 use Rattle.dsa_terms.specs.Claims.{Entry, IsIn, IsWhole, Rises, buffers_of}
 use Rattle.dsa_terms.specs.Layouts.{IsMultiple}
@@ -14,7 +14,9 @@ use Rattle.dsa_terms.specs.Parts.{numbers}
 use Rattle.dsa_terms.proofs.Lists.{length-filter_le, nil_or_not}
 use Rattle.dsa_terms.proofs.Moments.{live_before}
 use Rattle.dsa_terms.proofs.NumberTests.{equal}
-use Rattle.dsa_start_laws.proofs.Stacks.{in_bound, in_counted, over_stack, stack_of_some}
+use Rattle.dsa_start_laws.specs.Piles.{counted_buffers, pile}
+use Rattle.dsa_start_laws.proofs.OverLines.{in_bound}
+use Rattle.dsa_start_laws.proofs.Piles.{in_counted, line_height_is_pile, over_stack, stack_line_is_pile, stack_of_some}
 use Rattle.dsa_model.specs.Buffer.{IsBuffer, buffer_limit}
 use Rattle.dsa_model.proofs.Instances.{sound_buffer}
 use Rattle.canonical_order.specs.Claims.{IsBoundedBy}
@@ -43,38 +45,38 @@ lifted_same p h b xs ys e t q = q ∙ (e ∙ ap (lifted h) (sym (filter_more p b
     ∙ (ap (λ t. filter p (numbers b) ++ cond t (b ∷ []) []) t ∙ append-nil (filter p (numbers b))))))
 
 pub lifted_all : (I : Instance) (t H G h n : ℕ) (xs : List Entry) →
-    xs ≡ lifted h (filter (counts_at I t H G) (numbers n)) → n ≡ length I → xs ≡ lifted h (counted I t H G)
-unfolding counted
+    xs ≡ lifted h (filter (counts_at I t H G) (numbers n)) → n ≡ length I → xs ≡ lifted h (counted_buffers I t H G)
+unfolding counted_buffers
 lifted_all I t H G h n xs e m = e ∙ ap (λ n. lifted h (filter (counts_at I t H G) (numbers n))) m
 
 buffers_of_lifted : (h : ℕ) (bs : List ℕ) → buffers_of (lifted h bs) ≡ bs
 buffers_of_lifted h [] = refl
 buffers_of_lifted h (b ∷ bs) = ap (λ cs. b ∷ cs) (buffers_of_lifted h bs)
 
-pub rises_lifted : (I : Instance) (t H G h : ℕ) (xs : List Entry) → xs ≡ lifted h (counted I t H G) →
+pub rises_lifted : (I : Instance) (t H G h : ℕ) (xs : List Entry) → xs ≡ lifted h (counted_buffers I t H G) →
     Rises (buffers_of xs)
-unfolding counted
+unfolding counted_buffers
 rises_lifted I t H G h xs e = rw (e, buffers_of_lifted h (filter (counts_at I t H G) (numbers (length I))))
     (rises-numbers (counts_at I t H G) (length I))
 
-few_counted : (I : Instance) (t H G : ℕ) → length (counted I t H G) ≤ length I
-unfolding counted
+few_counted : (I : Instance) (t H G : ℕ) → length (counted_buffers I t H G) ≤ length I
+unfolding counted_buffers
 few_counted I t H G =
     let k = length-filter_le (counts_at I t H G) (numbers (length I)) in
     let n : length (numbers (length I)) ≡ length I = length-range_with_len 0 (length I) in
     omega arith
 
-pub few_lifted : (I : Instance) (t H G h : ℕ) (xs : List Entry) → xs ≡ lifted h (counted I t H G) →
+pub few_lifted : (I : Instance) (t H G h : ℕ) (xs : List Entry) → xs ≡ lifted h (counted_buffers I t H G) →
     length I ≤ buffer_limit → length xs < 2 ^ 32
 few_lifted I t H G h xs e few = rw e (
     let k = few_counted I t H G in
-    let m = length-map (counted I t H G) (λ (b : ℕ). let e : Entry = (b, h) in e) in
+    let m = length-map (counted_buffers I t H G) (λ (b : ℕ). let e : Entry = (b, h) in e) in
     omega arith)
 
-pub lifted_bounds : (I : Instance) (t H G h : ℕ) (xs : List Entry) → xs ≡ lifted h (counted I t H G) →
+pub lifted_bounds : (I : Instance) (t H G h : ℕ) (xs : List Entry) → xs ≡ lifted h (counted_buffers I t H G) →
     h ≤ 2 ^ 60 → IsBoundedBy (2 ^ 60) xs
 lifted_bounds I t H G h xs e le f i =
-    let r = in_bound h (counted I t H G) f (rw e at i) in
+    let r = in_bound h (counted_buffers I t H G) f (rw e at i) in
     let q = r.1 in
     omega arith
 
@@ -85,18 +87,19 @@ pub record IsAbove (I : Instance) (b : Bound) (C : ℕ) : Type 0 where
   pub value : b.capacity ≡ b.height + pile I b.moment b.height b.modulus
   pub below : C < b.capacity
   pub member : ℕ
-  pub counts : IsIn member (counted I b.moment b.height b.modulus)
+  pub counts : IsIn member (counted_buffers I b.moment b.height b.modulus)
   pub accepted : IsAccepted I (stack_log I b.moment b.height b.modulus C)
 
 pub is_above : (I : Instance) (b : Bound) (C : ℕ) → IsBoundOf I b → C < b.capacity →
     ((t H G C : ℕ) → 1 ≤ G → IsMultiple H G → C < stack I t H G → IsAccepted I (stack_log I t H G C)) → IsAbove I b C
 is_above I b C (inl e) lt law = absurd (omega arith)
-is_above I b C (inr r) lt law = go (nil_or_not (counted I b.moment b.height b.modulus))
+is_above I b C (inr r) lt law = go (nil_or_not (counted_buffers I b.moment b.height b.modulus))
   where
     above : C < stack I b.moment b.height b.modulus
     above = let k = r.2 in omega arith
 
-    go : (counted I b.moment b.height b.modulus ≡ []) ⊎ ((c : ℕ) × IsIn c (counted I b.moment b.height b.modulus)) →
+    go : (counted_buffers I b.moment b.height b.modulus ≡ [])
+        ⊎ ((c : ℕ) × IsIn c (counted_buffers I b.moment b.height b.modulus)) →
         IsAbove I b C
     go (inl e) = absurd ((over_stack I b.moment b.height b.modulus C above).0 e)
     go (inr c) = record {
@@ -117,13 +120,13 @@ height_in I b C a = let k = a.value in omega arith
 pub height_is : (I : Instance) (b : Bound) (C h : ℕ) → IsAbove I b C →
     h ≡ next_multiple_of (C + 1 - (b.capacity - b.height)) b.modulus →
     h ≡ line_height I b.moment b.height b.modulus C
-unfolding line_height
 height_is I b C h a e =
     let p : b.capacity - b.height ≡ pile I b.moment b.height b.modulus = (let k = a.value in omega arith) in
-    e ∙ ap (λ n. next_multiple_of (C + 1 - n) b.modulus) p
+    e ∙ (ap (λ n. next_multiple_of (C + 1 - n) b.modulus) p
+    ∙ sym (line_height_is_pile I b.moment b.height b.modulus C))
 
 -- ---- how great they are
-modulus_limit : (I : Instance) (t H G b : ℕ) → All IsBuffer I → 1 ≤ G → IsIn b (counted I t H G) → IsModulus G
+modulus_limit : (I : Instance) (t H G b : ℕ) → All IsBuffer I → 1 ≤ G → IsIn b (counted_buffers I t H G) → IsModulus G
 modulus_limit I t H G b h pos i =
     let q = in_counted I t H G b i in
     let s = sound_buffer I b h q.0 in
@@ -150,9 +153,9 @@ height_limit I b C a h =
     omega arith
 
 pile_limit : (I : Instance) (t H G : ℕ) → All IsBuffer I → length I ≤ buffer_limit → IsModulus G → pile I t H G ≤ 2 ^ 53
-unfolding total_of
+unfolding pile total_of
 pile_limit I t H G h few m =
-    let k = total_limit I G (counted I t H G) (λ b i. sound_buffer I b h (in_counted I t H G b i).0) m in
+    let k = total_limit I G (counted_buffers I t H G) (λ b i. sound_buffer I b h (in_counted I t H G b i).0) m in
     let n = few_counted I t H G in
     omega arith
 
@@ -167,7 +170,7 @@ capacity_limit I b C a h few =
     omega arith
 
 pub line_within : (I : Instance) (b : Bound) (C h : ℕ) (claim : List Entry) → IsAbove I b C → All IsBuffer I →
-    claim ≡ lifted h (counted I b.moment b.height b.modulus) → h ≤ b.height →
+    claim ≡ lifted h (counted_buffers I b.moment b.height b.modulus) → h ≤ b.height →
     IsWithin (Over claim b.moment h b.modulus)
 line_within I b C h claim a buffers e le =
     let q = in_counted I b.moment b.height b.modulus a.member a.counts in
@@ -183,14 +186,14 @@ line_within I b C h claim a buffers e le =
 
 -- ---- the line, and the log with that line alone
 line_is : (I : Instance) (b : Bound) (C h : ℕ) (claim : List Entry) →
-    claim ≡ lifted h (counted I b.moment b.height b.modulus) → h ≡ line_height I b.moment b.height b.modulus C →
+    claim ≡ lifted h (counted_buffers I b.moment b.height b.modulus) → h ≡ line_height I b.moment b.height b.modulus C →
     Over claim b.moment h b.modulus
     ≡ stack_line I b.moment b.height b.modulus (line_height I b.moment b.height b.modulus C)
-unfolding stack_line
-line_is I b C h claim e q = rw (e, q) refl
+line_is I b C h claim e q =
+    rw (e, q) (sym (stack_line_is_pile I b.moment b.height b.modulus (line_height I b.moment b.height b.modulus C)))
 
 pub legal_after : (I : Instance) (b : Bound) (C h : ℕ) (claim : List Entry) (old : OpenLog) → IsAbove I b C →
-    claim ≡ lifted h (counted I b.moment b.height b.modulus) → h ≡ line_height I b.moment b.height b.modulus C →
+    claim ≡ lifted h (counted_buffers I b.moment b.height b.modulus) → h ≡ line_height I b.moment b.height b.modulus C →
     old ≡ record { count = length I; capacity = C; lines = [] } →
     IsLegal I old.capacity old.lines (Over claim b.moment h b.modulus)
 unfolding stack_log
@@ -198,7 +201,7 @@ legal_after I b C h claim old a e q f = rw (f, line_is I b C h claim e q)
     (a.accepted.legal 0 (stack_line I b.moment b.height b.modulus (line_height I b.moment b.height b.modulus C)) refl)
 
 pub log_is : (I : Instance) (b : Bound) (C h end : ℕ) (claim : List Entry) (old new : OpenLog) (closed : Log) →
-    claim ≡ lifted h (counted I b.moment b.height b.modulus) → h ≡ line_height I b.moment b.height b.modulus C →
+    claim ≡ lifted h (counted_buffers I b.moment b.height b.modulus) → h ≡ line_height I b.moment b.height b.modulus C →
     old ≡ record { count = length I; capacity = C; lines = [] } → end ≡ length old.lines →
     new ≡ record old { lines = old.lines ++ Over claim b.moment h b.modulus ∷ [] } →
     closed ≡ ended new end → closed ≡ stack_log I b.moment b.height b.modulus C
@@ -212,9 +215,9 @@ end_line I C end line old new f g h = rw (h, g, f) refl
 
 -- no bound is above its buffer's floor
 pub whole_of : (I : Instance) (b : Bound) (h : ℕ) (claim : List Entry) →
-    claim ≡ lifted h (counted I b.moment b.height b.modulus) → h ≤ b.height → IsWhole I claim
+    claim ≡ lifted h (counted_buffers I b.moment b.height b.modulus) → h ≤ b.height → IsWhole I claim
 whole_of I b h claim e le f i =
-    let r = in_bound h (counted I b.moment b.height b.modulus) f (rw e at i) in
+    let r = in_bound h (counted_buffers I b.moment b.height b.modulus) f (rw e at i) in
     let k = (in_counted I b.moment b.height b.modulus f.0 r.0).2 in
     let q = r.1 in
     omega arith

@@ -4,7 +4,7 @@ use Rattle.std.specs.List.Sorted.{IsPermutation}
 use Rattle.std.proofs.lemmas.List.Elements.{filter-append}
 use Rattle.std.proofs.lemmas.List.Sums.{sum_by-append, sum_by-cons}
 use Rattle.std.proofs.lemmas.List.Sorted.{IsPermutation-sym, sum_by-IsPermutation}
-use Rattle.dsa_terms.specs.Bounds.{rounded_size}
+use Rattle.dsa_start_laws.specs.Piles.{rounded_size}
 use Rattle.dsa_terms.specs.Buffers.{Buffer, Instance, buffer}
 use Rattle.dsa_terms.specs.Claims.{IsIn}
 use Rattle.dsa_terms.specs.Logs.{greatest}
@@ -13,7 +13,8 @@ use Rattle.dsa_terms.proofs.Numbers.{next_is_below}
 use Rattle.dsa_terms.proofs.NumberTests.{apart, same}
 use Rattle.dsa_terms.proofs.Places.{in_permutation}
 use Rattle.dsa_search_laws.proofs.Logs.{in_greatest}
-use Rattle.dsa_start_laws.proofs.Stacks.{greatest_all, greatest_in_sum}
+use Rattle.dsa_start_laws.proofs.Piles.{greatest_in_sum}
+use Rattle.dsa_start_laws.proofs.Stacks.{greatest_all}
 use Rattle.dsa_model.specs.Buffer.{IsBuffer}
 use Rattle.lower_bounds.specs.Stacks.{IsModulus, is_counted, piled_on, rounding_of, spare_of, total_of}
 
@@ -60,7 +61,7 @@ unfolding spare_of total_of
 spare_in_total I G bs = greatest_in_sum (rounded_size I G) (rounding_of I G) bs (λ b. omega arith)
 
 pub rounded_limit : (I : Instance) (G b : ℕ) → IsBuffer (buffer I b) → IsModulus G → rounded_size I G b ≤ 2 ^ 41
-unfolding
+unfolding rounded_size
 rounded_limit I G b h m =
     let s = h.within_size in
     let k = next_is_below (buffer I b).size G m.some in

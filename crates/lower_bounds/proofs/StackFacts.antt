@@ -2,7 +2,7 @@
 -- of size 2.
 use Rattle.std.proofs.Common.{◌≡◌, ◌<◌, ◌≤◌, ◌&&◌, ℕ, zero, suc, inl, inr, Bool, true, false, cond, nat_le, [], ◌∷◌, ◌+◌, slice_index_or, refl, lit≤, arith}
 use Rattle.std.proofs.lemmas.List.Sorted.{IsPermutation-refl, length_permutation}
-use Rattle.dsa_terms.specs.Bounds.{}
+use Rattle.dsa_start_laws.specs.Piles.{rounded_size}
 use Rattle.dsa_terms.specs.Buffers.{Instance, buffer, floor, is_live}
 use Rattle.dsa_terms.proofs.Examples.{plain, raised}
 use Rattle.dsa_terms.proofs.NumberTests.{at_most}
@@ -67,19 +67,19 @@ from_9_by_one = refl
 
 -- ---- what they come to
 rounding_by_four : rounding_of three 4 0 ≡ 1
-unfolding buffer
+unfolding rounded_size buffer
 rounding_by_four = refl
 
 total_by_four : total_of three 4 (0 ∷ 1 ∷ []) ≡ 8
-unfolding total_of buffer
+unfolding total_of rounded_size buffer
 total_by_four = refl
 
 spare_by_four : spare_of three 4 (0 ∷ 1 ∷ []) ≡ 1
-unfolding spare_of buffer
+unfolding spare_of rounded_size buffer
 spare_by_four = refl
 
 seven_on_8 : piled_on three 8 4 (0 ∷ 1 ∷ []) ≡ 15
-unfolding piled_on total_of spare_of buffer
+unfolding piled_on total_of spare_of rounded_size buffer
 seven_on_8 = refl
 
 none_on_8 : piled_on three 8 4 [] ≡ 0
@@ -87,11 +87,11 @@ unfolding piled_on
 none_on_8 = refl
 
 stack_by_one : stack_in mixed 0 1 (0 ∷ 1 ∷ 2 ∷ []) ≡ 8
-unfolding counted_in piled_on total_of spare_of floor buffer
+unfolding counted_in piled_on total_of spare_of rounded_size floor buffer
 stack_by_one = refl
 
 stack_by_four : stack_in mixed 8 4 (0 ∷ 1 ∷ 2 ∷ []) ≡ 15
-unfolding counted_in piled_on total_of spare_of floor buffer
+unfolding counted_in piled_on total_of spare_of rounded_size floor buffer
 stack_by_four = refl
 
 -- ---- by falling floor
@@ -121,7 +121,7 @@ not_some f = no 2 refl (length_permutation (0 ∷ 1 ∷ 2 ∷ []) (0 ∷ 1 ∷ [
 
 -- ---- the tallest stack of the two at multiples of four is 8 with 4 and 3 on it
 stack_of_two : (H : ℕ) → stack_in fours H 4 (0 ∷ 1 ∷ []) ≡ cond (nat_le H 8) (H + 7) 0
-unfolding counted_in piled_on total_of spare_of floor buffer
+unfolding counted_in piled_on total_of spare_of rounded_size floor buffer
 stack_of_two H = go (nat_le H 8)
   where
     go : (c : Bool) → piled_on fours H 4 (cond (c && true) (0 ∷ cond (c && true) (1 ∷ []) [])
@@ -157,12 +157,12 @@ abbrev tally : Tally
 tally = record { total = 8; spare = 1; value = 15; height = 8 }
 
 of_two : IsTally fours 4 (0 ∷ 1 ∷ []) tally
-unfolding total_of spare_of buffer
+unfolding total_of spare_of rounded_size buffer
 of_two = record { total = refl; spare = refl; tallest = tallest }
 
 -- the sum is of rounded sizes
 not_of_sizes : IsTally fours 4 (0 ∷ 1 ∷ []) (record { total = 6; spare = 1; value = 15; height = 8 }) → ⊥
-unfolding total_of buffer
+unfolding total_of rounded_size buffer
 not_of_sizes t = let k : 6 ≡ 8 = t.total in omega arith
 
 of_none : IsTally fours 4 [] no_tally

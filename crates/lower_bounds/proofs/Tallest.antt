@@ -1,6 +1,6 @@
 -- One more buffer, whose floor is below none so far: from there on all are stacked, and from above it as before.
 use Rattle.std.proofs.Common.{◌≡◌, ℕ, ◌+◌, ◌-◌, ◌<◌, ◌≤◌, inl, inr, Bool, true, false, cond, ◌&&◌, max, nat_le, nat_lt, List, [], ◌∷◌, ◌++◌, filter, sym, refl, ap, ◌∙◌, arith}
-use Rattle.dsa_terms.specs.Bounds.{rounded_size}
+use Rattle.dsa_start_laws.specs.Piles.{rounded_size}
 use Rattle.dsa_terms.specs.Buffers.{Instance, buffer, floor}
 use Rattle.dsa_terms.specs.Claims.{IsIn}
 use Rattle.dsa_terms.proofs.Lists.{left_append, right_append}

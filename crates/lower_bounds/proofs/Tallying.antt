@@ -3,7 +3,7 @@ use Rattle.std.proofs.Common.{◌≡◌, ◌^◌, ℕ, ◌+◌, ◌-◌, ◌<◌
 use Rattle.std.specs.Int.{next_multiple_of}
 use Rattle.std.specs.List.{All}
 use Rattle.std.proofs.lemmas.List.{length-take, take_more}
-use Rattle.dsa_terms.specs.Bounds.{rounded_size}
+use Rattle.dsa_start_laws.specs.Piles.{rounded_size}
 use Rattle.dsa_terms.specs.Buffers.{Buffer, Instance, buffer, floor, is_live}
 use Rattle.dsa_terms.specs.Claims.{IsIn}
 use Rattle.dsa_terms.proofs.Lists.{from_filter, length-filter_le}
@@ -42,7 +42,7 @@ pub added_by : (I : Instance) (G b its_floor size again rounded : ℕ) (buf : Bu
     its_floor ≡ floor buf → size ≡ buf.size → again ≡ buf.size → rounded ≡ next_multiple_of size G →
     IsAdded x y its_floor rounded (rounded - again) →
     IsAdded x y (floor (buffer I b)) (rounded_size I G b) (rounding_of I G b)
-unfolding
+unfolding rounded_size
 added_by I G b its_floor size again rounded buf x y e f s a r h =
     subst (λ (c : Buffer). IsAdded x y (floor c) (next_multiple_of c.size G) (next_multiple_of c.size G - c.size)) e
     (rw (← f, ← s, ← r) (rw (a, ← s) at h))

@@ -1,6 +1,6 @@
 -- The tally of a section over all buffers is what is stacked there.
 use Rattle.std.proofs.Common.{◌≡◌, ℕ, ◌%◌, ◌<◌, ◌≤◌, ◌⊎◌, inl, inr, Bool, true, false, ◌&&◌, ◌==◌, cond, nat_le, List, [], ◌∷◌, length, map, filter, le_antisymm, sym, refl, ap, ◌∙◌, arith}
-use Rattle.dsa_terms.specs.Bounds.{counted, heights, highest_at, pile, stack}
+use Rattle.dsa_terms.specs.Bounds.{heights, highest_at, stack}
 use Rattle.dsa_terms.specs.Buffers.{Instance, IsInstance, buffer, floor, is_live}
 use Rattle.dsa_terms.specs.Claims.{IsIn}
 use Rattle.dsa_terms.specs.Parts.{numbers}
@@ -8,6 +8,8 @@ use Rattle.dsa_terms.proofs.Lists.{from_filter, into_filter, into_map}
 use Rattle.dsa_terms.proofs.Numbers.{multiple_along}
 use Rattle.dsa_terms.proofs.NumberTests.{equal, same}
 use Rattle.dsa_search_laws.proofs.Cuts.{item}
+use Rattle.dsa_start_laws.specs.Piles.{counted_buffers, pile}
+use Rattle.dsa_start_laws.proofs.Piles.{stack_is_pile}
 use Rattle.dsa_start_laws.proofs.Places.{floor_is_multiple}
 use Rattle.dsa_start_laws.proofs.Stacks.{greatest_all, stack_under_at}
 use Rattle.lifetime.specs.SectionList.{SectionList, start_of}
@@ -57,8 +59,8 @@ module _ (I : Instance) (S : SectionList) (G : ℕ) (order : List ℕ) (s : ℕ)
   members = members_among I S order s
 
   stack_is : (H : ℕ) → stack I (start_of S s) H G ≡ stack_in I H G (members_among I S order s)
-  unfolding stack pile counted counted_in members_among piled_on total_of spare_of
-  stack_is H = moved H ∙ ap (piled_on I H G) (sym (twice H))
+  unfolding pile counted_buffers counted_in members_among piled_on total_of spare_of
+  stack_is H = stack_is_pile I (start_of S s) H G ∙ (moved H ∙ ap (piled_on I H G) (sym (twice H)))
     where
       twice : (H : ℕ) → counted_in I H G (members_among I S order s) ≡ filter (counts_at I (start_of S s) H G) order
       twice H = filter_twice (λ b. is_live (buffer I b) (start_of S s))

@@ -2,7 +2,7 @@
 use Rattle.std.specs.Prelude.{ℕ, ◌+◌, ◌-◌, ◌%◌, ◌^◌, ◌<◌, ◌≤◌, ◌==◌, ◌&&◌, cond, nat_le, Bool, List, length, map, slice_index_or}
 use Rattle.std.specs.List.{filter, sum_by}
 use Rattle.std.specs.List.Sorted.{IsPermutation}
-use Rattle.dsa_terms.specs.Bounds.{rounded_size}
+use Rattle.dsa_start_laws.specs.Piles.{rounded_size}
 use Rattle.dsa_terms.specs.Buffers.{Buffer, Instance, buffer, floor, is_live}
 use Rattle.dsa_terms.specs.Logs.{greatest}
 use Rattle.dsa_terms.specs.Parts.{is_empty, numbers}

@@ -3,10 +3,11 @@
 ghost use Rattle.std.specs.Prelude.{◌≡◌, ◌+◌, ◌-◌, ◌<◌, ◌≤◌, length, map, IfOk, OnOk};
 ghost use Rattle.std.specs.Int.{next_multiple_of};
 ghost use Rattle.std.specs.List.{All};
-ghost use Rattle.dsa_terms.specs.Bounds.{counted, stack_log};
+ghost use Rattle.dsa_terms.specs.Bounds.{stack_log};
 ghost use Rattle.dsa_terms.specs.Layouts.{IsMultiple};
 ghost use Rattle.dsa_terms.specs.Logs.{IsAccepted};
 ghost use Rattle.dsa_model.specs.Buffer.{IsBuffer, buffer_limit};
+ghost use Rattle.dsa_start_laws.specs.Piles.{counted_buffers};
 ghost use Rattle.lower_bounds.specs.Best.{IsBoundOf};
 ghost use Rattle.lower_bounds.specs.Stacks.{counts};
 
@@ -36,8 +37,8 @@ fn lifted(
     height: u64,
 ) -> Result<Vec<(u32, u64)>, AllocError>
     requires { 1 ≤ bound.modulus }
-    ensures value { let b = bound in let members = counted instance.now b.moment b.height b.modulus
-        in
+    ensures value { let b = bound in
+        let members = counted_buffers instance.now b.moment b.height b.modulus in
         IfOk result (λ pairs. pairs.items ≡ map (λ c. (c, height)) members) }
     ensures buffers { OnOk result (All IsBuffer instance.now) }
     ensures limit { OnOk result (length instance.now ≤ buffer_limit) }

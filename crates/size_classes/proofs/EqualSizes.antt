@@ -4,7 +4,7 @@ use Rattle.std.proofs.Math.Nat.{mul-le-mul_right, mul-zero, zero-mul}
 use Rattle.std.proofs.lemmas.Bool.Decides.{nat_tests}
 use Rattle.std.proofs.lemmas.List.Sums.{sum_by-cons}
 use Rattle.dsa_terms.specs.Buffers.{Instance, buffer, floor, is_live, IsInstance}
-use Rattle.dsa_terms.specs.Bounds.{counted, moments}
+use Rattle.dsa_terms.specs.Bounds.{moments}
 use Rattle.dsa_terms.specs.Claims.{IsIn}
 use Rattle.dsa_terms.specs.Layouts.{IsInfeasible, IsLeast}
 use Rattle.dsa_terms.specs.Parts.{numbers}
@@ -12,9 +12,11 @@ use Rattle.dsa_terms.specs.Plans.{IsPeak, load}
 use Rattle.dsa_terms.proofs.Lists.{from_map, greatest_under, nil_or_not}
 use Rattle.dsa_terms.proofs.Moments.{both_true}
 use Rattle.dsa_start_laws.proofs.BoundModuli.{stack_by_one}
-use Rattle.dsa_start_laws.proofs.Bounds.{load_is_pile, load_under_bound}
+use Rattle.dsa_start_laws.specs.Piles.{counted_buffers, pile}
+use Rattle.dsa_start_laws.proofs.Loads.{load_is_pile, load_under_bound}
 use Rattle.dsa_start_laws.proofs.Peaks.{has_peak}
-use Rattle.dsa_start_laws.proofs.Stacks.{bound_is_low, greatest_is, in_counted}
+use Rattle.dsa_start_laws.proofs.Piles.{in_counted}
+use Rattle.dsa_start_laws.proofs.Stacks.{bound_is_low, greatest_is}
 use Rattle.size_classes.specs.Classes.{class_of, count, in_class, last_class, widest, width}
 use Rattle.size_classes.specs.Plain.{IsPlain}
 use Rattle.size_classes.specs.Plans.{AllOf, class_height, IsPeakLoad, start_of}
@@ -30,11 +32,12 @@ sum_is f m (x ∷ xs) h =
     let e = h x (inl refl) in
     let k = mul-suc m (length xs) in omega arith
 
-load_is_product : (I : Instance) (size t : ℕ) → AllOf I size → load I t ≡ size * length (counted I t 0 1)
-unfolding
+load_is_product : (I : Instance) (size t : ℕ) → AllOf I size →
+    load I t ≡ size * length (counted_buffers I t 0 1)
+unfolding pile
 load_is_product I size t h =
-    sym (load_is_pile I t) ∙ stack_by_one I (counted I t 0 1)
-    ∙ sum_is (λ b. (buffer I b).size) size (counted I t 0 1) (λ b i. h b (in_counted I t 0 1 b i).0)
+    sym (load_is_pile I t) ∙ stack_by_one I (counted_buffers I t 0 1)
+    ∙ sum_is (λ b. (buffer I b).size) size (counted_buffers I t 0 1) (λ b i. h b (in_counted I t 0 1 b i).0)
 
 fewer_of : (p q r : ℕ → Bool) (xs : List ℕ) → ((x : ℕ) → q x ≡ true → r x ≡ true) →
     length (filter q (filter p xs)) ≤ length (filter r xs)
@@ -50,8 +53,9 @@ fewer_of p q r (x ∷ xs) h = go (fewer_of p q r xs h) (p x) (q x) (r x) refl re
     go ih false t true e f = omega arith
     go ih false t false e f = ih
 
-live_are_counted : (I : Instance) (k t : ℕ) → length (live_among I (in_class I k) t) ≤ length (counted I t 0 1)
-unfolding live_among in_class counted
+live_are_counted : (I : Instance) (k t : ℕ) →
+    length (live_among I (in_class I k) t) ≤ length (counted_buffers I t 0 1)
+unfolding live_among in_class counted_buffers
 live_are_counted I k t =
     fewer_of (λ b. class_of (buffer I b).size == k) (λ b. is_live (buffer I b) t)
     (λ b. is_live (buffer I b) t && nat_le 0 (floor (buffer I b)) && ((buffer I b).alignment % 1 == 0))
@@ -133,10 +137,11 @@ one_is_load I size h = go (greatest_is (map (λ t. length (live_among I (in_clas
         let e = r.2 in
         let few = live_are_counted I (class_of size) r.0 in
         let m : width I (class_of size) * count I (class_of size) ≤ width I (class_of size) * length
-        (counted I r.0 0 1) =
+        (counted_buffers I r.0 0 1) =
         mul-le-mul_left (width I (class_of size)) (omega arith) in
-        let w : width I (class_of size) * length (counted I r.0 0 1) ≤ size * length (counted I r.0 0 1) =
-        mul-le-mul_right (length (counted I r.0 0 1)) (width_is_size I size (class_of size) h) in
+        let w : width I (class_of size) * length (counted_buffers I r.0 0 1)
+        ≤ size * length (counted_buffers I r.0 0 1) =
+        mul-le-mul_right (length (counted_buffers I r.0 0 1)) (width_is_size I size (class_of size) h) in
         let l = load_is_product I size r.0 h in
         inr (r.0, (omega arith))
 

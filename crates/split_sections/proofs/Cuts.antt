@@ -4,7 +4,8 @@ use Rattle.std.specs.List.{list_any}
 use Rattle.dsa_search_laws.proofs.Cuts.{item}
 use Rattle.dsa_terms.specs.Buffers.{Buffer, Instance, buffer}
 use Rattle.dsa_terms.specs.Claims.{IsIn}
-use Rattle.dsa_terms.specs.Parts.{is_cut, last_cut}
+use Rattle.dsa_terms.specs.Parts.{is_cut}
+use Rattle.dsa_search_laws.specs.PartsByTime.{last_cut}
 use Rattle.dsa_terms.proofs.Lists.{any_from}
 use Rattle.dsa_terms.proofs.Moments.{both_true}
 use Rattle.dsa_terms.proofs.NumberTests.{below_or_from, is_below, not_below}
@@ -66,14 +67,14 @@ cut_from I t h = ap not (none_inside I t (λ x i low. of_number x (number I x i)
 
 -- a cut is the last one at or below itself
 pub last_at_cut : (I : Instance) (t : ℕ) → is_cut I t ≡ true → last_cut I t ≡ t
-unfolding
+unfolding last_cut
 last_at_cut I zero h = refl
 last_at_cut I (suc t) h = ap (λ b. cond b (suc t) (last_cut I t)) h
 
 -- up to where no cut is the last one stays
 pub last_stays : (I : Instance) (s k : ℕ) → ((u : ℕ) → s < u → u ≤ s + k → is_cut I u ≡ false) →
     last_cut I (s + k) ≡ last_cut I s
-unfolding
+unfolding last_cut
 last_stays I s zero h = ap (last_cut I) (let e : s + 0 ≡ s = omega arith in e)
 last_stays I s (suc k) h =
     let e : s + suc k ≡ suc (s + k) = omega arith in

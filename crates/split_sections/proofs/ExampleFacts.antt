@@ -4,6 +4,7 @@ use Rattle.dsa_terms.specs.Buffers.{Buffer, Instance, buffer}
 use Rattle.dsa_terms.specs.Claims.{IsIn}
 use Rattle.dsa_terms.specs.Parts.{is_cut, part_of, parts, is_first, are_parted, are_uncut}
 use Rattle.dsa_model.specs.Lists.{pair_at}
+use Rattle.dsa_search_laws.specs.PartsByTime.{last_cut, start_of}
 use Rattle.split_sections.specs.PartList.{AreInRange, IsPart}
 use Rattle.split_sections.specs.Sweep.{BeginsAt, IsRun, lower_entry}
 use Rattle.split_sections.proofs.Kept.{in_range_at}
@@ -38,16 +39,16 @@ unfolding buffer
 holds_on h = let k = h 0 (lit< tt) in omega (arith, k)
 
 first_is_run : IsRun three order 0 1
-unfolding part_of is_cut buffer
+unfolding start_of last_cut is_cut buffer
 first_is_run = record { some = omega arith; within = omega arith; same = same; ended = λ _. second_begins }
   where
-    same : (k : ℕ) → 0 ≤ k → k < 1 → part_of three (pair_at order k).1 ≡ (pair_at order 0).0
+    same : (k : ℕ) → 0 ≤ k → k < 1 → start_of three (pair_at order k).1 ≡ (pair_at order 0).0
     same zero le lt = refl
     same (suc k) le lt = absurd (omega arith)
 
 -- the second is of another part
 two_parts_are_no_run : IsRun three order 0 2 → ⊥
-unfolding part_of is_cut buffer
+unfolding start_of last_cut is_cut buffer
 two_parts_are_no_run h = let k = h.same 1 (lit≤ tt) (lit< tt) in omega (arith, k)
 
 -- ---- parts

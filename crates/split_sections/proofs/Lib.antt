@@ -1,4 +1,3 @@
-pub mod Lists
 pub mod Kept
 pub mod Cuts
 pub mod Sweeping

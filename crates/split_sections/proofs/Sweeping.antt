@@ -2,7 +2,8 @@
 -- before it begins.
 use Rattle.std.proofs.Common.{◌≡◌, ℕ, ◌+◌, ◌-◌, ◌<◌, ◌≤◌, ◌⊎◌, inl, inr, true, false, List, length, max, slice_index_or, sym, ap, ◌∙◌, subst, arith}
 use Rattle.dsa_terms.specs.Buffers.{Instance, buffer}
-use Rattle.dsa_terms.specs.Parts.{is_cut, last_cut, part_of}
+use Rattle.dsa_terms.specs.Parts.{is_cut}
+use Rattle.dsa_search_laws.specs.PartsByTime.{last_cut, start_of}
 use Rattle.dsa_terms.proofs.Places.{place_of}
 use Rattle.dsa_terms.proofs.NumberTests.{below_or_from, below_or_last}
 use Rattle.dsa_model.specs.Lists.{pair_at}
@@ -12,7 +13,7 @@ use Rattle.split_sections.proofs.Cuts.{cut_from, last_at_cut, last_stays, not_cu
 -- what is known of the part that begins at `first` once the places before i have been gone over
 pub record IsReaching (I : Instance) (order : List (ℕ × ℕ)) (first i reach : ℕ) : Type 0 where
   pub started : first < i
-  pub same : (k : ℕ) → first ≤ k → k < i → part_of I (pair_at order k).1 ≡ (pair_at order first).0
+  pub same : (k : ℕ) → first ≤ k → k < i → start_of I (pair_at order k).1 ≡ (pair_at order first).0
   pub over : (k : ℕ) → first ≤ k → k < i → (buffer I (pair_at order k).1).upper ≤ reach
   pub reached : (k : ℕ) × (first ≤ k) × (k < i) × ((buffer I (pair_at order k).1).upper ≡ reach)
 
@@ -48,16 +49,16 @@ cut_here I order i a h lt = cut_from I (pair_at order i).0 outside
 
 -- so its part begins there
 begins_here : (I : Instance) (order : List (ℕ × ℕ)) (i : ℕ) → AreByLower I order → BeginsAt I order i →
-    i < length order → (pair_at order i).0 ≡ part_of I (pair_at order i).1
-unfolding part_of
+    i < length order → (pair_at order i).0 ≡ start_of I (pair_at order i).1
+unfolding start_of
 begins_here I order i a h lt = sym (last_at_cut I (pair_at order i).0 (cut_here I order i a h lt))
     ∙ ap (last_cut I) (a.each i (0, 0) lt).lower
 
 -- one before reaches past its lower: it is of the part of the one before it
 pub goes_on : (I : Instance) (order : List (ℕ × ℕ)) (first i reach : ℕ) → AreByLower I order →
     IsReaching I order first i reach → i < length order → (pair_at order i).0 < reach →
-    part_of I (pair_at order i).1 ≡ (pair_at order first).0
-unfolding part_of
+    start_of I (pair_at order i).1 ≡ (pair_at order first).0
+unfolding start_of
 goes_on I order first i reach a s lt past =
     same (buffer I (pair_at order (i - 1)).1).lower (buffer I (pair_at order i).1).lower rises none
     ∙ s.same (i - 1) (let z = s.started in omega arith) (let z = s.started in omega arith)
@@ -99,7 +100,7 @@ pub reaching_first : (I : Instance) (order : List (ℕ × ℕ)) (first i reach :
     IsReaching I order first i reach
 reaching_first I order first i reach a lt h e up = record {
   started = omega arith;
-  same = λ k le kn. subst (λ (k : ℕ). part_of I (pair_at order k).1 ≡ (pair_at order first).0) (is_first k le kn)
+  same = λ k le kn. subst (λ (k : ℕ). start_of I (pair_at order k).1 ≡ (pair_at order first).0) (is_first k le kn)
       (sym (begins_here I order first a h lt));
   over = λ k le kn. let z = ap (λ k. (buffer I (pair_at order k).1).upper) (is_first k le kn) in omega arith;
   reached = (first, omega arith, omega arith, up);
@@ -116,7 +117,7 @@ reaching_more I order first i reach top e a s lt is past up = record {
   started = (let z = s.started in omega arith);
   same = λ k le kn. elim (below_or_last k i kn) [
     | inl h ↦ s.same k le h
-    | inr h ↦ subst (λ (k : ℕ). part_of I (pair_at order k).1 ≡ (pair_at order first).0) (sym h)
+    | inr h ↦ subst (λ (k : ℕ). start_of I (pair_at order k).1 ≡ (pair_at order first).0) (sym h)
         (goes_on I order first i reach a s lt (let z = ap (λ (e : ℕ × ℕ). e.0) is in omega arith))
   ];
   over = λ k le kn. elim (below_or_last k i kn) [

@@ -4,7 +4,7 @@ use Rattle.std.specs.List.{All}
 use Rattle.std.specs.List.Sorted.{IsNonDecreasingBy}
 use Rattle.dsa_terms.specs.Buffers.{Instance, buffer}
 use Rattle.dsa_terms.specs.Claims.{IsIn}
-use Rattle.dsa_terms.specs.Parts.{part_of}
+use Rattle.dsa_search_laws.specs.PartsByTime.{start_of}
 use Rattle.dsa_model.specs.Lists.{pair_at}
 
 -- a buffer's number behind its lower
@@ -31,5 +31,5 @@ BeginsAt I order i = (k : ℕ) → k < i → (buffer I (pair_at order k).1).uppe
 pub record IsRun (I : Instance) (order : List (ℕ × ℕ)) (first next : ℕ) : Type 0 where
   pub some : first < next
   pub within : next ≤ length order
-  pub same : (k : ℕ) → first ≤ k → k < next → part_of I (pair_at order k).1 ≡ (pair_at order first).0
+  pub same : (k : ℕ) → first ≤ k → k < next → start_of I (pair_at order k).1 ≡ (pair_at order first).0
   pub ended : next < length order → BeginsAt I order next

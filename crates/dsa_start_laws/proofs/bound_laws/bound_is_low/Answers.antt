@@ -1,6 +1,7 @@
-use Rattle.dsa_start_laws.proofs.Stacks.{stack_is_accepted, legal_height, stack_under_bound, bound_reached, bound_is_low}
+use Rattle.dsa_start_laws.proofs.OverLines.{legal_height}
+use Rattle.dsa_start_laws.proofs.Stacks.{stack_is_accepted, stack_under_bound, bound_reached, bound_is_low}
 use Rattle.dsa_start_laws.proofs.BoundModuli.{bound_is_positive}
-use Rattle.dsa_start_laws.proofs.Bounds.{load_under_bound}
+use Rattle.dsa_start_laws.proofs.Loads.{load_under_bound}
 use Rattle.dsa_start_laws.proofs.Peaks.{stack_is_lean}
 use Rattle.dsa_start_laws.proofs.bound_laws.bound_is_low.Goals as goal
 

@@ -1,0 +1,9 @@
+use Rattle.dsa_search_laws.proofs.ByTime.{by_time}
+use Rattle.dsa_search_laws.proofs.Uncut.{uncut_exactly}
+use Rattle.dsa_search_laws.proofs.part_laws.parts_by_time_are_the_parts.Goals as goal
+
+pub returns-clause-parts : goal.returns-clause-parts
+returns-clause-parts c = by_time
+
+pub returns-clause-uncut : goal.returns-clause-uncut
+returns-clause-uncut c = uncut_exactly
