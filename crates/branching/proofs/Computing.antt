@@ -1,8 +1,7 @@
 -- What is opened where a fact computes a search: `unfolding computing_first` opens all that its own line names.
 use Rattle.std.proofs.Common.{ℕ}
-use Rattle.branching.proofs.Words.{buffer, do_share, have_same_moments, is_live, some_before, child, step, up, ends_below, is_twin, is_cut, last_cut, part_of, parts, searched, comes_before, first, is_tall, work}
+use Rattle.branching.proofs.Words.{buffer, do_share, have_same_moments, is_live, some_before, child, step, up, ends_below, is_twin, are_parted, are_uncut, is_cut, is_first, part_of, parts, searched, comes_before, first, is_tall, work}
 use Rattle.dsa_terms.specs.Plans.{layout_height}
-use Rattle.dsa_terms.specs.Parts.{is_first, are_parted, are_uncut}
 use Rattle.branching.specs.Trying.{through}
 
 -- the first layout of a claim

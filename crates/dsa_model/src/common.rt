@@ -14,6 +14,9 @@ impl Buffer {
         ensures moment { IsLeastMoment (are_live self.now other.now) 0 result }
         ensures shared { is_some result ≡ do_share self.now other.now }
     {
+        if self.upper() <= other.lower() || other.upper() <= self.lower() {
+            return None;
+        }
         first_in_both(self.live(), other.live())
     }
 

@@ -42,8 +42,8 @@ pub fn parts_by_time_are_the_parts()
 /// of time, so no buffer is in two of them.
 pub fn parts_are_greatest()
     ensures members { (I : Instance) (p : List ℕ) → IsIn p (parts I) →
-        (p ≢ []) × Rises p × ((b : ℕ) → IsIn b p → b < length I) }
-    ensures cover { (I : Instance) (b : ℕ) → b < length I →
+        (IsInstance I → p ≢ []) × Rises p × ((b : ℕ) → IsIn b p → b < length I) }
+    ensures cover { (I : Instance) (b : ℕ) → IsInstance I → b < length I →
         (p : List ℕ) × IsIn p (parts I) × IsIn b p }
     ensures uncut { (I : Instance) (p : List ℕ) (b c : ℕ) → IsInstance I → IsIn p (parts I) →
         IsIn b p → IsIn c p → IsUncut I b c }
@@ -56,7 +56,7 @@ pub fn parts_are_greatest()
 
 /// Seats that place each part's whole claim are a layout, and one refuted part leaves no layout.
 pub fn parts_make_the_whole()
-    ensures layout { (I : Instance) (C : ℕ) (seats : List Entry) →
+    ensures layout { (I : Instance) (C : ℕ) (seats : List Entry) → IsInstance I →
         ((p : List ℕ) → IsIn p (parts I) → Places I C (whole I p) (number_of seats)) →
         IsLayout I C (offsets_of I seats) }
     ensures none { (I : Instance) (C : ℕ) (p : List ℕ) → IsIn p (parts I) →
@@ -65,7 +65,7 @@ pub fn parts_make_the_whole()
 
 /// Placements of the whole claims of all parts, put together, are a layout.
 pub fn parts_go_together()
-    ensures { (I : Instance) (C : ℕ) (answers : List (List Entry)) →
+    ensures { (I : Instance) (C : ℕ) (answers : List (List Entry)) → IsInstance I →
         AllZip (λ p seats. IsPlacement I C (whole I p) seats) (parts I) answers →
         IsLayout I C (offsets_of I (flat_map (λ seats. seats) answers)) }
 {}

@@ -2,13 +2,13 @@
 use Rattle.std.proofs.Common.{◌≡◌, ℕ, ◌+◌, ◌<◌, ◌≤◌, List, [], ◌∷◌, ◌++◌, length, drop, slice_index_or, Option, Some, None, sum_by, sym, subst, refl, ap, ◌∙◌, arith, append_assoc, append-nil}
 use Rattle.std.proofs.lemmas.List.Sums.{sum_by-cons}
 use Rattle.std.proofs.Math.ListN.{drop_of_length-le}
-use Rattle.search_core.proofs.Words.{Instance, Entry, IsIn, first_of_all, join, members, offsets_of, part_is_in, part_of, parts, searched, whole, whole_work, first, work, in_at, next_of}
+use Rattle.search_core.proofs.Words.{Instance, Entry, IsIn, first_of_all, join, least_is_first, offsets_of, part_of, part_of_first, parts, searched, whole, whole_work, first, work, in_at, next_of}
 use Rattle.search_core.specs.Meters.{AreMore, Units}
 use Rattle.search_core.proofs.Counting.{more_by_after}
 
 -- an instance with a buffer has a part
 some_part : (I : Instance) → 0 < length I → 0 < length (parts I)
-some_part I lt = some (parts I) (members I (part_of I 0)) (part_is_in I 0 lt)
+some_part I lt = some (parts I) (part_of I 0) (part_of_first I 0 lt (least_is_first I 0 (λ c i. omega arith)))
   where
     some : (ps : List (List ℕ)) (p : List ℕ) → IsIn p ps → 0 < length ps
     some [] p i = absurd i

@@ -1,8 +1,7 @@
 -- The whole claim of a part, and the log that refutes it.
 use Rattle.std.proofs.Common.{◌≡◌, ℕ, zero, suc, ◌≤◌, ◌<◌, ◌==◌, List, [], ◌∷◌, length, slice_get, Some, sym, refl, ap, ◌∙◌, subst, inl, inr, arith, All}
 use Rattle.std.specs.Int.{next_multiple_of}
-use Rattle.search_core.proofs.Words.{Instance, IsInstance, buffer, floor, Claim, Entry, IsIn, Covers, IsWhole, up, Line, Log, claim_of, IsAccepted, numbers, part_of, parts, whole, from_filter, into_map, equal, buffers_of-whole, claim_of_part, in_whole, part_is_members, same_part_uncut, OpenLog, ended, IsCoveredBy}
-use Rattle.dsa_terms.proofs.Ranges.{from_range}
+use Rattle.search_core.proofs.Words.{Instance, IsInstance, buffer, floor, Claim, Entry, IsIn, Covers, IsWhole, up, Line, Log, claim_of, IsAccepted, parts, whole, into_map, buffers_of-whole, claim_of_part, in_whole, part_is_uncut, uncut_exactly, OpenLog, ended, IsCoveredBy}
 use Rattle.dsa_search_laws.proofs.PartLists.{got_in}
 use Rattle.branching.specs.Logs.{Extends, IsSearchLog}
 use Rattle.search_core.specs.Decisions.{IsRefutation}
@@ -34,14 +33,6 @@ pub whole_end : (I : Instance) (lines : List Line) (p : List ℕ) (k : ℕ) → 
 whole_end I lines p k c = (c.line, c.stands, covers_whole I (claim_of c.line) p c.covers)
 
 -- ---- the log
-part_of_member : (I : Instance) (p : List ℕ) (h : IsIn p (parts I)) (b : ℕ) → IsIn b p →
-    (b < length I) × (part_of I b ≡ (part_is_members I p h).0)
-part_of_member I p h b i =
-    let m = part_is_members I p h in
-    let r = from_filter (λ b. part_of I b == m.0) (numbers (length I)) b (subst (IsIn b) m.1 i) in
-    let below = (from_range (length I) 0 b r.0).1 in
-    (omega arith, equal (part_of I b) m.0 r.1)
-
 pub refutes_part : (I : Instance) (C : ℕ) (p : List ℕ) (log : OpenLog) (closed : Log) (end : ℕ) → IsInstance I →
     IsIn p (parts I) → IsSearchLog I C log → Extends (whole I p) [] log.lines →
     closed ≡ ended log end → IsAccepted I closed → IsRefutation I C closed
@@ -52,14 +43,13 @@ refutes_part I C p log closed end sound h s grown q accepted = record {
     uncovered = s.uncovered;
     lean = rw s.capacity s.lean;
     one_part = λ j k other line e f at_j at_k in_other in_line.
-        let m = of_part other e j at_j in_other in
-        let n = of_part line f k at_k in_line in
-        same_part_uncut I e.0 f.0 sound m.0 n.0 (m.1 ∙ sym n.1);
+        (uncut_exactly I e.0 f.0).1 (part_is_uncut I p e.0 f.0 sound h (of_part other e j at_j in_other)
+        (of_part line f k at_k in_line));
   });
 }
   where
     of_part : (line : Line) (e : Entry) (k : ℕ) → slice_get log.lines k ≡ Some line → IsIn e (claim_of line) →
-        (e.0 < length I) × (part_of I e.0 ≡ (part_is_members I p h).0)
+        IsIn e.0 p
     of_part line e k at in_line =
         let i : IsIn line grown.more = subst (IsIn line) grown.is (got_in log.lines k line at) in
-        part_of_member I p h e.0 (rw buffers_of-whole at (grown.among line e i in_line))
+        rw buffers_of-whole at (grown.among line e i in_line)

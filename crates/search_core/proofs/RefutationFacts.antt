@@ -1,6 +1,6 @@
 -- A log of one line by which a buffer of size 3 does not fit within 2.
-use Rattle.std.proofs.Common.{◌≡◌, ◌<◌, ◌^◌, ℕ, zero, suc, List, [], ◌∷◌, slice_get, take, Some, inl, inr, refl, sym, subst, lit<, lit≤, arith}
-use Rattle.search_core.proofs.Words.{Instance, IsInstance, IsLive, buffer, is_live, Covers, Entry, IsClaim, IsIn, IsWhole, up, IsLeanLine, IsLegal, Line, Log, Over, claim_of, is_stacked, rounded, rounding, IsUncut, searched, plain, searched_is_layout}
+use Rattle.std.proofs.Common.{◌≡◌, ◌<◌, ◌^◌, ℕ, zero, suc, true, List, [], ◌∷◌, slice_get, take, Some, inl, inr, refl, sym, subst, lit<, lit≤, arith}
+use Rattle.search_core.proofs.Words.{Instance, IsInstance, IsLive, buffer, is_live, Covers, Entry, IsClaim, IsIn, IsWhole, up, IsLeanLine, IsLegal, Line, Log, Over, claim_of, is_stacked, rounded, rounding, are_parted, are_uncut, is_cut, searched, plain, searched_is_layout}
 use Rattle.dsa_terms.specs.Layouts.{IsLayout}
 use Rattle.dsa_search_laws.proofs.Logs.{accepted_is_infeasible}
 use Rattle.branching.proofs.Computing.{computing_searched}
@@ -67,12 +67,9 @@ the_line zero line at = cc
 the_line (suc k) line at = absurd cc
 
 -- no cut lies between the buffer's end and its beginning
-uncut_itself : IsUncut lone 0 0
-unfolding buffer
-uncut_itself = record {
-  forth = λ t cut s. (let ended = s.0 in let begun = s.1 in omega arith);
-  back = λ t cut s. (let ended = s.0 in let begun = s.1 in omega arith);
-}
+uncut_itself : are_uncut lone 0 0 ≡ true
+unfolding are_uncut are_parted is_cut buffer
+uncut_itself = refl
 
 the_buffer : (k : ℕ) (line : Line) (e : Entry) → slice_get one k ≡ Some line → IsIn e (claim_of line) → e.0 ≡ 0
 the_buffer k line e at i = go (subst (λ (x : Line). IsIn e (claim_of x)) (sym (the_line k line at)) i)

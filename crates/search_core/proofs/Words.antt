@@ -6,12 +6,13 @@ pub use Rattle.canonical_order.specs.Levels.{AreLevels}
 pub use Rattle.canonical_order.specs.Stands.{Stands}
 pub use Rattle.dsa_model.specs.Buffer.{IsBuffer}
 pub use Rattle.dsa_search_laws.proofs.Claims.{claim-child, number_of-map}
-pub use Rattle.dsa_search_laws.proofs.Parts.{buffers_of-whole, claim_of_part, in_whole, part_is_in, part_is_members}
-pub use Rattle.dsa_search_laws.proofs.Parts.{same_part_uncut, searched_is_layout}
+pub use Rattle.dsa_search_laws.proofs.PartLists.{part_is_uncut}
+pub use Rattle.dsa_search_laws.proofs.Parts.{buffers_of-whole, claim_of_part, in_whole, searched_is_layout}
 pub use Rattle.dsa_search_laws.proofs.Placing.{in_child}
+pub use Rattle.dsa_search_laws.proofs.Uncut.{least_is_first, part_of_first, uncut_exactly}
 pub use Rattle.dsa_terms.proofs.Examples.{lifted, low, plain, raised, small_below}
-pub use Rattle.dsa_terms.proofs.Lists.{from_filter, into_map, same_some, some_answer}
-pub use Rattle.dsa_terms.proofs.NumberTests.{apart, equal, is_at_most, same, same_or_not}
+pub use Rattle.dsa_terms.proofs.Lists.{into_map, same_some, some_answer}
+pub use Rattle.dsa_terms.proofs.NumberTests.{apart, is_at_most, same, same_or_not}
 pub use Rattle.dsa_terms.proofs.Places.{in_at}
 pub use Rattle.dsa_terms.specs.Buffers.{Instance, IsInstance, IsLive}
 unfoldable pub use Rattle.dsa_terms.specs.Buffers.{buffer, do_share, floor, have_same_moments, is_live, some_before}
@@ -20,8 +21,8 @@ unfoldable pub use Rattle.dsa_terms.specs.Claims.{child, step, up}
 pub use Rattle.dsa_terms.specs.Lean.{IsLeanLine}
 pub use Rattle.dsa_terms.specs.Logs.{IsAccepted, IsLegal, Line, Log, Over, claim_of}
 unfoldable pub use Rattle.dsa_terms.specs.Logs.{ends_below, is_stacked, is_twin, rounded, rounding}
-pub use Rattle.dsa_terms.specs.Parts.{IsUncut, first_of_all, join, members, numbers, offsets_of, whole}
-unfoldable pub use Rattle.dsa_terms.specs.Parts.{part_of, parts, searched, whole_work}
+pub use Rattle.dsa_terms.specs.Parts.{first_of_all, join, offsets_of, whole}
+unfoldable pub use Rattle.dsa_terms.specs.Parts.{are_parted, are_uncut, is_cut, part_of, parts, searched, whole_work}
 pub use Rattle.dsa_terms.specs.Search.{choices, first_of, first_some, not_excluded, seated}
 unfoldable pub use Rattle.dsa_terms.specs.Search.{comes_before, first, is_tall, work}
 pub use Rattle.line_index.proofs.Finding.{next_of}

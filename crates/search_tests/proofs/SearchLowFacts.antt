@@ -1,6 +1,6 @@
 -- What the search answers where buffers have a lowest: layouts, and a log whose end has a bound above it.
 use Rattle.std.proofs.Common.{◌≡◌, ℕ, zero, suc, true, [], ◌∷◌, slice_get, take, Some, None, inl, inr, refl, sym, subst, arith}
-use Rattle.search_core.proofs.Words.{Instance, IsLive, buffer, floor, is_live, Entry, IsIn, IsWhole, up, IsLeanLine, IsLegal, Line, Log, Over, claim_of, is_stacked, rounded, rounding, IsUncut, searched, whole, lifted, low, raised}
+use Rattle.search_core.proofs.Words.{Instance, IsLive, buffer, floor, is_live, Entry, IsIn, IsWhole, up, IsLeanLine, IsLegal, Line, Log, Over, claim_of, is_stacked, rounded, rounding, are_parted, are_uncut, is_cut, searched, whole, lifted, low, raised}
 use Rattle.dsa_search_laws.proofs.LineTests.{do_rise, has_reason, is_claim, is_legal, is_over, legal}
 use Rattle.refute_log.specs.Answers.{Offsets}
 use Rattle.branching.proofs.Computing.{computing_searched}
@@ -57,12 +57,9 @@ only_line zero line at = (refl, cc)
 only_line (suc k) line at = absurd cc
 
 -- no cut lies between the buffer's end and its beginning
-uncut_itself : IsUncut aligned 0 0
-unfolding buffer
-uncut_itself = record {
-  forth = λ t cut s. (let ended = s.0 in let begun = s.1 in omega arith);
-  back = λ t cut s. (let ended = s.0 in let begun = s.1 in omega arith);
-}
+uncut_itself : are_uncut aligned 0 0 ≡ true
+unfolding are_uncut are_parted is_cut buffer
+uncut_itself = refl
 
 only_buffer : (k : ℕ) (line : Line) (e : Entry) → slice_get (from_8 ∷ []) k ≡ Some line → IsIn e (claim_of line) →
     e.0 ≡ 0

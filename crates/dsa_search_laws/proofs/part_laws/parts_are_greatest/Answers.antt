@@ -2,10 +2,10 @@ use Rattle.dsa_search_laws.proofs.PartLists.{part_not_empty, part_rises, part_in
 use Rattle.dsa_search_laws.proofs.part_laws.parts_are_greatest.Goals as goal
 
 pub returns-clause-members : goal.returns-clause-members
-returns-clause-members c = λ I p i. (?, part_rises I p i, λ b. part_in_range I p b i)
+returns-clause-members c = λ I p i. (λ s. part_not_empty I p s i, part_rises I p i, λ b. part_in_range I p b i)
 
 pub returns-clause-cover : goal.returns-clause-cover
-returns-clause-cover c = ?
+returns-clause-cover c = parts_cover
 
 pub returns-clause-uncut : goal.returns-clause-uncut
 returns-clause-uncut c = part_is_uncut
