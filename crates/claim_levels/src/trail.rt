@@ -100,15 +100,15 @@ impl Trail {
         Levels::of(&self.raising.numbers, &self.left, self.raising.top)
     }
 
-    /// Goes down to the child by the buffer, which is in the last claim, unless a line is found that
-    /// covers the child: then the line is given, and all levels are as before. Where each mark has a
-    /// note of its line, and all lines are watched at the last claim, no line covers a child that is
-    /// gone down to, and all are watched there. What is watched at the last claim and at claims
-    /// above stays so, and marks that each have a note of their line keep one. No bound of the child
-    /// may be above 2^54, and where `is_first` is yes, the buffer is the one of least low, and of
-    /// these the one of least number: then only the members of its sections are gone over, where
-    /// these are fewer than the buffers that are left. After an `Err` all levels are as before, and
-    /// nothing is said of what is watched.
+    /// Goes down to the child by the buffer, which is in the last claim, unless a line is found
+    /// that covers the child: then the line is given, and all levels are as before. Where each mark
+    /// has a note of its line, and all lines are watched at the last claim, no line covers a child
+    /// that is gone down to, and all are watched there. What is watched at the last claim and at
+    /// claims above stays so, and marks that each have a note of their line keep one. No bound of
+    /// the child may be above 2^54, and where `is_first` is yes, the buffer is the one of least
+    /// low, and of these the one of least number: then only the members of its sections are gone
+    /// over, where these are fewer than the buffers that are left. After an `Err` all levels are as
+    /// before, and nothing is said of what is watched.
     pub fn descend(
         &mut self,
         alloc: Global,
