@@ -1,12 +1,12 @@
--- Clear places, climbed places, free ranges beside two placed buffers, the tightest range, and orders.
+-- Clear places, free ranges beside two placed buffers, the tightest range, orders that have each buffer, and no orders.
 use Rattle.std.proofs.Common.{◌≡◌, ◌≢◌, ℕ, zero, suc, ◌+◌, ◌≤◌, ◌⊎◌, inl, inr, true, false, nat_lt, nat_le, [], ◌∷◌, Some, None, refl, ap, ap₂, arith}
 use Rattle.std.proofs.lemmas.Bool.Decides.{nat_tests}
-use Rattle.dsa_terms.specs.Buffers.{buffer, floor}
+use Rattle.dsa_terms.specs.Buffers.{buffer}
 use Rattle.dsa_terms.specs.Claims.{Entry, IsIn}
-use Rattle.dsa_terms.specs.Fits.{top, highest, is_free, Range, is_tighter}
+use Rattle.dsa_terms.specs.Fits.{top, highest, Range, is_tighter}
 use Rattle.dsa_terms.proofs.Examples.{evens}
 use Rattle.dsa_terms.proofs.FitFacts.{taken, sizes, range}
-use Rattle.dsa_start_laws.specs.Fitting.{IsClear, IsOpen, IsFreeRange, HasEach, climbed_place, first_passing, tighter_of, tightest_in_turn}
+use Rattle.dsa_start_laws.specs.Fitting.{IsClear, IsOpen, IsFreeRange, HasEach, tighter_of, tightest_in_turn}
 use Rattle.dsa_start_laws.specs.Ordering.{IsOrder}
 
 -- size 1 is clear between the two, at 4, and not at 5
@@ -31,24 +31,6 @@ small_overlaps c = close (c.apart (1, 5) (inr (inl refl)))
 threes_unaligned : IsClear sizes 3 taken 7 → ⊥
 unfolding buffer
 threes_unaligned c = let h = c.aligned in cc
-
--- from 1 on by threes: the first that passes, and after two that fail the next one as it is
-third_passes : first_passing (nat_le 5) 3 9 1 ≡ 7
-unfolding first_passing
-third_passes = refl
-
-two_tries : first_passing (nat_le 50) 3 2 1 ≡ 7
-unfolding first_passing
-two_tries = refl
-
--- size 1 goes to 0, and size 4, which begins at multiples of five, past both
-small_climbs : climbed_place sizes 2 taken ≡ 0
-unfolding climbed_place first_passing is_free highest top floor buffer
-small_climbs = refl
-
-fives_climb : climbed_place sizes 4 taken ≡ 10
-unfolding climbed_place first_passing is_free highest top floor buffer
-fives_climb = refl
 
 -- 0..3 is free, and no greater range is
 low_is_free : IsFreeRange sizes taken (range 0 3)

@@ -5,7 +5,6 @@ pub mod BoundModuli
 pub mod Bounds
 pub mod Loads
 pub mod Places
-pub mod Climbs
 pub mod Fits
 pub mod Orders
 pub mod Ranges

@@ -1,26 +1,15 @@
 -- Where a buffer may be put, the free ranges, and orders that have each buffer.
-use Rattle.std.specs.Prelude.{◌≡◌, ◌+◌, ◌<◌, ◌≤◌, ◌⊎◌, ℕ, zero, suc, Bool, cond, List, [], ◌∷◌, length, Option, Some, None}
-use Rattle.dsa_terms.specs.Buffers.{Instance, buffer, floor}
+use Rattle.std.specs.Prelude.{◌≡◌, ◌<◌, ◌≤◌, ◌⊎◌, ℕ, cond, List, [], ◌∷◌, length, Option, Some, None}
+use Rattle.dsa_terms.specs.Buffers.{Instance, buffer}
 use Rattle.dsa_terms.specs.Layouts.{IsMultiple, IsApart}
 use Rattle.dsa_terms.specs.Claims.{Entry, IsIn}
-use Rattle.dsa_terms.specs.Fits.{top, highest, is_free, FitRule, Range, is_tighter}
+use Rattle.dsa_terms.specs.Fits.{top, highest, Range, is_tighter}
 
 -- b at x is aligned, at or above its lowest, and apart from each placed one
 pub record IsClear (I : Instance) (b : ℕ) (placed : List Entry) (x : ℕ) : Type 0 where
   pub aligned : IsMultiple x (buffer I b).alignment
   pub above : (buffer I b).lowest ≤ x
   pub apart : (e : Entry) → IsIn e placed → IsApart (buffer I b) x (buffer I e.0) e.1
-
--- of x, x + a, x + a + a and so on, the first that passes the test, or the one after n that fail
-unfoldable pub first_passing : (ℕ → Bool) → ℕ → ℕ → ℕ → ℕ
-first_passing test a zero x = x
-first_passing test a (suc n) x = cond (test x) x (first_passing test a n (x + a))
-
--- first-fit found by climbing: the least multiple of b's alignment, from its floor on, at which b is apart from each
-unfoldable pub climbed_place : FitRule
-climbed_place I b placed =
-    first_passing (λ x. is_free I placed x (x + (buffer I b).size)) (buffer I b).alignment (highest I placed)
-    (floor (buffer I b))
 
 -- no placed one meets the range, and it ends at or below the greatest top
 pub record IsOpen (I : Instance) (placed : List Entry) (r : Range) : Type 0 where

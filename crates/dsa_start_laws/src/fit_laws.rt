@@ -4,7 +4,7 @@ ghost use Rattle.std.specs.Prelude.{◌≡◌, ℕ, ◌≤◌, ◌↔◌, List, 
 ghost use Rattle.dsa_terms.specs.Buffers.{Instance, IsInstance};
 ghost use Rattle.dsa_terms.specs.Claims.{Entry, IsIn};
 ghost use Rattle.dsa_terms.specs.Fits.{best_place, first_place, free_ranges, is_tighter, Range, tightest};
-ghost use Rattle.dsa_start_laws.specs.Fitting.{climbed_place, IsClear, IsFreeRange};
+ghost use Rattle.dsa_start_laws.specs.Fitting.{IsClear, IsFreeRange};
 
 /// Where first-fit puts a buffer it is aligned, at or above its lowest and apart from its
 /// neighbours, and nowhere lower.
@@ -13,13 +13,6 @@ pub fn first_place_is_least()
         IsClear I b placed (first_place I b placed) }
     ensures least { (I : Instance) (b : ℕ) (placed : List Entry) (x : ℕ) → IsInstance I →
         IsClear I b placed x → first_place I b placed ≤ x }
-{}
-
-/// First-fit's place is found by climbing from the buffer's floor by its alignment, up to the first
-/// place at which it is apart from its neighbours.
-pub fn first_place_is_climbed()
-    ensures { (I : Instance) (b : ℕ) (placed : List Entry) → IsInstance I →
-        first_place I b placed ≡ climbed_place I b placed }
 {}
 
 /// Where best-fit puts a buffer it is aligned, at or above its lowest and apart from its

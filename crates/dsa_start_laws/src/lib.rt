@@ -12,5 +12,5 @@ pub use bound_laws::{
     stacks_are_piles,
 };
 pub use capacity_laws::{least_is_least, peak_is_one, plan_is_complete};
-pub use fit_laws::{best_place_is_tightest, first_place_is_climbed, first_place_is_least};
+pub use fit_laws::{best_place_is_tightest, first_place_is_least};
 pub use start_laws::{best_start_is_lowest, orders_are_ordered, starts_are_layouts};
