@@ -1,14 +1,15 @@
 -- Buffers that no cut lies between, and the parts that they make.
-use Rattle.std.proofs.Common.{◌≡◌, ℕ, suc, ◌<◌, ◌≤◌, ◌⊎◌, ◌↔◌, inl, inr, Bool, true, false, not, ◌&&◌, ◌||◌, nat_le, nat_lt, List, length, filter, sym, refl, arith}
-use Rattle.dsa_terms.specs.Buffers.{Instance, buffer, IsInstance}
+use Rattle.std.proofs.Common.{◌≡◌, ℕ, suc, ◌<◌, ◌≤◌, ◌⊎◌, ◌↔◌, inl, inr, Bool, true, false, not, ◌&&◌, ◌||◌, nat_le, nat_lt, List, length, filter, sym, refl, subst, arith}
+use Rattle.dsa_terms.specs.Buffers.{Instance, buffer, IsInstance, IsLive}
 use Rattle.dsa_terms.specs.Claims.{IsIn, Rises}
 use Rattle.dsa_terms.specs.Parts.{is_cut, numbers, are_parted, are_uncut, part_of, is_first, parts}
 use Rattle.dsa_terms.specs.Sorts.{ordered_by}
 use Rattle.dsa_terms.proofs.Lists.{any_gives, any_from, all_at, all_from, from_filter, into_filter, from_map, from_ordered_by, into_map, into_ordered_by}
-use Rattle.dsa_terms.proofs.Moments.{and_true, both_true}
+use Rattle.dsa_terms.proofs.Moments.{and_true, both_true, live_at_or_after, live_before}
 use Rattle.dsa_terms.proofs.NumberTests.{at_most, is_at_most, below_or_from}
 use Rattle.dsa_terms.proofs.Ranges.{below, among, rises-range, rises-filter_numbers}
 use Rattle.dsa_search_laws.specs.PartsByTime.{start_of, Separates, IsUncut}
+use Rattle.dsa_search_laws.proofs.Rising.{rises_same}
 use Rattle.dsa_search_laws.proofs.Cuts.{cut_between, cut_outside, no_cut_between}
 
 -- ---- the test says so exactly where it is so
@@ -123,6 +124,34 @@ into_part I b c lt u =
 pub rises-part : (I : Instance) (b : ℕ) → Rises (part_of I b)
 unfolding part_of
 rises-part I b = rises-filter_numbers (are_uncut I b) (numbers (length I)) (rises-range (length I) 0)
+
+pub uncut_is_one_part : (I : Instance) (b c : ℕ) → b < length I → c < length I → IsUncut I b c →
+    part_of I b ≡ part_of I c
+uncut_is_one_part I b c lb lc u =
+    rises_same (part_of I b) (part_of I c) (rises-part I b) (rises-part I c) (λ d. (
+      λ i. (let r = from_part I b d i in into_part I c d r.0 (uncut_through I c b d lb (uncut_turned I b c u) r.1)),
+      λ i. (let r = from_part I c d i in into_part I b d r.0 (uncut_through I b c d lc u r.1)),
+    ))
+
+pub one_part_exactly : (I : Instance) (b c : ℕ) → IsInstance I → b < length I → c < length I →
+    (part_of I b ≡ part_of I c) ↔ IsUncut I b c
+one_part_exactly I b c s lb lc = (λ same. uncut_turned I c b (from same), uncut_is_one_part I b c lb lc)
+  where
+    from : part_of I b ≡ part_of I c → IsUncut I c b
+    from same = (from_part I c b
+        (subst (λ p. IsIn b p) same (into_part I b b lb (same_part_uncut I b b s lb lb refl)))).1
+
+pub sharing_in_one_part : (I : Instance) (b c t : ℕ) → b < length I → c < length I → IsLive (buffer I b) t →
+    IsLive (buffer I c) t → part_of I b ≡ part_of I c
+sharing_in_one_part I b c t lb lc p q = uncut_is_one_part I b c lb lc (record {
+  forth = λ s cut sep. none b c s p q sep;
+  back = λ s cut sep. none c b s q p sep;
+})
+  where
+    none : (b c s : ℕ) → IsLive (buffer I b) t → IsLive (buffer I c) t → Separates s (buffer I b) (buffer I c) → ⊥
+    none b c s p q sep =
+        let x = live_before (buffer I b) t p in let y = live_at_or_after (buffer I c) t q in
+        let z = sep.0 in let w = sep.1 in omega arith
 
 -- ---- the buffers with the smallest number in their parts
 abbrev pub firsts : Instance → List ℕ

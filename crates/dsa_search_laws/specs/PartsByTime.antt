@@ -1,4 +1,4 @@
--- The parts as they are computed: by the cut at which each begins.
+-- The parts as they are computed, by the cut at which each begins, and what it is that no cut lies between two buffers.
 use Rattle.std.specs.Prelude.{◌≡◌, ℕ, zero, suc, ◌≤◌, true, cond, not, ◌==◌, List, map, length}
 use Rattle.std.specs.List.{filter}
 use Rattle.dsa_terms.specs.Buffers.{Buffer, Instance, buffer}

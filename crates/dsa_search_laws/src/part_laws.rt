@@ -4,14 +4,18 @@ ghost use Rattle.std.specs.Prelude.{◌≡◌, ◌≢◌, true, ℕ, ◌<◌, �
 ghost use Rattle.dsa_terms.specs.Buffers.{Instance, IsInstance, IsLive, buffer};
 ghost use Rattle.dsa_terms.specs.Claims.{Places, Entry, IsIn, IsPlacement, IsRefuted, Rises, number_of};
 ghost use Rattle.dsa_terms.specs.Layouts.{IsInfeasible, IsLayout};
-ghost use Rattle.dsa_terms.specs.Parts.{are_uncut, is_cut, offsets_of, parts, whole};
+ghost use Rattle.dsa_terms.specs.Parts.{are_uncut, is_cut, offsets_of, part_of, parts, whole};
 ghost use Rattle.dsa_search_laws.specs.PartsByTime.{IsUncut, parts_by_time, Separates, start_of};
 ghost use Rattle.dsa_search_laws.specs.Together.{AreTogether};
 ghost use Rattle.std.specs.List.{AllZip, flat_map};
 
-/// Buffers that share a moment are in one part, and what lies between the parts is a cut.
+/// Buffers that share a moment are in one part, and so their parts begin at one cut. Where parts
+/// begin at two cuts, the later one lies between them, and no cut lies between buffers whose parts
+/// begin at one.
 pub fn parts_share_no_moment()
     ensures sharing { (I : Instance) (b c t : ℕ) → b < length I → c < length I →
+        IsLive (buffer I b) t → IsLive (buffer I c) t → part_of I b ≡ part_of I c }
+    ensures starts { (I : Instance) (b c t : ℕ) → b < length I → c < length I →
         IsLive (buffer I b) t → IsLive (buffer I c) t → start_of I b ≡ start_of I c }
     ensures between { (I : Instance) (b c : ℕ) → b < length I → start_of I b < start_of I c →
         (is_cut I (start_of I c) ≡ true) × Separates (start_of I c) (buffer I b) (buffer I c) }
@@ -22,7 +26,9 @@ pub fn parts_share_no_moment()
 
 /// Two buffers are in one part exactly where no cut lies between them.
 pub fn parts_are_uncut()
-    ensures number { (I : Instance) (b c : ℕ) → IsInstance I → b < length I → c < length I →
+    ensures parts { (I : Instance) (b c : ℕ) → IsInstance I → b < length I → c < length I →
+        (part_of I b ≡ part_of I c) ↔ IsUncut I b c }
+    ensures starts { (I : Instance) (b c : ℕ) → IsInstance I → b < length I → c < length I →
         (start_of I b ≡ start_of I c) ↔ IsUncut I b c }
     ensures part { (I : Instance) (b c : ℕ) → IsInstance I → b < length I → c < length I →
         AreTogether I b c ↔ IsUncut I b c }
@@ -31,7 +37,7 @@ pub fn parts_are_uncut()
 {}
 
 /// The parts are, for each cut at which one begins, the buffers whose part begins there, in order
-/// of time. The test of two buffers says that no cut lies between them exactly where none does.
+/// of time. `are_uncut` says that no cut lies between two buffers exactly where none does.
 pub fn parts_by_time_are_the_parts()
     ensures parts { (I : Instance) → IsInstance I → parts I ≡ parts_by_time I }
     ensures uncut { (I : Instance) (b c : ℕ) → (are_uncut I b c ≡ true) ↔ IsUncut I b c }

@@ -68,7 +68,8 @@ pub fn floors_are_enough()
 {}
 
 /// What a stack counts, where it ends, its line and the least height of that line, over the numbers
-/// of the buffers that are counted: the pile of their rounded sizes, less the greatest rounding.
+/// of the buffers that are counted and their pile, which is the sum of their rounded sizes less the
+/// greatest rounding.
 pub fn stacks_are_piles()
     ensures counted { (I : Instance) (t H G : ℕ) →
         counted I t H G ≡ whole I (counted_buffers I t H G) }

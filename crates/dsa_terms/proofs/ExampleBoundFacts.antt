@@ -136,29 +136,29 @@ none_modulus = refl
 five_bound_log :
     stack_log five 0 0 1 11
     ≡ record { count = 5; capacity = 11; lines = Over ((0, 0) ∷ (2, 0) ∷ (4, 0) ∷ []) 0 0 1 ∷ []; final = 0 }
-unfolding stack_log stack_line line_height counted is_stacked rounded rounding up floor is_live buffer
+unfolding stack_log stack_line line_height counted is_stacked rounded rounding up is_live buffer
 five_bound_log = refl
 
 two_of_four_bound_log :
     stack_log two_of_four 0 0 4 6
     ≡ record { count = 2; capacity = 6; lines = Over ((0, 0) ∷ (1, 0) ∷ []) 0 0 4 ∷ []; final = 0 }
-unfolding stack_log stack_line line_height counted is_stacked rounded rounding up floor is_live buffer
+unfolding stack_log stack_line line_height counted is_stacked rounded rounding up is_live buffer
 two_of_four_bound_log = refl
 
 evens_bound_log :
     stack_log evens 0 0 1 3
     ≡ record { count = 3; capacity = 3; lines = Over ((0, 0) ∷ (1, 0) ∷ (2, 0) ∷ []) 0 0 1 ∷ []; final = 0 }
-unfolding stack_log stack_line line_height counted is_stacked rounded rounding up floor is_live buffer
+unfolding stack_log stack_line line_height counted is_stacked rounded rounding up is_live buffer
 evens_bound_log = refl
 
 filled_bound_log :
     stack_log filled 0 0 1 3
     ≡ record { count = 2; capacity = 3; lines = Over ((0, 0) ∷ []) 0 0 1 ∷ []; final = 0 }
-unfolding stack_log stack_line line_height counted is_stacked rounded rounding up floor is_live buffer
+unfolding stack_log stack_line line_height counted is_stacked rounded rounding up is_live buffer
 filled_bound_log = refl
 
 overrun_bound_log :
     stack_log overrun 6 0 1 7
     ≡ record { count = 2; capacity = 7; lines = Over ((0, 0) ∷ (1, 0) ∷ []) 6 0 1 ∷ []; final = 0 }
-unfolding stack_log stack_line line_height counted is_stacked rounded rounding up floor is_live buffer
+unfolding stack_log stack_line line_height counted is_stacked rounded rounding up is_live buffer
 overrun_bound_log = refl

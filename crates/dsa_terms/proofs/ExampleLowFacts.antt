@@ -87,7 +87,7 @@ past_the_floor w = let h = w (0, 9) (inl refl) in omega arith
 -- ---- where the starts put a buffer: from its lowest on in a range, past the placed, and alone
 first_from_lowest : map (λ lowest. first_place (raised 1 1 lowest 1 ∷ plain 0 1 1 1 ∷ []) 0 ((1, 3) ∷ []))
     (0 ∷ 2 ∷ 3 ∷ 7 ∷ []) ≡ 0 ∷ 2 ∷ 4 ∷ 7 ∷ []
-unfolding first_place floor is_clear least_from is_free highest top buffer
+unfolding first_place is_clear least_from is_free highest top buffer
 first_from_lowest = refl
 
 best_from_lowest : map (λ lowest. best_place (raised 1 1 lowest 1 ∷ plain 0 1 1 1 ∷ []) 0 ((1, 3) ∷ []))
@@ -108,62 +108,62 @@ unfolding best_place free_ranges stretches holds least_from is_tighter is_free h
 shorter_from_lowest = refl
 
 alone_at_floor : map (λ (rule : FitRule). rule high_fours 0 []) (first_place ∷ best_place ∷ []) ≡ 8 ∷ 8 ∷ []
-unfolding first_place floor is_clear best_place free_ranges stretches holds least_from is_tighter is_free highest
-    top buffer
+unfolding first_place is_clear best_place free_ranges stretches holds least_from is_tighter is_free highest top
+    buffer
 alone_at_floor = refl
 
 low_starts :
     starts low
     ≡ (6 ∷ 0 ∷ []) ∷ (6 ∷ 0 ∷ []) ∷ (6 ∷ 0 ∷ []) ∷ (6 ∷ 0 ∷ []) ∷ (6 ∷ 0 ∷ []) ∷ (6 ∷ 0 ∷ []) ∷ []
-unfolding starts orders falls_by rises_by first_fit best_fit neighbours first_place floor is_clear best_place
-    free_ranges stretches holds least_from is_tighter is_free highest top do_share some_before is_live buffer
+unfolding starts orders falls_by rises_by first_fit best_fit neighbours first_place is_clear best_place free_ranges
+    stretches holds least_from is_tighter is_free highest top do_share some_before is_live buffer
 low_starts = refl
 
 -- each start has height 6, and the search finds 5
 lifted_starts :
     starts lifted
     ≡ (1 ∷ 4 ∷ []) ∷ (1 ∷ 4 ∷ []) ∷ (1 ∷ 4 ∷ []) ∷ (1 ∷ 4 ∷ []) ∷ (1 ∷ 4 ∷ []) ∷ (1 ∷ 4 ∷ []) ∷ []
-unfolding starts orders falls_by rises_by first_fit best_fit neighbours first_place floor is_clear best_place
-    free_ranges stretches holds least_from is_tighter is_free highest top do_share some_before is_live buffer
+unfolding starts orders falls_by rises_by first_fit best_fit neighbours first_place is_clear best_place free_ranges
+    stretches holds least_from is_tighter is_free highest top do_share some_before is_live buffer
 lifted_starts = refl
 
 lifted_heights : map (layout_height lifted) (starts lifted) ≡ 6 ∷ 6 ∷ 6 ∷ 6 ∷ 6 ∷ 6 ∷ []
-unfolding layout_height starts orders falls_by rises_by first_fit best_fit neighbours first_place floor is_clear
+unfolding layout_height starts orders falls_by rises_by first_fit best_fit neighbours first_place is_clear
     best_place free_ranges stretches holds least_from is_tighter is_free highest top do_share some_before is_live
     buffer
 lifted_heights = refl
 
 -- ---- plans and hunts
 pub low_plan_at_9 : planned low 9 ≡ None
-unfolding planned plan layout_height starts orders falls_by rises_by first_fit best_fit neighbours first_place floor
+unfolding planned plan layout_height starts orders falls_by rises_by first_fit best_fit neighbours first_place
     is_clear best_place free_ranges stretches holds least_from is_tighter is_free highest top do_share some_before
     is_live buffer searched parts part_of is_first are_uncut are_parted is_cut first is_tall comes_before ends_below
     is_twin child up step have_same_moments
 low_plan_at_9 = refl
 
 pub low_plan_at_10 : planned low 10 ≡ Some (6 ∷ 0 ∷ [])
-unfolding planned plan layout_height starts orders falls_by rises_by first_fit best_fit neighbours first_place floor
+unfolding planned plan layout_height starts orders falls_by rises_by first_fit best_fit neighbours first_place
     is_clear best_place free_ranges stretches holds least_from is_tighter is_free highest top do_share some_before
     is_live buffer searched parts part_of is_first are_uncut are_parted is_cut first is_tall comes_before ends_below
     is_twin child up step have_same_moments
 low_plan_at_10 = refl
 
 pub lifted_plan_at_4 : planned lifted 4 ≡ None
-unfolding planned plan layout_height starts orders falls_by rises_by first_fit best_fit neighbours first_place floor
+unfolding planned plan layout_height starts orders falls_by rises_by first_fit best_fit neighbours first_place
     is_clear best_place free_ranges stretches holds least_from is_tighter is_free highest top do_share some_before
     is_live buffer searched parts part_of is_first are_uncut are_parted is_cut first is_tall comes_before ends_below
     is_twin child up step have_same_moments
 lifted_plan_at_4 = refl
 
 pub lifted_plan_at_5 : planned lifted 5 ≡ Some (2 ∷ 0 ∷ [])
-unfolding planned plan layout_height starts orders falls_by rises_by first_fit best_fit neighbours first_place floor
+unfolding planned plan layout_height starts orders falls_by rises_by first_fit best_fit neighbours first_place
     is_clear best_place free_ranges stretches holds least_from is_tighter is_free highest top do_share some_before
     is_live buffer searched parts part_of is_first are_uncut are_parted is_cut first is_tall comes_before ends_below
     is_twin child up step have_same_moments
 lifted_plan_at_5 = refl
 
 pub lifted_plan_at_6 : planned lifted 6 ≡ Some (1 ∷ 4 ∷ [])
-unfolding planned plan layout_height starts orders falls_by rises_by first_fit best_fit neighbours first_place floor
+unfolding planned plan layout_height starts orders falls_by rises_by first_fit best_fit neighbours first_place
     is_clear best_place free_ranges stretches holds least_from is_tighter is_free highest top do_share some_before
     is_live buffer searched parts part_of is_first are_uncut are_parted is_cut first is_tall comes_before ends_below
     is_twin child up step have_same_moments
@@ -177,8 +177,8 @@ lifted_work = refl
 
 lifted_hunt : hunted lifted 5 6 ≡ 3
 unfolding hunted hunt planned plan layout_height starts orders falls_by rises_by first_fit best_fit neighbours
-    first_place floor is_clear best_place free_ranges stretches holds least_from is_tighter is_free highest top
-    do_share some_before is_live buffer searched parts part_of is_first are_uncut are_parted is_cut first is_tall
+    first_place is_clear best_place free_ranges stretches holds least_from is_tighter is_free highest top do_share
+    some_before is_live buffer searched parts part_of is_first are_uncut are_parted is_cut first is_tall
     comes_before ends_below is_twin child up step have_same_moments whole_work work
 lifted_hunt = refl
 
@@ -189,7 +189,7 @@ unfolding lower_bound highest_stack highest_at heights floor stack counted is_st
 low_bound = refl
 
 low_at_0 : map (λ H. stack low 0 H 1) (0 ∷ 6 ∷ 7 ∷ []) ≡ 8 ∷ 10 ∷ 0 ∷ []
-unfolding stack counted is_stacked rounded rounding up floor is_live buffer
+unfolding stack counted is_stacked rounded rounding up is_live buffer
 low_at_0 = refl
 
 lifted_bound : lower_bound lifted ≡ 5
@@ -210,27 +210,27 @@ fours_stacks = refl
 -- ---- the logs of bounds: the height is the least with which the line is legal
 low_log_at_9 :
     stack_log low 0 6 1 9 ≡ record { count = 2; capacity = 9; lines = Over ((0, 6) ∷ []) 0 6 1 ∷ []; final = 0 }
-unfolding stack_log stack_line line_height counted is_stacked rounded rounding up floor is_live buffer
+unfolding stack_log stack_line line_height counted is_stacked rounded rounding up is_live buffer
 low_log_at_9 = refl
 
 low_log_at_5 :
     stack_log low 0 6 1 5 ≡ record { count = 2; capacity = 5; lines = Over ((0, 2) ∷ []) 0 2 1 ∷ []; final = 0 }
-unfolding stack_log stack_line line_height counted is_stacked rounded rounding up floor is_live buffer
+unfolding stack_log stack_line line_height counted is_stacked rounded rounding up is_live buffer
 low_log_at_5 = refl
 
 lifted_log_at_4 :
     stack_log lifted 0 0 1 4
     ≡ record { count = 2; capacity = 4; lines = Over ((0, 0) ∷ (1, 0) ∷ []) 0 0 1 ∷ []; final = 0 }
-unfolding stack_log stack_line line_height counted is_stacked rounded rounding up floor is_live buffer
+unfolding stack_log stack_line line_height counted is_stacked rounded rounding up is_live buffer
 lifted_log_at_4 = refl
 
 -- at 10 the pile of 7 has to stand at 4 or above, at 14 at 8 and at 6 at 0
 fours_line_heights : map (line_height high_fours 0 8 4) (14 ∷ 11 ∷ 10 ∷ 9 ∷ 7 ∷ 6 ∷ []) ≡ 8 ∷ 8 ∷ 4 ∷ 4 ∷ 4 ∷ 0 ∷ []
-unfolding line_height counted is_stacked rounded rounding up floor is_live buffer
+unfolding line_height counted is_stacked rounded rounding up is_live buffer
 fours_line_heights = refl
 
 tied_log_at_7 :
     stack_log tied 0 0 1 7
     ≡ record { count = 2; capacity = 7; lines = Over ((0, 0) ∷ (1, 0) ∷ []) 0 0 1 ∷ []; final = 0 }
-unfolding stack_log stack_line line_height counted is_stacked rounded rounding up floor is_live buffer
+unfolding stack_log stack_line line_height counted is_stacked rounded rounding up is_live buffer
 tied_log_at_7 = refl

@@ -29,6 +29,11 @@ gap_parts : parts (gapped ∷ plain 5 6 1 1 ∷ plain 10 11 1 1 ∷ []) ≡ (0 �
 unfolding parts part_of is_first are_uncut are_parted is_cut buffer
 gap_parts = refl
 
+-- and it parts no two others
+through_gap : parts (plain 0 4 1 1 ∷ plain 6 9 1 1 ∷ gapped ∷ []) ≡ (0 ∷ 1 ∷ 2 ∷ []) ∷ []
+unfolding parts part_of is_first are_uncut are_parted is_cut buffer
+through_gap = refl
+
 no_parts : parts [] ≡ []
 unfolding parts
 no_parts = refl

@@ -1,6 +1,6 @@
 -- Fits and orders: the two rules, the tightest range, buffers placed in turn, and lists in order.
 use Rattle.std.proofs.Common.{◌≡◌, ℕ, ◌+◌, ◌==◌, inl, inr, Bool, true, false, List, [], ◌∷◌, map, Some, None, refl}
-use Rattle.dsa_terms.specs.Buffers.{Buffer, Instance, is_live, buffer, do_share, some_before, floor}
+use Rattle.dsa_terms.specs.Buffers.{Buffer, Instance, is_live, buffer, do_share, some_before}
 use Rattle.dsa_terms.specs.Claims.{Entry, IsIn}
 use Rattle.dsa_terms.specs.Fits.{top, highest, neighbours, is_free, FitRule, first_place, Range, stretches, free_ranges, holds, is_tighter, tightest, start_in, best_place, fitted, least_from, is_clear}
 use Rattle.dsa_terms.specs.Sorts.{comes_first, put_by, ordered_by, IsOrdered}
@@ -17,8 +17,8 @@ sizes = plain 0 1 1 1 ∷ plain 0 1 1 1 ∷ plain 0 1 1 1 ∷ plain 0 1 2 3 ∷ 
 
 -- the two rules: the lowest place, and the shortest range
 two_rules : map (λ (rule : FitRule). rule sizes 2 taken) (first_place ∷ best_place ∷ []) ≡ 0 ∷ 4 ∷ []
-unfolding first_place floor is_clear best_place free_ranges stretches holds least_from is_tighter is_free highest
-    top buffer
+unfolding first_place is_clear best_place free_ranges stretches holds least_from is_tighter is_free highest top
+    buffer
 two_rules = refl
 
 -- ---- where 3 is clear: at 3 it meets what is taken, and 1 and 2 are no multiples of three
@@ -65,7 +65,7 @@ start_past_all = refl
 
 -- ---- placed in turn, the last first: each beside those alone that it shares a moment with
 evens_fitted : fitted first_place evens (2 ∷ 0 ∷ 1 ∷ []) [] ≡ (1, 4) ∷ (0, 2) ∷ (2, 0) ∷ []
-unfolding neighbours first_place floor is_clear least_from is_free highest top do_share some_before is_live buffer
+unfolding neighbours first_place is_clear least_from is_free highest top do_share some_before is_live buffer
 evens_fitted = refl
 
 -- in the gap of the first, and past it
@@ -81,7 +81,7 @@ overrun_fitted = refl
 
 -- beside two that are placed already
 fitted_on : fitted first_place evens (1 ∷ []) ((2, 1) ∷ (0, 0) ∷ []) ≡ (1, 4) ∷ (2, 1) ∷ (0, 0) ∷ []
-unfolding neighbours first_place floor is_clear least_from is_free highest top do_share some_before is_live buffer
+unfolding neighbours first_place is_clear least_from is_free highest top do_share some_before is_live buffer
 fitted_on = refl
 
 -- ---- what comes first: the smaller measure, whatever the numbers are, and of equal measures the smaller number; none

@@ -8,11 +8,11 @@ use Rattle.dsa_terms.specs.Claims.{Claim}
 use Rattle.dsa_terms.specs.Logs.{greatest, stacked, stack_height, Line, Log, Over}
 use Rattle.dsa_terms.specs.Parts.{is_empty, numbers, whole}
 
--- the buffers that are live at t, cannot start below H, and have an alignment that is a multiple of G
+-- the entries of the whole claim whose buffers are live at t, cannot start below H, and have a multiple of G for alignment
 unfoldable pub counted : Instance → ℕ → ℕ → ℕ → Claim
 counted I t H G = stacked I (whole I (numbers (length I))) t H G
 
--- where they end, stacked from H on, and 0 where there are none
+-- where they end at least, stacked from H on, and 0 where there are none
 unfoldable pub stack : Instance → ℕ → ℕ → ℕ → ℕ
 stack I t H G = cond (is_empty (counted I t H G)) 0 (stack_height I H G (counted I t H G))
 
