@@ -10,7 +10,7 @@ use std::io;
 use std::io::{ErrorKind, Read, Write};
 
 /// The most bytes of one read, in bytes.
-const PIECE: usize = 65536;
+const PIECE: usize = 16384;
 
 /// A call of the system failed, and was counted.
 #[derive(Clone, Copy)]

@@ -1,6 +1,6 @@
 -- The parts are, for each cut at which one begins, the buffers whose part begins there.
 use Rattle.std.proofs.Common.{◌≡◌, ℕ, suc, ◌<◌, ◌≤◌, inl, inr, true, not, List, [], ◌∷◌, length, map, filter, refl, sym, ap, ◌∙◌, subst, arith}
-use Rattle.dsa_terms.specs.Buffers.{Buffer, Instance, buffer, IsInstance}
+use Rattle.dsa_terms.specs.Buffers.{Buffer, Instance, buffer}
 use Rattle.dsa_terms.specs.Claims.{IsIn, Rises}
 use Rattle.dsa_terms.specs.Logs.{greatest}
 use Rattle.dsa_terms.specs.Parts.{numbers, is_empty, part_of, parts}
@@ -12,23 +12,21 @@ use Rattle.dsa_search_laws.proofs.InTime.{in_time_are_firsts, in_time_goes_up, s
 use Rattle.dsa_search_laws.proofs.Logs.{in_greatest}
 use Rattle.dsa_search_laws.proofs.Members.{in_members, member_of, rises-members}
 use Rattle.dsa_search_laws.proofs.Rising.{filter_of_map, rises_same}
-use Rattle.dsa_search_laws.proofs.Uncut.{firsts, in_time, is_earlier, from_part, into_part, rises-part, into_firsts, least_is_first, same_part_uncut, uncut_same_part}
+use Rattle.dsa_search_laws.proofs.Uncut.{firsts, in_time, is_earlier, from_part, into_part, rises-part, into_firsts, least_is_first}
 
 -- ---- the part of a buffer
-pub part_is_class : (I : Instance) (b : ℕ) → IsInstance I → b < length I → part_of I b ≡ members I (start_of I b)
-part_is_class I b s lb = rises_same (part_of I b) (members I (start_of I b)) (rises-part I b)
+pub part_is_class : (I : Instance) (b : ℕ) → part_of I b ≡ members I (start_of I b)
+part_is_class I b = rises_same (part_of I b) (members I (start_of I b)) (rises-part I b)
     (rises-members I (start_of I b))
     (λ c. (
       λ i. (let r = from_part I b c i in
-          subst (λ (t : ℕ). IsIn c (members I t)) (sym (uncut_same_part I b c lb r.0 r.1)) (member_of I c r.0)),
-      λ i. (let r = in_members I (start_of I b) c i in
-          into_part I b c r.0 (same_part_uncut I b c s lb r.0 (sym r.1))),
+          subst (λ (t : ℕ). IsIn c (members I t)) (sym r.1) (member_of I c r.0)),
+      λ i. (let r = in_members I (start_of I b) c i in into_part I b c r.0 (sym r.1)),
     ))
 
-classes : (I : Instance) (bs : List ℕ) → IsInstance I → ((b : ℕ) → IsIn b bs → b < length I) →
-    map (part_of I) bs ≡ map (members I) (map (start_of I) bs)
-classes I [] s h = refl
-classes I (b ∷ bs) s h = joined (part_is_class I b s (h b (inl refl))) (classes I bs s (λ c i. h c (inr i)))
+classes : (I : Instance) (bs : List ℕ) → map (part_of I) bs ≡ map (members I) (map (start_of I) bs)
+classes I [] = refl
+classes I (b ∷ bs) = joined (part_is_class I b) (classes I bs)
   where
     joined : {X : Type 0} {x y : X} {xs ys : List X} → x ≡ y → xs ≡ ys → x ∷ xs ≡ y ∷ ys
     joined e f = cc
@@ -62,8 +60,8 @@ start_begins I b lt = into_filter (λ t. not (is_empty (members I t)))
     (has_some (members I (start_of I b)) b (member_of I b lt))
 
 -- the first of the buffers whose part begins there
-begins_first : (I : Instance) (t : ℕ) → IsInstance I → IsIn t (begins I) → IsIn t (map (start_of I) (in_time I))
-begins_first I t s i = of_list (members I t) refl
+begins_first : (I : Instance) (t : ℕ) → IsIn t (begins I) → IsIn t (map (start_of I) (in_time I))
+begins_first I t i = of_list (members I t) refl
     (from_filter (λ t. not (is_empty (members I t))) (numbers (suc (greatest (map (λ (b : Buffer). b.lower) I)))) t i).1
   where
     least : (b : ℕ) (bs : List ℕ) → Rises (b ∷ bs) → (c : ℕ) → IsIn c (b ∷ bs) → b ≤ c
@@ -75,7 +73,7 @@ begins_first I t s i = of_list (members I t) refl
     of_list (b ∷ bs) e h =
         let m = in_members I t b (rw e (inl refl)) in
         let rising : Rises (b ∷ bs) = subst Rises e (rises-members I t) in
-        let own : part_of I b ≡ b ∷ bs = part_is_class I b s m.0 ∙ (ap (members I) m.1 ∙ e) in
+        let own : part_of I b ≡ b ∷ bs = part_is_class I b ∙ (ap (members I) m.1 ∙ e) in
         let f = least_is_first I b (λ c j. least b bs rising c (subst (λ (p : List ℕ). IsIn c p) own j)) in
         subst (λ (t : ℕ). IsIn t (map (start_of I) (in_time I))) m.1
         (into_map (start_of I) (in_time I) b
@@ -92,19 +90,19 @@ unfolding parts_by_time
 parts_by_begins I = filter_of_map (λ p. not (is_empty p)) (members I)
     (numbers (suc (greatest (map (λ (b : Buffer). b.lower) I))))
 
-pub by_time : (I : Instance) → IsInstance I → parts I ≡ parts_by_time I
+pub by_time : (I : Instance) → parts I ≡ parts_by_time I
 unfolding parts
-by_time I s = classes I (in_time I) s (λ b i. (in_time_are_firsts I b i).0)
+by_time I = classes I (in_time I)
     ∙ (ap (map (members I)) (rises_same (map (start_of I) (in_time I)) (begins I)
-    (starts_rise I (in_time I) s (in_time_are_firsts I) (in_time_goes_up I)) (rises-begins I)
-    (λ t. (first_begins I t, begins_first I t s)))
+    (starts_rise I (in_time I) (in_time_are_firsts I) (in_time_goes_up I)) (rises-begins I)
+    (λ t. (first_begins I t, begins_first I t)))
     ∙ sym (parts_by_begins I))
 
-pub by_begins : (I : Instance) → IsInstance I → parts I ≡ map (members I) (begins I)
-by_begins I s = by_time I s ∙ parts_by_begins I
+pub by_begins : (I : Instance) → parts I ≡ map (members I) (begins I)
+by_begins I = by_time I ∙ parts_by_begins I
 
-pub part_is_in : (I : Instance) (b : ℕ) → IsInstance I → b < length I → IsIn (members I (start_of I b)) (parts I)
-part_is_in I b s lt = rw (by_begins I s) (into_map (members I) (begins I) (start_of I b) (start_begins I b lt))
+pub part_is_in : (I : Instance) (b : ℕ) → b < length I → IsIn (members I (start_of I b)) (parts I)
+part_is_in I b lt = rw (by_begins I) (into_map (members I) (begins I) (start_of I b) (start_begins I b lt))
 
-pub part_is_members : (I : Instance) (p : List ℕ) → IsInstance I → IsIn p (parts I) → (t : ℕ) × (p ≡ members I t)
-part_is_members I p s i = let r = from_map (members I) (begins I) p (rw (by_begins I s) at i) in (r.0, r.2)
+pub part_is_members : (I : Instance) (p : List ℕ) → IsIn p (parts I) → (t : ℕ) × (p ≡ members I t)
+part_is_members I p i = let r = from_map (members I) (begins I) p (rw (by_begins I) at i) in (r.0, r.2)

@@ -80,19 +80,22 @@ last_cut_is_greatest I (suc t) s h le = go (last_cut_is_greatest I t s h) (is_cu
     ]
 
 -- ---- between buffers of two parts lies the cut at which the later part begins
+pub begins_before : (I : Instance) (b c : ℕ) → start_of I b < start_of I c → (buffer I b).lower < start_of I c
+unfolding start_of
+begins_before I b c less = elim (below_or_from (buffer I b).lower (start_of I c)) [
+  | inl q ↦ q
+  | inr q ↦ absurd (let k = last_cut_is_greatest I (buffer I b).lower (start_of I c)
+      (last_cut_is I (buffer I c).lower) q in omega arith)
+]
+
 pub cut_between : (I : Instance) (b c : ℕ) → b < length I → start_of I b < start_of I c →
     (is_cut I (start_of I c) ≡ true) × Separates (start_of I c) (buffer I b) (buffer I c)
 unfolding start_of
 cut_between I b c lt less =
-    let cut = last_cut_is I (buffer I c).lower in
-    (cut, (cut_outside I (start_of I c) b cut lt below, last_cut_le I (buffer I c).lower))
-  where
-    below : (buffer I b).lower < start_of I c
-    below = elim (below_or_from (buffer I b).lower (start_of I c)) [
-      | inl q ↦ q
-      | inr q ↦ absurd (let k = last_cut_is_greatest I (buffer I b).lower (start_of I c)
-          (last_cut_is I (buffer I c).lower) q in omega arith)
-    ]
+    let cut = last_cut_is I (buffer I c).lower in (
+      cut,
+      (cut_outside I (start_of I c) b cut lt (begins_before I b c less), last_cut_le I (buffer I c).lower),
+    )
 
 -- and no cut lies between buffers of one part
 pub no_cut_between : (I : Instance) (b c t : ℕ) → IsInstance I → b < length I → start_of I b ≡ start_of I c →

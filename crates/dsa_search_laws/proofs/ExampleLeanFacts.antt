@@ -1,5 +1,5 @@
 -- The sample log is lean; lines and logs that are not.
-use Rattle.std.proofs.Common.{◌≡◌, ℕ, zero, suc, ◌-◌, ◌<◌, ◌≤◌, ◌⊎◌, inl, inr, Bool, true, false, not, ◌&&◌, ◌||◌, ◌==◌, List, [], ◌∷◌, map, length, slice_get, take, nat_lt, Option, Some, None, sym, refl, arith}
+use Rattle.std.proofs.Common.{◌≡◌, ℕ, zero, suc, ◌-◌, ◌<◌, ◌⊎◌, inl, inr, Bool, true, false, not, ◌&&◌, ◌||◌, ◌==◌, List, [], ◌∷◌, map, length, slice_get, take, nat_lt, Option, Some, None, sym, refl, ap, ◌∙◌, arith}
 use Rattle.std.specs.List.{list_any, list_all, AllZip}
 use Rattle.dsa_terms.specs.Buffers.{Instance, buffer, is_live, have_same_moments, some_before}
 use Rattle.dsa_terms.specs.Claims.{Entry, Claim, IsIn, up, Covers}
@@ -9,9 +9,10 @@ use Rattle.dsa_terms.specs.Lean.{CitesOwn, IsLeanLine, IsLean}
 use Rattle.dsa_terms.proofs.Moments.{and_true, not_true}
 use Rattle.dsa_terms.proofs.Lists.{all_at}
 use Rattle.dsa_terms.proofs.Examples.{evens, one_by_one, over_2, over_1, case_12, over_01, case_all, sample}
-use Rattle.dsa_terms.proofs.NumberTests.{equal, is_below, less}
+use Rattle.dsa_terms.proofs.NumberTests.{equal, is_below}
 use Rattle.dsa_terms.proofs.Ranges.{into_range}
-use Rattle.dsa_search_laws.proofs.Uncut.{uncut_exactly}
+use Rattle.dsa_search_laws.specs.PartsByTime.{last_cut, start_of}
+use Rattle.dsa_search_laws.proofs.Uncut.{starts_uncut}
 use Rattle.dsa_search_laws.proofs.LineTests.{does_cover, covers_exactly, do_rise, is_claim, is_over, has_reason, is_legal, legal, not_legal}
 
 -- ---- tests of a lean line
@@ -139,7 +140,7 @@ sample_uncovered : none_covered evens sample.lines ≡ true
 unfolding none_covered covers_later covers_at does_cover up buffer
 sample_uncovered = refl
 
--- no cut lies between its buffers, which all begin at 0 and end at 1
+-- no cut lies between its buffers, which all begin at 0
 begins : (b : ℕ) → (buffer evens b).lower ≡ 0
 unfolding buffer
 begins zero = refl
@@ -147,33 +148,9 @@ begins (suc zero) = refl
 begins (suc (suc zero)) = refl
 begins (suc (suc (suc b))) = refl
 
-ends : (b : ℕ) → b < 3 → (buffer evens b).upper ≡ 1
-unfolding buffer
-ends zero lt = refl
-ends (suc zero) lt = refl
-ends (suc (suc zero)) lt = refl
-ends (suc (suc (suc b))) lt = absurd (omega arith)
-
-uncut : (b c : ℕ) → b < 3 → c < 3 → are_uncut evens b c ≡ true
-uncut b c before after = (uncut_exactly evens b c).1 (record {
-  forth = λ t cut s. none t b c before s.0 s.1;
-  back = λ t cut s. none t c b after s.0 s.1;
-})
-  where
-    none : (t b c : ℕ) → b < 3 → (buffer evens b).upper ≤ t → t ≤ (buffer evens c).lower → ⊥
-    none t b c lt ended begun = let p = ends b lt in let q = begins c in omega arith
-
-are_buffers : (k : ℕ) (line : Line) → slice_get sample.lines k ≡ Some line →
-    list_all (λ (e : Entry). nat_lt e.0 3) (claim_of line) ≡ true
-are_buffers zero line h = let e : over_2 ≡ line = cc in rw (← e) refl
-are_buffers (suc zero) line h = let e : over_1 ≡ line = cc in rw (← e) refl
-are_buffers (suc (suc zero)) line h = let e : case_12 ≡ line = cc in rw (← e) refl
-are_buffers (suc (suc (suc zero))) line h = let e : over_01 ≡ line = cc in rw (← e) refl
-are_buffers (suc (suc (suc (suc zero)))) line h = let e : case_all ≡ line = cc in rw (← e) refl
-are_buffers (suc (suc (suc (suc (suc k))))) line h = absurd cc
-
-is_buffer : (k : ℕ) (line : Line) (e : Entry) → slice_get sample.lines k ≡ Some line → IsIn e (claim_of line) → e.0 < 3
-is_buffer k line e h i = less e.0 3 (all_at (λ (e : Entry). nat_lt e.0 3) (claim_of line) e (are_buffers k line h) i)
+uncut : (b c : ℕ) → are_uncut evens b c ≡ true
+unfolding start_of
+uncut b c = starts_uncut evens b c (ap (last_cut evens) (begins b ∙ sym (begins c)))
 
 lean_lines : (k : ℕ) (line : Line) → slice_get sample.lines k ≡ Some line →
     IsLeanLine evens 4 (take k sample.lines) line
@@ -192,7 +169,7 @@ sample_is_lean : IsLean evens sample
 sample_is_lean = record {
   uncovered = uncovered_is evens sample.lines sample_uncovered;
   lean = lean_lines;
-  one_part = λ j k other line e f p q i m. uncut e.0 f.0 (is_buffer j other e p i) (is_buffer k line f q m);
+  one_part = λ j k other line e f p q i m. uncut e.0 f.0;
 }
 
 -- ---- lines that are not lean

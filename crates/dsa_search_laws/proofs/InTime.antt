@@ -1,6 +1,6 @@
 -- Numbers in order of a measure, and the first buffers of the parts in order of time.
 use Rattle.std.proofs.Common.{◌≡◌, ℕ, ◌<◌, ◌≤◌, ◌≢◌, inl, inr, Bool, true, false, cond, nat_lt, List, [], ◌∷◌, length, map, refl, sym, ap, ◌∙◌, arith}
-use Rattle.dsa_terms.specs.Buffers.{Instance, buffer, IsInstance}
+use Rattle.dsa_terms.specs.Buffers.{Instance, buffer}
 use Rattle.dsa_terms.specs.Claims.{IsIn, Rises}
 use Rattle.dsa_terms.specs.Parts.{numbers, is_first}
 use Rattle.dsa_terms.specs.Sorts.{ordered_by, put_by}
@@ -9,7 +9,7 @@ use Rattle.dsa_terms.proofs.NumberTests.{less, not_less, below_or_from}
 use Rattle.dsa_terms.proofs.Ranges.{rises-range, rises-filter_numbers}
 use Rattle.dsa_search_laws.specs.PartsByTime.{last_cut, start_of}
 use Rattle.dsa_search_laws.proofs.Cuts.{last_cut_le, last_cut_is, last_cut_is_greatest}
-use Rattle.dsa_search_laws.proofs.Uncut.{firsts, in_time, is_earlier, from_firsts, firsts_are_one, same_part_uncut}
+use Rattle.dsa_search_laws.proofs.Uncut.{firsts, in_time, is_earlier, from_firsts, firsts_are_one}
 
 -- the measure never falls along the list, and no number comes twice
 abbrev pub GoesUp : (ℕ → ℕ) → List ℕ → Type 0
@@ -59,11 +59,11 @@ unfolding start_of
 start_grows I b c le = last_cut_is_greatest I (buffer I c).lower (last_cut I (buffer I b).lower)
     (last_cut_is I (buffer I b).lower) (let k = last_cut_le I (buffer I b).lower in omega arith)
 
-pub starts_rise : (I : Instance) (bs : List ℕ) → IsInstance I →
+pub starts_rise : (I : Instance) (bs : List ℕ) →
     ((b : ℕ) → IsIn b bs → (b < length I) × (is_first I b ≡ true)) → GoesUp (λ b. (buffer I b).lower) bs →
     Rises (map (start_of I) bs)
-starts_rise I [] s f g = tt
-starts_rise I (b ∷ bs) s f g = (later, starts_rise I bs s (λ c i. f c (inr i)) g.1)
+starts_rise I [] f g = tt
+starts_rise I (b ∷ bs) f g = (later, starts_rise I bs (λ c i. f c (inr i)) g.1)
   where
     first : (b < length I) × (is_first I b ≡ true)
     first = f b (inl refl)
@@ -72,8 +72,7 @@ starts_rise I (b ∷ bs) s f g = (later, starts_rise I bs s (λ c i. f c (inr i)
     grows c i = elim (below_or_from (start_of I b) (start_of I c)) [
       | inl lt ↦ lt
       | inr le ↦ absurd ((g.0 c i).1 (firsts_are_one I b c first.1 (f c (inr i)).1 first.0 (f c (inr i)).0
-          (same_part_uncut I b c s first.0 (f c (inr i)).0
-          (let k = start_grows I b c (g.0 c i).0 in omega arith))))
+          (let k = start_grows I b c (g.0 c i).0 in omega arith)))
     ]
 
     later : (t : ℕ) → IsIn t (map (start_of I) bs) → start_of I b < t

@@ -15,7 +15,7 @@ use Rattle.dsa_search_laws.proofs.Claims.{not_placed, places_like}
 use Rattle.dsa_search_laws.proofs.First.{first_exactly, first_places}
 use Rattle.dsa_search_laws.proofs.Logs.{layout_places}
 pub use Rattle.dsa_search_laws.proofs.Cuts.{cut_between, no_cut_between, sharing_is_one_part}
-pub use Rattle.dsa_search_laws.proofs.Uncut.{part_exactly, same_part_uncut, uncut_exactly, uncut_same_part}
+pub use Rattle.dsa_search_laws.proofs.Uncut.{part_exactly, same_part_uncut, starts_uncut, uncut_exactly, uncut_same_part, uncut_starts}
 pub use Rattle.dsa_search_laws.proofs.ByTime.{begins, by_begins, part_is_in, part_is_members, rises-begins}
 pub use Rattle.dsa_search_laws.proofs.Members.{in_members, member_of}
 pub use Rattle.dsa_search_laws.proofs.Members.{buffers_of-whole, in_whole, claim_of_part, whole_is_whole}
@@ -30,9 +30,9 @@ pub offset_at : (I : Instance) (seats : List Entry) (b : ℕ) → b < length I �
     slice_index (offsets_of I seats) b ≡ number_of seats b
 offset_at I seats b lt = get_or-map-range_with_len (number_of seats) 0 (length I) b b 0 lt (omega arith)
 
-pub parts_are_layout : (I : Instance) (C : ℕ) (seats : List Entry) → IsInstance I →
+pub parts_are_layout : (I : Instance) (C : ℕ) (seats : List Entry) →
     ((p : List ℕ) → IsIn p (parts I) → Places I C (whole I p) (number_of seats)) → IsLayout I C (offsets_of I seats)
-parts_are_layout I C seats s h = record {
+parts_are_layout I C seats h = record {
   count = length-map-range_with_len (number_of seats) 0 (length I);
   aligned = λ b lt. rw (offset_at I seats b lt) ((own b lt).aligned (b, (buffer I b).lowest) (in_own_part I b lt));
   above = λ b lt. rw (offset_at I seats b lt) ((own b lt).above (b, (buffer I b).lowest) (in_own_part I b lt));
@@ -45,7 +45,7 @@ parts_are_layout I C seats s h = record {
 }
   where
     own : (b : ℕ) → b < length I → Places I C (whole I (members I (start_of I b))) (number_of seats)
-    own b lt = h (members I (start_of I b)) (part_is_in I b s lt)
+    own b lt = h (members I (start_of I b)) (part_is_in I b lt)
 
 -- a part that is refuted
 pub part_refutes : (I : Instance) (C : ℕ) (p : List ℕ) → IsIn p (parts I) → IsRefuted I C (whole I p) → IsInfeasible I C
@@ -143,8 +143,8 @@ apart_members I (t ∷ ts) r = ((λ q i b j k. apart q i b j k), apart_members I
         let n = (in_members I u.0 b (subst (λ (q : List ℕ). IsIn b q) u.2 k)).1 in
         omega arith
 
-pub parts_apart : (I : Instance) → IsInstance I → AllApart (parts I)
-parts_apart I s = rw (by_begins I s) (apart_members I (begins I) (rises-begins I))
+pub parts_apart : (I : Instance) → AllApart (parts I)
+parts_apart I = rw (by_begins I) (apart_members I (begins I) (rises-begins I))
 
 pub found_some : (I : Instance) (o : Option (List Entry)) (offsets : List ℕ) → offsets_found I o ≡ Some offsets →
     (seats : List Entry) × (o ≡ Some seats) × (offsets_of I seats ≡ offsets)
@@ -160,8 +160,8 @@ pub searched_is_layout : (I : Instance) (C : ℕ) (offsets : List ℕ) → IsIns
 unfolding searched
 searched_is_layout I C offsets s h =
     let r = found_some I (first_of_all I C (parts I)) offsets h in
-    rw (← r.2) (parts_are_layout I C r.0 s
-    (all_placed I C (parts I) r.0 s (claim_of_part I) (parts_apart I s) r.1))
+    rw (← r.2) (parts_are_layout I C r.0
+    (all_placed I C (parts I) r.0 s (claim_of_part I) (parts_apart I) r.1))
 
 pub searched_none : (I : Instance) (C : ℕ) → IsInstance I → searched I C ≡ None → IsInfeasible I C
 unfolding searched
@@ -176,18 +176,17 @@ searched_exactly I C s = (
 )
 
 -- ---- in one part exactly where no cut separates
-together : (I : Instance) (b c : ℕ) → IsInstance I → b < length I → c < length I → start_of I b ≡ start_of I c →
-    AreTogether I b c
-together I b c s lb lc same = record {
+together : (I : Instance) (b c : ℕ) → b < length I → c < length I → start_of I b ≡ start_of I c → AreTogether I b c
+together I b c lb lc same = record {
   part = members I (start_of I b);
-  is_part = part_is_in I b s lb;
+  is_part = part_is_in I b lb;
   has_first = member_of I b lb;
   has_second = subst (λ (t : ℕ). IsIn c (members I t)) (sym same) (member_of I c lc);
 }
 
-of_together : (I : Instance) (b c : ℕ) → IsInstance I → AreTogether I b c → start_of I b ≡ start_of I c
-of_together I b c s h =
-    let r = part_is_members I h.part s h.is_part in
+of_together : (I : Instance) (b c : ℕ) → AreTogether I b c → start_of I b ≡ start_of I c
+of_together I b c h =
+    let r = part_is_members I h.part h.is_part in
     let x = (in_members I r.0 b (rw r.1 at h.has_first)).1 in
     let y = (in_members I r.0 c (rw r.1 at h.has_second)).1 in
     x ∙ sym y
@@ -195,16 +194,16 @@ of_together I b c s h =
 pub together_exactly : (I : Instance) (b c : ℕ) → IsInstance I → b < length I → c < length I →
     AreTogether I b c ↔ IsUncut I b c
 together_exactly I b c s lb lc = (
-  λ h. same_part_uncut I b c s lb lc (of_together I b c s h),
-  λ u. together I b c s lb lc (uncut_same_part I b c lb lc u),
+  λ h. same_part_uncut I b c s lb lc (of_together I b c h),
+  λ u. together I b c lb lc (uncut_same_part I b c lb lc u),
 )
 
-pub together_by_test : (I : Instance) (b c : ℕ) → IsInstance I → b < length I → c < length I →
+pub together_by_test : (I : Instance) (b c : ℕ) → b < length I → c < length I →
     AreTogether I b c ↔ (are_uncut I b c ≡ true)
-together_by_test I b c s lb lc =
-    let k = together_exactly I b c s lb lc in
-    let u = uncut_exactly I b c in
-    (λ h. u.1 (k.0 h), λ h. k.1 (u.0 h))
+together_by_test I b c lb lc = (
+  λ h. starts_uncut I b c (of_together I b c h),
+  λ u. together I b c lb lc (uncut_starts I b c u),
+)
 
 -- ---- placements of all parts, put together
 pub put_together : (I : Instance) (C : ℕ) (ps : List (List ℕ)) (answers : List (List Entry)) →
@@ -227,8 +226,8 @@ put_together I C (q ∷ qs) (x ∷ xs) c a z p i = go (put_together I C qs xs (�
         (λ e m. number_of-right x (flat_map (λ seats. seats) xs) e.0
         (λ y. a.0 p k e.0 (rw same at y) (in_whole I p e m).0)) (ih k)
 
-pub all_put_together : (I : Instance) (C : ℕ) (answers : List (List Entry)) → IsInstance I →
+pub all_put_together : (I : Instance) (C : ℕ) (answers : List (List Entry)) →
     AllZip (λ p seats. IsPlacement I C (whole I p) seats) (parts I) answers →
     IsLayout I C (offsets_of I (flat_map (λ seats. seats) answers))
-all_put_together I C answers s z = parts_are_layout I C (flat_map (λ seats. seats) answers) s
-    (put_together I C (parts I) answers (claim_of_part I) (parts_apart I s) z)
+all_put_together I C answers z = parts_are_layout I C (flat_map (λ seats. seats) answers)
+    (put_together I C (parts I) answers (claim_of_part I) (parts_apart I) z)

@@ -58,13 +58,13 @@ cut_before : IsUncut two_parts 3 0 → ⊥
 unfolding is_cut buffer
 cut_before u = u.back 2 refl (omega arith, omega arith)
 
--- ---- a buffer that ends where it begins is parted from itself: its part is empty, and it is no instance
+-- ---- a buffer that ends where it begins, which is no instance, has a part all the same
 abbrev nowhere : Instance
 nowhere = plain 0 0 1 1 ∷ []
 
-empty_part : parts nowhere ≡ [] ∷ []
+own_part : parts nowhere ≡ (0 ∷ []) ∷ []
 unfolding parts part_of is_first are_uncut are_parted is_cut buffer
-empty_part = refl
+own_part = refl
 
 one_at_0 : parts_by_time nowhere ≡ (0 ∷ []) ∷ []
 unfolding parts_by_time start_of last_cut is_cut buffer

@@ -70,7 +70,7 @@ searched_lower I C D offsets s h below le = go (found_some I (first_of_all I C (
   where
     go : (seats : List Entry) × (first_of_all I C (parts I) ≡ Some seats) × (offsets_of I seats ≡ offsets) →
         offsets_found I (first_of_all I D (parts I)) ≡ Some offsets
-    go r = rw (all_lower I C D (parts I) r.0 s le (claim_of_part I) (parts_apart I s) r.1 ends)
+    go r = rw (all_lower I C D (parts I) r.0 s le (claim_of_part I) (parts_apart I) r.1 ends)
         (ap (λ o. let a : Option (List ℕ) = Some o in a) r.2)
       where
         ends : (p : List ℕ) → IsIn p (parts I) → EndsBy I D (whole I p) (number_of r.0)

@@ -1,91 +1,80 @@
 -- Buffers that no cut lies between, and the parts that they make.
-use Rattle.std.proofs.Common.{◌≡◌, ℕ, suc, ◌<◌, ◌≤◌, ◌⊎◌, ◌↔◌, inl, inr, Bool, true, false, not, ◌&&◌, ◌||◌, nat_le, nat_lt, List, length, filter, sym, refl, subst, arith}
+use Rattle.std.proofs.Common.{◌≡◌, ℕ, suc, ◌<◌, ◌≤◌, ◌⊎◌, ◌↔◌, inl, inr, Bool, true, false, not, ◌&&◌, ◌||◌, nat_le, nat_lt, List, length, filter, sym, refl, ◌∙◌, subst, arith}
 use Rattle.dsa_terms.specs.Buffers.{Instance, buffer, IsInstance, IsLive}
 use Rattle.dsa_terms.specs.Claims.{IsIn, Rises}
 use Rattle.dsa_terms.specs.Parts.{is_cut, numbers, are_parted, are_uncut, part_of, is_first, parts}
 use Rattle.dsa_terms.specs.Sorts.{ordered_by}
 use Rattle.dsa_terms.proofs.Lists.{any_gives, any_from, all_at, all_from, from_filter, into_filter, from_map, from_ordered_by, into_map, into_ordered_by}
-use Rattle.dsa_terms.proofs.Moments.{and_true, both_true, live_at_or_after, live_before}
-use Rattle.dsa_terms.proofs.NumberTests.{at_most, is_at_most, below_or_from}
+use Rattle.dsa_terms.proofs.Moments.{and_true, both_true}
+use Rattle.dsa_terms.proofs.NumberTests.{at_most, is_at_most, is_below, less}
 use Rattle.dsa_terms.proofs.Ranges.{below, among, rises-range, rises-filter_numbers}
-use Rattle.dsa_search_laws.specs.PartsByTime.{start_of, Separates, IsUncut}
+use Rattle.dsa_search_laws.specs.PartsByTime.{last_cut, start_of, IsUncut}
 use Rattle.dsa_search_laws.proofs.Rising.{rises_same}
-use Rattle.dsa_search_laws.proofs.Cuts.{cut_between, cut_outside, no_cut_between}
+use Rattle.dsa_search_laws.proofs.Cuts.{begins_before, cut_between, last_cut_is, last_cut_is_greatest, last_cut_le, no_cut_between, sharing_is_one_part}
 
--- ---- the test says so exactly where it is so
+-- ---- the test says so exactly where the parts of both begin at one cut
 parted_gives : (I : Instance) (b c : ℕ) → are_parted I b c ≡ true →
-    (t : ℕ) × (is_cut I t ≡ true) × Separates t (buffer I b) (buffer I c)
+    (t : ℕ) × (is_cut I t ≡ true) × ((buffer I b).lower < t) × (t ≤ (buffer I c).lower)
 unfolding are_parted
 parted_gives I b c h =
-    let r = any_gives (λ t. is_cut I t && nat_le (buffer I b).upper t) (numbers (suc (buffer I c).lower)) h in
-    let k = and_true (is_cut I r.0) (nat_le (buffer I b).upper r.0) r.2 in
+    let r = any_gives (λ t. is_cut I t && nat_lt (buffer I b).lower t) (numbers (suc (buffer I c).lower)) h in
+    let k = and_true (is_cut I r.0) (nat_lt (buffer I b).lower r.0) r.2 in
     let z = below (suc (buffer I c).lower) r.0 r.1 in
-    (r.0, k.0, (at_most (buffer I b).upper r.0 k.1, omega arith))
+    (r.0, k.0, less (buffer I b).lower r.0 k.1, omega arith)
 
-parted_from : (I : Instance) (b c t : ℕ) → is_cut I t ≡ true → Separates t (buffer I b) (buffer I c) →
+parted_from : (I : Instance) (b c t : ℕ) → is_cut I t ≡ true → (buffer I b).lower < t → t ≤ (buffer I c).lower →
     are_parted I b c ≡ true
 unfolding are_parted
-parted_from I b c t cut s =
-    any_from (λ t. is_cut I t && nat_le (buffer I b).upper t) (numbers (suc (buffer I c).lower)) t
-    (among (suc (buffer I c).lower) t (let z = s.1 in omega arith))
-    (both_true (is_cut I t) (nat_le (buffer I b).upper t) cut (is_at_most (buffer I b).upper t s.0))
+parted_from I b c t cut low le =
+    any_from (λ t. is_cut I t && nat_lt (buffer I b).lower t) (numbers (suc (buffer I c).lower)) t
+    (among (suc (buffer I c).lower) t (omega arith))
+    (both_true (is_cut I t) (nat_lt (buffer I b).lower t) cut (is_below (buffer I b).lower t low))
 
-uncut_gives : (I : Instance) (b c : ℕ) → are_uncut I b c ≡ true → IsUncut I b c
+-- those that a cut parts begin at two cuts
+parted_starts : (I : Instance) (b c : ℕ) → are_parted I b c ≡ true → start_of I b < start_of I c
+unfolding start_of
+parted_starts I b c h =
+    let r = parted_gives I b c h in
+    let k = last_cut_is_greatest I (buffer I c).lower r.0 r.1 r.3 in
+    let l = last_cut_le I (buffer I b).lower in let z = r.2 in omega arith
+
+starts_parted : (I : Instance) (b c : ℕ) → start_of I b < start_of I c → are_parted I b c ≡ true
+unfolding start_of
+starts_parted I b c less = parted_from I b c (last_cut I (buffer I c).lower) (last_cut_is I (buffer I c).lower)
+    (begins_before I b c less) (last_cut_le I (buffer I c).lower)
+
+pub uncut_starts : (I : Instance) (b c : ℕ) → are_uncut I b c ≡ true → start_of I b ≡ start_of I c
 unfolding are_uncut
-uncut_gives I b c h = record {
-  forth = λ t cut s. neither (are_parted I b c) (are_parted I c b) h (inl (parted_from I b c t cut s));
-  back = λ t cut s. neither (are_parted I b c) (are_parted I c b) h (inr (parted_from I c b t cut s));
-}
+uncut_starts I b c h = go (cases (start_of I b) (start_of I c))
   where
+    cases : (m n : ℕ) → (m < n) ⊎ ((n < m) ⊎ (m ≡ n))
+    cases m n = grind arith
+
     neither : (p q : Bool) → not (p || q) ≡ true → (p ≡ true) ⊎ (q ≡ true) → ⊥
     neither true q h e = cc
     neither false true h e = cc
     neither false false h (inl e) = cc
     neither false false h (inr e) = cc
 
-uncut_from : (I : Instance) (b c : ℕ) → IsUncut I b c → are_uncut I b c ≡ true
+    go : (start_of I b < start_of I c) ⊎ ((start_of I c < start_of I b) ⊎ (start_of I b ≡ start_of I c)) →
+        start_of I b ≡ start_of I c
+    go (inl k) = absurd (neither (are_parted I b c) (are_parted I c b) h (inl (starts_parted I b c k)))
+    go (inr (inl k)) = absurd (neither (are_parted I b c) (are_parted I c b) h (inr (starts_parted I c b k)))
+    go (inr (inr k)) = k
+
+pub starts_uncut : (I : Instance) (b c : ℕ) → start_of I b ≡ start_of I c → are_uncut I b c ≡ true
 unfolding are_uncut
-uncut_from I b c u = go (are_parted I b c) (are_parted I c b) refl refl
+starts_uncut I b c same = go (are_parted I b c) (are_parted I c b) refl refl
   where
     go : (p q : Bool) → are_parted I b c ≡ p → are_parted I c b ≡ q → not (p || q) ≡ true
-    go true q e f = absurd (let r = parted_gives I b c e in u.forth r.0 r.1 r.2)
-    go false true e f = absurd (let r = parted_gives I c b f in u.back r.0 r.1 r.2)
+    go true q e f = absurd (let k = parted_starts I b c e in omega arith)
+    go false true e f = absurd (let k = parted_starts I c b f in omega arith)
     go false false e f = refl
 
-pub uncut_exactly : (I : Instance) (b c : ℕ) → (are_uncut I b c ≡ true) ↔ IsUncut I b c
-uncut_exactly I b c = (uncut_gives I b c, uncut_from I b c)
+pub starts_exactly : (I : Instance) (b c : ℕ) → (are_uncut I b c ≡ true) ↔ (start_of I b ≡ start_of I c)
+starts_exactly I b c = (uncut_starts I b c, starts_uncut I b c)
 
-pub uncut_or_parted : (I : Instance) (b c : ℕ) → IsUncut I b c ⊎ ((t : ℕ) × (is_cut I t ≡ true)
-    × (Separates t (buffer I b) (buffer I c) ⊎ Separates t (buffer I c) (buffer I b)))
-uncut_or_parted I b c = go (are_parted I b c) (are_parted I c b) refl refl
-  where
-    go : (p q : Bool) → are_parted I b c ≡ p → are_parted I c b ≡ q → IsUncut I b c ⊎ ((t : ℕ) × (is_cut I t ≡ true)
-        × (Separates t (buffer I b) (buffer I c) ⊎ Separates t (buffer I c) (buffer I b)))
-    go true q e f = inr (let r = parted_gives I b c e in (r.0, r.1, inl r.2))
-    go false true e f = inr (let r = parted_gives I c b f in (r.0, r.1, inr r.2))
-    go false false e f = inl (record {
-      forth = λ t cut s. absurd (let k = parted_from I b c t cut s in cc);
-      back = λ t cut s. absurd (let k = parted_from I c b t cut s in cc);
-    })
-
--- ---- whichever comes first, and through a third one
-pub uncut_turned : (I : Instance) (b c : ℕ) → IsUncut I b c → IsUncut I c b
-uncut_turned I b c u = record { forth = u.back; back = u.forth }
-
-pub uncut_through : (I : Instance) (b c d : ℕ) → c < length I → IsUncut I b c → IsUncut I c d → IsUncut I b d
-uncut_through I b c d lt u v = record {
-  forth = none b d u v;
-  back = none d b (uncut_turned I c d v) (uncut_turned I b c u);
-}
-  where
-    none : (b d : ℕ) → IsUncut I b c → IsUncut I c d → (t : ℕ) → is_cut I t ≡ true →
-        Separates t (buffer I b) (buffer I d) → ⊥
-    none b d u v t cut s = elim (below_or_from (buffer I c).lower t) [
-      | inl low ↦ v.forth t cut (cut_outside I t c cut lt low, s.1)
-      | inr high ↦ u.forth t cut (s.0, high)
-    ]
-
--- ---- two buffers are uncut exactly where their parts begin at one cut
+-- ---- and where no cut lies between them
 pub same_part_uncut : (I : Instance) (b c : ℕ) → IsInstance I → b < length I → c < length I →
     start_of I b ≡ start_of I c → IsUncut I b c
 same_part_uncut I b c s lb lc same = record {
@@ -110,48 +99,50 @@ pub part_exactly : (I : Instance) (b c : ℕ) → IsInstance I → b < length I 
     (start_of I b ≡ start_of I c) ↔ IsUncut I b c
 part_exactly I b c s lb lc = (same_part_uncut I b c s lb lc, uncut_same_part I b c lb lc)
 
+pub uncut_exactly : (I : Instance) (b c : ℕ) → IsInstance I → b < length I → c < length I →
+    (are_uncut I b c ≡ true) ↔ IsUncut I b c
+uncut_exactly I b c s lb lc = (
+  λ h. same_part_uncut I b c s lb lc (uncut_starts I b c h),
+  λ u. starts_uncut I b c (uncut_same_part I b c lb lc u),
+)
+
 -- ---- the part of a buffer
-pub from_part : (I : Instance) (b c : ℕ) → IsIn c (part_of I b) → (c < length I) × IsUncut I b c
+pub from_part : (I : Instance) (b c : ℕ) → IsIn c (part_of I b) → (c < length I) × (start_of I b ≡ start_of I c)
 unfolding part_of
 from_part I b c i = let r = from_filter (are_uncut I b) (numbers (length I)) c i in
-    (below (length I) c r.0, uncut_gives I b c r.1)
+    (below (length I) c r.0, uncut_starts I b c r.1)
 
-pub into_part : (I : Instance) (b c : ℕ) → c < length I → IsUncut I b c → IsIn c (part_of I b)
+pub into_part : (I : Instance) (b c : ℕ) → c < length I → start_of I b ≡ start_of I c → IsIn c (part_of I b)
 unfolding part_of
-into_part I b c lt u =
-    into_filter (are_uncut I b) (numbers (length I)) c (among (length I) c lt) (uncut_from I b c u)
+into_part I b c lt same =
+    into_filter (are_uncut I b) (numbers (length I)) c (among (length I) c lt) (starts_uncut I b c same)
 
 pub rises-part : (I : Instance) (b : ℕ) → Rises (part_of I b)
 unfolding part_of
 rises-part I b = rises-filter_numbers (are_uncut I b) (numbers (length I)) (rises-range (length I) 0)
 
-pub uncut_is_one_part : (I : Instance) (b c : ℕ) → b < length I → c < length I → IsUncut I b c →
-    part_of I b ≡ part_of I c
-uncut_is_one_part I b c lb lc u =
+pub one_start_is_one_part : (I : Instance) (b c : ℕ) → start_of I b ≡ start_of I c → part_of I b ≡ part_of I c
+one_start_is_one_part I b c same =
     rises_same (part_of I b) (part_of I c) (rises-part I b) (rises-part I c) (λ d. (
-      λ i. (let r = from_part I b d i in into_part I c d r.0 (uncut_through I c b d lb (uncut_turned I b c u) r.1)),
-      λ i. (let r = from_part I c d i in into_part I b d r.0 (uncut_through I b c d lc u r.1)),
+      λ i. (let r = from_part I b d i in into_part I c d r.0 (sym same ∙ r.1)),
+      λ i. (let r = from_part I c d i in into_part I b d r.0 (same ∙ r.1)),
     ))
+
+one_part_is_one_start : (I : Instance) (b c : ℕ) → c < length I → part_of I b ≡ part_of I c →
+    start_of I b ≡ start_of I c
+one_part_is_one_start I b c lc same =
+    (from_part I b c (subst (λ p. IsIn c p) (sym same) (into_part I c c lc refl))).1
 
 pub one_part_exactly : (I : Instance) (b c : ℕ) → IsInstance I → b < length I → c < length I →
     (part_of I b ≡ part_of I c) ↔ IsUncut I b c
-one_part_exactly I b c s lb lc = (λ same. uncut_turned I c b (from same), uncut_is_one_part I b c lb lc)
-  where
-    from : part_of I b ≡ part_of I c → IsUncut I c b
-    from same = (from_part I c b
-        (subst (λ p. IsIn b p) same (into_part I b b lb (same_part_uncut I b b s lb lb refl)))).1
+one_part_exactly I b c s lb lc = (
+  λ same. same_part_uncut I b c s lb lc (one_part_is_one_start I b c lc same),
+  λ u. one_start_is_one_part I b c (uncut_same_part I b c lb lc u),
+)
 
 pub sharing_in_one_part : (I : Instance) (b c t : ℕ) → b < length I → c < length I → IsLive (buffer I b) t →
     IsLive (buffer I c) t → part_of I b ≡ part_of I c
-sharing_in_one_part I b c t lb lc p q = uncut_is_one_part I b c lb lc (record {
-  forth = λ s cut sep. none b c s p q sep;
-  back = λ s cut sep. none c b s q p sep;
-})
-  where
-    none : (b c s : ℕ) → IsLive (buffer I b) t → IsLive (buffer I c) t → Separates s (buffer I b) (buffer I c) → ⊥
-    none b c s p q sep =
-        let x = live_before (buffer I b) t p in let y = live_at_or_after (buffer I c) t q in
-        let z = sep.0 in let w = sep.1 in omega arith
+sharing_in_one_part I b c t lb lc p q = one_start_is_one_part I b c (sharing_is_one_part I b c t lb lc p q)
 
 -- ---- the buffers with the smallest number in their parts
 abbrev pub firsts : Instance → List ℕ
@@ -165,18 +156,19 @@ is_earlier I b c = nat_lt (buffer I b).lower (buffer I c).lower
 abbrev pub in_time : Instance → List ℕ
 in_time I = ordered_by (is_earlier I) (firsts I)
 
-pub first_is_least : (I : Instance) (b c : ℕ) → is_first I b ≡ true → c < length I → IsUncut I b c → b ≤ c
+pub first_is_least : (I : Instance) (b c : ℕ) → is_first I b ≡ true → c < length I → start_of I b ≡ start_of I c →
+    b ≤ c
 unfolding is_first
-first_is_least I b c h lt u = at_most b c (all_at (nat_le b) (part_of I b) c h (into_part I b c lt u))
+first_is_least I b c h lt same = at_most b c (all_at (nat_le b) (part_of I b) c h (into_part I b c lt same))
 
 pub least_is_first : (I : Instance) (b : ℕ) → ((c : ℕ) → IsIn c (part_of I b) → b ≤ c) → is_first I b ≡ true
 unfolding is_first
 least_is_first I b h = all_from (nat_le b) (part_of I b) (λ c i. is_at_most b c (h c i))
 
 pub firsts_are_one : (I : Instance) (b c : ℕ) → is_first I b ≡ true → is_first I c ≡ true → b < length I →
-    c < length I → IsUncut I b c → b ≡ c
-firsts_are_one I b c f g lb lc u =
-    let k = first_is_least I b c f lc u in let l = first_is_least I c b g lb (uncut_turned I b c u) in omega arith
+    c < length I → start_of I b ≡ start_of I c → b ≡ c
+firsts_are_one I b c f g lb lc same =
+    let k = first_is_least I b c f lc same in let l = first_is_least I c b g lb (sym same) in omega arith
 
 pub from_firsts : (I : Instance) (b : ℕ) → IsIn b (firsts I) → (b < length I) × (is_first I b ≡ true)
 from_firsts I b i = let r = from_filter (is_first I) (numbers (length I)) b i in (below (length I) b r.0, r.1)

@@ -32,15 +32,19 @@ pub fn parts_are_uncut()
         (start_of I b ≡ start_of I c) ↔ IsUncut I b c }
     ensures part { (I : Instance) (b c : ℕ) → IsInstance I → b < length I → c < length I →
         AreTogether I b c ↔ IsUncut I b c }
-    ensures test { (I : Instance) (b c : ℕ) → IsInstance I → b < length I → c < length I →
+    ensures test { (I : Instance) (b c : ℕ) → b < length I → c < length I →
         AreTogether I b c ↔ (are_uncut I b c ≡ true) }
 {}
 
 /// The parts are, for each cut at which one begins, the buffers whose part begins there, in order
-/// of time. `are_uncut` says that no cut lies between two buffers exactly where none does.
+/// of time. `are_uncut` says just where the parts of two buffers begin at one cut, and of an
+/// instance that is where no cut lies between the two.
 pub fn parts_by_time_are_the_parts()
-    ensures parts { (I : Instance) → IsInstance I → parts I ≡ parts_by_time I }
-    ensures uncut { (I : Instance) (b c : ℕ) → (are_uncut I b c ≡ true) ↔ IsUncut I b c }
+    ensures parts { (I : Instance) → parts I ≡ parts_by_time I }
+    ensures starts { (I : Instance) (b c : ℕ) →
+        (are_uncut I b c ≡ true) ↔ (start_of I b ≡ start_of I c) }
+    ensures uncut { (I : Instance) (b c : ℕ) → IsInstance I → b < length I → c < length I →
+        (are_uncut I b c ≡ true) ↔ IsUncut I b c }
 {}
 
 /// Each part is a greatest set of buffers that no cut separates: it is not empty, and has each
@@ -48,8 +52,8 @@ pub fn parts_by_time_are_the_parts()
 /// of time, so no buffer is in two of them.
 pub fn parts_are_greatest()
     ensures members { (I : Instance) (p : List ℕ) → IsIn p (parts I) →
-        (IsInstance I → p ≢ []) × Rises p × ((b : ℕ) → IsIn b p → b < length I) }
-    ensures cover { (I : Instance) (b : ℕ) → IsInstance I → b < length I →
+        (p ≢ []) × Rises p × ((b : ℕ) → IsIn b p → b < length I) }
+    ensures cover { (I : Instance) (b : ℕ) → b < length I →
         (p : List ℕ) × IsIn p (parts I) × IsIn b p }
     ensures uncut { (I : Instance) (p : List ℕ) (b c : ℕ) → IsInstance I → IsIn p (parts I) →
         IsIn b p → IsIn c p → IsUncut I b c }
@@ -62,7 +66,7 @@ pub fn parts_are_greatest()
 
 /// Seats that place each part's whole claim are a layout, and one refuted part leaves no layout.
 pub fn parts_make_the_whole()
-    ensures layout { (I : Instance) (C : ℕ) (seats : List Entry) → IsInstance I →
+    ensures layout { (I : Instance) (C : ℕ) (seats : List Entry) →
         ((p : List ℕ) → IsIn p (parts I) → Places I C (whole I p) (number_of seats)) →
         IsLayout I C (offsets_of I seats) }
     ensures none { (I : Instance) (C : ℕ) (p : List ℕ) → IsIn p (parts I) →
@@ -71,7 +75,7 @@ pub fn parts_make_the_whole()
 
 /// Placements of the whole claims of all parts, put together, are a layout.
 pub fn parts_go_together()
-    ensures { (I : Instance) (C : ℕ) (answers : List (List Entry)) → IsInstance I →
+    ensures { (I : Instance) (C : ℕ) (answers : List (List Entry)) →
         AllZip (λ p seats. IsPlacement I C (whole I p) seats) (parts I) answers →
         IsLayout I C (offsets_of I (flat_map (λ seats. seats) answers)) }
 {}

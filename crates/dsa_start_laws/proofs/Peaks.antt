@@ -1,6 +1,6 @@
 -- The least capacity, the one peak, and the bound's lean log.
 use Rattle.std.proofs.Common.{◌≡◌, ℕ, zero, suc, ◌-◌, ◌<◌, ◌≤◌, ◌≢◌, ◌⊎◌, inl, inr, Bool, true, false, ◌==◌, List, [], ◌∷◌, map, slice_get, take, Some, sym, refl, ap, ◌∙◌, subst, arith}
-use Rattle.dsa_terms.specs.Buffers.{Instance, IsLive, buffer}
+use Rattle.dsa_terms.specs.Buffers.{Instance}
 use Rattle.dsa_terms.specs.Layouts.{IsFeasible, IsInfeasible, IsLeast}
 use Rattle.dsa_terms.specs.Claims.{Claim, Entry, IsIn}
 use Rattle.dsa_terms.specs.Logs.{greatest, Line, Over, claim_of, IsLegal}
@@ -9,10 +9,10 @@ use Rattle.dsa_terms.specs.Plans.{load, IsPeak}
 use Rattle.dsa_terms.specs.Bounds.{moments, line_height, stack_line, stack_log}
 use Rattle.dsa_terms.specs.Lean.{IsLeanLine, IsLean}
 use Rattle.dsa_terms.proofs.Lists.{true_or_false}
-use Rattle.dsa_terms.proofs.Moments.{live_at_or_after, live_before}
 use Rattle.dsa_terms.proofs.NumberTests.{differ, equal, same, same_or_not}
+use Rattle.dsa_search_laws.proofs.Cuts.{sharing_is_one_part}
 use Rattle.dsa_search_laws.proofs.Logs.{feasible_higher}
-use Rattle.dsa_search_laws.proofs.Uncut.{uncut_exactly}
+use Rattle.dsa_search_laws.proofs.Uncut.{starts_uncut}
 use Rattle.dsa_start_laws.specs.Piles.{counted_buffers}
 use Rattle.dsa_start_laws.proofs.Piles.{in_counted, stack_line_is_pile}
 use Rattle.dsa_start_laws.proofs.OverLines.{all_at_bound, in_bound, in_line, legal_is_over, legal_height}
@@ -140,20 +140,12 @@ stack_is_lean I t H G C = record {
         (in_line I t H G h e (subst (λ (line : Line). IsIn e (claim_of line)) (sym q) i)).0
     among (suc k) line e m i = absurd cc
 
-    ends_first : (b c s : ℕ) → IsLive (buffer I b) t → IsLive (buffer I c) t → (buffer I b).upper ≤ s →
-        s ≤ (buffer I c).lower → ⊥
-    ends_first b c s p q ended begun =
-        let x = live_before (buffer I b) t p in let y = live_at_or_after (buffer I c) t q in omega arith
-
     together : (e f : Entry) → IsIn e.0 (counted_buffers I t H G) → IsIn f.0 (counted_buffers I t H G) →
         are_uncut I e.0 f.0 ≡ true
     together e f i j =
-        let a = (in_counted I t H G e.0 i).1 in
-        let b = (in_counted I t H G f.0 j).1 in
-        (uncut_exactly I e.0 f.0).1 (record {
-          forth = λ s cut apart. ends_first e.0 f.0 s a b apart.0 apart.1;
-          back = λ s cut apart. ends_first f.0 e.0 s b a apart.0 apart.1;
-        })
+        let a = in_counted I t H G e.0 i in
+        let b = in_counted I t H G f.0 j in
+        starts_uncut I e.0 f.0 (sharing_is_one_part I e.0 f.0 t a.0 b.0 a.1 b.1)
 
 -- ---- no capacity below the least one has a layout
 pub none_below : (I : Instance) (C D : ℕ) → IsLeast I C → D < C → IsInfeasible I D

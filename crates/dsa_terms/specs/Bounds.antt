@@ -8,7 +8,7 @@ use Rattle.dsa_terms.specs.Claims.{Claim}
 use Rattle.dsa_terms.specs.Logs.{greatest, stacked, stack_height, Line, Log, Over}
 use Rattle.dsa_terms.specs.Parts.{is_empty, numbers, whole}
 
--- the entries of the whole claim whose buffers are live at t, cannot start below H, and have a multiple of G for alignment
+-- those of the whole claim whose buffers are live at t, cannot start below H, and have a multiple of G for alignment
 unfoldable pub counted : Instance → ℕ → ℕ → ℕ → Claim
 counted I t H G = stacked I (whole I (numbers (length I))) t H G
 

@@ -1,7 +1,7 @@
 -- The whole claim of a part, and the log that refutes it.
 use Rattle.std.proofs.Common.{◌≡◌, ℕ, zero, suc, ◌≤◌, ◌<◌, ◌==◌, List, [], ◌∷◌, length, slice_get, Some, sym, refl, ap, ◌∙◌, subst, inl, inr, arith, All}
 use Rattle.std.specs.Int.{next_multiple_of}
-use Rattle.search_core.proofs.Words.{Instance, IsInstance, buffer, floor, Claim, Entry, IsIn, Covers, IsWhole, up, Line, Log, claim_of, IsAccepted, parts, whole, into_map, buffers_of-whole, claim_of_part, in_whole, part_is_uncut, uncut_exactly, OpenLog, ended, IsCoveredBy}
+use Rattle.search_core.proofs.Words.{Instance, buffer, floor, Claim, Entry, IsIn, Covers, IsWhole, up, Line, Log, claim_of, IsAccepted, parts, whole, into_map, buffers_of-whole, claim_of_part, in_whole, part_is_one, OpenLog, ended, IsCoveredBy}
 use Rattle.dsa_search_laws.proofs.PartLists.{got_in}
 use Rattle.branching.specs.Logs.{Extends, IsSearchLog}
 use Rattle.search_core.specs.Decisions.{IsRefutation}
@@ -33,18 +33,17 @@ pub whole_end : (I : Instance) (lines : List Line) (p : List ℕ) (k : ℕ) → 
 whole_end I lines p k c = (c.line, c.stands, covers_whole I (claim_of c.line) p c.covers)
 
 -- ---- the log
-pub refutes_part : (I : Instance) (C : ℕ) (p : List ℕ) (log : OpenLog) (closed : Log) (end : ℕ) → IsInstance I →
+pub refutes_part : (I : Instance) (C : ℕ) (p : List ℕ) (log : OpenLog) (closed : Log) (end : ℕ) →
     IsIn p (parts I) → IsSearchLog I C log → Extends (whole I p) [] log.lines →
     closed ≡ ended log end → IsAccepted I closed → IsRefutation I C closed
-refutes_part I C p log closed end sound h s grown q accepted = record {
+refutes_part I C p log closed end h s grown q accepted = record {
   accepted = accepted;
   capacity = ap (λ (g : Log). g.capacity) q ∙ s.capacity;
   lean = rw q (record {
     uncovered = s.uncovered;
     lean = rw s.capacity s.lean;
     one_part = λ j k other line e f at_j at_k in_other in_line.
-        (uncut_exactly I e.0 f.0).1 (part_is_uncut I p e.0 f.0 sound h (of_part other e j at_j in_other)
-        (of_part line f k at_k in_line));
+        part_is_one I p e.0 f.0 h (of_part other e j at_j in_other) (of_part line f k at_k in_line);
   });
 }
   where

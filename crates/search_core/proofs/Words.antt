@@ -6,10 +6,10 @@ pub use Rattle.canonical_order.specs.Levels.{AreLevels}
 pub use Rattle.canonical_order.specs.Stands.{Stands}
 pub use Rattle.dsa_model.specs.Buffer.{IsBuffer}
 pub use Rattle.dsa_search_laws.proofs.Claims.{claim-child, number_of-map}
-pub use Rattle.dsa_search_laws.proofs.PartLists.{part_is_uncut}
+pub use Rattle.dsa_search_laws.proofs.PartLists.{part_is_one}
 pub use Rattle.dsa_search_laws.proofs.Parts.{buffers_of-whole, claim_of_part, in_whole, searched_is_layout}
 pub use Rattle.dsa_search_laws.proofs.Placing.{in_child}
-pub use Rattle.dsa_search_laws.proofs.Uncut.{least_is_first, part_of_first, uncut_exactly}
+pub use Rattle.dsa_search_laws.proofs.Uncut.{least_is_first, part_of_first}
 pub use Rattle.dsa_terms.proofs.Examples.{lifted, low, plain, raised, small_below}
 pub use Rattle.dsa_terms.proofs.Lists.{into_map, same_some, some_answer}
 pub use Rattle.dsa_terms.proofs.NumberTests.{apart, is_at_most, same, same_or_not}

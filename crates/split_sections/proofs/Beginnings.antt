@@ -1,6 +1,6 @@
 -- The parts are, for each cut at which one begins, the buffers whose part begins there.
 use Rattle.std.proofs.Common.{◌≡◌, ℕ, suc, ◌<◌, ◌^◌, ◌↔◌, inl, true, not, List, [], ◌∷◌, length, map, refl, sym, ap, ◌∙◌, subst, arith}
-use Rattle.dsa_terms.specs.Buffers.{Buffer, Instance, IsInstance}
+use Rattle.dsa_terms.specs.Buffers.{Buffer, Instance}
 use Rattle.dsa_terms.specs.Claims.{IsIn, Rises}
 use Rattle.dsa_terms.specs.Logs.{greatest}
 use Rattle.dsa_terms.specs.Parts.{is_empty, numbers, parts}
@@ -43,19 +43,19 @@ begins_cut I t i =
     (into_map (start_of I) (numbers (length I)) r.0 (among (length I) r.0 m.0))
 
 -- the cuts at which parts begin are all that make up the list of parts
-pub parts_are : (I : Instance) (cuts : List ℕ) → IsInstance I → Rises cuts →
+pub parts_are : (I : Instance) (cuts : List ℕ) → Rises cuts →
     ((t : ℕ) → IsIn t cuts ↔ IsIn t (part_starts I)) → map (members I) cuts ≡ parts I
-parts_are I cuts s r same = ap (map (members I)) cuts_are ∙ sym (by_begins I s)
+parts_are I cuts r same = ap (map (members I)) cuts_are ∙ sym (by_begins I)
   where
     cuts_are : cuts ≡ begins I
     cuts_are = rises_same cuts (begins I) r (rises-begins I)
         (λ t. (λ i. cut_begins I t ((same t).0 i), λ i. (same t).1 (begins_cut I t i)))
 
-is_part : (I : Instance) (p : List ℕ) → IsInstance I → IsIn p (parts I) → IsPart p
-is_part I p s i = record { rises = part_rises I p i; not_empty = part_not_empty I p s i }
+is_part : (I : Instance) (p : List ℕ) → IsIn p (parts I) → IsPart p
+is_part I p i = record { rises = part_rises I p i; not_empty = part_not_empty I p i }
 
-pub kept : (I : Instance) (ps : List (List ℕ)) → IsInstance I → ps ≡ parts I → length ps < 2 ^ 32 → ArePartsKept ps
-kept I ps s e lt = record {
-  each = all_from_in IsPart ps (λ p i. is_part I p s (rw e at i));
+pub kept : (I : Instance) (ps : List (List ℕ)) → ps ≡ parts I → length ps < 2 ^ 32 → ArePartsKept ps
+kept I ps e lt = record {
+  each = all_from_in IsPart ps (λ p i. is_part I p (rw e at i));
   limit = lt;
 }

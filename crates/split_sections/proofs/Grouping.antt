@@ -3,7 +3,7 @@ use Rattle.std.proofs.Common.{◌≡◌, ℕ, ◌+◌, ◌-◌, ◌<◌, ◌≤�
 use Rattle.std.specs.List.{All, between}
 use Rattle.std.proofs.lemmas.List.{length_push, map_push}
 use Rattle.std.proofs.lemmas.List.Edits.{get_or-between, length-between}
-use Rattle.dsa_terms.specs.Buffers.{Instance, IsInstance, buffer}
+use Rattle.dsa_terms.specs.Buffers.{Instance, buffer}
 use Rattle.dsa_terms.specs.Claims.{IsIn, Rises}
 use Rattle.dsa_terms.specs.Parts.{numbers, parts}
 use Rattle.dsa_terms.proofs.Lists.{from_append, from_filter, from_map, into_filter, into_map, left_append, right_append}
@@ -69,9 +69,6 @@ pub record ArePartsBelow (I : Instance) (order : List (ℕ × ℕ)) (first : ℕ
   pub few : length ps ≤ first
   pub within : first ≤ length order
   pub begins : first < length order → BeginsAt I order first
-
-is_instance : (I : Instance) → All IsBuffer I → IsInstance I
-is_instance I h = λ k d lt. (h k d lt).sound
 
 -- a buffer's lifetime is not empty
 lasts : (I : Instance) (b : ℕ) → All IsBuffer I → b < length I → (buffer I b).lower < (buffer I b).upper
@@ -185,10 +182,10 @@ one_part_more I order first next ps new p a sound s run r both e = record {
 
 -- at the end of the order these are all the parts
 pub all_parts : (I : Instance) (order : List (ℕ × ℕ)) (first : ℕ) (ps : List (List ℕ)) → AreByLower I order →
-    All IsBuffer I → ArePartsBelow I order first ps → length order ≤ first → ps ≡ parts I
+    ArePartsBelow I order first ps → length order ≤ first → ps ≡ parts I
 unfolding part_starts
-all_parts I order first ps a sound s le = s.parts_of
-    ∙ parts_are I s.cuts (is_instance I sound) s.rises (λ t. (λ i. forth t (s.some t i), λ i. back t i))
+all_parts I order first ps a s le = s.parts_of
+    ∙ parts_are I s.cuts s.rises (λ t. (λ i. forth t (s.some t i), λ i. back t i))
   where
     forth : (t : ℕ) → (k : ℕ) × (k < first) × (start_of I (pair_at order k).1 ≡ t) → IsIn t (part_starts I)
     forth t q = subst (λ (t : ℕ). IsIn t (part_starts I)) q.2
@@ -204,6 +201,6 @@ all_parts I order first ps a sound s le = s.parts_of
         subst (λ (t : ℕ). IsIn t s.cuts) e (s.all q.0 (let z = q.1 in omega arith))
 
 pub all_kept : (I : Instance) (order : List (ℕ × ℕ)) (first : ℕ) (ps : List (List ℕ)) → AreByLower I order →
-    All IsBuffer I → ArePartsBelow I order first ps → length order ≤ first → length I ≤ buffer_limit → ArePartsKept ps
-all_kept I order first ps a sound s le few = kept I ps (is_instance I sound) (all_parts I order first ps a sound s le)
+    ArePartsBelow I order first ps → length order ≤ first → length I ≤ buffer_limit → ArePartsKept ps
+all_kept I order first ps a s le few = kept I ps (all_parts I order first ps a s le)
     (let z = s.few in let y = s.within in let w = a.count in omega arith)

@@ -2,7 +2,7 @@ use Rattle.dsa_search_laws.proofs.PartLists.{part_not_empty, part_rises, part_in
 use Rattle.dsa_search_laws.proofs.part_laws.parts_are_greatest.Goals as goal
 
 pub returns-clause-members : goal.returns-clause-members
-returns-clause-members c = λ I p i. (λ s. part_not_empty I p s i, part_rises I p i, λ b. part_in_range I p b i)
+returns-clause-members c = λ I p i. (part_not_empty I p i, part_rises I p i, λ b. part_in_range I p b i)
 
 pub returns-clause-cover : goal.returns-clause-cover
 returns-clause-cover c = parts_cover

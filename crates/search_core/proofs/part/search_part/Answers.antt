@@ -1,5 +1,4 @@
 use Rattle.dsa_search_laws.proofs.PartLists.{part_rises}
-use Rattle.dsa_model.proofs.Instances.{sound_instance}
 use Rattle.search_core.proofs.Parting.{part_in_range, refutes_part, whole_end}
 use Rattle.search_core.proofs.part.search_part.Goals as goal
 
@@ -21,7 +20,7 @@ pub returns-in-Ok-clause-found : goal.returns-in-Ok-clause-found
 returns-in-Ok-clause-found c =
     let found = rw c.in-Line.is at c.in_ok-seats.ensures.found in (
       found.0,
-      refutes_part _ _ _ _ _ c.in-Line.end (sound_instance c.args.task.now.instance.now c.len-count.ensures.buffers)
+      refutes_part _ _ _ _ _ c.in-Line.end
           c.requires.part c.in_ok-seats.ensures.log c.in_ok-seats.ensures.grown
           (rw c.into_log.ensures at c.in-Ok.ensures.closed) c.in-Ok.ensures.accepted,
     )

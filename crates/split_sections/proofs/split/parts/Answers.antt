@@ -19,12 +19,11 @@ loop-first-preserved c =
 
 pub of_lists-requires : goal.of_lists-requires
 of_lists-requires c = all_kept c.args.instance.now c.in_ok-order.order.items c.loop-first.first
-    (map items_of c.loop-first.parts.items) c.in_ok-order.ensures.order c.in_ok-order.ensures.buffers
-    c.loop-first.invariant (search rules) c.in_ok-order.ensures.limit
+    (map items_of c.loop-first.parts.items) c.in_ok-order.ensures.order c.loop-first.invariant (search rules)
+    c.in_ok-order.ensures.limit
 
 pub returns : goal.returns
 returns c = record {
   value = c.of_lists.ensures ∙ all_parts c.args.instance.now c.in_ok-order.order.items c.loop-first.first
-      (map items_of c.loop-first.parts.items) c.in_ok-order.ensures.order c.in_ok-order.ensures.buffers
-      c.loop-first.invariant (search rules);
+      (map items_of c.loop-first.parts.items) c.in_ok-order.ensures.order c.loop-first.invariant (search rules);
 }
