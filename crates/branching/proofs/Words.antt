@@ -24,7 +24,7 @@ pub use Rattle.dsa_terms.specs.Logs.{Below, ByLine, Cases, Cite, IsLegal, IsLega
 pub use Rattle.dsa_terms.specs.Logs.{claim_of, greatest}
 unfoldable pub use Rattle.dsa_terms.specs.Logs.{ends_below, is_stacked, is_twin, rounded, rounding}
 pub use Rattle.dsa_terms.specs.Parts.{numbers}
-unfoldable pub use Rattle.dsa_terms.specs.Parts.{are_parted, are_uncut, is_cut, is_first, part_of, parts, searched}
+unfoldable pub use Rattle.dsa_terms.specs.Parts.{are_parted, are_uncut, is_cut, is_leader, part_of, parts, searched}
 pub use Rattle.dsa_terms.specs.Search.{choices, not_excluded, seated}
 unfoldable pub use Rattle.dsa_terms.specs.Search.{comes_before, first, is_tall, work}
 pub use Rattle.lifetime.specs.SectionList.{AreSectionsOf, SectionList, count_of, members_of, start_of}

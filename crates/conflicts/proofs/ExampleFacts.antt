@@ -2,9 +2,9 @@
 use Rattle.std.proofs.Common.{◌≡◌, ◌∙◌, ◌≤◌, ℕ, zero, suc, false, true, inl, inr, [], ◌∷◌, map, length, List, Some, None, refl, sym, ap, subst, lit≤, arith}
 use Rattle.dsa_terms.specs.Buffers.{Buffer, Instance, is_live, buffer, have_same_moments, some_before}
 use Rattle.dsa_terms.specs.Claims.{Claim, Covers, Entry, up}
-use Rattle.dsa_terms.specs.Logs.{ByLine, Below, Twin, Cases, Over, Line, claim_of, ends_below, is_stacked, is_twin, rounded, rounding}
+use Rattle.dsa_terms.specs.Logs.{ByLine, Below, Twin, Cases, Over, Line, claim_of, ends_below, is_stacked, is_twin, rounded, rounding, stack_height}
 use Rattle.conflicts.specs.Covering.{IsCoveringLine}
-use Rattle.conflicts.specs.Eased.{HasNoOwn, IsLower, IsLowerCases, IsNoHigher, IsOwnOf, cut, eased_over, from_height, least_height, least_over, lowered, reach}
+use Rattle.conflicts.specs.Eased.{HasNoOwn, IsLower, IsLowerCases, IsNoHigher, IsOwnOf, cut, eased_over, from_height, least_height, least_over, lowered}
 use Rattle.conflicts.specs.Easing.{IsEasedFrom}
 use Rattle.conflicts.specs.Ends.{IsLeastEnd, end_of}
 use Rattle.conflicts.specs.Walks.{IsMarked, IsWalk}
@@ -25,26 +25,26 @@ four = plain 0 1 1 2 ∷ plain 0 1 1 2 ∷ plain 0 1 2 1 ∷ plain 1 2 1 1 ∷ [
 
 -- ---- Over lines
 -- both rounded up to 2, less one rounding
-reach_of_two : reach four 2 ((0, 9) ∷ (1, 10) ∷ []) ≡ 3
-unfolding reach rounded rounding buffer
-reach_of_two = refl
+height_of_two : stack_height four 0 2 ((0, 9) ∷ (1, 10) ∷ []) ≡ 3
+unfolding rounded rounding buffer
+height_of_two = refl
 
-reach_by_ones : reach four 1 ((0, 9) ∷ (1, 10) ∷ []) ≡ 2
-unfolding reach rounded rounding buffer
-reach_by_ones = refl
+height_by_ones : stack_height four 0 1 ((0, 9) ∷ (1, 10) ∷ []) ≡ 2
+unfolding rounded rounding buffer
+height_by_ones = refl
 
 -- from 2 on they reach 5, and from 0 on they would reach 3
 least_of_two : least_height four 4 2 ((0, 9) ∷ (1, 10) ∷ []) ≡ 2
-unfolding least_height reach rounded rounding buffer
+unfolding least_height rounded rounding buffer
 least_of_two = refl
 
 -- at a multiple of 2, where 1 would do
 least_is_a_multiple : least_height four 3 2 ((0, 9) ∷ (1, 10) ∷ []) ≡ 2
-unfolding least_height reach rounded rounding buffer
+unfolding least_height rounded rounding buffer
 least_is_a_multiple = refl
 
 least_is_zero : least_height four 2 2 ((0, 9) ∷ (1, 10) ∷ []) ≡ 0
-unfolding least_height reach rounded rounding buffer
+unfolding least_height rounded rounding buffer
 least_is_zero = refl
 
 two_from_height : from_height 2 ((0, 9) ∷ (1, 10) ∷ []) ≡ (0, 2) ∷ (1, 2) ∷ []
@@ -52,15 +52,15 @@ two_from_height = refl
 
 -- buffer 2 stands at odd offsets too, and buffer 3 is not live at moment 0
 too_high : eased_over four 4 ((0, 9) ∷ (1, 10) ∷ (2, 10) ∷ (3, 0) ∷ []) 0 10 2 ≡ Over ((0, 2) ∷ (1, 2) ∷ []) 0 2 2
-unfolding least_height reach is_stacked rounded rounding up is_live buffer
+unfolding least_height is_stacked rounded rounding up is_live buffer
 too_high = refl
 
 least_line : least_over four 4 0 2 ((0, 9) ∷ (1, 10) ∷ []) ≡ Over ((0, 2) ∷ (1, 2) ∷ []) 0 2 2
-unfolding least_height reach rounded rounding buffer
+unfolding least_height rounded rounding buffer
 least_line = refl
 
 low_enough : eased_over four 4 ((2, 3) ∷ []) 0 3 1 ≡ Over ((2, 3) ∷ []) 0 3 1
-unfolding least_height reach is_stacked rounded rounding up is_live buffer
+unfolding least_height is_stacked rounded rounding up is_live buffer
 low_enough = refl
 
 -- ---- lowered claims

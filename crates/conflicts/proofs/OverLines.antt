@@ -7,7 +7,7 @@ use Rattle.dsa_model.proofs.Instances.{sound_buffer}
 use Rattle.dsa_terms.specs.Buffers.{Instance, buffer, is_live}
 use Rattle.dsa_terms.specs.Claims.{Claim, Covers, Entry, IsClaim, IsIn, buffers_of, up}
 use Rattle.dsa_terms.specs.Lean.{IsLeanOver}
-use Rattle.dsa_terms.specs.Logs.{Line, Over, IsLegal, IsOver, greatest, is_stacked, rounded, rounding, stacked}
+use Rattle.dsa_terms.specs.Logs.{Line, Over, IsLegal, IsOver, greatest, is_stacked, rounded, rounding, stack_height, stacked}
 use Rattle.dsa_terms.proofs.Lists.{from_filter, from_map}
 use Rattle.dsa_terms.proofs.Moments.{and_true}
 use Rattle.dsa_terms.proofs.Numbers.{next_at_or_above, next_is_below, next_is_least, next_is_multiple}
@@ -19,7 +19,7 @@ use Rattle.canonical_order.specs.Claims.{IsBoundedBy}
 use Rattle.canonical_order.specs.Stands.{Stands}
 use Rattle.refute_log.specs.Lines.{IsWithin}
 use Rattle.conflicts.proofs.Easings.{IsEased}
-use Rattle.conflicts.specs.Eased.{eased_over, from_height, least_height, reach}
+use Rattle.conflicts.specs.Eased.{eased_over, from_height, least_height}
 
 -- ---- numbers
 least_within : (C H sum most G : ℕ) → 1 ≤ G → H % G ≡ 0 → C < H + sum - most →
@@ -45,6 +45,11 @@ zero_or_fits C w G pos = elim (zero_or_more (C + 1 - w)) [
 
 not_above : (C h sum most : ℕ) → h + (sum - most) ≤ C → C < h + sum - most → most ≤ sum → {X : Type 0} → X
 not_above C h sum most fits lt le = absurd (omega arith)
+
+-- what a stack on the ground comes to
+on_ground : (I : Instance) (G : ℕ) (s : Claim) →
+    stack_height I 0 G s ≡ sum_by (rounded I G) s - greatest (map (rounding I G) s)
+on_ground I G s = omega arith
 
 -- ---- entries that count at each height
 -- the buffer of the entry is live at T and starts at multiples of G alone
@@ -89,21 +94,20 @@ module _ (I : Instance) (T G : ℕ) where
   most_within (x ∷ xs) = rw (sum_by-cons (rounded I G) x xs) (let k = most_within xs in omega arith)
 
   over_from : (C h : ℕ) (s : Claim) → ((e : Entry) → IsIn e s → Counts I T G e) → 1 ≤ G → h % G ≡ 0 → s ≢ [] →
-      C + 1 - reach I G s ≤ h → IsOver I C T h G (from_height h s)
-  unfolding reach
+      C + 1 - stack_height I 0 G s ≤ h → IsOver I C T h G (from_height h s)
   over_from C h s c pos m ne le = record {
     modulus = pos;
     from_multiple = m;
     some_stacked = λ q. not_none h s ne (sym (stacked_from h s c) ∙ q);
     too_high = rw (stacked_from h s c, sum_from h s, most_from h s)
-        (reaches_above C h (sum_by (rounded I G) s) (greatest (map (rounding I G) s)) (most_within s) le);
+        (reaches_above C h (sum_by (rounded I G) s) (greatest (map (rounding I G) s)) (most_within s)
+        (rw (on_ground I G s) at le));
   }
 
-  not_over : (C h : ℕ) (s : Claim) → ((e : Entry) → IsIn e s → Counts I T G e) → h + reach I G s ≤ C →
+  not_over : (C h : ℕ) (s : Claim) → ((e : Entry) → IsIn e s → Counts I T G e) → h + stack_height I 0 G s ≤ C →
       IsOver I C T h G (from_height h s) → ⊥
-  unfolding reach
   not_over C h s c le over =
-      not_above C h (sum_by (rounded I G) s) (greatest (map (rounding I G) s)) le
+      not_above C h (sum_by (rounded I G) s) (greatest (map (rounding I G) s)) (rw (on_ground I G s) at le)
       (rw (stacked_from h s c, sum_from h s, most_from h s) at over.too_high) (most_within s)
 
 lower_again : (h g : ℕ) (s : Claim) → map (λ e. (e.0, g)) (from_height h s) ≡ from_height g s
@@ -114,8 +118,9 @@ lower_again h g (x ∷ xs) = ap (λ (l : Claim). (x.0, g) ∷ l) (lower_again h 
 pub height_is : (I : Instance) (C G : ℕ) (s : Claim) (sum most above h : ℕ) → sum ≡ sum_by (rounded I G) s →
     most ≡ greatest (map (rounding I G) s) → above ≡ C + 1 - (sum - most) → h ≡ next_multiple_of above G →
     h ≡ least_height I C G s
-unfolding least_height reach
-height_is I C G s sum most above h p q r t = rw (t, r, p, q) refl
+unfolding least_height
+height_is I C G s sum most above h p q r t =
+    rw (t, r, p, q) (ap (λ n. next_multiple_of (C + 1 - n) G) (sym (on_ground I G s)))
 
 pub pairs_are : (h : ℕ) (s : Claim) (members : List ℕ) (pairs : Claim) → members ≡ buffers_of s →
     pairs ≡ map (λ (b : ℕ). let e : Entry = (b, h) in e) members → pairs ≡ from_height h s
@@ -156,9 +161,10 @@ module _ (I : Instance) (C : ℕ) (l : Claim) (T H G : ℕ) (s : Stands I l) (ov
   from_claim h e i = from_map (λ (f : Entry). let g : Entry = (f.0, h) in g) members e i
 
   height_limit : height ≤ H
-  unfolding least_height reach
-  height_limit = least_within C H (sum_by (rounded I G) members) (greatest (map (rounding I G) members)) G over.modulus
-      over.from_multiple over.too_high
+  unfolding least_height
+  height_limit = rw (on_ground I G members)
+      (least_within C H (sum_by (rounded I G) members) (greatest (map (rounding I G) members)) G over.modulus
+      over.from_multiple over.too_high)
 
   pub from_is_claim : (h : ℕ) → IsClaim I (from_height h members)
   from_is_claim h = record {
@@ -184,8 +190,8 @@ module _ (I : Instance) (C : ℕ) (l : Claim) (T H G : ℕ) (s : Stands I l) (ov
     claim = from_is_claim height;
     not_empty = λ q. not_none height members over.some_stacked q;
     reason = over_from I T G C height members count over.modulus
-        (next_is_multiple (C + 1 - reach I G members) G over.modulus) over.some_stacked
-        (next_at_or_above (C + 1 - reach I G members) G over.modulus);
+        (next_is_multiple (C + 1 - stack_height I 0 G members) G over.modulus) over.some_stacked
+        (next_at_or_above (C + 1 - stack_height I 0 G members) G over.modulus);
   }
 
   covers : Covers I (from_height height members) l
@@ -204,7 +210,7 @@ module _ (I : Instance) (C : ℕ) (l : Claim) (T H G : ℕ) (s : Stands I l) (ov
   lean earlier = record {
     live = λ e i. let q = from_claim height e i in rw q.2 (count q.0 q.1).live;
     bounds = λ e i. ap (λ (e : Entry). e.1) (from_claim height e i).2;
-    lowest = elim (zero_or_fits C (reach I G members) G over.modulus) [
+    lowest = elim (zero_or_fits C (stack_height I 0 G members) G over.modulus) [
       | inl q ↦ inl q
       | inr le ↦ inr (λ (k : IsLegal I C earlier
           (Over (map (λ e. (e.0, height - G)) (from_height height members)) T (height - G) G)).

@@ -1,20 +1,16 @@
 -- Eased lines.
-use Rattle.std.specs.Prelude.{◌≡◌, ◌≢◌, ℕ, ◌+◌, ◌-◌, ◌≤◌, true, List, [], map, min, slice_index_or, sum_by, Option, MatchOption}
+use Rattle.std.specs.Prelude.{◌≡◌, ◌≢◌, ℕ, ◌+◌, ◌-◌, ◌≤◌, true, List, [], map, min, slice_index_or, Option, MatchOption}
 use Rattle.std.specs.Int.{next_multiple_of}
 use Rattle.std.specs.List.{AllZip}
 use Rattle.dsa_terms.specs.Buffers.{Instance, buffer}
 use Rattle.dsa_terms.specs.Claims.{Claim, Entry, IsIn, Rises, buffers_of, up}
 use Rattle.dsa_terms.specs.Lean.{CitesOwn}
-use Rattle.dsa_terms.specs.Logs.{Cite, Line, Over, Cases, IsLegalCite, rounded, rounding, greatest, ends_below, is_twin, stacked}
+use Rattle.dsa_terms.specs.Logs.{Cite, Line, Over, Cases, IsLegalCite, ends_below, is_twin, stack_height, stacked}
 
 -- ---- Over lines
--- how far above its foot a stack of these buffers reaches at least, each at a multiple of G
-unfoldable pub reach : Instance → ℕ → Claim → ℕ
-reach I G s = sum_by (rounded I G) s - greatest (map (rounding I G) s)
-
--- the least multiple of G from which they reach above C
+-- the least multiple of G from which on these buffers, stacked at multiples of G, end above C
 unfoldable pub least_height : Instance → ℕ → ℕ → Claim → ℕ
-least_height I C G s = next_multiple_of (C + 1 - reach I G s) G
+least_height I C G s = next_multiple_of (C + 1 - stack_height I 0 G s) G
 
 -- the buffers of the claim, each with the bound h
 abbrev pub from_height : ℕ → Claim → Claim

@@ -5,7 +5,7 @@ use Rattle.dsa_terms.specs.Buffers.{Buffer, Instance, IsSound, IsInstance, is_li
 use Rattle.dsa_terms.specs.Claims.{IsIn, up, step, child}
 use Rattle.dsa_terms.specs.Layouts.{IsFeasible, IsInfeasible}
 use Rattle.dsa_terms.specs.Logs.{ends_below, is_twin}
-use Rattle.dsa_terms.specs.Parts.{is_cut, part_of, parts, searched, is_first, are_parted, are_uncut}
+use Rattle.dsa_terms.specs.Parts.{is_cut, part_of, parts, searched, is_leader, are_parted, are_uncut}
 use Rattle.dsa_terms.specs.Search.{is_tall, comes_before, first}
 use Rattle.dsa_terms.proofs.Examples.{five}
 use Rattle.dsa_terms.proofs.Lists.{all_at}
@@ -38,7 +38,7 @@ does I C offsets s e = (offsets, searched_is_layout I C offsets (sound_from I s)
 
 -- the first and the fourth are dropped, and the others kept, each since the others that remain fit without it
 five_core : IsCore five 11 (1 ∷ 2 ∷ 4 ∷ [])
-unfolding are_sound searched parts part_of is_first are_uncut are_parted is_cut first is_tall comes_before
+unfolding are_sound searched parts part_of is_leader are_uncut are_parted is_cut first is_tall comes_before
     ends_below is_twin child up step have_same_moments do_share some_before is_live buffer
 five_core = record {
   infeasible = does_not five 11 refl refl;
@@ -62,7 +62,7 @@ five_core = record {
 
 -- what fits has no core
 no_core_at_12 : (members : List ℕ) → IsCore five 12 members → ⊥
-unfolding are_sound searched parts part_of is_first are_uncut are_parted is_cut first is_tall comes_before
+unfolding are_sound searched parts part_of is_leader are_uncut are_parted is_cut first is_tall comes_before
     ends_below is_twin child up step have_same_moments do_share some_before is_live buffer
 no_core_at_12 members core =
     let fits = does five 12 (0 ∷ 0 ∷ 4 ∷ 0 ∷ 8 ∷ []) refl refl in core.infeasible fits.0 fits.1

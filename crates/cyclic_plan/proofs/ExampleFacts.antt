@@ -17,7 +17,7 @@ use Rattle.dsa_terms.specs.Buffers.{Buffer, is_live, buffer, do_share, some_befo
 use Rattle.dsa_terms.specs.Claims.{up, step, child}
 use Rattle.dsa_terms.specs.Logs.{ends_below, is_twin}
 use Rattle.dsa_terms.specs.Search.{is_tall, comes_before, first}
-use Rattle.dsa_terms.specs.Parts.{is_cut, part_of, parts, searched, is_first, are_parted, are_uncut}
+use Rattle.dsa_terms.specs.Parts.{is_cut, part_of, parts, searched, is_leader, are_parted, are_uncut}
 use Rattle.dsa_terms.specs.Plans.{layout_height, plan}
 use Rattle.dsa_terms.specs.Fits.{top, highest, neighbours, is_free, first_place, stretches, free_ranges, holds, is_tighter, best_place, first_fit, best_fit, least_from, is_clear}
 use Rattle.dsa_terms.specs.Orders.{falls_by, rises_by, orders}
@@ -87,21 +87,21 @@ unrolled_stays = refl
 filled_at_4 : planned (map (unrolled 10) (wrapping ∷ plain 2 8 4 1 ∷ [])) 4 ≡ Some (0 ∷ 0 ∷ [])
 unfolding unrolled planned plan layout_height starts orders falls_by rises_by first_fit best_fit neighbours
     first_place floor is_clear best_place free_ranges stretches holds least_from is_tighter is_free highest top
-    do_share some_before is_live buffer searched parts part_of is_first are_uncut are_parted is_cut first is_tall
+    do_share some_before is_live buffer searched parts part_of is_leader are_uncut are_parted is_cut first is_tall
     comes_before ends_below is_twin child up step have_same_moments
 filled_at_4 = refl
 
 overrun_at_7 : planned (map (unrolled 10) (wrapping ∷ plain 1 8 4 1 ∷ [])) 7 ≡ None
 unfolding unrolled planned plan layout_height starts orders falls_by rises_by first_fit best_fit neighbours
     first_place floor is_clear best_place free_ranges stretches holds least_from is_tighter is_free highest top
-    do_share some_before is_live buffer searched parts part_of is_first are_uncut are_parted is_cut first is_tall
+    do_share some_before is_live buffer searched parts part_of is_leader are_uncut are_parted is_cut first is_tall
     comes_before ends_below is_twin child up step have_same_moments
 overrun_at_7 = refl
 
 overrun_at_8 : planned (map (unrolled 10) (wrapping ∷ plain 1 8 4 1 ∷ [])) 8 ≡ Some (0 ∷ 4 ∷ [])
 unfolding unrolled planned plan layout_height starts orders falls_by rises_by first_fit best_fit neighbours
     first_place floor is_clear best_place free_ranges stretches holds least_from is_tighter is_free highest top
-    do_share some_before is_live buffer searched parts part_of is_first are_uncut are_parted is_cut first is_tall
+    do_share some_before is_live buffer searched parts part_of is_leader are_uncut are_parted is_cut first is_tall
     comes_before ends_below is_twin child up step have_same_moments
 overrun_at_8 = refl
 

@@ -5,7 +5,7 @@ use Rattle.dsa_terms.specs.Fits.{best_fit, first_fit}
 use Rattle.dsa_terms.specs.Layouts.{IsLayout}
 use Rattle.dsa_terms.specs.Logs.{Log}
 use Rattle.dsa_terms.specs.Orders.{orders}
-use Rattle.dsa_terms.specs.Parts.{is_cut, part_of, parts, searched, is_first, are_parted, are_uncut}
+use Rattle.dsa_terms.specs.Parts.{is_cut, part_of, parts, searched, is_leader, are_parted, are_uncut}
 use Rattle.dsa_terms.specs.Plans.{layout_height, plan}
 use Rattle.dsa_terms.specs.Starts.{best_start, lowest_place, planned, starts}
 use Rattle.dsa_terms.proofs.ExamplePlanFacts.{small_below_plan_at_4}
@@ -116,7 +116,7 @@ not_as_feasible h = h
 
 -- ---- no buffers need no bytes, and no log is written
 none_planned : planned [] 0 ≡ Some []
-unfolding planned plan layout_height starts orders first_fit best_fit searched parts part_of is_first are_uncut
+unfolding planned plan layout_height starts orders first_fit best_fit searched parts part_of is_leader are_uncut
     are_parted is_cut
 none_planned = refl
 

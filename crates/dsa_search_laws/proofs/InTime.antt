@@ -2,7 +2,7 @@
 use Rattle.std.proofs.Common.{◌≡◌, ℕ, ◌<◌, ◌≤◌, ◌≢◌, inl, inr, Bool, true, false, cond, nat_lt, List, [], ◌∷◌, length, map, refl, sym, ap, ◌∙◌, arith}
 use Rattle.dsa_terms.specs.Buffers.{Instance, buffer}
 use Rattle.dsa_terms.specs.Claims.{IsIn, Rises}
-use Rattle.dsa_terms.specs.Parts.{numbers, is_first}
+use Rattle.dsa_terms.specs.Parts.{numbers, is_leader}
 use Rattle.dsa_terms.specs.Sorts.{ordered_by, put_by}
 use Rattle.dsa_terms.proofs.Lists.{from_map, from_put_by, from_ordered_by}
 use Rattle.dsa_terms.proofs.NumberTests.{less, not_less, below_or_from}
@@ -48,9 +48,9 @@ ordered_goes_up m (x ∷ xs) r = put_goes_up m x (ordered_by (λ b c. nat_lt (m 
 
 pub in_time_goes_up : (I : Instance) → GoesUp (λ b. (buffer I b).lower) (in_time I)
 in_time_goes_up I = ordered_goes_up (λ b. (buffer I b).lower) (firsts I)
-    (rises-filter_numbers (is_first I) (numbers (length I)) (rises-range (length I) 0))
+    (rises-filter_numbers (is_leader I) (numbers (length I)) (rises-range (length I) 0))
 
-pub in_time_are_firsts : (I : Instance) (b : ℕ) → IsIn b (in_time I) → (b < length I) × (is_first I b ≡ true)
+pub in_time_are_firsts : (I : Instance) (b : ℕ) → IsIn b (in_time I) → (b < length I) × (is_leader I b ≡ true)
 in_time_are_firsts I b i = from_firsts I b (from_ordered_by (is_earlier I) (firsts I) b i)
 
 -- ---- their parts begin at rising cuts
@@ -60,12 +60,12 @@ start_grows I b c le = last_cut_is_greatest I (buffer I c).lower (last_cut I (bu
     (last_cut_is I (buffer I b).lower) (let k = last_cut_le I (buffer I b).lower in omega arith)
 
 pub starts_rise : (I : Instance) (bs : List ℕ) →
-    ((b : ℕ) → IsIn b bs → (b < length I) × (is_first I b ≡ true)) → GoesUp (λ b. (buffer I b).lower) bs →
+    ((b : ℕ) → IsIn b bs → (b < length I) × (is_leader I b ≡ true)) → GoesUp (λ b. (buffer I b).lower) bs →
     Rises (map (start_of I) bs)
 starts_rise I [] f g = tt
 starts_rise I (b ∷ bs) f g = (later, starts_rise I bs (λ c i. f c (inr i)) g.1)
   where
-    first : (b < length I) × (is_first I b ≡ true)
+    first : (b < length I) × (is_leader I b ≡ true)
     first = f b (inl refl)
 
     grows : (c : ℕ) → IsIn c bs → start_of I b < start_of I c

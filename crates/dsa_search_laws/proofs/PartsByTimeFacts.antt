@@ -1,7 +1,7 @@
 -- Where parts begin, what lies between buffers, and what is so of a buffer without a lifetime.
 use Rattle.std.proofs.Common.{◌≡◌, ℕ, ◌≤◌, [], ◌∷◌, true, map, sym, refl, ap, ◌∙◌, arith}
 use Rattle.dsa_terms.specs.Buffers.{Instance, buffer}
-use Rattle.dsa_terms.specs.Parts.{is_cut, are_parted, are_uncut, part_of, is_first, parts}
+use Rattle.dsa_terms.specs.Parts.{is_cut, are_parted, are_uncut, part_of, is_leader, parts}
 use Rattle.dsa_terms.proofs.Examples.{plain, five, two_parts}
 use Rattle.dsa_search_laws.specs.PartsByTime.{last_cut, start_of, members, parts_by_time, Separates, IsUncut}
 
@@ -63,7 +63,7 @@ abbrev nowhere : Instance
 nowhere = plain 0 0 1 1 ∷ []
 
 own_part : parts nowhere ≡ (0 ∷ []) ∷ []
-unfolding parts part_of is_first are_uncut are_parted is_cut buffer
+unfolding parts part_of is_leader are_uncut are_parted is_cut buffer
 own_part = refl
 
 one_at_0 : parts_by_time nowhere ≡ (0 ∷ []) ∷ []

@@ -4,7 +4,7 @@ use Rattle.dsa_terms.specs.Buffers.{is_live, buffer, do_share, some_before}
 use Rattle.dsa_terms.specs.Claims.{Claim, Entry, IsIn, up, step, child}
 use Rattle.dsa_terms.specs.Sorts.{IsOrdered}
 use Rattle.dsa_terms.specs.Search.{is_tall, comes_before, first_of}
-use Rattle.dsa_terms.specs.Parts.{is_cut, part_of, parts, is_first, are_parted, are_uncut}
+use Rattle.dsa_terms.specs.Parts.{is_cut, part_of, parts, is_leader, are_parted, are_uncut}
 use Rattle.dsa_terms.proofs.Examples.{evens, two_parts}
 use Rattle.dsa_search_laws.specs.Searches.{all_taken, plain_first, height, most_work}
 use Rattle.dsa_search_laws.specs.Together.{AreTogether}
@@ -38,7 +38,7 @@ most_works = refl
 
 -- the second and the last are in one part, the first and the second in two
 one_part : AreTogether two_parts 3 1
-unfolding parts part_of is_first are_uncut are_parted is_cut buffer
+unfolding parts part_of is_leader are_uncut are_parted is_cut buffer
 one_part = record {
   part = 1 ∷ 2 ∷ 3 ∷ [];
   is_part = inr (inl refl);
@@ -47,7 +47,7 @@ one_part = record {
 }
 
 other_parts : AreTogether two_parts 0 1 → ⊥
-unfolding parts part_of is_first are_uncut are_parted is_cut buffer
+unfolding parts part_of is_leader are_uncut are_parted is_cut buffer
 other_parts t = close t.part t.is_part t.has_first t.has_second
   where
     not_in_first : IsIn {X = ℕ} 1 (0 ∷ []) → ⊥

@@ -2,7 +2,7 @@
 use Rattle.std.proofs.Common.{◌≡◌, ℕ, suc, ◌<◌, ◌≤◌, ◌⊎◌, ◌↔◌, inl, inr, Bool, true, false, not, ◌&&◌, ◌||◌, nat_le, nat_lt, List, length, filter, sym, refl, ◌∙◌, subst, arith}
 use Rattle.dsa_terms.specs.Buffers.{Instance, buffer, IsInstance, IsLive}
 use Rattle.dsa_terms.specs.Claims.{IsIn, Rises}
-use Rattle.dsa_terms.specs.Parts.{is_cut, numbers, are_parted, are_uncut, part_of, is_first, parts}
+use Rattle.dsa_terms.specs.Parts.{is_cut, numbers, are_parted, are_uncut, part_of, is_leader, parts}
 use Rattle.dsa_terms.specs.Sorts.{ordered_by}
 use Rattle.dsa_terms.proofs.Lists.{any_gives, any_from, all_at, all_from, from_filter, into_filter, from_map, from_ordered_by, into_map, into_ordered_by}
 use Rattle.dsa_terms.proofs.Moments.{and_true, both_true}
@@ -146,7 +146,7 @@ sharing_in_one_part I b c t lb lc p q = one_start_is_one_part I b c (sharing_is_
 
 -- ---- the buffers with the smallest number in their parts
 abbrev pub firsts : Instance → List ℕ
-firsts I = filter (is_first I) (numbers (length I))
+firsts I = filter (is_leader I) (numbers (length I))
 
 -- b begins before c
 abbrev pub is_earlier : Instance → ℕ → ℕ → Bool
@@ -156,28 +156,28 @@ is_earlier I b c = nat_lt (buffer I b).lower (buffer I c).lower
 abbrev pub in_time : Instance → List ℕ
 in_time I = ordered_by (is_earlier I) (firsts I)
 
-pub first_is_least : (I : Instance) (b c : ℕ) → is_first I b ≡ true → c < length I → start_of I b ≡ start_of I c →
+pub first_is_least : (I : Instance) (b c : ℕ) → is_leader I b ≡ true → c < length I → start_of I b ≡ start_of I c →
     b ≤ c
-unfolding is_first
+unfolding is_leader
 first_is_least I b c h lt same = at_most b c (all_at (nat_le b) (part_of I b) c h (into_part I b c lt same))
 
-pub least_is_first : (I : Instance) (b : ℕ) → ((c : ℕ) → IsIn c (part_of I b) → b ≤ c) → is_first I b ≡ true
-unfolding is_first
+pub least_is_first : (I : Instance) (b : ℕ) → ((c : ℕ) → IsIn c (part_of I b) → b ≤ c) → is_leader I b ≡ true
+unfolding is_leader
 least_is_first I b h = all_from (nat_le b) (part_of I b) (λ c i. is_at_most b c (h c i))
 
-pub firsts_are_one : (I : Instance) (b c : ℕ) → is_first I b ≡ true → is_first I c ≡ true → b < length I →
+pub firsts_are_one : (I : Instance) (b c : ℕ) → is_leader I b ≡ true → is_leader I c ≡ true → b < length I →
     c < length I → start_of I b ≡ start_of I c → b ≡ c
 firsts_are_one I b c f g lb lc same =
     let k = first_is_least I b c f lc same in let l = first_is_least I c b g lb (sym same) in omega arith
 
-pub from_firsts : (I : Instance) (b : ℕ) → IsIn b (firsts I) → (b < length I) × (is_first I b ≡ true)
-from_firsts I b i = let r = from_filter (is_first I) (numbers (length I)) b i in (below (length I) b r.0, r.1)
+pub from_firsts : (I : Instance) (b : ℕ) → IsIn b (firsts I) → (b < length I) × (is_leader I b ≡ true)
+from_firsts I b i = let r = from_filter (is_leader I) (numbers (length I)) b i in (below (length I) b r.0, r.1)
 
-pub into_firsts : (I : Instance) (b : ℕ) → b < length I → is_first I b ≡ true → IsIn b (firsts I)
-into_firsts I b lt h = into_filter (is_first I) (numbers (length I)) b (among (length I) b lt) h
+pub into_firsts : (I : Instance) (b : ℕ) → b < length I → is_leader I b ≡ true → IsIn b (firsts I)
+into_firsts I b lt h = into_filter (is_leader I) (numbers (length I)) b (among (length I) b lt) h
 
 -- ---- each part is that of one of them
-pub part_of_first : (I : Instance) (b : ℕ) → b < length I → is_first I b ≡ true → IsIn (part_of I b) (parts I)
+pub part_of_first : (I : Instance) (b : ℕ) → b < length I → is_leader I b ≡ true → IsIn (part_of I b) (parts I)
 unfolding parts
 part_of_first I b lt h = into_map (part_of I) (in_time I) b
     (into_ordered_by (is_earlier I) (firsts I) b (into_firsts I b lt h))

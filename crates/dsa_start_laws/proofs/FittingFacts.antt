@@ -6,7 +6,8 @@ use Rattle.dsa_terms.specs.Claims.{Entry, IsIn}
 use Rattle.dsa_terms.specs.Fits.{top, highest, Range, is_tighter}
 use Rattle.dsa_terms.proofs.Examples.{evens}
 use Rattle.dsa_terms.proofs.FitFacts.{taken, sizes, range}
-use Rattle.dsa_start_laws.specs.Fitting.{IsClear, IsOpen, IsFreeRange, HasEach, tighter_of, tightest_in_turn}
+use Rattle.dsa_start_laws.specs.Fitting.{IsClear, IsOpen, IsFreeRange, HasEach}
+use Rattle.dsa_start_laws.proofs.Tightest.{tighter_of, tightest_in_turn}
 use Rattle.dsa_start_laws.specs.Ordering.{IsOrder}
 
 -- size 1 is clear between the two, at 4, and not at 5

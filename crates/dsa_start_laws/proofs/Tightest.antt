@@ -6,7 +6,16 @@ use Rattle.dsa_terms.specs.Claims.{IsIn}
 use Rattle.dsa_terms.specs.Fits.{Range, is_tighter, tightest}
 use Rattle.dsa_terms.proofs.Lists.{all_at}
 use Rattle.dsa_terms.proofs.Moments.{not_true}
-use Rattle.dsa_start_laws.specs.Fitting.{tighter_of, tightest_in_turn}
+
+-- of a range and maybe another the tighter one
+abbrev pub tighter_of : Range → Option Range → Option Range
+tighter_of r None = Some r
+tighter_of r (Some s) = cond (is_tighter s r) (Some s) (Some r)
+
+-- the tightest of the ranges, found by going through them
+abbrev pub tightest_in_turn : List Range → Option Range
+tightest_in_turn [] = None
+tightest_in_turn (r ∷ rs) = tighter_of r (tightest_in_turn rs)
 
 -- ---- the tightest
 abbrev tighter_test : ℕ → ℕ → ℕ → ℕ → Bool

@@ -1,9 +1,9 @@
 -- Where a buffer may be put, the free ranges, and orders that have each buffer.
-use Rattle.std.specs.Prelude.{◌≡◌, ◌<◌, ◌≤◌, ◌⊎◌, ℕ, cond, List, [], ◌∷◌, length, Option, Some, None}
+use Rattle.std.specs.Prelude.{◌≡◌, ◌<◌, ◌≤◌, ◌⊎◌, ℕ, List, length}
 use Rattle.dsa_terms.specs.Buffers.{Instance, buffer}
 use Rattle.dsa_terms.specs.Layouts.{IsMultiple, IsApart}
 use Rattle.dsa_terms.specs.Claims.{Entry, IsIn}
-use Rattle.dsa_terms.specs.Fits.{top, highest, Range, is_tighter}
+use Rattle.dsa_terms.specs.Fits.{top, highest, Range}
 
 -- b at x is aligned, at or above its lowest, and apart from each placed one
 pub record IsClear (I : Instance) (b : ℕ) (placed : List Entry) (x : ℕ) : Type 0 where
@@ -25,13 +25,3 @@ pub record IsFreeRange (I : Instance) (placed : List Entry) (r : Range) : Type 0
 -- each buffer is in the order
 abbrev pub HasEach : Instance → List ℕ → Type 0
 HasEach I order = (b : ℕ) → b < length I → IsIn b order
-
--- of a range and maybe another the tighter one
-abbrev pub tighter_of : Range → Option Range → Option Range
-tighter_of r None = Some r
-tighter_of r (Some s) = cond (is_tighter s r) (Some s) (Some r)
-
--- the tightest of the ranges, found by going through them
-abbrev pub tightest_in_turn : List Range → Option Range
-tightest_in_turn [] = None
-tightest_in_turn (r ∷ rs) = tighter_of r (tightest_in_turn rs)

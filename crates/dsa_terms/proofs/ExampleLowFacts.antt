@@ -5,7 +5,7 @@ use Rattle.dsa_terms.specs.Layouts.{IsMultiple, IsApart, IsLayout, IsInfeasible}
 use Rattle.dsa_terms.specs.Claims.{IsWhole, up, step, child}
 use Rattle.dsa_terms.specs.Logs.{ends_below, is_twin, Over, is_stacked, rounded, rounding}
 use Rattle.dsa_terms.specs.Search.{is_tall, comes_before, first, work}
-use Rattle.dsa_terms.specs.Parts.{is_cut, part_of, parts, whole, searched, whole_work, is_first, are_parted, are_uncut}
+use Rattle.dsa_terms.specs.Parts.{is_cut, part_of, parts, whole, searched, whole_work, is_leader, are_parted, are_uncut}
 use Rattle.dsa_terms.specs.Plans.{layout_height, plan, hunt}
 use Rattle.dsa_terms.specs.Fits.{top, highest, neighbours, is_free, FitRule, first_place, stretches, free_ranges, least_from, holds, is_tighter, best_place, first_fit, best_fit, is_clear}
 use Rattle.dsa_terms.specs.Orders.{falls_by, rises_by, orders}
@@ -137,48 +137,48 @@ lifted_heights = refl
 pub low_plan_at_9 : planned low 9 ≡ None
 unfolding planned plan layout_height starts orders falls_by rises_by first_fit best_fit neighbours first_place
     is_clear best_place free_ranges stretches holds least_from is_tighter is_free highest top do_share some_before
-    is_live buffer searched parts part_of is_first are_uncut are_parted is_cut first is_tall comes_before ends_below
+    is_live buffer searched parts part_of is_leader are_uncut are_parted is_cut first is_tall comes_before ends_below
     is_twin child up step have_same_moments
 low_plan_at_9 = refl
 
 pub low_plan_at_10 : planned low 10 ≡ Some (6 ∷ 0 ∷ [])
 unfolding planned plan layout_height starts orders falls_by rises_by first_fit best_fit neighbours first_place
     is_clear best_place free_ranges stretches holds least_from is_tighter is_free highest top do_share some_before
-    is_live buffer searched parts part_of is_first are_uncut are_parted is_cut first is_tall comes_before ends_below
+    is_live buffer searched parts part_of is_leader are_uncut are_parted is_cut first is_tall comes_before ends_below
     is_twin child up step have_same_moments
 low_plan_at_10 = refl
 
 pub lifted_plan_at_4 : planned lifted 4 ≡ None
 unfolding planned plan layout_height starts orders falls_by rises_by first_fit best_fit neighbours first_place
     is_clear best_place free_ranges stretches holds least_from is_tighter is_free highest top do_share some_before
-    is_live buffer searched parts part_of is_first are_uncut are_parted is_cut first is_tall comes_before ends_below
+    is_live buffer searched parts part_of is_leader are_uncut are_parted is_cut first is_tall comes_before ends_below
     is_twin child up step have_same_moments
 lifted_plan_at_4 = refl
 
 pub lifted_plan_at_5 : planned lifted 5 ≡ Some (2 ∷ 0 ∷ [])
 unfolding planned plan layout_height starts orders falls_by rises_by first_fit best_fit neighbours first_place
     is_clear best_place free_ranges stretches holds least_from is_tighter is_free highest top do_share some_before
-    is_live buffer searched parts part_of is_first are_uncut are_parted is_cut first is_tall comes_before ends_below
+    is_live buffer searched parts part_of is_leader are_uncut are_parted is_cut first is_tall comes_before ends_below
     is_twin child up step have_same_moments
 lifted_plan_at_5 = refl
 
 pub lifted_plan_at_6 : planned lifted 6 ≡ Some (1 ∷ 4 ∷ [])
 unfolding planned plan layout_height starts orders falls_by rises_by first_fit best_fit neighbours first_place
     is_clear best_place free_ranges stretches holds least_from is_tighter is_free highest top do_share some_before
-    is_live buffer searched parts part_of is_first are_uncut are_parted is_cut first is_tall comes_before ends_below
+    is_live buffer searched parts part_of is_leader are_uncut are_parted is_cut first is_tall comes_before ends_below
     is_twin child up step have_same_moments
 lifted_plan_at_6 = refl
 
 -- at 5 the first choice is 1, at 0, and then 0, at 2
 lifted_work : map (whole_work lifted) (4 ∷ 5 ∷ []) ≡ 3 ∷ 3 ∷ []
-unfolding whole_work work parts part_of is_first are_uncut are_parted is_cut first is_tall comes_before ends_below
+unfolding whole_work work parts part_of is_leader are_uncut are_parted is_cut first is_tall comes_before ends_below
     is_twin child up step have_same_moments do_share some_before is_live buffer
 lifted_work = refl
 
 lifted_hunt : hunted lifted 5 6 ≡ 3
 unfolding hunted hunt planned plan layout_height starts orders falls_by rises_by first_fit best_fit neighbours
     first_place is_clear best_place free_ranges stretches holds least_from is_tighter is_free highest top do_share
-    some_before is_live buffer searched parts part_of is_first are_uncut are_parted is_cut first is_tall
+    some_before is_live buffer searched parts part_of is_leader are_uncut are_parted is_cut first is_tall
     comes_before ends_below is_twin child up step have_same_moments whole_work work
 lifted_hunt = refl
 

@@ -4,7 +4,7 @@ use Rattle.dsa_terms.specs.Buffers.{Instance, is_live, buffer, do_share, have_sa
 use Rattle.dsa_terms.specs.Claims.{up, step, child}
 use Rattle.dsa_terms.specs.Logs.{ends_below, is_twin}
 use Rattle.dsa_terms.specs.Search.{is_tall, comes_before, first}
-use Rattle.dsa_terms.specs.Parts.{is_cut, is_empty, are_parted, are_uncut, part_of, is_first, parts, join, first_of_all, offsets_of, offsets_found}
+use Rattle.dsa_terms.specs.Parts.{is_cut, is_empty, are_parted, are_uncut, part_of, is_leader, parts, join, first_of_all, offsets_of, offsets_found}
 use Rattle.dsa_terms.proofs.Examples.{plain, five, evens, two_parts}
 
 some_item : is_empty {X = ℕ} (7 ∷ []) ≡ false
@@ -51,8 +51,8 @@ parts_of_each :
 unfolding part_of are_uncut are_parted is_cut buffer
 parts_of_each = refl
 
-firsts : map (is_first two_parts) (0 ∷ 1 ∷ 2 ∷ 3 ∷ []) ≡ true ∷ true ∷ false ∷ false ∷ []
-unfolding is_first part_of are_uncut are_parted is_cut buffer
+firsts : map (is_leader two_parts) (0 ∷ 1 ∷ 2 ∷ 3 ∷ []) ≡ true ∷ true ∷ false ∷ false ∷ []
+unfolding is_leader part_of are_uncut are_parted is_cut buffer
 firsts = refl
 
 -- the parts go by time, and not by number
@@ -60,7 +60,7 @@ abbrev pub later_first : Instance
 later_first = plain 4 7 1 1 ∷ plain 0 2 1 1 ∷ plain 6 9 1 1 ∷ plain 1 3 1 1 ∷ []
 
 by_time : parts later_first ≡ (1 ∷ 3 ∷ []) ∷ (0 ∷ 2 ∷ []) ∷ []
-unfolding parts part_of is_first are_uncut are_parted is_cut buffer
+unfolding parts part_of is_leader are_uncut are_parted is_cut buffer
 by_time = refl
 
 -- ---- answers put together: none where one of them is none

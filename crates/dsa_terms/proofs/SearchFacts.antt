@@ -5,7 +5,7 @@ use Rattle.dsa_terms.specs.Claims.{Entry, Claim, up, step, child}
 use Rattle.dsa_terms.specs.Logs.{ends_below, is_twin}
 use Rattle.dsa_terms.specs.Sorts.{put_by}
 use Rattle.dsa_terms.specs.Search.{is_tall, comes_before, first_some, seated, not_excluded, choices, first_of, first, work_through, work_of, work}
-use Rattle.dsa_terms.specs.Parts.{is_cut, part_of, parts, searched, whole_work, is_first, are_parted, are_uncut}
+use Rattle.dsa_terms.specs.Parts.{is_cut, part_of, parts, searched, whole_work, is_leader, are_parted, are_uncut}
 use Rattle.dsa_terms.specs.Plans.{layout_height, plan, after_plan, hunt_within}
 use Rattle.dsa_terms.proofs.Examples.{evens}
 
@@ -90,7 +90,7 @@ hunt_below = refl
 
 -- between 4 and 5 there is the work at 4; a bracket that has met has none, nor has a hunt of length 0
 hunt_at_4 : hunt_within 1 [] evens 4 5 ≡ 6
-unfolding whole_work work plan layout_height searched parts part_of is_first are_uncut are_parted is_cut first
+unfolding whole_work work plan layout_height searched parts part_of is_leader are_uncut are_parted is_cut first
     is_tall comes_before ends_below is_twin child up step have_same_moments do_share some_before is_live buffer
 hunt_at_4 = refl
 
@@ -102,6 +102,6 @@ hunt_of_length_0 = refl
 
 -- a start of height 5 is the plan at 8: 5 claims at 8, and then the 6 at 4
 hunt_below_start : hunt_within 9 ((2 ∷ 4 ∷ 0 ∷ []) ∷ []) evens 4 9 ≡ 10
-unfolding whole_work work plan layout_height searched parts part_of is_first are_uncut are_parted is_cut first
+unfolding whole_work work plan layout_height searched parts part_of is_leader are_uncut are_parted is_cut first
     is_tall comes_before ends_below is_twin child up step have_same_moments do_share some_before is_live buffer
 hunt_below_start = refl

@@ -3,7 +3,7 @@ use Rattle.std.proofs.Common.{◌≡◌, ◌≤◌, ℕ, zero, suc, List, [], �
 use Rattle.std.specs.Fmt.{digits}
 use Rattle.dsa_terms.specs.Bounds.{stack_log}
 use Rattle.dsa_terms.specs.Buffers.{Instance, buffer, do_share, is_live, some_before}
-use Rattle.dsa_terms.specs.Parts.{is_cut, part_of, parts, is_first, are_parted, are_uncut}
+use Rattle.dsa_terms.specs.Parts.{is_cut, part_of, parts, is_leader, are_parted, are_uncut}
 use Rattle.dsa_terms.specs.Plans.{load}
 use Rattle.dsa_terms.proofs.Examples.{plain, small_below}
 use Rattle.dsa_model.proofs.Live.{not_live_after}
@@ -56,7 +56,7 @@ abbrev below_facts : Facts
 below_facts = record { buffers = 2; peak = Some (0, 4); parts = 1; bound = 4; modulus = 1; best = 5 }
 
 one_part : AreFactsOf small_below below_facts
-unfolding parts part_of is_first are_uncut are_parted is_cut do_share some_before is_live buffer
+unfolding parts part_of is_leader are_uncut are_parted is_cut do_share some_before is_live buffer
 one_part = record {
   buffers = refl;
   peak = below_peak;

@@ -6,13 +6,12 @@ use Rattle.std.specs.List.Sorted.{IsPermutation}
 use Rattle.dsa_terms.specs.Buffers.{Instance, IsInstance}
 use Rattle.dsa_terms.specs.Claims.{Entry, IsIn}
 use Rattle.dsa_terms.specs.Fits.{Range, best_place, free_ranges, highest, holds, is_tighter, least_from, neighbours, start_in, tightest, top}
-use Rattle.dsa_start_laws.specs.Fitting.{tighter_of}
 use Rattle.dsa_terms.specs.Logs.{greatest}
 use Rattle.dsa_terms.proofs.Lists.{from_filter, into_filter, from_map, none_or_some, greatest_under}
 use Rattle.dsa_terms.proofs.NumberTests.{is_below, not_below}
 use Rattle.dsa_search_laws.proofs.Logs.{in_greatest}
 use Rattle.dsa_start_laws.proofs.Ranges.{free_ranges_exactly}
-use Rattle.dsa_start_laws.proofs.Tightest.{none_tighter, not_along, some_tightest, tightest_is_in, tightest_next}
+use Rattle.dsa_start_laws.proofs.Tightest.{none_tighter, not_along, some_tightest, tighter_of, tightest_is_in, tightest_next}
 use Rattle.first_fit.specs.Free.{IsBelow, narrowed, narrower, range_of}
 use Rattle.first_fit.specs.Seats.{AreSeats, seat_of}
 use Rattle.first_fit.specs.declared.seats.Seat.{Seat}

@@ -4,7 +4,7 @@ use Rattle.dsa_terms.specs.Buffers.{IsInstance, buffer, do_share, floor, have_sa
 use Rattle.dsa_terms.specs.Claims.{child, Claim, Entry, IsClaim, IsIn, IsWhole, step, up}
 use Rattle.dsa_terms.specs.Layouts.{IsLayout}
 use Rattle.dsa_terms.specs.Logs.{ends_below, is_stacked, is_twin, IsAccepted, IsLegal, IsOver, Line, Log, Over, rounded, rounding}
-use Rattle.dsa_terms.specs.Parts.{is_cut, part_of, parts, searched, is_first, are_parted, are_uncut}
+use Rattle.dsa_terms.specs.Parts.{is_cut, part_of, parts, searched, is_leader, are_parted, are_uncut}
 use Rattle.dsa_terms.specs.Plans.{layout_height}
 use Rattle.dsa_terms.specs.Search.{comes_before, first, is_tall}
 use Rattle.dsa_terms.proofs.Examples.{two_of_four}
@@ -72,7 +72,7 @@ two_sound (suc zero) d lt = (lit≤ tt, lit≤ tt, lit< tt)
 two_sound (suc (suc k)) d lt = absurd (omega arith)
 
 found_at_7 : searched two_of_four 7 ≡ Some (0 ∷ 4 ∷ [])
-unfolding searched parts part_of is_first are_uncut are_parted is_cut first is_tall comes_before ends_below is_twin
+unfolding searched parts part_of is_leader are_uncut are_parted is_cut first is_tall comes_before ends_below is_twin
     child up step do_share some_before have_same_moments is_live buffer
 found_at_7 = refl
 

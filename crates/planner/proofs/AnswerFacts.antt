@@ -9,7 +9,7 @@ use Rattle.dsa_terms.specs.Fits.{best_fit, best_place, first_fit, first_place, f
 use Rattle.dsa_terms.specs.Layouts.{IsInfeasible, IsLayout}
 use Rattle.dsa_terms.specs.Logs.{Log, ends_below, is_twin, is_stacked, rounded, rounding}
 use Rattle.dsa_terms.specs.Orders.{falls_by, orders, rises_by}
-use Rattle.dsa_terms.specs.Parts.{is_cut, part_of, parts, searched, whole_work, is_first, are_parted, are_uncut}
+use Rattle.dsa_terms.specs.Parts.{is_cut, part_of, parts, searched, whole_work, is_leader, are_parted, are_uncut}
 use Rattle.dsa_terms.specs.Plans.{hunt, layout_height, plan}
 use Rattle.dsa_terms.specs.Search.{comes_before, first, is_tall, work}
 use Rattle.dsa_terms.specs.Starts.{best_start, hunted, lowest_place, planned, starts}
@@ -131,7 +131,7 @@ open_is_not_exact I C b h = h.1.1 (λ offsets layout. h.0.1 (offsets, layout))
 below_work : work_of_least small_below ≡ 4
 unfolding hunted hunt whole_work work planned plan layout_height starts orders falls_by rises_by first_fit best_fit
     neighbours first_place floor is_clear best_place free_ranges stretches holds least_from is_tighter is_free
-    highest top do_share some_before is_live buffer searched parts part_of is_first are_uncut are_parted is_cut
+    highest top do_share some_before is_live buffer searched parts part_of is_leader are_uncut are_parted is_cut
     first is_tall comes_before ends_below is_twin child up step have_same_moments lower_bound highest_stack
     highest_at heights moduli moments stack counted is_stacked rounded rounding best_start lowest_place
 below_work = refl

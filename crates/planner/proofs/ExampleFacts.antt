@@ -5,7 +5,7 @@ use Rattle.dsa_terms.specs.Buffers.{buffer, do_share, is_live, some_before, floo
 use Rattle.dsa_terms.specs.Fits.{best_fit, best_place, first_fit, first_place, free_ranges, highest, holds, is_free, is_tighter, neighbours, stretches, top, least_from, is_clear}
 use Rattle.dsa_terms.specs.Logs.{Over, Log, is_stacked, rounded, rounding}
 use Rattle.dsa_terms.specs.Orders.{falls_by, orders, rises_by}
-use Rattle.dsa_terms.specs.Parts.{is_cut, part_of, parts, is_first, are_parted, are_uncut}
+use Rattle.dsa_terms.specs.Parts.{is_cut, part_of, parts, is_leader, are_parted, are_uncut}
 use Rattle.dsa_terms.specs.Plans.{layout_height}
 use Rattle.dsa_terms.specs.Starts.{best_start, lowest_place, starts}
 use Rattle.dsa_terms.proofs.Examples.{evens, small_below, two_of_four}
@@ -60,7 +60,7 @@ abbrev pub no_facts : Facts
 no_facts = record { buffers = 0; peak = None; parts = 0; bound = 0; modulus = 1; best = 0 }
 
 pub facts_of_none : AreFactsOf [] no_facts
-unfolding parts part_of is_first are_uncut are_parted is_cut bound_modulus least_of lower_bound highest_stack
+unfolding parts part_of is_leader are_uncut are_parted is_cut bound_modulus least_of lower_bound highest_stack
     highest_at heights moduli moments stack counted is_stacked rounded rounding up floor layout_height best_start
     lowest_place starts orders first_fit best_fit
 facts_of_none = record { buffers = refl; peak = refl; parts = refl; bound = refl; modulus = refl; best = refl }

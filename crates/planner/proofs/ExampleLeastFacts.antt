@@ -8,7 +8,7 @@ use Rattle.dsa_terms.specs.Fits.{best_fit, best_place, first_fit, first_place, f
 use Rattle.dsa_terms.specs.Layouts.{IsLayout, IsLeast}
 use Rattle.dsa_terms.specs.Logs.{Log, ends_below, is_twin, is_stacked, rounded, rounding}
 use Rattle.dsa_terms.specs.Orders.{falls_by, orders, rises_by}
-use Rattle.dsa_terms.specs.Parts.{is_cut, part_of, parts, searched, whole_work, is_first, are_parted, are_uncut}
+use Rattle.dsa_terms.specs.Parts.{is_cut, part_of, parts, searched, whole_work, is_leader, are_parted, are_uncut}
 use Rattle.dsa_terms.specs.Plans.{hunt, layout_height, plan}
 use Rattle.dsa_terms.specs.Search.{comes_before, first, is_tall, work}
 use Rattle.dsa_terms.specs.Starts.{best_start, hunted, lowest_place, planned, starts}
@@ -30,7 +30,7 @@ use Rattle.planner.specs.Openings.{AreTooFew, StaysOpen, IsSpentAt}
 evens_work : work_of_least evens ≡ 6
 unfolding hunted hunt whole_work work planned plan layout_height starts orders falls_by rises_by first_fit best_fit
     neighbours first_place floor is_clear best_place free_ranges stretches holds least_from is_tighter is_free
-    highest top do_share some_before is_live buffer searched parts part_of is_first are_uncut are_parted is_cut
+    highest top do_share some_before is_live buffer searched parts part_of is_leader are_uncut are_parted is_cut
     first is_tall comes_before ends_below is_twin child up step have_same_moments lower_bound highest_stack
     highest_at heights moduli moments stack counted is_stacked rounded rounding best_start lowest_place
 evens_work = refl
@@ -48,12 +48,12 @@ no_number work h = let g = h.given in cc
 halving_evens : hunted evens 4 5 ≡ 6
 unfolding hunted hunt whole_work work planned plan layout_height starts orders falls_by rises_by first_fit best_fit
     neighbours first_place floor is_clear best_place free_ranges stretches holds least_from is_tighter is_free
-    highest top do_share some_before is_live buffer searched parts part_of is_first are_uncut are_parted is_cut
+    highest top do_share some_before is_live buffer searched parts part_of is_leader are_uncut are_parted is_cut
     first is_tall comes_before ends_below is_twin child up step have_same_moments
 halving_evens = refl
 
 evens_at_4 : whole_work evens 4 ≡ 6
-unfolding whole_work work parts part_of is_first are_uncut are_parted is_cut first is_tall comes_before ends_below
+unfolding whole_work work parts part_of is_leader are_uncut are_parted is_cut first is_tall comes_before ends_below
     is_twin child up step do_share some_before have_same_moments is_live buffer
 evens_at_4 = refl
 
@@ -124,7 +124,7 @@ seven_is_exact b low high layout log = record {
 nothing_planned : planned [] 0 ≡ Some []
 unfolding planned plan layout_height starts orders falls_by rises_by first_fit best_fit neighbours first_place floor
     is_clear best_place free_ranges stretches holds least_from is_tighter is_free highest top do_share some_before
-    is_live buffer searched parts part_of is_first are_uncut are_parted is_cut first is_tall comes_before ends_below
+    is_live buffer searched parts part_of is_leader are_uncut are_parted is_cut first is_tall comes_before ends_below
     is_twin child up step have_same_moments
 nothing_planned = refl
 
@@ -166,7 +166,7 @@ four_is_open = record {
 }
 
 pub four_steps : whole_work small_below 4 ≡ 4
-unfolding whole_work work parts part_of is_first are_uncut are_parted is_cut first is_tall comes_before ends_below
+unfolding whole_work work parts part_of is_leader are_uncut are_parted is_cut first is_tall comes_before ends_below
     is_twin child up step do_share some_before have_same_moments is_live buffer
 four_steps = refl
 

@@ -6,7 +6,7 @@ use Rattle.dsa_terms.specs.Buffers.{buffer, do_share, have_same_moments, is_live
 use Rattle.dsa_terms.specs.Claims.{child, step, up}
 use Rattle.dsa_terms.specs.Layouts.{IsLayout}
 use Rattle.dsa_terms.specs.Logs.{Log, ends_below, is_twin}
-use Rattle.dsa_terms.specs.Parts.{is_cut, part_of, parts, searched, is_first, are_parted, are_uncut}
+use Rattle.dsa_terms.specs.Parts.{is_cut, part_of, parts, searched, is_leader, are_parted, are_uncut}
 use Rattle.dsa_terms.specs.Search.{comes_before, first, is_tall}
 use Rattle.dsa_terms.proofs.Examples.{sample, small_below}
 use Rattle.dsa_terms.proofs.ExamplePlanFacts.{small_below_plan_at_4}
@@ -19,12 +19,12 @@ use Rattle.planner.specs.declared.decision.Decision.TheVariants as decision
 use Rattle.planner.proofs.ExampleLeastFacts.{below_sound, four_stacked, four_steps, line_refutes}
 
 found_at_4 : searched small_below 4 ≡ Some (1 ∷ 0 ∷ [])
-unfolding searched parts part_of is_first are_uncut are_parted is_cut first is_tall comes_before ends_below is_twin
+unfolding searched parts part_of is_leader are_uncut are_parted is_cut first is_tall comes_before ends_below is_twin
     child up step have_same_moments do_share some_before is_live buffer
 found_at_4 = refl
 
 none_found_at_3 : searched small_below 3 ≡ None
-unfolding searched parts part_of is_first are_uncut are_parted is_cut first is_tall comes_before ends_below is_twin
+unfolding searched parts part_of is_leader are_uncut are_parted is_cut first is_tall comes_before ends_below is_twin
     child up step have_same_moments do_share some_before is_live buffer
 none_found_at_3 = refl
 

@@ -6,7 +6,7 @@ use Rattle.dsa_terms.specs.Claims.{child, step, up}
 use Rattle.dsa_terms.specs.Fits.{best_fit, best_place, first_fit, first_place, free_ranges, highest, holds, is_free, is_tighter, neighbours, stretches, top, least_from, is_clear}
 use Rattle.dsa_terms.specs.Logs.{ends_below, is_twin}
 use Rattle.dsa_terms.specs.Orders.{falls_by, orders, rises_by}
-use Rattle.dsa_terms.specs.Parts.{is_cut, part_of, parts, searched, whole_work, is_first, are_parted, are_uncut}
+use Rattle.dsa_terms.specs.Parts.{is_cut, part_of, parts, searched, whole_work, is_leader, are_parted, are_uncut}
 use Rattle.dsa_terms.specs.Plans.{hunt, layout_height, plan}
 use Rattle.dsa_terms.specs.Search.{comes_before, first, is_tall, work}
 use Rattle.dsa_terms.specs.Starts.{best_start, hunted, starts}
@@ -37,7 +37,7 @@ below_the_bound k L H h =
 halving : hunted small_below 4 5 ≡ 4
 unfolding hunted hunt whole_work work plan layout_height starts orders falls_by rises_by first_fit best_fit
     neighbours first_place floor is_clear best_place free_ranges stretches holds least_from is_tighter is_free
-    highest top do_share some_before is_live buffer searched parts part_of is_first are_uncut are_parted is_cut
+    highest top do_share some_before is_live buffer searched parts part_of is_leader are_uncut are_parted is_cut
     first is_tall comes_before ends_below is_twin child up step have_same_moments
 halving = refl
 

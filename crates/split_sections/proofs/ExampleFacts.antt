@@ -2,7 +2,7 @@
 use Rattle.std.proofs.Common.{◌≡◌, ℕ, zero, suc, ◌<◌, ◌≤◌, inl, inr, [], ◌∷◌, List, refl, lit<, lit≤, arith}
 use Rattle.dsa_terms.specs.Buffers.{Buffer, Instance, buffer}
 use Rattle.dsa_terms.specs.Claims.{IsIn}
-use Rattle.dsa_terms.specs.Parts.{is_cut, part_of, parts, is_first, are_parted, are_uncut}
+use Rattle.dsa_terms.specs.Parts.{is_cut, part_of, parts, is_leader, are_parted, are_uncut}
 use Rattle.dsa_model.specs.Lists.{pair_at}
 use Rattle.dsa_search_laws.specs.PartsByTime.{last_cut, start_of}
 use Rattle.split_sections.specs.PartList.{AreInRange, IsPart}
@@ -17,7 +17,7 @@ abbrev pub three : Instance
 three = lives 5 7 ∷ lives 0 3 ∷ lives 3 5 ∷ []
 
 three_parts : parts three ≡ (1 ∷ []) ∷ (2 ∷ []) ∷ (0 ∷ []) ∷ []
-unfolding parts part_of is_first are_uncut are_parted is_cut buffer
+unfolding parts part_of is_leader are_uncut are_parted is_cut buffer
 three_parts = refl
 
 entry_of_first : lower_entry three 0 ≡ (5, 0)

@@ -100,14 +100,14 @@ pub reaching_first : (I : Instance) (order : List (ℕ × ℕ)) (first i reach :
     IsReaching I order first i reach
 reaching_first I order first i reach a lt h e up = record {
   started = omega arith;
-  same = λ k le kn. subst (λ (k : ℕ). start_of I (pair_at order k).1 ≡ (pair_at order first).0) (is_first k le kn)
+  same = λ k le kn. subst (λ (k : ℕ). start_of I (pair_at order k).1 ≡ (pair_at order first).0) (is_leader k le kn)
       (sym (begins_here I order first a h lt));
-  over = λ k le kn. let z = ap (λ k. (buffer I (pair_at order k).1).upper) (is_first k le kn) in omega arith;
+  over = λ k le kn. let z = ap (λ k. (buffer I (pair_at order k).1).upper) (is_leader k le kn) in omega arith;
   reached = (first, omega arith, omega arith, up);
 }
   where
-    is_first : (k : ℕ) → first ≤ k → k < i → first ≡ k
-    is_first k le kn = omega arith
+    is_leader : (k : ℕ) → first ≤ k → k < i → first ≡ k
+    is_leader k le kn = omega arith
 
 -- one more of the part
 pub reaching_more : (I : Instance) (order : List (ℕ × ℕ)) (first i reach top : ℕ) (e : ℕ × ℕ) → AreByLower I order →

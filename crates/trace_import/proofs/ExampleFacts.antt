@@ -13,7 +13,7 @@ use Rattle.dsa_terms.specs.Buffers.{is_live, buffer, do_share, some_before, have
 use Rattle.dsa_terms.specs.Claims.{up, step, child}
 use Rattle.dsa_terms.specs.Logs.{ends_below, is_twin}
 use Rattle.dsa_terms.specs.Search.{is_tall, comes_before, first}
-use Rattle.dsa_terms.specs.Parts.{is_cut, part_of, parts, searched, is_first, are_parted, are_uncut}
+use Rattle.dsa_terms.specs.Parts.{is_cut, part_of, parts, searched, is_leader, are_parted, are_uncut}
 use Rattle.dsa_terms.specs.Plans.{layout_height, plan}
 use Rattle.dsa_terms.specs.Fits.{top, highest, neighbours, is_free, first_place, stretches, free_ranges, holds, is_tighter, best_place, first_fit, best_fit, least_from, is_clear}
 use Rattle.dsa_terms.specs.Orders.{falls_by, rises_by, orders}
@@ -171,13 +171,13 @@ size_0_does_not = refl
 twice_at_11 : planned (imported twice) 11 ≡ None
 unfolding imported planned plan layout_height starts orders falls_by rises_by first_fit best_fit neighbours
     first_place floor is_clear best_place free_ranges stretches holds least_from is_tighter is_free highest top
-    do_share some_before is_live buffer searched parts part_of is_first are_uncut are_parted is_cut first is_tall
+    do_share some_before is_live buffer searched parts part_of is_leader are_uncut are_parted is_cut first is_tall
     comes_before ends_below is_twin child up step have_same_moments
 twice_at_11 = refl
 
 twice_at_12 : planned (imported twice) 12 ≡ Some (8 ∷ 0 ∷ 8 ∷ [])
 unfolding imported planned plan layout_height starts orders falls_by rises_by first_fit best_fit neighbours
     first_place floor is_clear best_place free_ranges stretches holds least_from is_tighter is_free highest top
-    do_share some_before is_live buffer searched parts part_of is_first are_uncut are_parted is_cut first is_tall
+    do_share some_before is_live buffer searched parts part_of is_leader are_uncut are_parted is_cut first is_tall
     comes_before ends_below is_twin child up step have_same_moments
 twice_at_12 = refl
