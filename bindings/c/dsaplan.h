@@ -27,7 +27,7 @@ extern "C" {
 /* The greatest number of buffers, and of gaps of one buffer. */
 enum { DSAPLAN_BUFFER_LIMIT = 4096, DSAPLAN_GAP_LIMIT = 64 };
 
-/* What a call returns: the exit codes of the program. */
+/* What a call returns: what the program ends with in such cases, but for DSAPLAN_LENGTHS_DIFFER. */
 enum dsaplan_status {
     DSAPLAN_FITS = 0,           /* offsets are written: a layout within the capacity, or of the least one */
     DSAPLAN_DOES_NOT_FIT = 1,   /* no layout fits within the capacity */

@@ -104,7 +104,10 @@ class _Detail(ctypes.Structure):
 def _load():
     here = os.path.dirname(os.path.abspath(__file__))
     folder = os.environ.get("DSAPLAN_LIBRARY") or os.path.join(os.path.dirname(here), "out")
-    library = ctypes.CDLL(os.path.join(folder, "libdsaplan.so"))
+    try:
+        library = ctypes.CDLL(os.path.join(folder, "libdsaplan.so"))
+    except OSError as error:
+        raise OSError(f"{error}: bindings/build makes it") from error
     words = [ctypes.POINTER(ctypes.c_uint64), ctypes.c_size_t]
     arrays = words * 5 + [ctypes.POINTER(_Gap), ctypes.c_size_t, ctypes.POINTER(ctypes.c_uint32), ctypes.c_size_t]
     limit = [ctypes.c_bool, ctypes.c_uint64]
