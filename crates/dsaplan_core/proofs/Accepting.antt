@@ -35,7 +35,7 @@ use Rattle.dsaplan_core.proofs.Concluded.{not_broken}
 use Rattle.dsaplan_core.proofs.Served.{checked_served, opened_served, same_bytes}
 
 -- bytes say one log
-same_raw : (bytes : List ℕ) (r s : RawLog) → Says bytes r → Says bytes s → r ≡ s
+pub same_raw : (bytes : List ℕ) (r s : RawLog) → Says bytes r → Says bytes s → r ≡ s
 same_raw bytes r s one two = (says_prefix_free bytes bytes r s [] [] one two refl).0
 
 -- where the log is read, a test of the files that are read finds it
@@ -47,7 +47,7 @@ or_true : (a : Bool) → (a || true) ≡ true
 or_true true = refl
 or_true false = refl
 
-log_is_found : (rs : List Role) → IsIn role.Log rs → list_any is_log rs ≡ true
+pub log_is_found : (rs : List Role) → IsIn role.Log rs → list_any is_log rs ≡ true
 log_is_found [] is = absurd is
 log_is_found (r ∷ rs) (inl same) = subst (λ (x : Role). list_any is_log (x ∷ rs) ≡ true) same refl
 log_is_found (r ∷ rs) (inr is) = rw (log_is_found rs is) (or_true (is_log r))

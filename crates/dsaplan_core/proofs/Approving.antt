@@ -1,5 +1,5 @@
 -- A layout file that gives a layout is approved of.
-use Rattle.std.proofs.Common.{◌≡◌, ◌∙◌, ◌⊎◌, ◌^◌, ℕ, List, Ok, refl, sym, ap, ap₂, subst, inl, inr}
+use Rattle.std.proofs.Common.{◌≡◌, ◌∙◌, ◌⊎◌, ◌^◌, ℕ, List, Ok, refl, sym, ap₂, subst, inl, inr}
 use Rattle.dsa_terms.specs.Buffers.{Instance}
 use Rattle.dsa_terms.specs.Claims.{IsIn}
 use Rattle.dsa_terms.specs.Layouts.{IsLayout}
@@ -32,7 +32,7 @@ use Rattle.dsaplan_core.specs.Complete.{HoldsGivenLayout, IsApproval, IsReady, I
 use Rattle.dsaplan_core.proofs.Answered.{answered, words_give}
 use Rattle.dsaplan_core.proofs.Concluded.{not_broken}
 use Rattle.dsaplan_core.proofs.Gives.{judged_gives}
-use Rattle.dsaplan_core.proofs.Served.{opened_read, same_bytes, served}
+use Rattle.dsaplan_core.proofs.Served.{opened_read, same_bytes, same_table, served}
 
 memory : (v : Verb) (I : Instance) (offsets : List ℕ) → IsApproval v I offsets status.NoMemory
 memory verb.Verify I offsets = tt
@@ -40,23 +40,15 @@ memory v I offsets = tt
 
 module _ (old : FilesSeen) (r : Request) (I : Instance) (ready : IsReady old r I) (C : ℕ) (offsets : List ℕ)
     (holds : HoldsGivenLayout old r I C offsets) (reads : ReadsInstance r.verb) where
-  -- the input has one table
-  same_table : (table : List Record) → IsInput old (name_in r.pairs role.Input) table I → table ≡ holds.table
-  same_table table input =
-      let there = (ready.input reads).file in
-      let one = same_bytes old role.Input (name_in r.pairs role.Input) input.bytes there.bytes there.held input.whole in
-      let other = same_bytes old role.Input (name_in r.pairs role.Input) holds.input.bytes there.bytes there.held
-      holds.input.whole in
-      input.records ∙ (ap table_of (one ∙ sym other) ∙ sym holds.input.records)
-
-  -- by which the layout file gives these offsets
+  -- the layout file gives these offsets
   gives_them : (table : List Record) → IsInput old (name_in r.pairs role.Input) table I → (bytes : List ℕ) →
       IsWholeFile old role.Layout (name_in r.pairs role.Layout) bytes →
       parsed_offsets (ids_of table) (table_of bytes) ≡ Ok offsets
   gives_them table input bytes whole =
       let same = same_bytes old role.Layout (name_in r.pairs role.Layout) bytes holds.bytes holds.held whole in
-      ap₂ (λ (t : List Record) (b : List ℕ). parsed_offsets (ids_of t) (table_of b)) (same_table table input) same
-      ∙ holds.parsed
+      let one = same_table old (name_in r.pairs role.Input) I (ready.input reads).file table holds.table input
+      holds.input in
+      ap₂ (λ (t : List Record) (b : List ℕ). parsed_offsets (ids_of t) (table_of b)) one same ∙ holds.parsed
 
   its_offsets : (table : List Record) → IsInput old (name_in r.pairs role.Input) table I → (found : List ℕ) →
       GivesLayout old (name_in r.pairs role.Layout) table I C found → found ≡ offsets

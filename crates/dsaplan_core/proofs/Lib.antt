@@ -17,6 +17,8 @@ mod Concluded
 mod Serving
 mod Accepting
 mod Approving
+mod RefusedLogs
+mod WrongLayouts
 mod Inputs
 mod LongFiles
 mod Explained
@@ -29,6 +31,7 @@ mod HeldFacts
 mod JudgedFacts
 mod RefutedFacts
 mod PremiseFacts
+mod FaultyFacts
 mod ChoiceFacts
 mod OutcomeFacts
 mod HeadlineFacts

@@ -1,7 +1,7 @@
 -- What the laws of what is accepted, malformed or too long ask is met, all of it at once: on an input of two buffers
 -- that are both live at 4, with a layout at 8 or with a log by which 7 bytes are too few, on an input of no bytes, and
 -- on files that are too long.
-use Rattle.std.proofs.Common.{◌≡◌, ◌≢◌, ◌<◌, ◌∙◌, ℕ, suc, List, [], ◌∷◌, length, replicate, Option, None, Some, Result, Ok, codes, refl, sym, ap, subst, inl, inr, lit<, lit≤, arith}
+use Rattle.std.proofs.Common.{◌≡◌, ◌≢◌, ◌<◌, ◌≤◌, ◌∙◌, ℕ, suc, List, [], ◌∷◌, length, replicate, Option, None, Some, Result, Ok, codes, refl, sym, ap, subst, inl, inr, lit<, lit≤, arith}
 use Rattle.std.specs.FinMap.{empty, insert}
 use Rattle.std.proofs.lemmas.List.{length-replicate}
 use Rattle.dsa_terms.specs.Buffers.{Instance}
@@ -48,15 +48,15 @@ use Rattle.dsaplan_core.proofs.JudgedFacts.{beside, given_at_8, reads_layout, ve
 
 -- ---- nothing disturbs, and a status is told
 -- the sink, once the line of a status is printed
-abbrev sink_after : Status → SinkSeen
+abbrev pub sink_after : Status → SinkSeen
 sink_after s = record { content = Some (line s); faults = 0 }
 
-undisturbed : (r : Request) (files : FileMap) (s : Status) →
+pub undisturbed : (r : Request) (files : FileMap) (s : Status) →
     IsUndisturbed r (told files) (told files) quiet (sink_after s)
 undisturbed r files s = record { files = λ name among rose. omega (arith, rose); sink = λ rose. omega (arith, rose) }
 
 -- where a command's course comes to a status that is told by its line, that is what words for it answer
-said : (words : List Word) (r : Request) (files : FileMap) (s : Status) → request_of words ≡ Ok r →
+pub said : (words : List Word) (r : Request) (files : FileMap) (s : Status) → request_of words ≡ Ok r →
     Comes (told files) (told files) (course_with r.verb r.pairs) (says s) →
     IsSaid (course words) (told files) (told files) quiet (sink_after s) s
 said words r files s asked comes = record {
@@ -96,7 +96,7 @@ module _ (name bytes : List ℕ) (other : codes "i" ≢ name) where
   both pairs second named there r (inr (inr i)) = absurd i
 
   -- a course that reads the input goes on with the two
-  goes_on : (next : List Record → Instance → Course) (o : Outcome) →
+  pub goes_on : (next : List Record → Instance → Course) (o : Outcome) →
       Comes (told (with_file name bytes)) (told (with_file name bytes)) (next (table_of two_file) two) o →
       Comes (told (with_file name bytes)) (told (with_file name bytes)) (opened (codes "i") next) o
   goes_on next o comes = inr (
@@ -113,14 +113,15 @@ verify_8 = verify_request (codes "8")
 abbrev judges_at_8 : List Record → Instance → Course
 judges_at_8 table I = judged (codes "a") table I 8 (λ offsets. Concludes (TellsRight I 8 offsets))
 
-not_a : codes "i" ≢ codes "a"
+pub not_a : codes "i" ≢ codes "a"
 not_a e = first_differs (codes "a") (codes "i") (lit< tt) (sym e)
 
-layout_is_ready : IsReady (beside high_file) verify_8 two
-layout_is_ready = record {
-  files = both (codes "a") high_file not_a verify_8.pairs role.Layout refl
-      (record { bytes = high_file; held = reads_layout high_file; short = lit≤ tt });
-  input = λ reads. two_there (codes "a") high_file not_a;
+pub layout_is_ready : (capacity file : List ℕ) → length file ≤ limit_of role.Layout →
+    IsReady (beside file) (verify_request capacity) two
+layout_is_ready capacity file short = record {
+  files = both (codes "a") file not_a (verify_request capacity).pairs role.Layout refl
+      (record { bytes = file; held = reads_layout file; short = short });
+  input = λ reads. two_there (codes "a") file not_a;
 }
 
 its_offsets : parsed_offsets (ids_of (table_of two_file)) (table_of high_file) ≡ Ok (0 ∷ 4 ∷ [])
@@ -147,7 +148,7 @@ judges_is_met : (request_of (codes "verify" ∷ verify_values (codes "8")) ≡ O
 judges_is_met = (
   refl,
   refl,
-  layout_is_ready,
+  layout_is_ready (codes "8") high_file (lit≤ tt),
   undisturbed verify_8 (with_file (codes "a") high_file) status.Right,
   given_at_8,
   said (codes "verify" ∷ verify_values (codes "8")) verify_8 (with_file (codes "a") high_file) status.Right refl
@@ -158,23 +159,30 @@ judges_is_met = (
 abbrev pub refute_values : List Word
 refute_values = codes "--input" ∷ codes "i" ∷ codes "--log" ∷ codes "l" ∷ []
 
-abbrev refute_7 : Request
+abbrev pub refute_7 : Request
 refute_7 = record { verb = verb.Refute; pairs = pairs_of refute_values }
 
+-- the log's file stands in the file l, beside the input
+abbrev pub logged : List ℕ → FilesSeen
+logged file = told (with_file (codes "l") file)
+
+pub reads_file : (file : List ℕ) → file_at (logged file).held (codes "l") ≡ Some file
+reads_file file = file_at-with_file (Some input_alone) (codes "l") file refl
+
 abbrev pub with_log : FilesSeen
-with_log = told (with_file (codes "l") seven_file)
+with_log = logged seven_file
 
 pub reads_log : file_at with_log.held (codes "l") ≡ Some seven_file
-reads_log = file_at-with_file (Some input_alone) (codes "l") seven_file refl
+reads_log = reads_file seven_file
 
 pub not_l : codes "i" ≢ codes "l"
 not_l = first_differs (codes "i") (codes "l") (lit< tt)
 
-log_is_ready : IsReady with_log refute_7 two
-log_is_ready = record {
-  files = both (codes "l") seven_file not_l refute_7.pairs role.Log refl
-      (record { bytes = seven_file; held = reads_log; short = lit≤ tt });
-  input = λ reads. two_there (codes "l") seven_file not_l;
+pub log_is_ready : (file : List ℕ) → length file ≤ limit_of role.Log → IsReady (logged file) refute_7 two
+log_is_ready file short = record {
+  files = both (codes "l") file not_l refute_7.pairs role.Log refl
+      (record { bytes = file; held = reads_file file; short = short });
+  input = λ reads. two_there (codes "l") file not_l;
 }
 
 holds_seven : HoldsLog two seven_log with_log (codes "l")
@@ -185,7 +193,7 @@ holds_seven = record {
   accepted = refuted_at_7.accepted;
 }
 
-abbrev checks_log : List Record → Instance → Course
+abbrev pub checks_log : List Record → Instance → Course
 checks_log table I = checked (codes "l") I (λ log o. o ≡ says (status.Accepted log.capacity))
 
 accepted_at_7 : Comes with_log with_log (checks_log (table_of two_file) two) (says (status.Accepted 7))
@@ -203,7 +211,7 @@ checks_is_met : (request_of (codes "refute" ∷ refute_values) ≡ Ok refute_7) 
 checks_is_met = (
   refl,
   inr (inl refl),
-  log_is_ready,
+  log_is_ready seven_file (lit≤ tt),
   undisturbed refute_7 (with_file (codes "l") seven_file) (status.Accepted 7),
   holds_seven,
   said (codes "refute" ∷ refute_values) refute_7 (with_file (codes "l") seven_file) (status.Accepted 7) refl

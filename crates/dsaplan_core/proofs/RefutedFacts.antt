@@ -1,5 +1,5 @@
--- A log by which 7 bytes are too few for two buffers that are both live at 4, and its text.
-use Rattle.std.proofs.Common.{◌≡◌, ◌<◌, ℕ, zero, suc, List, [], ◌∷◌, codes, refl, subst, inl, inr, lit<, lit≤, arith}
+-- A log by which 7 bytes are too few for two buffers that are both live at 4, its text, and one for three buffers.
+use Rattle.std.proofs.Common.{◌≡◌, ◌<◌, ℕ, zero, suc, List, [], ◌∷◌, All, Some, codes, refl, subst, inl, inr, lit<, lit≤, arith}
 use Rattle.std.proofs.lemmas.List.Elements.{All-cons, All-nil}
 use Rattle.dsa_terms.specs.Bounds.{counted, line_height, stack, stack_line, stack_log}
 use Rattle.dsa_terms.specs.Buffers.{IsInstance, buffer, floor, is_live}
@@ -13,6 +13,9 @@ use Rattle.log_text.specs.RawTexts.{HasCite, IsTextOf}
 use Rattle.log_text.specs.Text.{raw_log_of}
 use Rattle.log_text.specs.declared.raw.RawLine.{RawLine}
 use Rattle.log_text.specs.declared.raw.RawLine.TheVariants as raw_line
+use Rattle.log_text.specs.declared.raw.RawLog.{RawLog}
+use Rattle.log_check.specs.Faults.{check_fault}
+use Rattle.log_check.specs.declared.fault.CheckFault.TheVariants as check
 use Rattle.csv_instance.proofs.FileFacts.{two}
 use Rattle.dsaplan_core.proofs.HeldFacts.{seven_log}
 
@@ -39,31 +42,47 @@ seven_file = codes "dsalog 1 2 7\nover 4 0 1 : 0=0 1=0\nend 0\n"
 abbrev seven_line : RawLine
 seven_line = raw_line.Over 4 0 1 ((0, 0) ∷ (1, 0) ∷ [])
 
-pub seven_reads : IsTextOf seven_file (raw_log_of seven_log)
-unfolding numeral
-seven_reads = record {
-  kept = record {
-    count_limit = lit≤ tt;
-    capacity_limit = lit≤ tt;
-    end_limit = lit≤ tt;
-    lines = All-cons IsRawLineKept seven_line []
-        (record {
-          not_empty = λ e. cc;
-          rising = (above, ((λ y i. absurd i), tt));
-          within = (
-            lit< tt,
-            lit≤ tt,
-            lit≤ tt,
-            All-cons IsPairWithin (0, 0) ((1, 0) ∷ []) (lit≤ tt, lit≤ tt)
-                (All-cons IsPairWithin (1, 0) [] (lit≤ tt, lit≤ tt) (All-nil IsPairWithin)),
-          );
-        })
-        (All-nil IsRawLineKept);
-  };
-  cited = All-cons HasCite seven_line [] tt (All-nil HasCite);
-  text = refl;
-}
+line_kept : All IsRawLineKept (seven_line ∷ [])
+line_kept = All-cons IsRawLineKept seven_line []
+    (record {
+      not_empty = λ e. cc;
+      rising = (above, ((λ y i. absurd i), tt));
+      within = (
+        lit< tt,
+        lit≤ tt,
+        lit≤ tt,
+        All-cons IsPairWithin (0, 0) ((1, 0) ∷ []) (lit≤ tt, lit≤ tt)
+            (All-cons IsPairWithin (1, 0) [] (lit≤ tt, lit≤ tt) (All-nil IsPairWithin)),
+      );
+    })
+    (All-nil IsRawLineKept)
   where
     above : (y : ℕ) → IsIn y (1 ∷ []) → 0 < y
     above y (inl e) = omega (arith, e)
     above y (inr i) = absurd i
+
+pub seven_reads : IsTextOf seven_file (raw_log_of seven_log)
+unfolding numeral
+seven_reads = record {
+  kept = record { count_limit = lit≤ tt; capacity_limit = lit≤ tt; end_limit = lit≤ tt; lines = line_kept };
+  cited = All-cons HasCite seven_line [] tt (All-nil HasCite);
+  text = refl;
+}
+
+-- the same line in a log for three buffers, which is refused for the two
+abbrev pub three_raw : RawLog
+three_raw = record { count = 3; capacity = 7; lines = seven_line ∷ []; end = 0 }
+
+abbrev pub three_file : List ℕ
+three_file = codes "dsalog 1 3 7\nover 4 0 1 : 0=0 1=0\nend 0\n"
+
+pub three_reads : IsTextOf three_file three_raw
+unfolding numeral
+three_reads = record {
+  kept = record { count_limit = lit≤ tt; capacity_limit = lit≤ tt; end_limit = lit≤ tt; lines = line_kept };
+  cited = All-cons HasCite seven_line [] tt (All-nil HasCite);
+  text = refl;
+}
+
+pub three_fault : check_fault two three_raw ≡ Some (check.WrongCount 3 2)
+three_fault = refl

@@ -1,5 +1,5 @@
 -- Where nothing outside fails and the files of a command are readable, no reading of them ends a run.
-use Rattle.std.proofs.Common.{◌≡◌, ℕ, List, length, Option, Some, None, IsSome, Ok, refl, ap, ◌∙◌, subst, inl, inr, arith}
+use Rattle.std.proofs.Common.{◌≡◌, ℕ, List, length, Option, Some, None, IsSome, Ok, refl, sym, ap, ◌∙◌, subst, inl, inr, arith}
 use Rattle.dsa_terms.specs.Buffers.{Instance}
 use Rattle.dsa_terms.specs.Claims.{IsIn}
 use Rattle.dsa_terms.specs.Logs.{Log}
@@ -44,6 +44,21 @@ pub same_bytes : (files : FilesSeen) (role : Role) (name : Word) (bytes b : List
     file_at files.held name ≡ Some b → IsWholeFile files role name bytes → bytes ≡ b
 same_bytes files role name bytes b is whole =
     let other : file_at files.held name ≡ Some bytes = whole.held (is_told files.held name b is) in cc
+
+-- so a readable file is read as one
+pub same_reading : (files : FilesSeen) (own : Role) (name : Word) → IsReadable files own name → (a b : List ℕ) →
+    IsWholeFile files own name a → IsWholeFile files own name b → a ≡ b
+same_reading files own name there a b one other =
+    same_bytes files own name a there.bytes there.held one
+    ∙ sym (same_bytes files own name b there.bytes there.held other)
+
+-- and as an input it has one table
+pub same_table : (files : FilesSeen) (name : Word) (I : Instance) → IsReadable files role.Input name →
+    (t u : List Record) → IsInput files name t I → IsInput files name u I → t ≡ u
+same_table files name I there t u one other =
+    one.records
+    ∙ (ap table_of (same_reading files role.Input name there one.bytes other.bytes one.whole other.whole)
+    ∙ sym other.records)
 
 not_more : (files : FilesSeen) (role : Role) (name : Word) → IsReadable files role name → HoldsMore files role name → ⊥
 not_more files role name there more =

@@ -27,6 +27,8 @@ use Rattle.run_course.specs.Complete.{ConcludesOn, IsCalm, IsReadable}
 use Rattle.readings.specs.Opens.{IsInput}
 use Rattle.run_status.specs.declared.status.Status.{Status}
 use Rattle.run_status.specs.declared.status.Status.TheVariants as status
+use Rattle.run_status.specs.declared.status.LogCause.{LogCause}
+use Rattle.run_status.specs.declared.status.WrongCause.{WrongCause}
 use Rattle.dsaplan_core.specs.Courses.{course_with}
 
 -- the name holds this instance
@@ -73,6 +75,12 @@ IsAcceptance verb.Upgrade log (status.Upgraded lines) = lines ≡ length log.lin
 IsAcceptance verb log status.NoMemory = Unit {0}
 IsAcceptance verb log status = ⊥
 
+-- the status says that the log is refused, for this cause, or that memory ran out
+abbrev pub IsRefusedFor : LogCause → Status → Type 0
+IsRefusedFor cause (status.LogRefused told) = told ≡ cause
+IsRefusedFor cause status.NoMemory = Unit {0}
+IsRefusedFor cause status = ⊥
+
 -- the layout file holds bytes that give the buffers of the input's table these offsets, which are a layout of the
 -- instance at the capacity
 pub record HoldsGivenLayout (seen : FilesSeen) (r : Request) (I : Instance) (C : ℕ) (offsets : List ℕ) : Type 0 where
@@ -91,6 +99,12 @@ IsApproval verb.Report I offsets status.Shown = Unit {0}
 IsApproval verb.Draw I offsets (status.Drawn count) = count ≡ length (rectangles I offsets)
 IsApproval verb I offsets status.NoMemory = Unit {0}
 IsApproval verb I offsets status = ⊥
+
+-- the status says that the layout file is wrong, for this cause, or that memory ran out
+abbrev pub IsWrongFor : WrongCause → Status → Type 0
+IsWrongFor cause (status.Wrong told) = told ≡ cause
+IsWrongFor cause status.NoMemory = Unit {0}
+IsWrongFor cause status = ⊥
 
 -- no number of faults rose, of a name of the command or of the sink
 pub record IsUndisturbed (r : Request) (old new : FilesSeen) (before after : SinkSeen) : Type 0 where

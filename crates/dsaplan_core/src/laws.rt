@@ -1,9 +1,10 @@
 //! Laws of answers: what each says beside the clauses of `run`.
 
-ghost use Rattle.std.specs.Prelude.{◌≡◌, ◌↔◌, ◌∷◌, [], ℕ, List, Some, None, Ok, Err};
+ghost use Rattle.std.specs.Prelude.{◌≡◌, ◌↔◌, ◌⊎◌, ◌∷◌, [], ℕ, List, Some, None, Ok, Err};
 ghost use Rattle.dsa_terms.specs.Buffers.{Instance};
 ghost use Rattle.dsa_terms.specs.Layouts.{IsLayout};
 ghost use Rattle.dsa_terms.specs.Logs.{Log, IsAccepted};
+ghost use Rattle.csv_instance.specs.Records.{Record};
 ghost use Rattle.csv_instance.specs.declared.fault.InstanceFault.{InstanceFault};
 ghost use Rattle.dsa_outside.specs.Seen.{FilesSeen, SinkSeen};
 ghost use Rattle.dsa_model.specs.Counts.{Rose};
@@ -20,10 +21,15 @@ ghost use Rattle.command_words.specs.declared.role.Role.{Role};
 ghost use Rattle.command_words.specs.Pairs.{name_in};
 ghost use Rattle.command_words.specs.declared.role.Role.TheVariants as role;
 ghost use Rattle.run_status.specs.Spoken.{IsSpoken};
+ghost use Rattle.run_status.specs.declared.status.LogCause.{LogCause};
+ghost use Rattle.run_status.specs.declared.status.WrongCause.{WrongCause};
 ghost use Rattle.run_status.specs.declared.status.Status.{Status};
 ghost use Rattle.run_status.specs.declared.status.Status.TheVariants as status;
 ghost use Rattle.run_course.specs.Answers.{Answers};
 ghost use Rattle.run_course.specs.Readings.{HoldsMore};
+ghost use Rattle.readings.specs.GivenLayouts.{GivesNoOffsets, GivesWrongOffsets};
+ghost use Rattle.readings.specs.GivenLogs.{HoldsNoRefutation, HoldsNoText};
+ghost use Rattle.readings.specs.Opens.{IsInput};
 ghost use Rattle.dsaplan_core.specs.Courses.{course};
 ghost use Rattle.dsaplan_core.specs.Complete.{
   HoldsGivenLayout,
@@ -34,8 +40,10 @@ ghost use Rattle.dsaplan_core.specs.Complete.{
   IsApproval,
   IsMalformedFor,
   IsReady,
+  IsRefusedFor,
   IsTooLongFor,
   IsUndisturbed,
+  IsWrongFor,
 };
 ghost use Rattle.dsaplan_core.specs.Conclusions.{IsConclusion};
 ghost use Rattle.dsaplan_core.specs.Causes.{IsCaused, IsChecking, IsJudgedAt};
@@ -105,6 +113,35 @@ pub fn malformed()
         IsUndisturbed request old new before after →
         HoldsNoInstance fault old (name_in request.pairs role.Input) →
         Answers (course words) old new before after s → IsMalformedFor fault s }
+{}
+
+/// Where a command that checks a log's file reads bytes that say no log, or one that is not
+/// accepted for the input's instance, its files are within their limits, and nothing outside
+/// fails, the log is refused for its first fault, unless memory runs out.
+pub fn log_refused()
+    ensures { (words : List Word) (old new : FilesSeen) (before after : SinkSeen)
+        (request : Request) (I : Instance) (cause : LogCause) (s : Status) →
+        request_of words ≡ Ok request → IsChecking request.verb → IsReady old request I →
+        IsUndisturbed request old new before after →
+        HoldsNoText old (name_in request.pairs role.Log) (status.LogRefused cause)
+        ⊎ HoldsNoRefutation old (name_in request.pairs role.Log) I (status.LogRefused cause) →
+        Answers (course words) old new before after s → IsRefusedFor cause s }
+{}
+
+/// Where a command that judges a layout file at a capacity reads one that gives no offsets, or
+/// offsets that are no layout at that capacity, its files are within their limits, and nothing
+/// outside fails, the layout file is wrong for its first fault, unless memory runs out.
+pub fn wrong()
+    ensures { (words : List Word) (old new : FilesSeen) (before after : SinkSeen)
+        (request : Request) (table : List Record) (I : Instance) (C : ℕ) (cause : WrongCause)
+        (s : Status) →
+        request_of words ≡ Ok request → IsJudgedAt request.verb request.pairs C →
+        IsReady old request I → IsUndisturbed request old new before after →
+        IsInput old (name_in request.pairs role.Input) table I →
+        GivesNoOffsets old (name_in request.pairs role.Layout) table (status.Wrong cause)
+        ⊎ GivesWrongOffsets old (name_in request.pairs role.Layout) table I C
+        (status.Wrong cause) →
+        Answers (course words) old new before after s → IsWrongFor cause s }
 {}
 
 /// Where the first file that a command reads holds more bytes than it may, and nothing outside

@@ -9,6 +9,7 @@ pub use command_words::{OptionName, Role, UsageFault};
 pub use entry::run;
 pub use laws::{
     causes, check_faults_are_exact, checks, conclusions, derived, judged, judges,
-    layout_faults_are_exact, lost, malformed, missed, print_fault, refused, shown, too_long,
+    layout_faults_are_exact, log_refused, lost, malformed, missed, print_fault, refused, shown,
+    too_long, wrong,
 };
 pub use run_status::{LogCause, Status, WrongCause};
