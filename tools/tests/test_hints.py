@@ -29,6 +29,9 @@ VERIFY = "verify --capacity 8 --input i --layout a"
 REFUTE = "refute --input i --log l"
 IMPORT = "import --trace t --output o"
 LONG = "i" * 300
+# 256 bytes
+WIDE = "\u00f6" * 128
+SOLVE = "solve --capacity 7 --input i"
 CLASSES = "classes --input i --output o"
 UNROLL = "unroll --period 10 --input i --output o"
 
@@ -300,6 +303,21 @@ CASES = [
     ({"i": TWO, "o": None}, "least --input i --output o --log l", 5, "unwritten --output", "--output: o is a folder"),
     ({"i": TWO}, "least --input i --output o --log f/l", 5, "unwritten --log",
      "--log: f/l lies in f, which is no folder"),
+    ({"i": TWO}, "least --input i --output f/o --log f/l", 5, "unwritten --output",
+     "--output: f/o lies in f, which is no folder"),
+    ({"i": TWO}, f"{SOLVE} --output f/o --log f/l", 5, "unwritten --log", "--log: f/l lies in f, which is no folder"),
+    ({"i": TWO}, f"{SOLVE.replace('7', '8')} --output f/o --log f/l", 5, "unwritten --output",
+     "--output: f/o lies in f, which is no folder"),
+    ({"i": TWO}, f"{SOLVE} --output f/o --log /dev/full", 5, "unwritten --log",
+     "--log: /dev/full is no regular file, and took no text"),
+    ({"i": TWO}, f"{SOLVE.replace('solve', 'core')} --output f/o --log f/l", 5, "unwritten --output",
+     "--output: f/o lies in f, which is no folder"),
+    ({"i": TWO}, f"{SOLVE.replace('solve', 'pack')} --steps 9 --output f/o --log f/l", 5, "unwritten --log",
+     "--log: f/l lies in f, which is no folder"),
+    ({"i": TWO}, f"classes --input i --output {'o' * 256}", 5, "unwritten --output",
+     f"--output: {'o' * 256} has a name that is too long"),
+    ({"i": TWO}, f"classes --input i --output {WIDE}", 5, "unwritten --output",
+     f"--output: {WIDE} has a name that is too long"),
     ({"i": TWO}, "classes --input i --output /dev/full", 5, "unwritten --output",
      "--output: /dev/full is no regular file, and took no text"),
     ({"i": TWO, "o": Link("f/o")}, CLASSES, 5, "unwritten --output", "--output: o lies in WORK/f, which is no folder"),
@@ -317,6 +335,7 @@ CASES = [
     ({"i": TWO}, BOUNDS, 8, "", "the words are no UTF-8, or memory ran out while they were taken"),
 ]
 
+NO_REASON = "the system refused a read or a write; the disk may be too small for the text, or standard output took none"
 # A word of the program's texts that no run prints: no log that was read has such a claim.
 NEVER = {"empty claim"}
 # What the program would read for minutes before it says so.
@@ -351,8 +370,8 @@ class Hints(unittest.TestCase):
         os.chmod(path, 0o755)
         return path
 
-    def hints(self, program, status, words):
-        how = {"cwd": self.work, "capture_output": True, "text": True, "check": False}
+    def hints(self, program, status, words, printed_to=subprocess.DEVNULL):
+        how = {"cwd": self.work, "stdin": printed_to, "capture_output": True, "text": True, "check": False}
         ran = subprocess.run([f"{TOOLS}/hints", program, str(status), *words], **how)
         self.assertEqual(ran.stderr, "")
         return ran.stdout.splitlines()
@@ -434,8 +453,75 @@ class Hints(unittest.TestCase):
         self.lay({"i": TWO})
         self.assertEqual(
             self.hints(self.stub("", 5), 5, CLASSES.split()),
-            ["dsaplan: the system refused a read or a write; the disk may be too small for the text, or standard output took none"],
+            [f"dsaplan: {NO_REASON}"],
         )
+
+    def test_a_file_that_was_not_to_be_written_is_not_blamed(self):
+        self.lay({"i": TWO})
+        for words, line, status in [
+            (f"{SOLVE} --output f/o --log l", "infeasible 7", 1),
+            (f"{SOLVE} --output o --log f/l", "feasible 7", 0),
+            (f"{SOLVE.replace('solve', 'core')} --output f/o --log f/l", "no core 7", 0),
+        ]:
+            with self.subTest(words=words):
+                self.assertEqual(self.hints(self.stub(line, status), 5, words.split()), [f"dsaplan: {NO_REASON}"])
+                self.assertEqual(self.left(), ["i"])
+
+    def test_of_a_search_that_lasts_each_file_is_told(self):
+        self.lay({"i": TWO})
+        self.addCleanup(os.chdir, os.getcwd())
+        os.chdir(self.work)
+        self.stub("", 0)
+        with open(f"{self.folder.name}/stub", "w", encoding="utf-8") as file:
+            file.write("#!/bin/sh\nexec sleep 60\n")
+        told = [f"--{name}: f/{name[0]} lies in f, which is no folder" for name in ("output", "log")]
+        with mock.patch.object(answers, "SEARCH_SECONDS", 0.2):
+            said = list(answers.hints(f"{self.folder.name}/stub", 5, f"{SOLVE} --output f/o --log f/l".split()))
+        self.assertEqual(said, told)
+
+    def test_printing_that_failed_is_told(self):
+        self.lay({"i": TWO, "a": "", "g": None})
+        answer = self.stub("infeasible 7", 1)
+        reader, gone = os.pipe()
+        os.close(reader)
+        self.addCleanup(os.close, gone)
+        full = os.open("/dev/full", os.O_WRONLY)
+        self.addCleanup(os.close, full)
+        for printed_to, why in [
+            (gone, "has no reader"),
+            (full, "is a device that takes no text"),
+        ]:
+            for words in (BOUNDS, VERIFY, CLASSES, "trial --seed 1 --count 1 --steps 1", f"{SOLVE} --output g --log l"):
+                with self.subTest(words=words, why=why):
+                    told = [f"dsaplan: printing failed: standard output {why}"]
+                    self.assertEqual(self.hints(answer, 5, words.split(), printed_to), told)
+            for words, hint in [
+                (REFUTE, "--log: l is missing"),
+                ("classes --input i --output g", "--output: g is a folder"),
+                ("least --input i --output o --log g", "--log: g is a folder"),
+            ]:
+                with self.subTest(words=words, why=why):
+                    self.assertEqual(self.hints(answer, 5, words.split(), printed_to), [f"dsaplan: {hint}"])
+        self.assertEqual(self.hints(answer, 5, BOUNDS.split()), ["dsaplan: printing failed: standard output took no text"])
+
+    def test_a_folder_without_leave_is_told(self):
+        self.lay({"i": TWO, "g": None, "g/h": None})
+        self.addCleanup(os.chdir, os.getcwd())
+        os.chdir(self.work)
+        words = "classes --input i --output g/o".split()
+        for leave in (os.W_OK, os.X_OK):
+            with self.subTest(leave), mock.patch("os.access", lambda name, mode, leave=leave: not mode & leave):
+                self.assertEqual(list(answers.hints("none", 5, words)), ["--output: g/o may not be made: g gives no leave"])
+        with mock.patch("os.path.isdir", lambda name: False), mock.patch("hinting.files.errno_of", lambda *_: errno.EACCES):
+            told = ["--output: g/o lies in g, which may not be reached, for want of leave"]
+            self.assertEqual(list(answers.hints("none", 5, words)), told)
+
+    def test_what_was_said_before_the_run_is_not_said_again(self):
+        self.lay({"i": TWO})
+        said = "dsaplan: --output: f/o lies in f, which is no folder"
+        for before, told in (("", [said]), (f"{said}\n", []), (f"{said} there\n", [said])):
+            with mock.patch.dict(os.environ, {"DSAPLAN_SAID": before}):
+                self.assertEqual(self.hints(self.stub("", 5), 5, "classes --input i --output f/o".split()), told)
 
     def test_of_a_pipe_and_a_file_that_is_too_long_the_file_is_told(self):
         os.mkfifo(f"{self.work}/i")
