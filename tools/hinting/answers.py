@@ -11,8 +11,6 @@ from .texts import shown
 from .usage import count_hint, usage_hint, word_hint
 
 SECONDS = 60
-# A search is made again for no longer than this.
-SEARCH_SECONDS = 5
 # The open file to which the run printed.
 PRINTED_TO = 0
 
@@ -25,7 +23,7 @@ def hints(program, status, words):
         return
     yield from misspelt_hints(call)
     if status == 5:
-        yield from refusal_hints(program, call)
+        yield from refusal_hints(call)
         return
     hint = fault_hint(program, status, call)
     if hint:
@@ -69,63 +67,36 @@ def fault_hint(program, status, call):
     return None
 
 
-def refusal_hints(program, call):
-    """What the system refused: a read, a write, or the printed line."""
+def refusal_hints(call):
+    """What the system refused: a read, a write or the printed line."""
     unread = unread_hint(call)
     if unread:
         return [unread]
     unwritten = unwritten_hints(call)
-    refused = refused_option(program, call, unwritten)
-    if refused in unwritten:
-        return [unwritten[refused]]
+    # With a capacity it hangs on the answer which files are written; else each is, the output first.
+    if unwritten and "--capacity" not in call.values:
+        return unwritten[:1]
     unprinted = why_unprinted(PRINTED_TO)
-    if unprinted or not call.writes():
-        return [f"printing failed: standard output {unprinted or 'took no text'}"]
-    if refused is None:
-        return unwritten.values()
-    return ["the system refused a read or a write; the disk may be too small for the text, or standard output took none"]
-
-
-def refused_option(program, call, unwritten):
-    """The option of the file that was to be written and could not be, of those that cannot; empty where it was none of
-    them, and None where that is not known."""
-    # With a capacity it hangs on the answer which files are written; else the output always is, and before the log.
-    if not unwritten or len(call.writes()) == 1 or "--capacity" not in call.values:
-        return next(iter(unwritten), "")
-    ran = run_again(program, call.writing_nothing(unwritten), SEARCH_SECONDS) if reads_files_alone(call) else None
-    if ran is None:
-        return None
-    word, _, option = printed(ran).partition(" ")
-    return option if ran.returncode == 5 and word == "unwritten" else ""
-
-
-def reads_files_alone(call):
-    """Whether a call reads no pipe, which would have nothing more."""
-    return all(is_regular(name) for _, name in call.reads())
-
-
-def run_again(program, words, seconds):
-    """A run with these words, which write nothing, or None where it takes longer."""
-    how = {"stdin": subprocess.DEVNULL, "stdout": subprocess.PIPE, "stderr": subprocess.DEVNULL}
-    try:
-        return subprocess.run([program, *words], timeout=seconds, check=False, **how)
-    except (OSError, subprocess.TimeoutExpired):
-        return None
-
-
-def printed(ran):
-    """The line that a run printed."""
-    return ran.stdout.decode("utf-8", "replace").strip()
+    if not (unprinted or unwritten or call.writes()):
+        unprinted = "took no text"
+    told = [f"printing failed: standard output {unprinted}"] if unprinted else []
+    return told + unwritten or [
+        "the system refused a read or a write; the disk may be too small for the text, or standard output took none"
+    ]
 
 
 def asked(program, status, call):
     """The line of the fault, as the program prints it once more; empty where that would read a pipe or write a file."""
     words = call.asking(status)
     # With faults of words no file is read.
-    if words is None or not (status == 3 or reads_files_alone(Call(words))):
+    if words is None or not (status == 3 or all(is_regular(name) for _, name in Call(words).reads())):
         return ""
-    ran = run_again(program, words, SECONDS)
-    return printed(ran) if ran and ran.returncode == status else ""
+    how = {"stdin": subprocess.DEVNULL, "stdout": subprocess.PIPE, "stderr": subprocess.DEVNULL}
+    try:
+        ran = subprocess.run([program, *words], timeout=SECONDS, check=False, **how)
+    except (OSError, subprocess.TimeoutExpired):
+        return ""
+    return ran.stdout.decode("utf-8", "replace").strip() if ran.returncode == status else ""
 
 
 def told_instance(call, fault):

@@ -9,8 +9,6 @@ NUMBERS = ("--capacity", "--steps", "--seed", "--count", "--period")
 READS = ("--trace", "--input", "--layout", "--log")
 WRITES = ("--output", "--log")
 READS_LOG = ("refute", "trim", "upgrade")
-# How names begin that no file can have.
-NOWHERE = "/dev/null/"
 
 
 def options_of_commands():
@@ -45,18 +43,14 @@ class Call:
         kept = [it for it in WRITES if it != "--log" or self.command not in READS_LOG]
         return [(it, self.values[it]) for it in kept if it in self.values]
 
-    def writing_nothing(self, refused):
-        """The words with other files to write: those of the options that are refused cannot be written either."""
-        files = {it: NOWHERE + it if it in refused else "/dev/null" for it, _ in self.writes()}
-        return [self.command, *(word for pair in {**self.values, **files}.items() for word in pair)]
-
     def asking(self, status):
         """Words that give the same fault and write nothing, or none where there are none."""
         given = self.values
         if status == 3:
             return self.words
         if status == 4 and self.command in ("import", "unroll", "classes"):
-            return self.writing_nothing([])
+            values = {**given, "--output": "/dev/null"}
+            return [self.command, *(word for pair in values.items() for word in pair)]
         if status == 4:
             return ["bounds", "--input", given["--input"]]
         if status == 1 and self.command in ("verify", "report", "draw"):

@@ -17,6 +17,7 @@ REASONS = {
 LONGEST_NAME = 255
 # The device /dev/full.
 FULL = os.makedev(1, 7)
+NOT_REGULAR = "is no regular file, and took no text"
 LIMITS = {"--input": 67108864, "--layout": 67108864, "--trace": 67108864, "--log": 2**40}
 
 
@@ -77,7 +78,12 @@ def why_unwritten(name):
         if room.f_bavail == 0 or (room.f_files and room.f_favail == 0):
             return "finds no room on its disk"
         return ""
-    return "is no regular file, and took no text"
+    return NOT_REGULAR
+
+
+def is_full(found):
+    """Whether what was found is a device that takes no text."""
+    return stat.S_ISCHR(found.st_mode) and found.st_rdev == FULL
 
 
 def why_unprinted(place):
@@ -86,7 +92,7 @@ def why_unprinted(place):
         opened = os.fstat(place)
     except OSError:
         return "is closed"
-    if stat.S_ISCHR(opened.st_mode) and opened.st_rdev == FULL:
+    if is_full(opened):
         return "is a device that takes no text"
     if stat.S_ISFIFO(opened.st_mode):
         poll = select.poll()
@@ -103,9 +109,11 @@ def unread_hint(call):
 
 
 def unwritten_hints(call):
-    """The files that cannot be written, each option with the hint."""
-    found = ((option, name, why_unwritten(name)) for option, name in call.writes())
-    return {option: f"{option}: {name} {why}" for option, name, why in found if why}
+    """Which files cannot be written, and why. Of a file that may have taken its text nothing is told beside one that cannot."""
+    found = [(option, name, why_unwritten(name)) for option, name in call.writes()]
+    told = [it for it in found if it[2] != NOT_REGULAR or is_full(os.stat(it[1]))]
+    told = [it for it in told if it[2]] or [it for it in found if it[2]]
+    return [f"{option}: {name} {why}" for option, name, why in told]
 
 
 def length_hint(call):

@@ -305,15 +305,18 @@ CASES = [
      "--log: f/l lies in f, which is no folder"),
     ({"i": TWO}, "least --input i --output f/o --log f/l", 5, "unwritten --output",
      "--output: f/o lies in f, which is no folder"),
-    ({"i": TWO}, f"{SOLVE} --output f/o --log f/l", 5, "unwritten --log", "--log: f/l lies in f, which is no folder"),
+    ({"i": TWO}, f"{SOLVE} --output f/o --log f/l", 5, "unwritten --log",
+     ["--output: f/o lies in f, which is no folder", "--log: f/l lies in f, which is no folder"]),
     ({"i": TWO}, f"{SOLVE.replace('7', '8')} --output f/o --log f/l", 5, "unwritten --output",
-     "--output: f/o lies in f, which is no folder"),
+     ["--output: f/o lies in f, which is no folder", "--log: f/l lies in f, which is no folder"]),
     ({"i": TWO}, f"{SOLVE} --output f/o --log /dev/full", 5, "unwritten --log",
-     "--log: /dev/full is no regular file, and took no text"),
-    ({"i": TWO}, f"{SOLVE.replace('solve', 'core')} --output f/o --log f/l", 5, "unwritten --output",
+     ["--output: f/o lies in f, which is no folder", "--log: /dev/full is no regular file, and took no text"]),
+    ({"i": TWO}, f"{SOLVE.replace('7', '8')} --output f/o --log /dev/null", 5, "unwritten --output",
      "--output: f/o lies in f, which is no folder"),
+    ({"i": TWO}, f"{SOLVE.replace('solve', 'core')} --output f/o --log f/l", 5, "unwritten --output",
+     ["--output: f/o lies in f, which is no folder", "--log: f/l lies in f, which is no folder"]),
     ({"i": TWO}, f"{SOLVE.replace('solve', 'pack')} --steps 9 --output f/o --log f/l", 5, "unwritten --log",
-     "--log: f/l lies in f, which is no folder"),
+     ["--output: f/o lies in f, which is no folder", "--log: f/l lies in f, which is no folder"]),
     ({"i": TWO}, f"classes --input i --output {'o' * 256}", 5, "unwritten --output",
      f"--output: {'o' * 256} has a name that is too long"),
     ({"i": TWO}, f"classes --input i --output {WIDE}", 5, "unwritten --output",
@@ -456,29 +459,6 @@ class Hints(unittest.TestCase):
             [f"dsaplan: {NO_REASON}"],
         )
 
-    def test_a_file_that_was_not_to_be_written_is_not_blamed(self):
-        self.lay({"i": TWO})
-        for words, line, status in [
-            (f"{SOLVE} --output f/o --log l", "infeasible 7", 1),
-            (f"{SOLVE} --output o --log f/l", "feasible 7", 0),
-            (f"{SOLVE.replace('solve', 'core')} --output f/o --log f/l", "no core 7", 0),
-        ]:
-            with self.subTest(words=words):
-                self.assertEqual(self.hints(self.stub(line, status), 5, words.split()), [f"dsaplan: {NO_REASON}"])
-                self.assertEqual(self.left(), ["i"])
-
-    def test_of_a_search_that_lasts_each_file_is_told(self):
-        self.lay({"i": TWO})
-        self.addCleanup(os.chdir, os.getcwd())
-        os.chdir(self.work)
-        self.stub("", 0)
-        with open(f"{self.folder.name}/stub", "w", encoding="utf-8") as file:
-            file.write("#!/bin/sh\nexec sleep 60\n")
-        told = [f"--{name}: f/{name[0]} lies in f, which is no folder" for name in ("output", "log")]
-        with mock.patch.object(answers, "SEARCH_SECONDS", 0.2):
-            said = list(answers.hints(f"{self.folder.name}/stub", 5, f"{SOLVE} --output f/o --log f/l".split()))
-        self.assertEqual(said, told)
-
     def test_printing_that_failed_is_told(self):
         self.lay({"i": TWO, "a": "", "g": None})
         answer = self.stub("infeasible 7", 1)
@@ -491,10 +471,12 @@ class Hints(unittest.TestCase):
             (gone, "has no reader"),
             (full, "is a device that takes no text"),
         ]:
-            for words in (BOUNDS, VERIFY, CLASSES, "trial --seed 1 --count 1 --steps 1", f"{SOLVE} --output g --log l"):
+            told = [f"dsaplan: printing failed: standard output {why}"]
+            for words in (BOUNDS, VERIFY, CLASSES, "trial --seed 1 --count 1 --steps 1", f"{SOLVE} --output o --log l"):
                 with self.subTest(words=words, why=why):
-                    told = [f"dsaplan: printing failed: standard output {why}"]
                     self.assertEqual(self.hints(answer, 5, words.split(), printed_to), told)
+            both = [*told, "dsaplan: --output: g is a folder"]
+            self.assertEqual(self.hints(answer, 5, f"{SOLVE} --output g --log l".split(), printed_to), both)
             for words, hint in [
                 (REFUTE, "--log: l is missing"),
                 ("classes --input i --output g", "--output: g is a folder"),
