@@ -3,7 +3,7 @@
 import subprocess
 
 from .commands import Call, options_of_commands
-from .files import file_hint, is_regular, length_hint, why_unread
+from .files import is_regular, length_hint, unread_hint, unwritten_hints, why_unprinted, why_unread
 from .lines import log_hint, trace_hint
 from .rows import cycle_hint, instance_hint, layout_hint, plain_hint
 from .tables import Table, misspelt
@@ -11,6 +11,8 @@ from .texts import shown
 from .usage import count_hint, usage_hint, word_hint
 
 SECONDS = 60
+# The open file to which the run printed.
+PRINTED_TO = 0
 
 
 def hints(program, status, words):
@@ -20,6 +22,9 @@ def hints(program, status, words):
         yield word_hint(words)
         return
     yield from misspelt_hints(call)
+    if status == 5:
+        yield from refusal_hints(call)
+        return
     hint = fault_hint(program, status, call)
     if hint:
         yield hint
@@ -39,8 +44,6 @@ def misspelt_hints(call):
 
 def fault_hint(program, status, call):
     """Where the fault is, or None where there is none or its place is not known."""
-    if status == 5:
-        return file_hint(call)
     if status == 6:
         return "memory ran out"
     if status == 7:
@@ -62,6 +65,24 @@ def fault_hint(program, status, call):
     if line.startswith("not plain "):
         return plain_hint(Table(call.values["--input"]), int(line[len("not plain ") :]))
     return None
+
+
+def refusal_hints(call):
+    """What the system refused: a read, a write or the printed line."""
+    unread = unread_hint(call)
+    if unread:
+        return [unread]
+    unwritten = unwritten_hints(call)
+    # With a capacity it hangs on the answer which files are written; else each is, the output first.
+    if unwritten and "--capacity" not in call.values:
+        return unwritten[:1]
+    unprinted = why_unprinted(PRINTED_TO)
+    if not (unprinted or unwritten or call.writes()):
+        unprinted = "took no text"
+    told = [f"printing failed: standard output {unprinted}"] if unprinted else []
+    return told + unwritten or [
+        "the system refused a read or a write; the disk may be too small for the text, or standard output took none"
+    ]
 
 
 def asked(program, status, call):

@@ -2,7 +2,7 @@
 
 import re
 
-from .texts import shown
+from .texts import WORD_LIMIT, is_above, power, shown
 
 LOG_TEXTS = {
     "bad line": "has the form of no line and of no end",
@@ -11,6 +11,8 @@ LOG_TEXTS = {
     "bad base": "names a base that is no earlier line",
     "bad change": "has changes that its base does not allow",
 }
+# The limits of the numbers of a header.
+HEADER_LIMITS = (2**64 - 1, WORD_LIMIT, WORD_LIMIT)
 # The reasons of lines that are not legal; a number after them is a buffer's.
 REASONS = {
     "empty claim": "the claim has no buffer",
@@ -68,12 +70,25 @@ def end_line(name):
         return next((place for place, text in enumerate(file, 1) if text.startswith(b"end ")), 1)
 
 
+def why_no_header(name):
+    """What keeps the first line of a file from being a log's header."""
+    numbers = re.fullmatch(rb"dsalog ([0-9]+) ([0-9]+) ([0-9]+)", line_of(name, 1)[1])
+    if numbers and is_cut_short(name, 1):
+        return "has no end of line"
+    for text, limit in zip(numbers.groups() if numbers else (), HEADER_LIMITS):
+        if is_above(text, limit):
+            return f"has a number above {power(limit)}"
+        if text != b"0" and text.startswith(b"0"):
+            return "has a number that begins with 0"
+    return "is no header, as 'dsalog 1 COUNT CAPACITY'"
+
+
 def log_hint(table, name, fault):
     """Where a log has the fault that the program prints."""
     if fault == "not a log" and last_line(name) == 0:
         return f"{name}: has no line; the first is to be 'dsalog 1 COUNT CAPACITY'"
     if fault == "not a log":
-        return f"{at(name, 1)} is no header, as 'dsalog 1 COUNT CAPACITY'"
+        return f"{at(name, 1)} {why_no_header(name)}"
     if fault.startswith("version "):
         return f"{at(name, 1)} has a version that is not read"
     if fault == "no end":

@@ -2,7 +2,7 @@
 
 import re
 
-from .tables import LONGEST_NAME, MOST_NAMES, READ, is_near, is_same_word
+from .tables import LONGEST_NAME, MARK, MOST_NAMES, READ, is_near, is_same_word
 from .texts import MOST_BUFFERS, MOST_GAPS, TIME_LIMIT, WORD_LIMIT, shown, why_no_number
 
 LIMITS = dict.fromkeys(("lower", "upper", "size", "alignment", "lowest"), TIME_LIMIT)
@@ -20,13 +20,19 @@ VALUES = {
 }
 
 
+def mark_hint(table):
+    """That the first name of a header begins with a byte order mark."""
+    first = table.header[0]
+    return f"{table.at(first)}: {shown(first.text)} begins with a {'second ' if table.is_marked else ''}byte order mark; take it off"
+
+
 def header_hint(table, fault, wanted="id,lower,upper,size"):
     """Where the fault of a header is, or None where the fault is none of a header."""
     name, names = table.name, table.names()
     if fault == "no header":
         return f"{name}: has no record; the first line is to be {wanted}"
     if fault == "marked header":
-        return f"{name}:1: {shown(names[0])} begins with a second byte order mark; take it off"
+        return mark_hint(table)
     if fault == "offset column":
         at = table.at(table.header[names.index(b"offset")])
         return f"{at}: 'offset': a file with offsets is a layout and no instance; take the column off"
@@ -38,6 +44,8 @@ def header_hint(table, fault, wanted="id,lower,upper,size"):
     missing = re.fullmatch(r"missing column (\w+)", fault)
     if missing:
         column = missing[1].encode()
+        if names[0].startswith(MARK) and names[0].lstrip(MARK) == column:
+            return mark_hint(table)
         near = [it for it in names[:MOST_NAMES] if len(it) <= LONGEST_NAME and it not in READ]
         near = [it for it in near if is_same_word(it, column) or is_near(it, column)]
         instead = f"; {shown(near[0])} is another name" if near else ""
@@ -137,6 +145,17 @@ def wrap_hint(table, period, fault):
     return f"{table.at(field)}: gaps: '{gap[0]}-{gap[1]}' is not within the period, 0-{int(period)}"
 
 
+def round_hint(table, period, fault):
+    """How a gap that goes round the end of the period is written, where the fault may be of such a one."""
+    row = re.fullmatch(r"row (\d+) gap (\d+) empty", fault)
+    first, last = gaps_of(table.text(int(row[1]), b"gaps"))[int(row[2])] if row else (0, 0)
+    if not period > first > last:
+        return ""
+    if last == 0:
+        return f"; a gap up to the end of the period is written as {first}-{period}"
+    return f"; a gap round the end of the period is written as two, as {first}-{period} 0-{last}"
+
+
 def cycle_hint(table, period, fault):
     """Where rows with a period have the fault that the program prints."""
     wrapped = wrap_hint(table, period, fault)
@@ -144,7 +163,8 @@ def cycle_hint(table, period, fault):
         return wrapped
     row = re.fullmatch(r"row (\d+) outside", fault)
     if not row:
-        return instance_hint(table, fault)
+        hint = instance_hint(table, fault)
+        return hint and hint + round_hint(table, int(period), fault)
     number = int(row[1])
     lower = table.field(number, b"lower")
     if table.number(number, b"lower") >= int(period):

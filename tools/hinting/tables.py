@@ -10,6 +10,7 @@ from .texts import distance
 FIELD = re.compile(rb'"([^"]*(?:""[^"]*)*)("?)([^,\r\n]*)|([^,\r\n]*)')
 LINE_END = re.compile(rb"\r\n|\r|\n")
 READ = (b"id", b"lower", b"upper", b"size", b"alignment", b"gaps", b"lowest", b"offset")
+MARK = b"\xef\xbb\xbf"
 MOST_FIELDS = 1_000_000
 # No name of a column that may be misspelt is longer.
 LONGEST_NAME = 40
@@ -44,7 +45,7 @@ def field_at(data, place, line):
 def records(data):
     """The records of the bytes, each the list of its fields."""
     place, line, fields = 0, 1, []
-    if data[:3] == b"\xef\xbb\xbf":
+    if data[:3] == MARK:
         place = 3
     while place < len(data):
         end = LINE_END.match(data, place)
@@ -76,7 +77,9 @@ class Table:
 
     def __init__(self, name):
         self.name = name
-        self.rest = records(contents(name))
+        data = contents(name)
+        self.is_marked = data[:3] == MARK
+        self.rest = records(data)
         self.header = next(self.rest, [])
         self.rows = []
 

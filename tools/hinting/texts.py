@@ -27,6 +27,12 @@ def why_no_number(field, limit):
     return ""
 
 
+def is_above(digits, limit):
+    """Whether digits, however many, write a number above a limit."""
+    kept = digits.lstrip(b"0")
+    return len(kept) > 20 or int(kept or b"0") > limit
+
+
 def power(limit):
     """A limit as a reader writes it."""
     for exponent in (32, 40, 60, 62, 64):
@@ -46,7 +52,8 @@ def distance(one, other):
 
 
 def nearest(word, words):
-    """The word that is nearest, if it begins as the word does or is no further than two letters and half of the word."""
+    """The word that is nearest, if it begins as the word does or is no further than two letters, or than one of a word of
+    four or less, and than half of the word."""
     best = min(words, key=lambda it: (not it.startswith(word) or len(word) < 3, distance(word, it)))
-    near = distance(word, best) <= min(2, len(word) // 2) or (len(word) >= 3 and best.startswith(word))
+    near = distance(word, best) <= min(2 if len(word) > 4 else 1, len(word) // 2) or (len(word) >= 3 and best.startswith(word))
     return best if near else None

@@ -29,6 +29,9 @@ VERIFY = "verify --capacity 8 --input i --layout a"
 REFUTE = "refute --input i --log l"
 IMPORT = "import --trace t --output o"
 LONG = "i" * 300
+# 256 bytes
+WIDE = "\u00f6" * 128
+SOLVE = "solve --capacity 7 --input i"
 CLASSES = "classes --input i --output o"
 UNROLL = "unroll --period 10 --input i --output o"
 
@@ -73,6 +76,9 @@ CASES = [
     ({}, "slove --input i", 3, "usage unknown command",
      "'slove' is no command; the nearest is 'solve'; 'dsaplan help' lists them"),
     ({}, "plan", 3, "usage unknown command", "'plan' is no command; 'dsaplan help' lists them"),
+    ({}, "nope", 3, "usage unknown command", "'nope' is no command; 'dsaplan help' lists them"),
+    ({}, "cora", 3, "usage unknown command", "'cora' is no command; the nearest is 'core'; 'dsaplan help' lists them"),
+    ({}, "insp", 3, "usage unknown command", "'insp' is no command; the nearest is 'inspect'; 'dsaplan help' lists them"),
     ({}, "x", 3, "usage unknown command", "'x' is no command; 'dsaplan help' lists them"),
     ({}, "bounds --inptu i", 3, "usage unknown option 1",
      "'--inptu' is no option of bounds; the nearest is --input; see 'dsaplan help bounds'"),
@@ -104,6 +110,10 @@ CASES = [
     ({"i": "\n"}, BOUNDS, 4, "malformed no header", "i: has no record; the first line is to be id,lower,upper,size"),
     ({"i": "\ufeff\ufeffid,lower,upper,size\n"}, BOUNDS, 4, "malformed marked header",
      "i:1: '\\ufeffid' begins with a second byte order mark; take it off"),
+    ({"i": "\"\ufeffnote\",id,lower,upper,size\n"}, BOUNDS, 4, "malformed marked header",
+     "i:1: '\\ufeffnote' begins with a byte order mark; take it off"),
+    ({"i": "\n\ufeffid,lower,upper,size\n"}, BOUNDS, 4, "malformed marked header",
+     "i:2: '\\ufeffid' begins with a byte order mark; take it off"),
     ({"i": "\nid,lower,upper,size,lower\n"}, BOUNDS, 4, "malformed duplicate column lower",
      "i:2: lower: the columns 2 and 5 both have this name"),
     ({"i": "id,lower,upper,size,offset\n"}, BOUNDS, 4, "malformed offset column",
@@ -172,6 +182,12 @@ CASES = [
     (row("b1,8,2,1,,9-11"), UNROLL, 4, "cycle row 1 gap 0 outside", "i:4: gaps: '9-11' is not within the period, 0-10"),
     (row("b1,8,2,1,,8-9" + " 0-1" * 63), UNROLL, 4, "cycle row 1 too many gaps",
      f"i:4: gaps: '{('8-9' + ' 0-1' * 63)[:60]}..' has 64 gaps, and going round the end adds one"),
+    (row("b1,8,3,1,,9-1"), UNROLL, 4, "cycle row 1 gap 0 empty",
+     "i:4: gaps: '9-1' does not end after it begins; a gap round the end of the period is written as two, as 9-10 0-1"),
+    (row("b1,8,3,1,,8-9 9-0"), UNROLL, 4, "cycle row 1 gap 1 empty",
+     "i:4: gaps: '9-0' does not end after it begins; a gap up to the end of the period is written as 9-10"),
+    (row("b1,8,3,1,,9-9"), UNROLL, 4, "cycle row 1 gap 0 empty", "i:4: gaps: '9-9' does not end after it begins"),
+    (row("b1,8,3,1,,11-1"), UNROLL, 4, "cycle row 1 gap 0 empty", "i:4: gaps: '11-1' does not end after it begins"),
     (row("b1,0,4K,1,,"), UNROLL, 4, "cycle row 1 bad number upper",
      "i:4: upper: '4K' is no number of 1 to 20 digits"),
     (row("b1,0,3,0,,"), UNROLL, 4, "cycle row 1 zero size", "i:4: size: '0' is no size of 1 to 2^40"),
@@ -181,6 +197,11 @@ CASES = [
      "a:1: id: the columns 1 and 3 both have this name"),
     (layout("id,offsets\n"), VERIFY, 1, "wrong missing column offset",
      "a:1: no column has the name offset; 'offsets' is another name"),
+    (layout("\ufeff\ufeffid,offset\n"), VERIFY, 1, "wrong missing column id",
+     "a:1: '\\ufeffid' begins with a second byte order mark; take it off"),
+    (layout("\"\ufeffid\",offset\n"), VERIFY, 1, "wrong missing column id",
+     "a:1: '\\ufeffid' begins with a byte order mark; take it off"),
+    (layout("\ufeff\ufeffname,offset\n"), VERIFY, 1, "wrong missing column id", "a:1: no column has the name id"),
     (layout("id,offset\nb1\n"), VERIFY, 1, "wrong row 0 field count", "a:2: 1 field, where the header has 2"),
     (layout("id,offset\nb3,0\n"), VERIFY, 1, "wrong row 0 unknown id", "a:2: id: 'b3' is no buffer of the input"),
     (layout("id,offset\nb1,0\nb1,4\n"), VERIFY, 1, "wrong row 1 duplicate id 0",
@@ -206,6 +227,17 @@ CASES = [
     (log(""), REFUTE, 1, "refused not a log", "l: has no line; the first is to be 'dsalog 1 COUNT CAPACITY'"),
     (log("dsalog 1 2\n"), REFUTE, 1, "refused not a log",
      "l:1: 'dsalog 1 2' is no header, as 'dsalog 1 COUNT CAPACITY'"),
+    (log("dsalog 1 2 7"), REFUTE, 1, "refused not a log", "l:1: 'dsalog 1 2 7' has no end of line"),
+    (log("dsalog 1 2 1152921504606846977\n"), REFUTE, 1, "refused not a log",
+     "l:1: 'dsalog 1 2 1152921504606846977' has a number above 2^60"),
+    (log("dsalog 1 2 1152921504606846976\n"), REFUTE, 1, "refused no end", "l:1: the file ends without a line 'end K'"),
+    (log("dsalog 18446744073709551616 2 7\n"), REFUTE, 1, "refused not a log",
+     "l:1: 'dsalog 18446744073709551616 2 7' has a number above 2^64 - 1"),
+    (log(f"dsalog 1 2 {'9' * 5000}\n"), REFUTE, 1, "refused not a log",
+     f"l:1: 'dsalog 1 2 {'9' * 49}..' has a number above 2^60"),
+    (log("dsalog 1 02 7\n"), REFUTE, 1, "refused not a log", "l:1: 'dsalog 1 02 7' has a number that begins with 0"),
+    (log("dsalog 1  2 7\n"), REFUTE, 1, "refused not a log",
+     "l:1: 'dsalog 1  2 7' is no header, as 'dsalog 1 COUNT CAPACITY'"),
     (log("dsalog 3 2 7\nend 0\n"), REFUTE, 1, "refused version 3", "l:1: 'dsalog 3 2 7' has a version that is not read"),
     (log(LOG[:-6]), REFUTE, 1, "refused no end", "l:2: the file ends without a line 'end K'"),
     (log(LOG.replace("over", "under")), REFUTE, 1, "refused bad line 0",
@@ -271,6 +303,24 @@ CASES = [
     ({"i": TWO, "o": None}, "least --input i --output o --log l", 5, "unwritten --output", "--output: o is a folder"),
     ({"i": TWO}, "least --input i --output o --log f/l", 5, "unwritten --log",
      "--log: f/l lies in f, which is no folder"),
+    ({"i": TWO}, "least --input i --output f/o --log f/l", 5, "unwritten --output",
+     "--output: f/o lies in f, which is no folder"),
+    ({"i": TWO}, f"{SOLVE} --output f/o --log f/l", 5, "unwritten --log",
+     ["--output: f/o lies in f, which is no folder", "--log: f/l lies in f, which is no folder"]),
+    ({"i": TWO}, f"{SOLVE.replace('7', '8')} --output f/o --log f/l", 5, "unwritten --output",
+     ["--output: f/o lies in f, which is no folder", "--log: f/l lies in f, which is no folder"]),
+    ({"i": TWO}, f"{SOLVE} --output f/o --log /dev/full", 5, "unwritten --log",
+     ["--output: f/o lies in f, which is no folder", "--log: /dev/full is no regular file, and took no text"]),
+    ({"i": TWO}, f"{SOLVE.replace('7', '8')} --output f/o --log /dev/null", 5, "unwritten --output",
+     "--output: f/o lies in f, which is no folder"),
+    ({"i": TWO}, f"{SOLVE.replace('solve', 'core')} --output f/o --log f/l", 5, "unwritten --output",
+     ["--output: f/o lies in f, which is no folder", "--log: f/l lies in f, which is no folder"]),
+    ({"i": TWO}, f"{SOLVE.replace('solve', 'pack')} --steps 9 --output f/o --log f/l", 5, "unwritten --log",
+     ["--output: f/o lies in f, which is no folder", "--log: f/l lies in f, which is no folder"]),
+    ({"i": TWO}, f"classes --input i --output {'o' * 256}", 5, "unwritten --output",
+     f"--output: {'o' * 256} has a name that is too long"),
+    ({"i": TWO}, f"classes --input i --output {WIDE}", 5, "unwritten --output",
+     f"--output: {WIDE} has a name that is too long"),
     ({"i": TWO}, "classes --input i --output /dev/full", 5, "unwritten --output",
      "--output: /dev/full is no regular file, and took no text"),
     ({"i": TWO, "o": Link("f/o")}, CLASSES, 5, "unwritten --output", "--output: o lies in WORK/f, which is no folder"),
@@ -288,6 +338,7 @@ CASES = [
     ({"i": TWO}, BOUNDS, 8, "", "the words are no UTF-8, or memory ran out while they were taken"),
 ]
 
+NO_REASON = "the system refused a read or a write; the disk may be too small for the text, or standard output took none"
 # A word of the program's texts that no run prints: no log that was read has such a claim.
 NEVER = {"empty claim"}
 # What the program would read for minutes before it says so.
@@ -322,8 +373,8 @@ class Hints(unittest.TestCase):
         os.chmod(path, 0o755)
         return path
 
-    def hints(self, program, status, words):
-        how = {"cwd": self.work, "capture_output": True, "text": True, "check": False}
+    def hints(self, program, status, words, printed_to=subprocess.DEVNULL):
+        how = {"cwd": self.work, "stdin": printed_to, "capture_output": True, "text": True, "check": False}
         ran = subprocess.run([f"{TOOLS}/hints", program, str(status), *words], **how)
         self.assertEqual(ran.stderr, "")
         return ran.stdout.splitlines()
@@ -405,8 +456,54 @@ class Hints(unittest.TestCase):
         self.lay({"i": TWO})
         self.assertEqual(
             self.hints(self.stub("", 5), 5, CLASSES.split()),
-            ["dsaplan: the system refused a read or a write; the disk may be too small for the text, or standard output took none"],
+            [f"dsaplan: {NO_REASON}"],
         )
+
+    def test_printing_that_failed_is_told(self):
+        self.lay({"i": TWO, "a": "", "g": None})
+        answer = self.stub("infeasible 7", 1)
+        reader, gone = os.pipe()
+        os.close(reader)
+        self.addCleanup(os.close, gone)
+        full = os.open("/dev/full", os.O_WRONLY)
+        self.addCleanup(os.close, full)
+        for printed_to, why in [
+            (gone, "has no reader"),
+            (full, "is a device that takes no text"),
+        ]:
+            told = [f"dsaplan: printing failed: standard output {why}"]
+            for words in (BOUNDS, VERIFY, CLASSES, "trial --seed 1 --count 1 --steps 1", f"{SOLVE} --output o --log l"):
+                with self.subTest(words=words, why=why):
+                    self.assertEqual(self.hints(answer, 5, words.split(), printed_to), told)
+            both = [*told, "dsaplan: --output: g is a folder"]
+            self.assertEqual(self.hints(answer, 5, f"{SOLVE} --output g --log l".split(), printed_to), both)
+            for words, hint in [
+                (REFUTE, "--log: l is missing"),
+                ("classes --input i --output g", "--output: g is a folder"),
+                ("least --input i --output o --log g", "--log: g is a folder"),
+            ]:
+                with self.subTest(words=words, why=why):
+                    self.assertEqual(self.hints(answer, 5, words.split(), printed_to), [f"dsaplan: {hint}"])
+        self.assertEqual(self.hints(answer, 5, BOUNDS.split()), ["dsaplan: printing failed: standard output took no text"])
+
+    def test_a_folder_without_leave_is_told(self):
+        self.lay({"i": TWO, "g": None, "g/h": None})
+        self.addCleanup(os.chdir, os.getcwd())
+        os.chdir(self.work)
+        words = "classes --input i --output g/o".split()
+        for leave in (os.W_OK, os.X_OK):
+            with self.subTest(leave), mock.patch("os.access", lambda name, mode, leave=leave: not mode & leave):
+                self.assertEqual(list(answers.hints("none", 5, words)), ["--output: g/o may not be made: g gives no leave"])
+        with mock.patch("os.path.isdir", lambda name: False), mock.patch("hinting.files.errno_of", lambda *_: errno.EACCES):
+            told = ["--output: g/o lies in g, which may not be reached, for want of leave"]
+            self.assertEqual(list(answers.hints("none", 5, words)), told)
+
+    def test_what_was_said_before_the_run_is_not_said_again(self):
+        self.lay({"i": TWO})
+        said = "dsaplan: --output: f/o lies in f, which is no folder"
+        for before, told in (("", [said]), (f"{said}\n", []), (f"{said} there\n", [said])):
+            with mock.patch.dict(os.environ, {"DSAPLAN_SAID": before}):
+                self.assertEqual(self.hints(self.stub("", 5), 5, "classes --input i --output f/o".split()), told)
 
     def test_of_a_pipe_and_a_file_that_is_too_long_the_file_is_told(self):
         os.mkfifo(f"{self.work}/i")

@@ -21,6 +21,8 @@ for name in [it for it in os.environ if it.startswith("GIT_")]:
 os.environ["GIT_CONFIG_GLOBAL"] = os.environ["GIT_CONFIG_SYSTEM"] = os.devnull
 TOP = os.path.dirname(TOOLS)
 BUILT = f"{TOP}/crates/dsaplan/out/dsaplan"
+# 256 bytes
+WIDE = "\u00f6" * 128
 MALFORMED = "malformed row 0 bad number size"
 RT = """#!/bin/bash
 echo "$*" >>"$RT_ASKED"
@@ -363,6 +365,151 @@ class Launcher(unittest.TestCase):
         self.assertEqual(with_hints.stdout, f"{MALFORMED}\n")
         self.assertEqual(with_hints.stderr, "dsaplan: i:2: size: '4K' is no number of 1 to 20 digits\n")
         self.assertEqual(without.stderr, "")
+
+    def told_before(self, *words, **how):
+        """What is said before the program begins with these words, which is then run all the same."""
+        self.stand_in("echo begun >&2; echo right")
+        self.write(f"{self.work}/i", "id,lower,upper,size\nb1,0,3,4\n")
+        ran = self.run_it(*words, **how)
+        self.assertEqual((ran.returncode, ran.stdout), (0, "right\n"))
+        told, after = ran.stderr.split("begun\n")
+        self.assertEqual(after, "")
+        return [it.removeprefix("dsaplan: ") for it in told.splitlines()]
+
+    def test_what_cannot_be_written_is_told_before_the_run(self):
+        os.mkdir(f"{self.work}/g")
+        for name, target in (("to_none", "none"), ("to_i", "i"), ("to_g", "g"), ("round", "round")):
+            os.symlink(target, f"{self.work}/{name}")
+        long = "o" * 256
+        for words, told in [
+            ("least --input i --output o --log l", []),
+            ("least --input i --output ./g/o --log /dev/null", []),
+            ("least --input i --output i --log to_i", []),
+            ("least --input i --output to_none --log round", []),
+            (f"least --input i --output {long[1:]} --log l", []),
+            ("least --input i --output f/o --log l", ["--output: f/o lies in f, which is no folder"]),
+            ("least --input i --output o --log g//i//l", ["--log: g//i//l lies in g//i, which is no folder"]),
+            ("least --log i/l --output /none --input i", ["--log: i/l lies in i, which is no folder"]),
+            ("least --output f/o --output g/o --log l", ["--output: f/o lies in f, which is no folder"]),
+            ("least --input i --output g --log to_g", ["--output: g is a folder", "--log: to_g is a folder"]),
+            (f"least --input i --output {long} --log l", [f"--output: {long} has a name that is too long"]),
+            (f"least --input i --output o --log {WIDE}", [f"--log: {WIDE} has a name that is too long"]),
+            ("least --input f/i --output o --log l", []),
+            ("verify --capacity 4 --input i --layout f/a", []),
+            ("least --output", []),
+        ]:
+            with self.subTest(words=words):
+                self.assertEqual(self.told_before(*words.split()), told)
+                self.assertEqual(self.told_before(*words.split(), environment={"DSAPLAN_HINTS": "0"}), [])
+
+    def test_each_command_that_writes_is_warned_of(self):
+        for command, (needed, optional) in self.forms().items():
+            writes = [it for it in ("output", "log") if f"--{it}" in needed + optional]
+            if command in ("refute", "trim", "upgrade"):
+                writes.remove("log")
+            with self.subTest(command=command):
+                told = self.told_before(command, "--log", "f/log", "--output", "f/output")
+                self.assertEqual(told, [f"--{it}: f/{it} lies in f, which is no folder" for it in writes])
+
+    def test_a_warning_comes_before_a_build(self):
+        self.write(f"{self.top}/stub", "#!/bin/sh\necho right\n", 0o755)
+        ran = self.run_it("least", "--input", "i", "--output", "f/o", "--log", "l")
+        self.assertEqual((ran.returncode, ran.stdout), (0, "right\n"))
+        self.assertEqual(ran.stderr.splitlines()[0], "dsaplan: --output: f/o lies in f, which is no folder")
+
+    def test_a_warning_that_nobody_reads_changes_nothing(self):
+        self.stand_in("echo right")
+        words = "least --input i --output f/o --log f/l".split()
+        for before in ("exec 2>&-;", "exec 2>/dev/full;"):
+            ran = self.run_it(*words, before=before)
+            self.assertEqual((ran.returncode, ran.stdout, ran.stderr), (0, "right\n", ""))
+        reader, writer = os.pipe()
+        os.close(reader)
+        with os.fdopen(writer, "w") as gone:
+            ran = self.run_it(*words, capture_output=False, stdout=subprocess.PIPE, stderr=gone)
+        self.assertEqual((ran.returncode, ran.stdout), (0, "right\n"))
+
+    def test_want_of_leave_is_told_before_the_run(self):
+        bound = ["setpriv", "--bounding-set=-dac_override,-dac_read_search"] if os.geteuid() == 0 else []
+        if bound and subprocess.run([*bound, "true"], capture_output=True, check=False).returncode:
+            self.skipTest("root may write everywhere")
+        for name in ("g", "g/h", "full", "shut"):
+            os.mkdir(f"{self.work}/{name}")
+        self.write(f"{self.work}/o", "", 0o444)
+        self.write(f"{self.work}/full/o", "", 0o644)
+        for name, mode in (("full", 0o555), ("shut", 0o666), ("g", 0o666)):
+            os.chmod(f"{self.work}/{name}", mode)
+            self.addCleanup(os.chmod, f"{self.work}/{name}", 0o755)
+        before = f'exec {" ".join(bound)} "$0" "$@";' if bound else ""
+        for name, why in [
+            ("full/o", None),
+            ("o", "may not be written, for want of leave"),
+            ("full/p", "may not be made: full gives no leave"),
+            ("shut/o", "may not be made: shut gives no leave"),
+            ("g/h/o", "lies in g/h, which may not be reached, for want of leave"),
+            ("g/h/k/o", "lies in g/h/k, which may not be reached, for want of leave"),
+        ]:
+            with self.subTest(name=name):
+                words = ["least", "--input", "i", "--output", name, "--log", "l"]
+                told = [f"--output: {name} {why}"] if why else []
+                self.assertEqual(self.told_before(*words, before=before), told)
+                self.stand_in("echo 'unwritten --output'; exit 5")
+                if why:
+                    self.assertEqual(self.run_it(*words, before=before).stderr, f"dsaplan: {told[0]}\n")
+
+    def test_a_warning_is_not_said_again_after_the_run(self):
+        self.stand_in("echo 'unwritten --log'; rmdir g 2>/dev/null; exit 5")
+        warned = "dsaplan: --output: f/o lies in f, which is no folder\n"
+        for log, told in [
+            ("f/l", [warned, "dsaplan: --log: f/l lies in f, which is no folder\n"]),
+            ("/dev/full", [warned, "dsaplan: --log: /dev/full is no regular file, and took no text\n"]),
+            ("g/l", [warned, "dsaplan: --log: g/l lies in g, which is no folder\n"]),
+        ]:
+            os.makedirs(f"{self.work}/g", exist_ok=True)
+            with self.subTest(log=log):
+                ran = self.run_it(*"solve --capacity 7 --input i --output f/o --log".split(), log)
+                self.assertEqual((ran.returncode, ran.stdout, ran.stderr), (5, "unwritten --log\n", "".join(told)))
+
+    def test_printing_that_failed_is_told(self):
+        self.stand_in("exit 5")
+        for before, why in (("exec >&-;", "is closed"), ("exec >/dev/full;", "is a device that takes no text")):
+            for words in ("bounds --input i", "solve --capacity 7 --input i --output o --log l"):
+                ran = self.run_it(*words.split(), before=before)
+                self.assertEqual((ran.returncode, ran.stderr), (5, f"dsaplan: printing failed: standard output {why}\n"))
+
+    def test_a_file_with_the_name_of_a_draft_is_told_before_the_run(self):
+        for name in ("g", "work"):
+            os.mkdir(f"{self.work}/{name}")
+        os.symlink("i", f"{self.work}/to_i")
+        most = "o" * 248
+        for words, told in [
+            ("least --input .o.part --output o --log l", [("--input", ".o.part", "--output")]),
+            ("least --input ./.o.part1 --output o --log l", [("--input", "./.o.part1", "--output")]),
+            ("least --input .l.part7 --output o --log l", [("--input", ".l.part7", "--log")]),
+            ("least --input i --output o --log .o.part", [("--log", ".o.part", "--output")]),
+            ("least --input i --output g/../.l.part --log ./l", [("--output", "g/../.l.part", "--log")]),
+            ("draw --input i --layout g/.o.part --output g/o", [("--layout", "g/.o.part", "--output")]),
+            ("import --trace .o.part --output o", [("--trace", ".o.part", "--output")]),
+            ("trim --input .o.part2 --log .o.part --output o",
+             [("--input", ".o.part2", "--output"), ("--log", ".o.part", "--output")]),
+            (f"classes --input .{most}.part --output {most}", [("--input", f".{most}.part", "--output")]),
+            (f"classes --input ..part3 --output {most}o", [("--input", "..part3", "--output")]),
+            (f"classes --input ..part --output {most}", []),
+            ("classes --input .o.part0 --output o", []),
+            ("classes --input .o.part8 --output o", []),
+            ("classes --input .o.part11 --output o", []),
+            ("classes --input o.part --output o", []),
+            ("classes --input .x.part --output *", []),
+            ("classes --input g/.o.part --output o", []),
+            ("classes --input .to_i.part --output to_i", []),
+            ("classes --input /dev/.null.part --output /dev/null", []),
+            ("trim --input .l.part --log l --output o", []),
+            ("verify --capacity 4 --input .a.part --layout a", []),
+        ]:
+            with self.subTest(words=words):
+                wanted = [f"{option}: {name} has the name of a draft of {of}, and may be taken away" for option, name, of in told]
+                self.assertEqual(self.told_before(*words.split()), wanted)
+                self.assertEqual(self.told_before(*words.split(), environment={"DSAPLAN_HINTS": "0"}), [])
 
     def test_a_misspelt_column_is_told_where_all_is_well(self):
         self.stand_in("echo 'least 4'")
