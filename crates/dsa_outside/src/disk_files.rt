@@ -11,8 +11,8 @@ use std::fs;
 use std::fs::File;
 
 /// The files of the system, by path, with a count of the reads and writes that failed. The count is
-/// every name's number of faults. It stays at 2^64 - 1 once it is there. Nothing is told of what the
-/// files hold.
+/// every name's number of faults. It stays at 2^64 - 1 once it is there. Nothing is told of what
+/// the files hold.
 #[derive(Drop)]
 pub struct DiskFiles<'a, R: std::rt::Files> {
     rt: &'a R,

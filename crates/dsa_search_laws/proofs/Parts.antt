@@ -15,7 +15,8 @@ use Rattle.dsa_search_laws.proofs.Claims.{not_placed, places_like}
 use Rattle.dsa_search_laws.proofs.First.{first_exactly, first_places}
 use Rattle.dsa_search_laws.proofs.Logs.{layout_places}
 pub use Rattle.dsa_search_laws.proofs.Cuts.{cut_between, no_cut_between, sharing_is_one_part}
-pub use Rattle.dsa_search_laws.proofs.Uncut.{part_exactly, same_part_uncut, starts_uncut, uncut_exactly, uncut_same_part, uncut_starts}
+pub use Rattle.dsa_search_laws.proofs.Uncut.{part_exactly, same_part_uncut, starts_uncut, uncut_exactly}
+pub use Rattle.dsa_search_laws.proofs.Uncut.{uncut_same_part, uncut_starts}
 pub use Rattle.dsa_search_laws.proofs.ByTime.{begins, by_begins, part_is_in, part_is_members, rises-begins}
 pub use Rattle.dsa_search_laws.proofs.Members.{in_members, member_of}
 pub use Rattle.dsa_search_laws.proofs.Members.{buffers_of-whole, in_whole, claim_of_part, whole_is_whole}

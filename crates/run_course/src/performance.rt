@@ -57,8 +57,8 @@ fn told<'a>(prepared: &'a Prepared<'_>, lost: Option<Role>) -> (Status, &'a [u8]
 }
 
 /// Does what the command asks for, with these files, and prints one text last: its status says how
-/// it ended. It is not put into its caller: each run would touch as much of the stack as the command
-/// that takes the most of it.
+/// it ended. It is not put into its caller: each run would touch as much of the stack as the
+/// command that takes the most of it.
 #[inline(never)]
 pub fn perform<'a, C: Command<'a>, F: Files, S: Sink>(
     alloc: Global,
