@@ -30,8 +30,7 @@ use Rattle.checking.specs.Checking.{Trims, Upgrades}
 use Rattle.dsaplan_core.specs.Causes.{IsChecking}
 use Rattle.dsaplan_core.specs.Courses.{course, course_with}
 use Rattle.dsaplan_core.specs.Complete.{HoldsLog, IsAcceptance, IsReady, IsUndisturbed}
-use Rattle.dsaplan_core.proofs.Answered.{answered, words_give}
-use Rattle.dsaplan_core.proofs.Concluded.{not_broken}
+use Rattle.dsaplan_core.proofs.Concluded.{calm_answer}
 use Rattle.dsaplan_core.proofs.Served.{checked_served, opened_served, same_bytes}
 
 -- bytes say one log
@@ -120,11 +119,5 @@ module _ (old new : FilesSeen) (before after : SinkSeen) (I : Instance) (g : Log
       (holds : HoldsLog I g old (name_in r.pairs role.Log)) where
     -- the answer is that it is accepted, or memory runs out
     pub accepts : (s : Status) → Answers (course words) old new before after s → IsAcceptance r.verb g s
-    accepts = answered (course words) old new before after (IsAcceptance r.verb g)
-        (λ o comes files. words_give old new words (IsTold r.verb) (λ fault bad. absurd cc)
-        (λ s asked o comes.
-        let same : s ≡ r = (let a = is in let b = asked in cc) in
-        told r.verb r.pairs checks ready calm holds o
-        (subst (λ (s : Request). Comes old new (course_with s.verb s.pairs) o) same comes)) o comes)
-        (λ role o comes left. absurd (not_broken old new before after words r is calm role o comes left))
-        (λ rose. absurd (calm.sink rose)) (memory r.verb g)
+    accepts = calm_answer old new before after words r is calm (IsAcceptance r.verb g) (memory r.verb g)
+        (told r.verb r.pairs checks ready calm holds)

@@ -29,8 +29,7 @@ use Rattle.judging.specs.Drawing.{Draws}
 use Rattle.dsaplan_core.specs.Causes.{IsJudgedAt}
 use Rattle.dsaplan_core.specs.Courses.{course, course_with}
 use Rattle.dsaplan_core.specs.Complete.{HoldsGivenLayout, IsApproval, IsReady, IsUndisturbed}
-use Rattle.dsaplan_core.proofs.Answered.{answered, words_give}
-use Rattle.dsaplan_core.proofs.Concluded.{not_broken}
+use Rattle.dsaplan_core.proofs.Concluded.{calm_answer}
 use Rattle.dsaplan_core.proofs.Gives.{judged_gives}
 use Rattle.dsaplan_core.proofs.Served.{opened_read, same_bytes, same_table, served}
 
@@ -127,11 +126,5 @@ module _ (old new : FilesSeen) (before after : SinkSeen) (I : Instance) (offsets
       (calm : IsUndisturbed r old new before after) (holds : HoldsGivenLayout old r I C offsets) where
     -- the answer is that it is a layout, or memory runs out
     pub approves : (s : Status) → Answers (course words) old new before after s → IsApproval r.verb I offsets s
-    approves = answered (course words) old new before after (IsApproval r.verb I offsets)
-        (λ o comes files. words_give old new words (IsTold r.verb) (λ fault bad. absurd cc)
-        (λ s asked o comes.
-        let same : s ≡ r = (let a = is in let b = asked in cc) in
-        told r.verb r.pairs C judged_at ready calm holds o
-        (subst (λ (s : Request). Comes old new (course_with s.verb s.pairs) o) same comes)) o comes)
-        (λ role o comes left. absurd (not_broken old new before after words r is calm role o comes left))
-        (λ rose. absurd (calm.sink rose)) (memory r.verb I offsets)
+    approves = calm_answer old new before after words r is calm (IsApproval r.verb I offsets)
+        (memory r.verb I offsets) (told r.verb r.pairs C judged_at ready calm holds)

@@ -125,6 +125,20 @@ not_broken old new before after words r is calm role =
     calm.files (name_in r.pairs left.lost.role)
     (write_named r left.lost.role mine.0) rose)
 
+-- where nothing outside fails, what holds of each status that the command's course comes to, and of want of memory,
+-- holds of the answer
+pub calm_answer : (old new : FilesSeen) (before after : SinkSeen) (words : List Word) (r : Request) →
+    request_of words ≡ Ok r → IsUndisturbed r old new before after → (P : Status → Type 0) → P status.NoMemory →
+    ((o : Outcome) → Comes old new (course_with r.verb r.pairs) o → P o.status) → (s : Status) →
+    Answers (course words) old new before after s → P s
+calm_answer old new before after words r is calm P cut own = answered (course words) old new before after P
+    (λ o comes files. words_give old new words (λ o. P o.status) (λ fault bad. absurd cc)
+    (λ s asked o comes.
+    let same : s ≡ r = (let a = is in let b = asked in cc) in
+    own o (subst (λ (s : Request). Comes old new (course_with s.verb s.pairs) o) same comes)) o comes)
+    (λ role o comes left. absurd (not_broken old new before after words r is calm role o comes left))
+    (λ rose. absurd (calm.sink rose)) cut
+
 module _ (old new : FilesSeen) (before after : SinkSeen) (I : Instance) where
   -- a request whose files are readable and are not disturbed
   abbrev IsLeftAlone : Request → Type 0
@@ -241,16 +255,7 @@ module _ (old new : FilesSeen) (before after : SinkSeen) (I : Instance) where
 
   module _ (words : List Word) (r : Request) (is : request_of words ≡ Ok r) (ready : IsReady old r I)
       (calm : IsUndisturbed r old new before after) where
-    own_outcome : (o : Outcome) → Comes old new (course words) o → IsConclusion r.verb r.pairs I o.status
-    own_outcome = words_give old new words (λ o. IsConclusion r.verb r.pairs I o.status) (λ fault bad. absurd cc)
-        (λ s asked o comes.
-        let same : s ≡ r = (let a = is in let b = asked in cc) in
-        done r.verb r.pairs (ready, calm) o
-        (subst (λ (s : Request). Comes old new (course_with s.verb s.pairs) o) same comes))
-
     -- the status is one of those that conclude the command
     pub conclusion : (s : Status) → Answers (course words) old new before after s → IsConclusion r.verb r.pairs I s
-    conclusion = answered (course words) old new before after (IsConclusion r.verb r.pairs I)
-        (λ o comes files. own_outcome o comes)
-        (λ role o comes left. absurd (not_broken old new before after words r is calm role o comes left))
-        (λ rose. absurd (calm.sink rose)) (memory r.verb r.pairs I)
+    conclusion = calm_answer old new before after words r is calm (IsConclusion r.verb r.pairs I)
+        (memory r.verb r.pairs I) (done r.verb r.pairs (ready, calm))

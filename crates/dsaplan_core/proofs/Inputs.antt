@@ -27,8 +27,7 @@ use Rattle.judging.specs.Drawing.{Draws}
 use Rattle.checking.specs.Checking.{Trims, Upgrades}
 use Rattle.dsaplan_core.specs.Courses.{ConcludesWith, course, course_with}
 use Rattle.dsaplan_core.specs.Complete.{HoldsNoInstance, IsMalformedFor, IsUndisturbed}
-use Rattle.dsaplan_core.proofs.Answered.{answered, words_give}
-use Rattle.dsaplan_core.proofs.Concluded.{not_broken}
+use Rattle.dsaplan_core.proofs.Concluded.{calm_answer}
 use Rattle.dsaplan_core.proofs.Gives.{opened_gives}
 use Rattle.dsaplan_core.proofs.Served.{readable_served, same_bytes}
 
@@ -93,11 +92,5 @@ module _ (old new : FilesSeen) (before after : SinkSeen) (fault : InstanceFault)
       (holds : HoldsNoInstance fault old (name_in r.pairs role.Input)) where
     -- the answer is that it is malformed for that fault, or memory runs out
     pub malformed : (s : Status) → Answers (course words) old new before after s → IsMalformedFor fault s
-    malformed = answered (course words) old new before after (IsMalformedFor fault)
-        (λ o comes files. words_give old new words IsTold (λ bad is_bad. absurd cc)
-        (λ s asked o comes.
-        let same : s ≡ r = (let a = is in let b = asked in cc) in
-        told r.verb r.pairs reads calm holds o
-        (subst (λ (s : Request). Comes old new (course_with s.verb s.pairs) o) same comes)) o comes)
-        (λ role o comes left. absurd (not_broken old new before after words r is calm role o comes left))
-        (λ rose. absurd (calm.sink rose)) tt
+    malformed = calm_answer old new before after words r is calm (IsMalformedFor fault) tt
+        (told r.verb r.pairs reads calm holds)

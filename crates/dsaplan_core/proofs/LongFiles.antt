@@ -29,8 +29,7 @@ use Rattle.judging.specs.Drawing.{Draws}
 use Rattle.checking.specs.Checking.{Trims, Upgrades}
 use Rattle.dsaplan_core.specs.Courses.{course, course_with}
 use Rattle.dsaplan_core.specs.Complete.{HoldsInstance, IsTooLongFor, IsUndisturbed}
-use Rattle.dsaplan_core.proofs.Answered.{answered, words_give}
-use Rattle.dsaplan_core.proofs.Concluded.{not_broken}
+use Rattle.dsaplan_core.proofs.Concluded.{calm_answer}
 use Rattle.dsaplan_core.proofs.Served.{held_read, not_missing, same_bytes}
 
 -- the role is the first of these, or the second
@@ -133,13 +132,7 @@ module _ (old new : FilesSeen) (before after : SinkSeen) (words : List Word) (r 
 
   told : ((o : Outcome) → Comes old new (course_with r.verb r.pairs) o → IsTooLongFor its o.status) →
       (s : Status) → IsAnswered s
-  told own = answered (course words) old new before after (IsTooLongFor its)
-      (λ o comes files. words_give old new words (λ o. IsTooLongFor its o.status) (λ fault bad. absurd cc)
-      (λ s asked o comes.
-      let same : s ≡ r = (let a = is in let b = asked in cc) in
-      own o (subst (λ (s : Request). Comes old new (course_with s.verb s.pairs) o) same comes)) o comes)
-      (λ lost o comes left. absurd (not_broken old new before after words r is calm lost o comes left))
-      (λ rose. absurd (calm.sink rose)) tt
+  told = calm_answer old new before after words r is calm (IsTooLongFor its) tt
 
   is_calm : IsIn its (reads_of r.verb) → IsCalm old new (name_in r.pairs its)
   is_calm among = calm.files (name_in r.pairs its) (read_named r its among)

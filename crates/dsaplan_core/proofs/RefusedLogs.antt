@@ -35,8 +35,7 @@ use Rattle.dsaplan_core.specs.Causes.{IsChecking}
 use Rattle.dsaplan_core.specs.Courses.{course, course_with}
 use Rattle.dsaplan_core.specs.Complete.{IsReady, IsRefusedFor, IsUndisturbed}
 use Rattle.dsaplan_core.proofs.Accepting.{log_is_found, same_raw}
-use Rattle.dsaplan_core.proofs.Answered.{answered, words_give}
-use Rattle.dsaplan_core.proofs.Concluded.{not_broken}
+use Rattle.dsaplan_core.proofs.Concluded.{calm_answer}
 use Rattle.dsaplan_core.proofs.Served.{checked_served, opened_served, same_reading}
 
 -- the file says no log, or one that is not accepted, for this cause
@@ -117,11 +116,5 @@ module _ (old new : FilesSeen) (before after : SinkSeen) (I : Instance) (cause :
       (holds : HoldsNone old (name_in r.pairs role.Log) I cause) where
     -- the answer is that it is refused for that cause, or memory runs out
     pub refuses : (s : Status) → Answers (course words) old new before after s → IsRefusedFor cause s
-    refuses = answered (course words) old new before after (IsRefusedFor cause)
-        (λ o comes files. words_give old new words IsTold (λ fault bad. absurd cc)
-        (λ s asked o comes.
-        let same : s ≡ r = (let a = is in let b = asked in cc) in
-        told r.verb r.pairs checks ready calm holds o
-        (subst (λ (s : Request). Comes old new (course_with s.verb s.pairs) o) same comes)) o comes)
-        (λ role o comes left. absurd (not_broken old new before after words r is calm role o comes left))
-        (λ rose. absurd (calm.sink rose)) tt
+    refuses = calm_answer old new before after words r is calm (IsRefusedFor cause) tt
+        (told r.verb r.pairs checks ready calm holds)

@@ -37,8 +37,7 @@ use Rattle.checking.specs.Checking.{Trims, Upgrades}
 use Rattle.fact_reports.specs.Reporting.{ShowsTrial, unless_many}
 use Rattle.dsaplan_core.specs.Courses.{ConcludesWith, course, course_with}
 use Rattle.dsaplan_core.specs.Complete.{IsConcluded, IsUndisturbed}
-use Rattle.dsaplan_core.proofs.Answered.{answered, words_give}
-use Rattle.dsaplan_core.proofs.Concluded.{not_broken}
+use Rattle.dsaplan_core.proofs.Concluded.{calm_answer}
 
 module _ (old new : FilesSeen) (before after : SinkSeen) where
   module _ (r : Request) (calm : IsUndisturbed r old new before after) where
@@ -145,16 +144,8 @@ module _ (old new : FilesSeen) (before after : SinkSeen) where
     told status.NoMemory on = tt
     told s on = on
 
-    own_outcome : (o : Outcome) → Comes old new (course words) o → IsConcluded old r o.status
-    own_outcome = words_give old new words (λ o. IsConcluded old r o.status) (λ fault bad. absurd cc)
-        (λ s asked o comes.
-        let same : s ≡ r = (let a = is in let b = asked in cc) in
-        told o.status (concludes_on old new (course_with r.verb r.pairs) o (course_is r.verb r.pairs calm)
-        (subst (λ (s : Request). Comes old new (course_with s.verb s.pairs) o) same comes)))
-
     -- the command is concluded, or memory ran out
     pub concluded : (s : Status) → Answers (course words) old new before after s → IsConcluded old r s
-    concluded = answered (course words) old new before after (IsConcluded old r)
-        (λ o comes files. own_outcome o comes)
-        (λ role o comes left. absurd (not_broken old new before after words r is calm role o comes left))
-        (λ rose. absurd (calm.sink rose)) tt
+    concluded = calm_answer old new before after words r is calm (IsConcluded old r) tt
+        (λ o comes.
+        told o.status (concludes_on old new (course_with r.verb r.pairs) o (course_is r.verb r.pairs calm) comes))

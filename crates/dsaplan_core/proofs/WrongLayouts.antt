@@ -32,8 +32,7 @@ use Rattle.judging.specs.Drawing.{Draws}
 use Rattle.dsaplan_core.specs.Causes.{IsJudgedAt}
 use Rattle.dsaplan_core.specs.Courses.{course, course_with}
 use Rattle.dsaplan_core.specs.Complete.{IsReady, IsUndisturbed, IsWrongFor}
-use Rattle.dsaplan_core.proofs.Answered.{answered, words_give}
-use Rattle.dsaplan_core.proofs.Concluded.{not_broken}
+use Rattle.dsaplan_core.proofs.Concluded.{calm_answer}
 use Rattle.dsaplan_core.proofs.Gives.{judged_gives}
 use Rattle.dsaplan_core.proofs.Served.{opened_read, same_reading, same_table, served}
 
@@ -151,11 +150,5 @@ module _ (old new : FilesSeen) (before after : SinkSeen) (table : List Record) (
       (gives : GivesNone old (name_in r.pairs role.Layout) table I C cause) where
     -- the answer is that it is wrong for that cause, or memory runs out
     pub wrongs : (s : Status) → Answers (course words) old new before after s → IsWrongFor cause s
-    wrongs = answered (course words) old new before after (IsWrongFor cause)
-        (λ o comes files. words_give old new words IsTold (λ fault bad. absurd cc)
-        (λ s asked o comes.
-        let same : s ≡ r = (let a = is in let b = asked in cc) in
-        told r.verb r.pairs C judged_at ready calm input gives o
-        (subst (λ (s : Request). Comes old new (course_with s.verb s.pairs) o) same comes)) o comes)
-        (λ role o comes left. absurd (not_broken old new before after words r is calm role o comes left))
-        (λ rose. absurd (calm.sink rose)) tt
+    wrongs = calm_answer old new before after words r is calm (IsWrongFor cause) tt
+        (told r.verb r.pairs C judged_at ready calm input gives)
